@@ -1,0 +1,10 @@
+pub mod Lists
+pub mod Aligned
+pub mod FreeRuns
+pub mod MarkedFrames
+pub mod Times
+pub mod Histories
+pub mod Steps
+pub mod RunOrders
+pub mod Descents
+pub mod Refreshes

@@ -1,0 +1,5 @@
+pub mod FreeFrames
+pub mod Block
+pub mod Marks
+pub mod History
+pub mod Orders

@@ -1,0 +1,269 @@
+//! Layouts worked by hand from the rules, and the happy path of each call.
+
+ghost use Rattle.std.specs.Prelude.{◌≤◌};
+
+use crate::layout::{
+    Flags, Layout, LayoutRefusal, Spec, address, alignment_of, layout_of, order_of,
+};
+use crate::name::Name;
+use crate::sequence::Sequence;
+use std::process::Abort;
+use std::test::Fail;
+
+const PLAIN: Flags = Flags {
+    line: false,
+    reclaim: false,
+    checks: false,
+    zones: false,
+    poison: false,
+    user: false,
+    trace: false,
+    fail: false,
+};
+
+const LINE: Flags = Flags {
+    line: true,
+    ..PLAIN
+};
+
+const RECLAIM: Flags = Flags {
+    reclaim: true,
+    ..PLAIN
+};
+
+const ZONES: Flags = Flags {
+    zones: true,
+    ..PLAIN
+};
+
+const ZONES_AND_POISON: Flags = Flags {
+    poison: true,
+    ..ZONES
+};
+
+const CHECKED: Flags = Flags {
+    checks: true,
+    ..ZONES_AND_POISON
+};
+
+const USER: Flags = Flags {
+    user: true,
+    ..PLAIN
+};
+
+fn spec(size: u32, align: u32, flags: Flags) -> Spec {
+    Spec { size, align, flags }
+}
+
+/// Compares a layout with its twelve numbers, in the order of the fields.
+fn check(rt: &impl Abort, spec: Spec, cpus: u32, numbers: [u32; 12])
+    requires some_cpu { 1 ≤ cpus }
+    requires few_cpus { cpus ≤ 16 }
+{
+    let [
+        object_size,
+        inuse,
+        offset,
+        left_pad,
+        size,
+        align,
+        order,
+        objects,
+        min_order,
+        min_objects_slab,
+        min_partial,
+        cpu_partial_slabs,
+    ] = numbers;
+    let wanted = Layout {
+        object_size,
+        inuse,
+        offset,
+        left_pad,
+        size,
+        align,
+        order,
+        objects,
+        min_order,
+        min_objects_slab,
+        min_partial,
+        cpu_partial_slabs,
+    };
+    assert_eq!(rt; layout_of(&spec, cpus), Ok(wanted));
+}
+
+#[test]
+fn plain_layouts(rt: HostRuntime) {
+    check(
+        &rt,
+        spec(192, 8, PLAIN),
+        2,
+        [192, 192, 96, 0, 192, 8, 0, 21, 0, 21, 5, 12],
+    );
+    check(
+        &rt,
+        spec(64, 8, PLAIN),
+        2,
+        [64, 64, 32, 0, 64, 8, 0, 64, 0, 64, 5, 4],
+    );
+    check(
+        &rt,
+        spec(1024, 8, PLAIN),
+        2,
+        [1024, 1024, 512, 0, 1024, 8, 2, 16, 0, 4, 5, 3],
+    );
+    check(
+        &rt,
+        spec(16384, 8, PLAIN),
+        2,
+        [16384, 16384, 8192, 0, 16384, 8, 3, 2, 2, 1, 7, 6],
+    );
+    check(
+        &rt,
+        spec(592, 8, RECLAIM),
+        4,
+        [592, 592, 296, 0, 592, 8, 2, 27, 0, 6, 5, 4],
+    );
+    check(
+        &rt,
+        spec(256, 8, LINE),
+        4,
+        [256, 256, 128, 0, 256, 64, 0, 16, 0, 16, 5, 7],
+    );
+    check(
+        &rt,
+        spec(128, 8, LINE),
+        4,
+        [128, 128, 64, 0, 128, 64, 0, 32, 0, 32, 5, 8],
+    );
+    check(
+        &rt,
+        spec(20, 0, LINE),
+        2,
+        [20, 24, 8, 0, 32, 32, 0, 128, 0, 128, 5, 2],
+    );
+    check(
+        &rt,
+        spec(700, 8, PLAIN),
+        16,
+        [700, 704, 344, 0, 704, 8, 3, 46, 0, 5, 5, 3],
+    );
+}
+
+#[test]
+fn checked_layouts(rt: HostRuntime) {
+    check(
+        &rt,
+        spec(24, 8, CHECKED),
+        2,
+        [24, 32, 32, 8, 56, 8, 0, 73, 0, 73, 5, 0],
+    );
+    check(
+        &rt,
+        spec(1, 0, ZONES),
+        1,
+        [1, 8, 8, 8, 32, 8, 0, 128, 0, 128, 5, 0],
+    );
+    check(
+        &rt,
+        spec(16384, 4096, ZONES_AND_POISON),
+        16,
+        [16384, 16392, 16392, 4096, 24576, 4096, 3, 1, 3, 1, 7, 0],
+    );
+}
+
+/// The second order under a sixteenth, an eighth, a quarter, and no fraction.
+#[test]
+fn orders_by_fractions(rt: HostRuntime) {
+    check(
+        &rt,
+        spec(464, 8, PLAIN),
+        1,
+        [464, 464, 232, 0, 464, 8, 1, 17, 0, 8, 5, 7],
+    );
+    check(
+        &rt,
+        spec(5000, 8, PLAIN),
+        1,
+        [5000, 5000, 2496, 0, 5000, 8, 3, 6, 1, 1, 6, 2],
+    );
+    check(
+        &rt,
+        spec(9000, 8, PLAIN),
+        2,
+        [9000, 9000, 4496, 0, 9000, 8, 3, 3, 2, 1, 6, 4],
+    );
+    check(
+        &rt,
+        spec(12000, 8, PLAIN),
+        2,
+        [12000, 12000, 6000, 0, 12000, 8, 2, 1, 2, 1, 6, 12],
+    );
+    assert_eq!(rt; order_of(464, 1), 1);
+}
+
+/// A checked object of 24 bytes stands behind its left red zone.
+#[test]
+fn addresses(rt: HostRuntime) {
+    let node = Layout {
+        object_size: 24,
+        inuse: 32,
+        offset: 32,
+        left_pad: 8,
+        size: 56,
+        align: 8,
+        order: 0,
+        objects: 73,
+        min_order: 0,
+        min_objects_slab: 73,
+        min_partial: 5,
+        cpu_partial_slabs: 0,
+    };
+    assert_eq!(rt; address(1, 0, &node), 4104);
+    assert_eq!(rt; address(2, 72, &node), 12232);
+}
+
+#[test]
+fn refusals_in_order(rt: HostRuntime) {
+    assert_eq!(rt;
+        layout_of(&spec(16385, 8, PLAIN), 2),
+        Err(LayoutRefusal::BadSize)
+    );
+    assert_eq!(rt;
+        layout_of(&spec(64, 24, PLAIN), 2),
+        Err(LayoutRefusal::BadAlign)
+    );
+    assert_eq!(rt;
+        layout_of(&spec(64, 8, USER), 2),
+        Err(LayoutRefusal::BadFlags)
+    );
+    assert_eq!(rt;
+        layout_of(&spec(0, 8192, USER), 2),
+        Err(LayoutRefusal::BadSize)
+    );
+    assert_eq!(rt;
+        layout_of(&spec(64, 8192, USER), 2),
+        Err(LayoutRefusal::BadAlign)
+    );
+}
+
+#[test]
+fn names(rt: HostRuntime) -> Result<(), Fail> {
+    let name = Name::read("kmalloc-1k").ok_or("a name")?;
+    assert_eq!(rt; name.as_bytes(), b"kmalloc-1k".as_slice());
+    assert!(rt; Name::read("-k").is_none());
+    assert!(rt; Name::read("").is_none());
+    assert!(rt; Name::read("a b").is_none());
+    assert!(rt; Name::read("a234567890123456789012345678901").is_some());
+    assert!(rt; Name::read("a2345678901234567890123456789012").is_none());
+    Ok(())
+}
+
+#[test]
+fn sequences(rt: HostRuntime) -> Result<(), Fail> {
+    let mut numbers = Sequence::with_capacity(rt.alloc(), 2)?;
+    numbers.push(7)?;
+    numbers.push(9)?;
+    assert_eq!(rt; numbers.get(1), Some(&9));
+    assert_eq!(rt; numbers.into_vec().as_slice(), [7, 9].as_slice());
+    Ok(())
+}

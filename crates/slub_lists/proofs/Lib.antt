@@ -1,0 +1,13 @@
+pub mod Writes
+pub mod Times
+pub mod Gathering
+pub mod Placed
+pub mod Framed
+pub mod Listed
+pub mod Accounted
+pub mod Shaped
+pub mod Coherence
+pub mod Laying
+pub mod Runs
+pub mod Giving
+pub mod Keeps

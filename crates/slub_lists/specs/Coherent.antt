@@ -1,0 +1,200 @@
+-- What holds of the machine between any two steps.
+use Rattle.std.specs.Prelude.{◌≡◌, ◌≢◌, ℕ, ◌+◌, ◌*◌, ◌%◌, ◌^◌, ◌<◌, ◌≤◌, ◌↔◌, ◌&&◌, ◌==◌, nat_lt, nat_le, if◌then◌else◌, List, [], ◌∷◌, length, map, sum_by, count_by, replicate, Option, Some, None, IsSome, IfSome, IsTrue, All, MatchOption, is_some, ◌⊎◌, slice_index_or, slice_set}
+use Rattle.std.specs.Option.{option_map}
+use Rattle.slub_page_pool.specs.FreeFrames as pool
+use Rattle.slub_object_layout.specs.declared.layout.Layout.{Layout}
+use Rattle.slub_object_layout.specs.Layout.{IsWithinBounds}
+use Rattle.slub_lists.specs.declared.lists.Slab.{Slab}
+use Rattle.slub_lists.specs.declared.lists.CpuLists.{CpuLists}
+use Rattle.slub_lists.specs.declared.lists.Cache.{Cache}
+use Rattle.slub_lists.specs.declared.lists.Held.{Held}
+use Rattle.slub_lists.specs.State.{State}
+use Rattle.slub_lists.specs.Alloc.{held_here, slab_of, own_free, cache_of, named, lists_of, node_of, no_lists}
+
+-- how often a number stands in a list
+abbrev pub times : ℕ → List ℕ → ℕ
+times x xs = count_by (λ y. y == x) xs
+
+-- a number where the frame is the current one, else 0
+abbrev pub if_current : ℕ → ℕ → Option ℕ → ℕ
+if_current frame n None = 0
+if_current frame n (Some current) = if current == frame then n else 0
+
+-- ---- each object in one place
+
+-- how often an object is on a CPU's freelist
+abbrev pub on_cpu : ℕ → ℕ → CpuLists → ℕ
+on_cpu frame index lists = if_current frame (times index lists.free) lists.current
+
+-- how many places an object has: with a worker or on the board, on a CPU freelist, on its slab's own freelist
+abbrev pub places : State → ℕ → ℕ → ℕ
+places s frame index =
+    sum_by (held_here frame index) s.board + sum_by (on_cpu frame index) s.cpu_lists + times index (own_free s frame)
+
+-- 1 where a slab has an object of this index
+abbrev pub has_object : ℕ → Option Slab → ℕ
+has_object index None = 0
+has_object index (Some slab) = if nat_lt index slab.objects then 1 else 0
+
+-- each object of a live slab is in exactly one place, and what is no object of a live slab is in none
+abbrev pub IsPlaced : State → Type 0
+IsPlaced s = (frame index : ℕ) → places s frame index ≡ has_object index (slab_of s frame)
+
+-- ---- each frame free or in one run
+
+-- 1 where the slab whose run begins at `first` has the frame
+abbrev pub covers : ℕ → ℕ → Option Slab → ℕ
+covers frame first None = 0
+covers frame first (Some slab) = if nat_le first frame && nat_lt frame (first + 2 ^ slab.order) then 1 else 0
+
+-- how many of these slabs, the first of which would begin at `first`, have the frame
+abbrev pub covered_from : ℕ → ℕ → List (Option Slab) → ℕ
+covered_from frame first [] = 0
+covered_from frame first (slab ∷ slabs) = covers frame first slab + covered_from frame (first + 1) slabs
+
+-- each frame but frame 0 is free or in the run of one live slab
+abbrev pub IsFramed : State → Type 0
+IsFramed s = (frame : ℕ) → times frame s.pool.free + covered_from frame 0 s.slabs ≡ (if nat_lt 0 frame && nat_lt frame s.frames then 1 else 0)
+
+-- ---- each slab on one list at most
+
+-- how often a slab is current
+abbrev pub times_current : State → ℕ → ℕ
+times_current s frame = sum_by (λ lists. if_current frame 1 lists.current) s.cpu_lists
+
+-- how often a slab is on a partial list of a CPU or of the node
+abbrev pub times_partial : State → ℕ → ℕ
+times_partial s frame = sum_by (λ lists. times frame lists.partial) s.cpu_lists + sum_by (times frame) s.nodes
+
+pub record IsListed (s : State) : Type 0 where
+  -- a slab is current once, on one partial list, or on no list
+  pub once : (frame : ℕ) → times_current s frame + times_partial s frame ≤ 1
+  -- what is current or on a list is a live slab
+  pub live : (frame : ℕ) → 0 < times_current s frame + times_partial s frame → IsSome (slab_of s frame)
+  -- a slab on a partial list has a free object
+  pub stocked : (frame : ℕ) → 0 < times_partial s frame → 0 < length (own_free s frame)
+  -- and it is a slab of the cache whose list it is
+  pub of_current : (cache cpu frame : ℕ) → cpu < s.cpus → (lists_of s cache cpu).current ≡ Some frame → IfSome (slab_of s frame) (λ slab. slab.cache ≡ cache)
+  pub of_partial : (cache cpu frame : ℕ) → cpu < s.cpus → 0 < times frame (lists_of s cache cpu).partial → IfSome (slab_of s frame) (λ slab. slab.cache ≡ cache)
+  pub of_node : (cache frame : ℕ) → 0 < times frame (node_of s cache) → IfSome (slab_of s frame) (λ slab. slab.cache ≡ cache)
+  -- the frozen slabs are the current ones
+  pub frozen : (frame : ℕ) → IfSome (slab_of s frame) (λ slab. IsTrue slab.frozen ↔ (0 < times_current s frame))
+
+-- ---- the counts
+
+-- 1 where this is an object of the cache
+abbrev pub held_of : ℕ → Option Held → ℕ
+held_of cache None = 0
+held_of cache (Some held) = if held.cache == cache then 1 else 0
+
+-- the counted objects of each cache are those on the board
+abbrev pub IsAccounted : State → Type 0
+IsAccounted s = (cache : ℕ) → slice_index_or s.live cache 0 ≡ sum_by (held_of cache) s.board
+
+-- ---- the whole
+
+-- the slab's order and number of objects are the layout's, or its least ones
+abbrev pub IsSlabOf : Layout → Slab → Type 0
+IsSlabOf layout slab =
+    ((slab.order ≡ layout.order) × (slab.objects ≡ layout.objects)) ⊎ ((slab.order ≡ layout.min_order) × (slab.objects ≡ layout.min_objects_slab))
+
+-- a layout that `layout_of` gives, but for the two numbers that `tune` sets
+pub record IsTuned (layout : Layout) : Type 0 where
+  pub made : IsWithinBounds (record layout { min_partial = 5; cpu_partial_slabs = 0 })
+  pub min_partial : layout.min_partial ≤ 4096
+  pub cpu_partial_slabs : layout.cpu_partial_slabs ≤ 8192
+
+-- what an object number names
+abbrev pub held_under : State → ℕ → Option Held
+held_under s object = slice_index_or s.board object None
+
+-- the numbers of things
+pub record IsShaped (s : State) : Type 0 where
+  pub frames : (2 ≤ s.frames) × (s.frames ≤ 4096)
+  pub cpus : (1 ≤ s.cpus) × (s.cpus ≤ 16)
+  pub pool : pool.IsPool s.pool
+  pub pool_frames : s.pool.frames ≡ s.frames
+  pub slabs : length s.slabs ≡ s.frames
+  pub frees : length s.frees ≡ s.frames
+  pub caches : length s.caches ≡ 32
+  pub cpu_lists : length s.cpu_lists ≡ 32 * s.cpus
+  pub nodes : length s.nodes ≡ 32
+  pub live : length s.live ≡ 32
+  pub board : length s.board ≤ 2 ^ 32
+  -- the ages are the live caches, each once, and each name is one of a live cache
+  pub ages : length s.ages ≡ count_by is_some s.caches
+  pub aged : (cache : ℕ) → times cache s.ages ≡ (if is_some (cache_of s cache) then 1 else 0)
+  pub names : (place : ℕ) → IfSome (named s place) (λ cache. IsSome (cache_of s cache))
+  pub layouts : (cache : ℕ) → IfSome (cache_of s cache) (λ live. IsTuned live.layout)
+  -- a slab is one of its cache, and its run begins at a multiple of its length
+  pub slab : (frame : ℕ) → IfSome (slab_of s frame) (λ slab. MatchOption (cache_of s slab.cache) ⊥ (λ live. IsSlabOf live.layout slab))
+  pub aligned : (frame : ℕ) → IfSome (slab_of s frame) (λ slab. frame % 2 ^ slab.order ≡ 0)
+  -- an object that was given is one of a slab of its cache
+  pub held : (object : ℕ) → IfSome (held_under s object) (λ held. MatchOption (slab_of s held.frame) ⊥ (λ slab. slab.cache ≡ held.cache))
+  -- a CPU with no slab has no freelist
+  pub bare : (place : ℕ) → (slice_index_or s.cpu_lists place no_lists).current ≡ None → (slice_index_or s.cpu_lists place no_lists).free ≡ []
+
+-- each object in one place, each frame in one role, each slab on one list at most, and the counts true
+pub record IsCoherent (s : State) : Type 0 where
+  pub shaped : IsShaped s
+  pub placed : IsPlaced s
+  pub framed : IsFramed s
+  pub listed : IsListed s
+  pub accounted : IsAccounted s
+
+-- ---- the opening
+
+-- the machine before the first item: free frames 1 to F - 1, no cache, an empty board
+abbrev pub opening : ℕ → ℕ → ℕ → ℕ → State
+opening frames cpus objects names = record {
+  frames = frames;
+  cpus = cpus;
+  pool = pool.opening frames;
+  slabs = replicate frames None;
+  frees = replicate frames [];
+  caches = replicate 32 None;
+  ages = [];
+  names = replicate names None;
+  cpu_lists = replicate (32 * cpus) no_lists;
+  nodes = replicate 32 [];
+  board = replicate (objects + 1) None;
+  live = replicate 32 0;
+}
+
+-- ---- a cache that is made, and a round that ends
+
+-- no number is left for a cache
+abbrev pub AreAllUsed : State → Type 0
+AreAllUsed s = All IsSome s.caches
+
+-- the least number that no live cache has
+pub record IsLeastUnused (s : State) (cache : ℕ) : Type 0 where
+  pub within : cache < length s.caches
+  pub unused : cache_of s cache ≡ None
+  pub least : (other : ℕ) → other < cache → IsSome (cache_of s other)
+
+-- a new cache of this number and name, the newest
+abbrev pub with_cache : State → ℕ → ℕ → Cache → State
+with_cache s place cache made = record s { caches = slice_set s.caches cache (Some made); ages = cache ∷ s.ages; names = slice_set s.names place (Some cache) }
+
+-- a cache is made under the least unused number, which is the answer
+abbrev pub Creates : State → ℕ → Cache → Option ℕ → State → Type 0
+Creates s place made None after = AreAllUsed s × (after ≡ s)
+Creates s place made (Some cache) after = IsLeastUnused s cache × (after ≡ with_cache s place cache made)
+
+abbrev pub laid_down : Held → Held
+laid_down held = record held { worker = None }
+
+-- every held object is put on the board
+abbrev pub all_on_board : State → State
+all_on_board s = record s { board = map (option_map laid_down) s.board }
+
+-- what an allocation under a number leaves as it was
+pub record KeepsOthers (s : State) (object : ℕ) (after : State) : Type 0 where
+  pub frames : after.frames ≡ s.frames
+  pub cpus : after.cpus ≡ s.cpus
+  pub caches : after.caches ≡ s.caches
+  pub ages : after.ages ≡ s.ages
+  pub names : after.names ≡ s.names
+  pub board_length : length after.board ≡ length s.board
+  pub board : (other : ℕ) → other ≢ object → slice_index_or after.board other None ≡ slice_index_or s.board other None

@@ -1,0 +1,4 @@
+pub mod State
+pub mod Alloc
+pub mod Coherent
+pub mod Steps

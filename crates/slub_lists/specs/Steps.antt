@@ -1,0 +1,42 @@
+-- What the steps of an operation hand to one another.
+use Rattle.std.specs.Prelude.{◌≡◌, ℕ, ◌<◌, length, List, [], ◌∷◌, take, drop, reverse, Some, None, MatchOption, ◌⊎◌}
+use Rattle.slub_object_layout.specs.declared.layout.Layout.{Layout}
+use Rattle.slub_lists.specs.State.{State}
+use Rattle.slub_lists.specs.Alloc.{cache_of, lists_of, node_of, own_free, slab_of, with_lists, with_node}
+use Rattle.slub_lists.specs.Coherent.{times_current, times_partial, if_current}
+
+-- the cache is live, and has this layout
+abbrev pub HasLayout : State → ℕ → Layout → Type 0
+HasLayout s cache layout = MatchOption (cache_of s cache) ⊥ (λ live. live.layout ≡ layout)
+
+-- a slab with a free object that can be made current on a CPU whose freelist is empty: it is current there already, or the CPU has no slab and it is on no list
+pub record IsTakable (s : State) (cache cpu frame : ℕ) : Type 0 where
+  pub live : MatchOption (slab_of s frame) ⊥ (λ slab. slab.cache ≡ cache)
+  pub stocked : 0 < length (own_free s frame)
+  pub free : (lists_of s cache cpu).free ≡ []
+  pub here : ((lists_of s cache cpu).current ≡ None) ⊎ ((lists_of s cache cpu).current ≡ Some frame)
+  pub nowhere_else : times_current s frame ≡ if_current frame 1 (lists_of s cache cpu).current
+  pub unlisted : times_partial s frame ≡ 0
+
+-- the caches, the names, the board and the counts are as before, and so are the numbers of frames and CPUs
+pub record IsRelisted (old new : State) : Type 0 where
+  pub frames : new.frames ≡ old.frames
+  pub cpus : new.cpus ≡ old.cpus
+  pub caches : new.caches ≡ old.caches
+  pub names : new.names ≡ old.names
+  pub board : new.board ≡ old.board
+  pub live : new.live ≡ old.live
+
+-- the front of the CPU's partial list is taken off, and can be taken up
+pub record PopsPartial (old : State) (cache cpu frame : ℕ) (new : State) : Type 0 where
+  pub rest : List ℕ
+  pub first : (lists_of old cache cpu).partial ≡ frame ∷ rest
+  pub left : new ≡ with_lists old cache cpu (record (lists_of old cache cpu) { partial = rest })
+  pub takable : IsTakable new cache cpu frame
+
+-- the head of the node list is taken off, and can be taken up; after it `batch` slabs go to the CPU's partial list, which was empty
+pub record PopsNode (old : State) (cache cpu batch frame : ℕ) (new : State) : Type 0 where
+  pub rest : List ℕ
+  pub first : node_of old cache ≡ frame ∷ rest
+  pub left : new ≡ with_lists (with_node old cache (drop batch rest)) cache cpu (record (lists_of old cache cpu) { partial = reverse (take batch rest) })
+  pub takable : IsTakable new cache cpu frame

@@ -1,0 +1,354 @@
+//! The whole machine on plain lists.
+
+ghost use Rattle.std.specs.Prelude.{◌≡◌, ◌<◌, ◌≤◌, [], length, replicate, IfOk, MatchOption};
+ghost use Rattle.slub_object_layout.specs.Layout.{IsWithinBounds};
+ghost use Rattle.slub_page_pool.specs.FreeFrames as pool;
+ghost use Rattle.slub_lists.specs.Alloc.{no_lists};
+ghost use Rattle.slub_lists.specs.Coherent.{AreAllUsed, Creates, IsCoherent, IsLeastUnused, all_on_board, opening};
+
+use crate::front_list::FrontList;
+use slub_object_layout::layout::{Flags, Layout};
+use slub_object_layout::name::Name;
+use slub_page_pool::Pool;
+use std::alloc::{AllocError, AllocFailed, Global};
+use std::marker::Model;
+
+/// The most objects of a slab.
+pub const SLAB_OBJECTS: usize = 512;
+
+/// The most slabs of a machine: each has a frame, and frame 0 is never given.
+pub const MACHINE_SLABS: usize = 4095;
+
+/// The most live caches of a machine.
+pub const MACHINE_CACHES: usize = 32;
+
+/// Objects of one slab, as indexes, front first.
+pub type FreeList = FrontList<512>;
+
+/// Slabs, by their first frames, front first.
+pub type FrameList = FrontList<4095>;
+
+/// Memory ran out.
+#[derive(Clone, Copy, Debug, PartialEq, Eq)]
+pub struct NoMemory;
+
+impl From<AllocError> for NoMemory {
+    fn from(_error: AllocError) -> NoMemory {
+        NoMemory
+    }
+}
+
+impl<T: Drop> From<AllocFailed<T>> for NoMemory {
+    fn from(_failed: AllocFailed<T>) -> NoMemory {
+        NoMemory
+    }
+}
+
+impl From<slub_page_pool::NoMemory> for NoMemory {
+    fn from(_want: slub_page_pool::NoMemory) -> NoMemory {
+        NoMemory
+    }
+}
+
+/// A live slab: a run of 2^order frames that is cut into objects (`struct slab`).
+#[derive(Clone, Copy, Debug, PartialEq, Eq)]
+pub struct Slab {
+    /// The number of its cache.
+    pub cache: u32,
+    pub order: u32,
+    /// How many objects it has, given and free.
+    pub objects: u32,
+    /// It belongs to one CPU: other CPUs put objects on its freelist, and take none.
+    pub frozen: bool,
+}
+
+/// A run of 2^order frames for a slab, and how many objects the slab has.
+#[derive(Clone, Copy, Debug, PartialEq, Eq)]
+pub struct Run {
+    pub frame: u16,
+    pub order: u32,
+    pub objects: u32,
+}
+
+/// What a CPU has of a cache (`struct kmem_cache_cpu`).
+#[derive(Debug, Drop)]
+pub struct CpuLists {
+    /// The first frame of the slab that the CPU allocates from.
+    pub current: Option<u16>,
+    /// The CPU freelist: objects of the current slab.
+    pub free: FreeList,
+    /// The CPU's partial list: slabs with free objects, unfrozen.
+    pub partial: FrameList,
+}
+
+/// A live cache (`struct kmem_cache`).
+#[derive(Debug, Drop)]
+pub struct Cache {
+    /// The name that it was made with.
+    pub title: Name,
+    pub flags: Flags,
+    pub layout: Layout,
+}
+
+/// An object that was given and not freed.
+#[derive(Clone, Copy, Debug, PartialEq, Eq)]
+pub struct Held {
+    pub frame: u16,
+    pub index: u16,
+    /// The number of its cache.
+    pub cache: u32,
+    /// The worker that holds it, or none where it is on the board between rounds.
+    pub worker: Option<u32>,
+}
+
+/// The machine: the pool, the caches, the slabs, the lists that they stand on, and the board.
+#[derive(Debug, Drop)]
+pub struct Lists {
+    pub(crate) frames: u32,
+    pub(crate) cpus: u32,
+    pub(crate) pool: Pool,
+    pub(crate) slabs: Vec<Option<Slab>>,
+    pub(crate) frees: Vec<FreeList>,
+    pub(crate) caches: Vec<Option<Cache>>,
+    pub(crate) ages: FrontList<32>,
+    pub(crate) names: Vec<Option<u32>>,
+    pub(crate) cpu_lists: Vec<CpuLists>,
+    pub(crate) nodes: Vec<FrameList>,
+    pub(crate) board: Vec<Option<Held>>,
+    pub(crate) live: Vec<u64>,
+}
+
+impl Model for Lists {
+    ghost use Rattle.slub_lists.specs.State.{State};
+
+    ghost Value = { State };
+
+    ghost view = { λ l. record {
+      frames = l.frames;
+      cpus = l.cpus;
+      pool = l.pool;
+      slabs = l.slabs.items;
+      frees = l.frees.items;
+      caches = l.caches.items;
+      ages = l.ages;
+      names = l.names.items;
+      cpu_lists = l.cpu_lists.items;
+      nodes = l.nodes.items;
+      board = l.board.items;
+      live = l.live.items;
+    } };
+}
+
+impl Lists {
+    /// A machine of 2 to 4096 frames and 1 to 16 CPUs, with object numbers up to `objects` and
+    /// `names` names: all frames but frame 0 are free, there is no cache, and the board is empty.
+    ///
+    /// All memory that the machine will ever need is taken here.
+    pub fn open(
+        alloc: Global,
+        frames: u32,
+        cpus: u32,
+        objects: u32,
+        names: u32,
+    ) -> Result<Lists, NoMemory>
+        requires frames { (2 ≤ frames) × (frames ≤ 4096) }
+        requires cpus { (1 ≤ cpus) × (cpus ≤ 16) }
+        requires objects { objects ≤ 1048576 }
+        ensures opened { IfOk result (λ lists. lists ≡ opening frames cpus objects names) }
+        ensures coherent { IsCoherent (opening frames cpus objects names) }
+    {
+        Lists::take_memory(alloc, frames, cpus, objects, names)
+    }
+
+    /// The machine before its first item, with all of its memory.
+    fn take_memory(
+        alloc: Global,
+        frames: u32,
+        cpus: u32,
+        objects: u32,
+        names: u32,
+    ) -> Result<Lists, NoMemory>
+        requires frames { (2 ≤ frames) × (frames ≤ 4096) }
+        requires cpus { (1 ≤ cpus) × (cpus ≤ 16) }
+        requires objects { objects ≤ 1048576 }
+        ensures { IfOk result (λ lists. lists ≡ opening frames cpus objects names) }
+    {
+        Ok(Lists {
+            frames,
+            cpus,
+            pool: Pool::open(alloc, frames)?,
+            slabs: vec![in alloc; None; frames as usize]?,
+            frees: open_front_lists(alloc, frames as usize)?,
+            caches: open_caches(alloc)?,
+            ages: FrontList::open(alloc)?,
+            names: vec![in alloc; None; names as usize]?,
+            cpu_lists: open_cpu_lists(alloc, MACHINE_CACHES * cpus as usize)?,
+            nodes: open_front_lists(alloc, MACHINE_CACHES)?,
+            board: vec![in alloc; None; objects as usize + 1]?,
+            live: vec![in alloc; 0; MACHINE_CACHES]?,
+        })
+    }
+
+    /// Makes a cache of the least number that no live cache has, named by the name at this place.
+    /// None where all 32 numbers are in use.
+    pub fn create(&mut self, place: u32, cache: Cache) -> Option<u32>
+        requires coherent { IsCoherent self.old }
+        requires place { place < length self.old.names }
+        requires layout { IsWithinBounds cache.layout }
+        ensures created { Creates self.old place cache result self.new }
+        ensures coherent { IsCoherent self.new }
+    {
+        let number = self.unused_number()?;
+        self.caches[number as usize] = Some(cache);
+        self.ages.push(number as u16);
+        self.names[place as usize] = Some(number);
+        Some(number)
+    }
+
+    /// Puts every held object on the board: the round is over.
+    pub fn end_round(&mut self)
+        requires coherent { IsCoherent self.old }
+        ensures on_board { self.new ≡ all_on_board self.old }
+        ensures coherent { IsCoherent self.new }
+    {
+        for held in self.board.iter_mut() {
+            if let Some(held) = held {
+                held.worker = None;
+            }
+        }
+    }
+
+    /// How many frames the machine has, frame 0 counted.
+    pub fn frames(&self) -> u32
+        ensures { result ≡ self.now.frames }
+    {
+        self.frames
+    }
+
+    pub fn cpus(&self) -> u32
+        ensures { result ≡ self.now.cpus }
+    {
+        self.cpus
+    }
+
+    /// How many frames are free.
+    pub fn free_frames(&self) -> u32
+        ensures { result ≡ length self.now.pool.free }
+    {
+        self.pool.free_frames()
+    }
+
+    /// By frame: the live slab whose run begins there.
+    pub fn slabs(&self) -> &[Option<Slab>]
+        ensures { result.now ≡ self.now.slabs }
+    {
+        self.slabs.as_slice()
+    }
+
+    /// By frame: the own freelist of the slab whose run begins there.
+    pub fn frees(&self) -> &[FreeList]
+        ensures { result.now ≡ self.now.frees }
+    {
+        self.frees.as_slice()
+    }
+
+    /// By number: the live caches.
+    pub fn caches(&self) -> &[Option<Cache>]
+        ensures { result.now ≡ self.now.caches }
+    {
+        self.caches.as_slice()
+    }
+
+    /// The numbers of the live caches, newest first.
+    pub fn newest_first(&self) -> &FrontList<32>
+        ensures { result.now ≡ self.now.ages }
+    {
+        &self.ages
+    }
+
+    /// By place of a name: the number of the live cache that it names.
+    pub fn names(&self) -> &[Option<u32>]
+        ensures { result.now ≡ self.now.names }
+    {
+        self.names.as_slice()
+    }
+
+    /// By cache number and CPU, the CPUs of one cache side by side: what the CPU has of the cache.
+    pub fn cpu_lists(&self) -> &[CpuLists]
+        ensures { result.now ≡ self.now.cpu_lists }
+    {
+        self.cpu_lists.as_slice()
+    }
+
+    /// By cache number: the node's partial list, head first.
+    pub fn nodes(&self) -> &[FrameList]
+        ensures { result.now ≡ self.now.nodes }
+    {
+        self.nodes.as_slice()
+    }
+
+    /// By object number: what was given and not freed.
+    pub fn board(&self) -> &[Option<Held>]
+        ensures { result.now ≡ self.now.board }
+    {
+        self.board.as_slice()
+    }
+
+    /// By cache number: how many of its objects are given and not freed.
+    pub fn live(&self) -> &[u64]
+        ensures { result.now ≡ self.now.live }
+    {
+        self.live.as_slice()
+    }
+
+    /// The least number that no live cache has.
+    fn unused_number(&self) -> Option<u32>
+        requires caches { length self.now.caches ≡ 32 }
+        ensures { MatchOption result (AreAllUsed self.now) (IsLeastUnused self.now) }
+    {
+        let number = self.caches.iter().position(|cache| cache.is_none())?;
+        Some(number as u32)
+    }
+}
+
+/// So many empty lists.
+fn open_front_lists<const ROOM: usize>(
+    alloc: Global,
+    count: usize,
+) -> Result<Vec<FrontList<ROOM>>, NoMemory>
+    requires { count ≤ 4096 }
+    ensures { IfOk result (λ lists. lists.items ≡ replicate count []) }
+{
+    let mut lists = Vec::with_capacity(alloc, count)?;
+    for _ in 0..count {
+        lists.push(FrontList::open(alloc)?)?;
+    }
+    Ok(lists)
+}
+
+/// No live cache.
+fn open_caches(alloc: Global) -> Result<Vec<Option<Cache>>, NoMemory>
+    ensures { IfOk result (λ caches. caches.items ≡ replicate 32 None) }
+{
+    let mut caches = Vec::with_capacity(alloc, MACHINE_CACHES)?;
+    for _ in 0..MACHINE_CACHES {
+        caches.push(None)?;
+    }
+    Ok(caches)
+}
+
+/// So many CPUs that have nothing of a cache.
+fn open_cpu_lists(alloc: Global, count: usize) -> Result<Vec<CpuLists>, NoMemory>
+    requires { count ≤ 512 }
+    ensures { IfOk result (λ lists. lists.items ≡ replicate count no_lists) }
+{
+    let mut lists = Vec::with_capacity(alloc, count)?;
+    for _ in 0..count {
+        lists.push(CpuLists {
+            current: None,
+            free: FrontList::open(alloc)?,
+            partial: FrontList::open(alloc)?,
+        })?;
+    }
+    Ok(lists)
+}

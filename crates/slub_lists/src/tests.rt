@@ -1,0 +1,246 @@
+//! Addresses and states of worked traces, and the happy path of each call.
+
+ghost use Rattle.std.specs.Prelude.{IfOk};
+ghost use Rattle.slub_object_layout.specs.Layout.{IsWithinBounds};
+ghost use Rattle.slub_lists.specs.Coherent.{IsCoherent};
+
+use crate::front_list::FrontList;
+use crate::lists::{Cache, Held, Lists, MACHINE_CACHES, Slab};
+use crate::reply::Reply;
+use slub_object_layout::layout::{Flags, Spec, layout_of};
+use slub_object_layout::name::Name;
+use std::process::Abort;
+use std::test::Fail;
+
+const PLAIN: Flags = Flags {
+    line: false,
+    reclaim: false,
+    checks: false,
+    zones: false,
+    poison: false,
+    user: false,
+    trace: false,
+    fail: false,
+};
+
+// The objects of a slab of 192 bytes each that begins at frame 1.
+const DENTRIES: [u32; 21] = [
+    4096, 4288, 4480, 4672, 4864, 5056, 5248, 5440, 5632, 5824, 6016, 6208, 6400, 6592, 6784, 6976,
+    7168, 7360, 7552, 7744, 7936,
+];
+
+// A cache of objects of this size, aligned to 8, on a machine of two CPUs.
+fn cache_of_size(title: &str, size: u32) -> Result<Cache, Fail>
+    ensures { IfOk result (λ cache. IsWithinBounds cache.layout) }
+{
+    let spec = Spec {
+        size,
+        align: 8,
+        flags: PLAIN,
+    };
+    let layout = layout_of(&spec, 2)?;
+    let title = Name::read(title).ok_or("the title")?;
+    Ok(Cache {
+        title,
+        flags: PLAIN,
+        layout,
+    })
+}
+
+// A cache is made under the name at a place.
+fn create(rt: &impl Abort, lists: &mut Lists, place: u32, cache: Cache) -> Option<u32>
+    requires coherent { IsCoherent lists.old }
+    requires layout { IsWithinBounds cache.layout }
+    ensures { IsCoherent lists.new }
+{
+    assert!(rt; (place as usize) < lists.names().len());
+    lists.create(place, cache)
+}
+
+// Worker 0 allocates an object of the cache that the first name names.
+fn alloc(rt: &impl Abort, lists: &mut Lists, cpu: u32, object: u32) -> Reply
+    requires { IsCoherent lists.old }
+    ensures { IsCoherent lists.new }
+{
+    assert!(rt; !lists.names().is_empty());
+    assert!(rt; cpu < lists.cpus());
+    assert!(rt; (object as usize) < lists.board().len());
+    assert!(rt; lists.board()[object as usize].is_none());
+    lists.alloc_named(0, cpu, 0, object)
+}
+
+// Worker 0 allocates objects from this number on, on CPU 0, and they lie at these addresses.
+fn alloc_row(rt: &impl Abort, lists: &mut Lists, first: u32, addresses: &[u32])
+    requires { IsCoherent lists.old }
+    ensures { IsCoherent lists.new }
+{
+    let mut object = first;
+    for address in addresses {
+        assert_eq!(rt; alloc(rt, lists, 0, object), Reply::Given(*address));
+        object = object.saturating_add(1);
+    }
+}
+
+// Caches of all numbers are made, each under the first name.
+fn create_all(rt: &impl Abort, lists: &mut Lists) -> Result<(), Fail>
+    requires { IsCoherent lists.old }
+    ensures { IsCoherent lists.new }
+{
+    for number in 0..MACHINE_CACHES as u32 {
+        let cache = cache_of_size("again", 64)?;
+        assert_eq!(rt; create(rt, lists, 0, cache), Some(number));
+    }
+    Ok(())
+}
+
+// What CPU `cpu` has of cache 0: the current slab, and how many objects are on the CPU freelist.
+fn current_of(lists: &Lists, cpu: usize) -> Option<(Option<u16>, usize)> {
+    let of_cpu = lists.cpu_lists().get(cpu)?;
+    Some((of_cpu.current, of_cpu.free.len()))
+}
+
+#[test]
+fn one_object(rt: HostRuntime) -> Result<(), Fail> {
+    let mut lists = Lists::open(rt.alloc(), 16, 2, 22, 1)?;
+    assert_eq!(rt;
+        (lists.frames(), lists.cpus(), lists.free_frames()),
+        (16, 2, 15)
+    );
+    let dentry = cache_of_size("dentry", 192)?;
+    assert_eq!(rt; create(&rt, &mut lists, 0, dentry), Some(0));
+    assert_eq!(rt; alloc(&rt, &mut lists, 0, 1), Reply::Given(4096));
+    assert_eq!(rt; lists.free_frames(), 14);
+    assert_eq!(rt; current_of(&lists, 0), Some((Some(1), 20)));
+    assert_eq!(rt; current_of(&lists, 1), Some((None, 0)));
+    let slab = Slab {
+        cache: 0,
+        order: 0,
+        objects: 21,
+        frozen: true,
+    };
+    assert_eq!(rt; lists.slabs().get(1).copied(), Some(Some(slab)));
+    let held = Held {
+        frame: 1,
+        index: 0,
+        cache: 0,
+        worker: Some(0),
+    };
+    assert_eq!(rt; lists.board().get(1).copied(), Some(Some(held)));
+    assert_eq!(rt; lists.live().get(0).copied(), Some(1));
+    lists.end_round();
+    let laid_down = Held {
+        worker: None,
+        ..held
+    };
+    assert_eq!(rt; lists.board().get(1).copied(), Some(Some(laid_down)));
+    Ok(())
+}
+
+#[test]
+fn a_second_slab(rt: HostRuntime) -> Result<(), Fail> {
+    let mut lists = Lists::open(rt.alloc(), 16, 2, 22, 1)?;
+    let dentry = cache_of_size("dentry", 192)?;
+    assert_eq!(rt; create(&rt, &mut lists, 0, dentry), Some(0));
+    alloc_row(&rt, &mut lists, 1, &DENTRIES);
+    assert_eq!(rt; alloc(&rt, &mut lists, 0, 22), Reply::Given(8192));
+    assert_eq!(rt; lists.free_frames(), 13);
+    assert_eq!(rt; current_of(&lists, 0), Some((Some(2), 20)));
+    let full = Slab {
+        cache: 0,
+        order: 0,
+        objects: 21,
+        frozen: false,
+    };
+    assert_eq!(rt; lists.slabs().get(1).copied(), Some(Some(full)));
+    Ok(())
+}
+
+#[test]
+fn two_cpus(rt: HostRuntime) -> Result<(), Fail> {
+    let mut lists = Lists::open(rt.alloc(), 16, 2, 2, 1)?;
+    let dentry = cache_of_size("dentry", 192)?;
+    assert_eq!(rt; create(&rt, &mut lists, 0, dentry), Some(0));
+    assert_eq!(rt; alloc(&rt, &mut lists, 0, 1), Reply::Given(4096));
+    assert_eq!(rt; alloc(&rt, &mut lists, 1, 2), Reply::Given(8192));
+    assert_eq!(rt; current_of(&lists, 0), Some((Some(1), 20)));
+    assert_eq!(rt; current_of(&lists, 1), Some((Some(2), 20)));
+    Ok(())
+}
+
+#[test]
+fn least_order_until_no_frames(rt: HostRuntime) -> Result<(), Fail> {
+    let mut lists = Lists::open(rt.alloc(), 3, 2, 9, 1)?;
+    let big = cache_of_size("big", 1024)?;
+    assert_eq!(rt; create(&rt, &mut lists, 0, big), Some(0));
+    assert_eq!(rt; alloc(&rt, &mut lists, 0, 1), Reply::Given(4096));
+    assert_eq!(rt; lists.free_frames(), 1);
+    alloc_row(
+        &rt,
+        &mut lists,
+        2,
+        &[5120, 6144, 7168, 8192, 9216, 10240, 11264],
+    );
+    assert_eq!(rt; alloc(&rt, &mut lists, 0, 9), Reply::NoFrames);
+    assert_eq!(rt; lists.free_frames(), 0);
+    assert_eq!(rt; current_of(&lists, 0), Some((None, 0)));
+    assert_eq!(rt; lists.live().get(0).copied(), Some(8));
+    Ok(())
+}
+
+#[test]
+fn caches_by_name_and_age(rt: HostRuntime) -> Result<(), Fail> {
+    let mut lists = Lists::open(rt.alloc(), 16, 2, 1, 2)?;
+    let first = cache_of_size("first", 64)?;
+    let second = cache_of_size("second", 64)?;
+    assert_eq!(rt; create(&rt, &mut lists, 1, first), Some(0));
+    assert_eq!(rt; alloc(&rt, &mut lists, 0, 1), Reply::NoSuchCache);
+    assert_eq!(rt; create(&rt, &mut lists, 0, second), Some(1));
+    let names = lists.names();
+    assert_eq!(rt;
+        (names.get(0).copied(), names.get(1).copied()),
+        (Some(Some(1)), Some(Some(0)))
+    );
+    let newest = lists.newest_first();
+    assert_eq!(rt;
+        (newest.get(0), newest.get(1), newest.get(2)),
+        (Some(1), Some(0), None)
+    );
+    let live = lists
+        .caches()
+        .iter()
+        .filter(|cache| cache.is_some())
+        .count();
+    assert_eq!(rt; live, 2);
+    assert_eq!(rt;
+        (lists.frees().len(), lists.nodes().len()),
+        (16, MACHINE_CACHES)
+    );
+    Ok(())
+}
+
+#[test]
+fn no_more_than_all_numbers(rt: HostRuntime) -> Result<(), Fail> {
+    let mut lists = Lists::open(rt.alloc(), 16, 2, 1, 1)?;
+    create_all(&rt, &mut lists)?;
+    let cache = cache_of_size("again", 64)?;
+    assert_eq!(rt; create(&rt, &mut lists, 0, cache), None);
+    Ok(())
+}
+
+#[test]
+fn lists_at_the_front(rt: HostRuntime) -> Result<(), Fail> {
+    let mut from: FrontList<8> = FrontList::open(rt.alloc())?;
+    let mut to: FrontList<8> = FrontList::open(rt.alloc())?;
+    from.fill_rising(4);
+    to.push(9);
+    to.gather(&mut from, 3);
+    assert_eq!(rt;
+        (to.get(0), to.get(1), to.get(2), to.get(3)),
+        (Some(2), Some(1), Some(0), Some(9))
+    );
+    assert_eq!(rt;
+        (from.len(), from.pop(), from.pop(), from.is_empty()),
+        (1, Some(3), None, true)
+    );
+    Ok(())
+}

@@ -1,0 +1,234 @@
+//! What slabinfo counts of a cache.
+
+ghost use Rattle.std.specs.Prelude.{◌≡◌, ◌+◌, ◌<◌, ◌≤◌, length, sum_by, count_by, ◌++◌, IfOk, IfSome, IsSome, OnOk, option_to_list, slice_index_or, []};
+ghost use Rattle.std.specs.List.{zip};
+ghost use Rattle.slub_lists.specs.Alloc.{cache_of};
+ghost use Rattle.slub_lists.specs.Coherent.{IsCoherent};
+ghost use Rattle.slub_slabinfo_text.specs.Counts.{counts_of, free_in, free_of, is_frozen_of, is_slab_of, node_free_of, objects_in, row_of, rows_of};
+
+use crate::no_memory::NoMemory;
+use slub_lists::front_list::FrontList;
+use slub_lists::lists::{CpuLists, FrameList, FreeList, Lists, Slab};
+use slub_object_layout::layout::Layout;
+use slub_object_layout::name::Name;
+use std::alloc::Global;
+
+/// The counts of a cache (`struct slabinfo`).
+#[derive(Clone, Copy, Debug, PartialEq, Eq)]
+pub struct Counts {
+    /// The objects less the free ones of slabs on the node list: objects on a CPU's freelist or in
+    /// a slab on a CPU's partial list count as active.
+    pub active_objs: u64,
+    /// The objects of all slabs of the cache, given and free.
+    pub num_objs: u64,
+    /// The size of a slot, in bytes.
+    pub objsize: u32,
+    /// The objects of a slab of the cache's own order.
+    pub objperslab: u32,
+    /// The page frames of such a slab.
+    pub pagesperslab: u32,
+    /// The slabs of the cache.
+    pub num_slabs: u64,
+    /// The objects given and not freed.
+    pub live: u64,
+    /// The free objects, wherever they stand.
+    pub free: u64,
+    /// The objects set aside as damaged.
+    pub aside: u64,
+    /// The frozen slabs.
+    pub frozen: u64,
+}
+
+/// A row of slabinfo.
+#[derive(Debug, Drop)]
+pub struct InfoRow {
+    pub title: Name,
+    pub counts: Counts,
+}
+
+/// What slabinfo says of a live cache (`get_slabinfo`).
+///
+/// The cost is four passes over the slabs and one over the cache's node list and CPUs: the board
+/// isn't walked. No memory is taken.
+pub fn cache_counts(lists: &Lists, cache: u32) -> Counts
+    requires coherent { IsCoherent lists.now }
+    requires live { IsSome (cache_of lists.now cache) }
+    ensures { IfSome (cache_of lists.now cache) (λ live. result ≡ counts_of lists.now cache live.layout) }
+{
+    let live = lists.caches()[cache as usize].as_ref().unwrap();
+    counts_with(lists, cache, &live.layout)
+}
+
+/// The same for a live cache with this layout.
+fn counts_with(lists: &Lists, cache: u32, layout: &Layout) -> Counts
+    requires coherent { IsCoherent lists.now }
+    requires live { IsSome (cache_of lists.now cache) }
+    requires order { layout.now.order ≤ 3 }
+    ensures { result ≡ counts_of lists.now cache layout.now }
+{
+    let number = cache as usize;
+    let num_objs = num_objs(lists.slabs(), cache);
+    let node_free = node_free(&lists.nodes()[number], lists.frees());
+    Counts {
+        active_objs: num_objs.saturating_sub(node_free),
+        num_objs,
+        objsize: layout.size,
+        objperslab: layout.objects,
+        pagesperslab: 1 << layout.order,
+        num_slabs: num_slabs(lists.slabs(), cache),
+        live: lists.live()[number],
+        free: free(lists, cache),
+        aside: 0,
+        frozen: frozen(lists.slabs(), cache),
+    }
+}
+
+/// The objects of all slabs of a cache.
+fn num_objs(slabs: &[Option<Slab>], cache: u32) -> u64
+    requires { length slabs.now ≤ 4096 }
+    ensures { result ≡ sum_by (objects_in cache) slabs.now }
+{
+    let mut count = 0;
+    for slab in slabs {
+        count += match slab {
+            Some(slab) if slab.cache == cache => u64::from(slab.objects),
+            _ => 0,
+        };
+    }
+    count
+}
+
+/// The free objects of the slabs on a node list.
+fn node_free(node: &FrameList, frees: &[FreeList]) -> u64
+    ensures { result ≡ sum_by (λ frame. length (slice_index_or frees.now frame [])) node.now }
+{
+    let mut count = 0;
+    for at in 0..node.len() {
+        if let Some(frame) = node.get(at) {
+            count += own_free(frees, usize::from(frame));
+        }
+    }
+    count
+}
+
+/// The free objects on a slab's own freelist.
+fn own_free(frees: &[FreeList], frame: usize) -> u64
+    ensures value { result ≡ length (slice_index_or frees.now frame []) }
+    ensures room { result ≤ 512 }
+{
+    frees.get(frame).map_or(0, |free| free.len() as u64)
+}
+
+/// The free objects of a cache, wherever they stand.
+fn free(lists: &Lists, cache: u32) -> u64
+    requires coherent { IsCoherent lists.now }
+    requires live { IsSome (cache_of lists.now cache) }
+    ensures { result ≡ free_of lists.now cache }
+{
+    let cpus = lists.cpus() as usize;
+    let first = cache as usize * cpus;
+    slab_free(lists.slabs(), lists.frees(), cache)
+        + cpu_free(&lists.cpu_lists()[first..first + cpus])
+}
+
+/// The free objects on the own freelists of a cache's slabs.
+fn slab_free(slabs: &[Option<Slab>], frees: &[FreeList], cache: u32) -> u64
+    requires slabs { length slabs.now ≤ 4096 }
+    requires frees { length frees.now ≡ length slabs.now }
+    ensures value { result ≡ sum_by (free_in cache) (zip slabs.now frees.now) }
+    ensures bound { result ≤ 2097152 }
+{
+    let mut count = 0;
+    for (frame, slab) in slabs.iter().enumerate() {
+        if is_slab_of(slab, cache) {
+            count += own_free(frees, frame);
+        }
+    }
+    count
+}
+
+/// The objects on the freelists of these CPUs.
+fn cpu_free(cpus: &[CpuLists]) -> u64
+    requires { length cpus.now ≤ 16 }
+    ensures value { result ≡ sum_by (λ lists. length lists.free) cpus.now }
+    ensures bound { result ≤ 8192 }
+{
+    let mut count = 0;
+    for lists in cpus {
+        count += lists.free.len() as u64;
+    }
+    count
+}
+
+/// How many slabs a cache has.
+fn num_slabs(slabs: &[Option<Slab>], cache: u32) -> u64
+    ensures { result ≡ count_by (is_slab_of cache) slabs.now }
+{
+    slabs.iter().filter(|slab| is_slab_of(slab, cache)).count() as u64
+}
+
+/// How many slabs of a cache are frozen.
+fn frozen(slabs: &[Option<Slab>], cache: u32) -> u64
+    ensures { result ≡ count_by (is_frozen_of cache) slabs.now }
+{
+    slabs
+        .iter()
+        .filter(|slab| is_frozen_of(slab, cache))
+        .count() as u64
+}
+
+fn is_slab_of(slab: &Option<Slab>, cache: u32) -> bool
+    ensures { result ≡ is_slab_of cache slab.now }
+{
+    match slab {
+        Some(slab) => slab.cache == cache,
+        None => false,
+    }
+}
+
+fn is_frozen_of(slab: &Option<Slab>, cache: u32) -> bool
+    ensures { result ≡ is_frozen_of cache slab.now }
+{
+    match slab {
+        Some(slab) => slab.cache == cache && slab.frozen,
+        None => false,
+    }
+}
+
+/// The rows of slabinfo: one for each live cache, newest first.
+pub fn info_rows(alloc: Global, lists: &Lists) -> Result<Vec<InfoRow>, NoMemory>
+    requires coherent { IsCoherent lists.now }
+    ensures { IfOk result (λ rows. rows.items ≡ rows_of lists.now) }
+{
+    let mut rows = Vec::new(alloc);
+    let ages = lists.newest_first();
+    for at in 0..ages.len() {
+        if let Some(cache) = ages.get(at) {
+            push_row(&mut rows, lists, cache)?;
+        }
+    }
+    Ok(rows)
+}
+
+/// Adds the row of a cache, if it is live.
+fn push_row(rows: &mut Vec<InfoRow>, lists: &Lists, cache: u16) -> Result<(), NoMemory>
+    requires coherent { IsCoherent lists.now }
+    ensures { OnOk result (rows.new.items ≡ rows.old.items ++ option_to_list (row_of lists.now cache)) }
+{
+    if let Some(row) = info_row(lists, cache) {
+        rows.push(row)?;
+    }
+    Ok(())
+}
+
+/// The row of a cache, if it is live.
+fn info_row(lists: &Lists, cache: u16) -> Option<InfoRow>
+    requires coherent { IsCoherent lists.now }
+    ensures { result ≡ row_of lists.now cache }
+{
+    let live = lists.caches().get(usize::from(cache))?.as_ref()?;
+    Some(InfoRow {
+        title: live.title,
+        counts: counts_with(lists, u32::from(cache), &live.layout),
+    })
+}

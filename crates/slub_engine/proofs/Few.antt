@@ -1,0 +1,134 @@
+-- The counts of a coherent machine are small.
+use Rattle.std.proofs.Common.{◌≡◌, ℕ, ◌+◌, ◌-◌, ◌*◌, ◌^◌, ◌<◌, ◌≤◌, true, false, cond, eqb, List, [], ◌∷◌, length, drop, get_or, refl, sym, ◌∙◌, ap, arith, Option, Some, None, IfSome, MatchOption, inl, inr, sum_by}
+use Rattle.std.specs.List.{AllByRecursion, IsDistinct, list_any, slice_range, zip}
+use Rattle.std.proofs.lemmas.Bool.Decides.{nat_tests}
+use Rattle.std.proofs.lemmas.List.Sums.{count_by-le-length, get_or-le-sum_by, sum_by-cons, sum_by-le, sum_by-take-drop, sum_by-take-le}
+use Rattle.std.proofs.lemmas.Map.Keys.{IsDistinct-cons}
+use Rattle.std.proofs.lemmas.Map.Steps.{length-le_from_distinct_below}
+use Rattle.std.proofs.lemmas.Option.{get_or_from_slice_get, slice_get-get_or}
+use Rattle.std.proofs.lemmas.Slice.Zip.{length-zip, get_or-zip}
+use Rattle.slub_object_layout.specs.declared.layout.Layout.{Layout}
+use Rattle.slub_lists.specs.declared.lists.Slab.{Slab}
+use Rattle.slub_lists.specs.declared.lists.Cache.{Cache}
+use Rattle.slub_lists.specs.declared.lists.CpuLists.{CpuLists}
+use Rattle.slub_lists.specs.declared.lists.Held.{Held}
+use Rattle.slub_lists.specs.State.{State}
+use Rattle.slub_lists.specs.Alloc.{cache_of, no_lists, own_free, slab_of}
+use Rattle.slub_lists.specs.Coherent.{IsCoherent, IsShaped, IsSlabOf, IsTuned, has_object, held_of, if_current, on_cpu, times}
+use Rattle.slub_slabinfo_text.specs.Counts.{counts_of, free_in, free_of, is_frozen_of, is_slab_of}
+use Rattle.slub_engine.specs.Sums.{IsAtMost}
+
+-- ---- a list in which no number stands twice is short
+
+none_is : (x : ℕ) (xs : List ℕ) → times x xs ≡ 0 → AllByRecursion (λ y. eqb x y ≡ false) xs
+none_is x [] none = tt
+none_is x (y ∷ ys) none =
+    let split = sum_by-cons (λ z. cond (eqb z x) 1 0) y ys in
+    (grind (arith, nat_tests, split, none), none_is x ys (omega (arith, split)))
+
+once_distinct : (xs : List ℕ) → ((x : ℕ) → times x xs ≤ 1) → IsDistinct eqb xs
+unfolding IsDistinct
+once_distinct [] once = tt
+once_distinct (x ∷ xs) once =
+    let split = λ (z : ℕ). sum_by-cons (λ y. cond (eqb y z) 1 0) x xs in
+    let none : times x xs ≡ 0 = grind (arith, nat_tests, split x, once x) in
+    IsDistinct-cons eqb x xs (none_is x xs none) (once_distinct xs (λ z. omega (arith, split z, once z)))
+
+any_counted : (x : ℕ) (xs : List ℕ) → list_any (eqb x) xs ≡ true → 1 ≤ times x xs
+any_counted x [] any = absurd (let never : ⊥ = cc in never)
+any_counted x (y ∷ ys) any =
+    let split = sum_by-cons (λ z. cond (eqb z x) 1 0) y ys in
+    let more = any_counted x ys in
+    grind (arith, nat_tests, split, more, any)
+
+-- each number once at most, and none from `limit` on
+short : (xs : List ℕ) (limit : ℕ) → ((x : ℕ) → times x xs ≤ 1) → ((x : ℕ) → limit ≤ x → times x xs ≡ 0) → length xs ≤ limit
+short xs limit once none = length-le_from_distinct_below xs limit (once_distinct xs once) (λ x any. below x (any_counted x xs any))
+  where
+    below : (x : ℕ) → 1 ≤ times x xs → x < limit
+    below x some = grind (arith, none x)
+
+-- ---- freelists
+
+-- a slab has at most 512 objects
+layout_few : (layout : Layout) (slab : Slab) → IsTuned layout → IsSlabOf layout slab → slab.objects ≤ 512
+layout_few layout slab tuned of_it =
+    let most = tuned.made.objects.1 in
+    let least = tuned.made.min_objects_slab.1 in
+    elim of_it [ inl usual ↦ omega (arith, most, usual.1) | inr small ↦ omega (arith, most, least, small.1) ]
+
+cache_few : (found : Option Cache) (slab : Slab) → IfSome found (λ live. IsTuned live.layout) → MatchOption found ⊥ (λ live. IsSlabOf live.layout slab) → slab.objects ≤ 512
+cache_few None slab tuned of_it = absurd of_it
+cache_few (Some live) slab tuned of_it = layout_few live.layout slab tuned of_it
+
+slab_few : (s : State) → IsShaped s → (slab : Option Slab) → IfSome slab (λ slab. MatchOption (cache_of s slab.cache) ⊥ (λ live. IsSlabOf live.layout slab))
+    → (index : ℕ) → (has_object index slab ≤ 1) × (512 ≤ index → has_object index slab ≡ 0)
+slab_few s shaped None of_it index = (omega arith, λ past. refl)
+slab_few s shaped (Some slab) of_it index =
+    let few = cache_few (cache_of s slab.cache) slab (shaped.layouts slab.cache) of_it in
+    (grind (arith, nat_tests), λ past. grind (arith, nat_tests, few, past))
+
+own_few : (s : State) → IsCoherent s → (frame : ℕ) → length (own_free s frame) ≤ 512
+own_few s coherent frame =
+    let slab = slab_few s coherent.shaped (slab_of s frame) (coherent.shaped.slab frame) in
+    short (own_free s frame) 512
+    (λ index. omega (arith, coherent.placed frame index, (slab index).0))
+    (λ index past. omega (arith, coherent.placed frame index, (slab index).1 past))
+
+cpu_few : (s : State) → IsCoherent s → (place : ℕ) (lists : CpuLists) → place < length s.cpu_lists → get_or s.cpu_lists place no_lists ≡ lists
+    → (current : Option ℕ) → lists.current ≡ current → length lists.free ≤ 512
+cpu_few s coherent place lists within is None none =
+    let bare = coherent.shaped.bare place (ap (λ (lists : CpuLists). lists.current) is ∙ none) in
+    let nothing : lists.free ≡ [] = sym (ap (λ (lists : CpuLists). lists.free) is) ∙ bare in
+    rw nothing (omega arith)
+cpu_few s coherent place lists within is (Some frame) here =
+    let slab = slab_few s coherent.shaped (slab_of s frame) (coherent.shaped.slab frame) in
+    let counted : (index : ℕ) → times index lists.free ≤ has_object index (slab_of s frame) = λ index.
+    (let mine : on_cpu frame index lists ≡ times index lists.free = ap (if_current frame (times index lists.free)) here ∙ current_same frame (times index lists.free) in
+    let all = get_or-le-sum_by (on_cpu frame index) s.cpu_lists place no_lists within in
+    let same : on_cpu frame index (get_or s.cpu_lists place no_lists) ≡ on_cpu frame index lists = ap (on_cpu frame index) is in
+    omega (arith, coherent.placed frame index, all, same, mine)) in
+    short lists.free 512
+    (λ index. omega (arith, counted index, (slab index).0))
+    (λ index past. omega (arith, counted index, (slab index).1 past))
+  where
+    current_same : (frame n : ℕ) → if_current frame n (Some frame) ≡ n
+    current_same frame n = grind (arith, nat_tests)
+
+-- ---- the counts
+
+-- within a list the default doesn't matter
+same_default : {A : Type 0} (xs : List A) (i : ℕ) (d e : A) → i < length xs → get_or xs i d ≡ get_or xs i e
+same_default xs i d e within = get_or_from_slice_get xs i (get_or xs i e) d (slice_get-get_or xs i e within)
+
+free_in_few : (cache : ℕ) (slab : Option Slab) (free : List ℕ) → length free ≤ 512 → free_in cache (slab, free) ≤ 512
+free_in_few cache None free few = omega arith
+free_in_few cache (Some slab) free few = grind (arith, nat_tests)
+
+free_few : (s : State) (cache : ℕ) → IsCoherent s → free_of s cache ≤ 4096 * 512 + 512 * 512
+free_few s cache coherent =
+    let slabs : length (zip s.slabs s.frees) ≤ 4096 = omega (arith, length-zip s.slabs s.frees, coherent.shaped.slabs, coherent.shaped.frames.1) in
+    let own : sum_by (free_in cache) (zip s.slabs s.frees) ≤ length (zip s.slabs s.frees) * 512 =
+    sum_by-le (free_in cache) 512 (zip s.slabs s.frees) (λ frame d within.
+    rw (get_or-zip s.slabs s.frees frame d (omega (arith, length-zip s.slabs s.frees)) (omega (arith, length-zip s.slabs s.frees)))
+    (free_in_few cache (get_or s.slabs frame d.0) (get_or s.frees frame d.1)
+    (rw (same_default s.frees frame d.1 [] (omega (arith, length-zip s.slabs s.frees))) (own_few s coherent frame)))) in
+    let cpus : sum_by (λ lists. length lists.free) s.cpu_lists ≤ length s.cpu_lists * 512 =
+    sum_by-le (λ lists. length lists.free) 512 s.cpu_lists (λ place d within. cpu_few s coherent place (get_or s.cpu_lists place d) within (same_default s.cpu_lists place no_lists d within) (get_or s.cpu_lists place d).current refl) in
+    let part : sum_by (λ lists. length lists.free) (slice_range s.cpu_lists (cache * s.cpus) ((cache + 1) * s.cpus)) ≤ sum_by (λ lists. length lists.free) s.cpu_lists =
+    omega (arith, sum_by-take-le (λ lists. length lists.free) (drop (cache * s.cpus) s.cpu_lists) ((cache + 1) * s.cpus - cache * s.cpus), sum_by-take-drop (λ lists. length lists.free) s.cpu_lists (cache * s.cpus)) in
+    omega (arith, own, cpus, part, slabs, coherent.shaped.cpu_lists, coherent.shaped.cpus.1)
+
+held_few : (cache : ℕ) (held : Option Held) → held_of cache held ≤ 1
+held_few cache None = omega arith
+held_few cache (Some held) = grind (arith, nat_tests)
+
+-- the counts of a cache are below 2 ^ 32
+pub counts_few : (s : State) (cache : ℕ) (layout : Layout) → IsCoherent s → IsAtMost (2 ^ 32) (counts_of s cache layout)
+counts_few s cache layout coherent = record {
+  live = omega (arith, sum_by-le (held_of cache) 1 s.board (λ object d within. held_few cache (get_or s.board object d)), coherent.shaped.board);
+  free = omega (arith, free_few s cache coherent);
+  aside = omega arith;
+  frozen = omega (arith, count_by-le-length (is_frozen_of cache) s.slabs, coherent.shaped.slabs, coherent.shaped.frames.1);
+  slabs = omega (arith, count_by-le-length (is_slab_of cache) s.slabs, coherent.shaped.slabs, coherent.shaped.frames.1);
+}

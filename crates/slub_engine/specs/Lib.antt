@@ -1,0 +1,5 @@
+pub mod Journal
+pub mod Lawful
+pub mod Steps
+pub mod Sums
+pub mod Text

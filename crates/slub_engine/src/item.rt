@@ -1,0 +1,231 @@
+//! Doing an item.
+
+ghost use Rattle.std.specs.Prelude.{false, ◌≡◌, ◌+◌, ◌-◌, ◌^◌, ◌<◌, ◌≤◌, [], length, All, IfOk, IfSome, OnOk, OnErr, nat_eq, vec_capacity};
+ghost use Rattle.std.specs.List.{IsDistinct};
+ghost use Rattle.slub_lists.specs.Coherent.{IsCoherent, KeepsOthers};
+ghost use Rattle.slub_object_layout.specs.Layout.{IsAccepted, is_checked};
+ghost use Rattle.slub_trace_reader.specs.Grammar.{object_of, objects_of};
+ghost use Rattle.slub_engine.specs.Lawful.{Answers, CreatesCache, DoesAt, DoesRound, HasNoCache, IsBuilt, IsLedger, IsReady, IsTotal, RunsEvents, RunsItems, least_order_of, opening_of};
+ghost use Rattle.slub_engine.specs.declared.item.NoMemory.{NoMemory};
+ghost use Rattle.slub_engine.specs.Steps.{IsBelow, IsKnown, IsKnownAct, IsUnheld, KeepsCaches, KeepsSizes, Notes};
+
+use crate::journal::{CreateRefusal, Created, Done, Ledger, RoundResult, Total};
+use crate::sums::{self, CacheSums};
+use slub_lists::lists::{Cache, Lists};
+use slub_lists::reply::Reply;
+use slub_object_layout::event::{Act, Event, Round};
+use slub_object_layout::layout::{Spec, layout_of};
+use slub_object_layout::sequence::Sequence;
+use slub_slabinfo_text::counts::info_rows;
+use slub_trace_reader::trace::{Item, Trace};
+use std::alloc::{AllocError, AllocFailed, Global};
+
+/// Memory ran out.
+#[derive(Clone, Copy, Debug, PartialEq, Eq)]
+pub struct NoMemory;
+
+impl From<AllocError> for NoMemory {
+    ghost from_gives = { λ _ e. e ≡ record {} };
+
+    fn from(_error: AllocError) -> NoMemory {
+        NoMemory
+    }
+}
+
+impl<T: Drop> From<AllocFailed<T>> for NoMemory {
+    ghost from_gives = { λ _ e. e ≡ record {} };
+
+    fn from(_failed: AllocFailed<T>) -> NoMemory {
+        NoMemory
+    }
+}
+
+impl From<slub_slabinfo_text::no_memory::NoMemory> for NoMemory {
+    ghost from_gives = { λ _ e. e ≡ record {} };
+
+    fn from(_want: slub_slabinfo_text::no_memory::NoMemory) -> NoMemory {
+        NoMemory
+    }
+}
+
+/// Does the item of this number. Where it finds no memory, the machine is as it was given.
+pub fn item(
+    alloc: Global,
+    lists: &mut Lists,
+    trace: &Trace,
+    number: usize,
+) -> Result<Done, NoMemory>
+    requires built { IsBuilt trace.now }
+    requires within { number < length trace.now.items }
+    requires ready { IsReady lists.old trace.now number }
+    ensures done { IfOk result (λ done. DoesAt lists.old trace.now number done lists.new) }
+    ensures ready { OnOk result (IsReady lists.new trace.now (number + 1)) }
+    ensures err { OnErr result (lists.new ≡ lists.old) }
+{
+    match &trace.items.as_slice()[number] {
+        Item::Cache { name, spec } => Ok(Done::Created(create(lists, trace, *name, spec))),
+        Item::Round(round) => Ok(Done::Round(serial(alloc, lists, round)?)),
+        Item::Slabinfo => Ok(Done::Slabinfo(Sequence::from_vec(info_rows(alloc, lists)?))),
+        _ => unreachable!(),
+    }
+}
+
+/// Creates a cache of the name at a place of the trace's names (`kmem_cache_create`).
+fn create(
+    lists: &mut Lists,
+    trace: &Trace,
+    place: u32,
+    spec: &Spec,
+) -> Result<Created, CreateRefusal>
+    requires coherent { IsCoherent lists.old }
+    requires first { HasNoCache lists.old }
+    requires accepted { IsAccepted spec.now }
+    requires unchecked { is_checked spec.now.flags ≡ false }
+    requires named { place < length trace.now.names }
+    requires known { place < length lists.old.names }
+    ensures creates { CreatesCache lists.old trace.now place spec.now result lists.new }
+    ensures coherent { IsCoherent lists.new }
+    ensures sizes { KeepsSizes lists.old lists.new }
+    ensures board { lists.new.board ≡ lists.old.board }
+{
+    let layout = match layout_of(spec, lists.cpus()) {
+        Ok(layout) => layout,
+        Err(why) => return Err(CreateRefusal::Layout(why)),
+    };
+    let cache = Cache {
+        title: trace.names.as_slice()[place as usize],
+        flags: spec.flags,
+        layout,
+    };
+    match lists.create(place, cache) {
+        Some(number) => Ok(Created::New(number)),
+        None => Err(CreateRefusal::TooMany),
+    }
+}
+
+/// Does a round of one worker: each event to its end, in the order of the text.
+///
+/// All memory is taken before the first event.
+fn serial(alloc: Global, lists: &mut Lists, round: &Round) -> Result<RoundResult, NoMemory>
+    requires coherent { IsCoherent lists.old }
+    requires workers { round.now.workers ≡ 1 }
+    requires known { All (IsKnown lists.old) round.now.events }
+    requires unheld { All (IsUnheld lists.old) (objects_of round.now.events) }
+    requires distinct { IsDistinct nat_eq (objects_of round.now.events) }
+    ensures round { IfOk result (λ outcome. DoesRound lists.old round.now outcome lists.new) }
+    ensures coherent { IsCoherent lists.new }
+    ensures sizes { KeepsSizes lists.old lists.new }
+    ensures err { OnErr result (lists.new ≡ lists.old) }
+{
+    let events = round.events.as_slice();
+    let mut replies = Vec::with_capacity(alloc, events.len())?;
+    let mut ledgers = Vec::with_capacity(alloc, 1)?;
+    let ledger = run_events(lists, events, &mut replies);
+    lists.end_round();
+    ledgers.push_reserved(ledger);
+    Ok(RoundResult {
+        replies: Sequence::from_vec(replies),
+        ledgers: Sequence::from_vec(ledgers),
+    })
+}
+
+/// Answers events in their order, and counts the replies.
+fn run_events(lists: &mut Lists, events: &[Event], replies: &mut Vec<Reply>) -> Ledger
+    requires coherent { IsCoherent lists.old }
+    requires known { All (IsKnown lists.old) events.now }
+    requires unheld { All (IsUnheld lists.old) (objects_of events.now) }
+    requires distinct { IsDistinct nat_eq (objects_of events.now) }
+    requires empty { replies.old.items ≡ [] }
+    requires room { vec_capacity replies.old ≡ length events.now }
+    ensures runs { RunsEvents lists.old events.now replies.new.items lists.new }
+    ensures coherent { IsCoherent lists.new }
+    ensures caches { KeepsCaches lists.old lists.new }
+    ensures ledger { IsLedger lists.old events.now replies.new.items result }
+{
+    let mut ledger = Ledger {
+        given: 0,
+        freed: 0,
+        no_frames: [0; 11],
+    };
+    for event in events {
+        let reply = answer(lists, event);
+        note(&mut ledger, lists, event, reply);
+        replies.push_reserved(reply);
+    }
+    ledger
+}
+
+/// Answers an event.
+fn answer(lists: &mut Lists, event: &Event) -> Reply
+    requires coherent { IsCoherent lists.old }
+    requires known { IsKnown lists.old event.now }
+    requires unheld { IsUnheld lists.old (object_of event.now.act) }
+    ensures answers { Answers lists.old event.now event.now.act result lists.new }
+    ensures coherent { IsCoherent lists.new }
+    ensures others { KeepsOthers lists.old (object_of event.now.act) lists.new }
+{
+    match event.act {
+        Act::Alloc { cache, object } => lists.alloc_named(cache, event.cpu, event.worker, object),
+        _ => unreachable!(),
+    }
+}
+
+/// Counts a reply.
+fn note(ledger: &mut Ledger, lists: &Lists, event: &Event, reply: Reply)
+    requires coherent { IsCoherent lists.now }
+    requires known { IsKnownAct lists.now event.now.act }
+    requires room { IsBelow (2 ^ 64 - 1) ledger.old }
+    ensures { Notes lists.now event.now reply ledger.old ledger.new }
+{
+    match reply {
+        Reply::Given(_) => ledger.given += 1,
+        Reply::NoFrames => {
+            if let Some(order) = least_order(lists, &event.act) {
+                ledger.no_frames[order as usize] += 1;
+            }
+        }
+        Reply::NoSuchCache => {}
+    }
+}
+
+/// The least order of the cache that an act allocates from.
+fn least_order(lists: &Lists, act: &Act) -> Option<u32>
+    requires coherent { IsCoherent lists.now }
+    requires known { IsKnownAct lists.now act.now }
+    ensures order { result ≡ least_order_of lists.now act.now }
+    ensures small { IfSome result (λ order. order ≤ 3) }
+{
+    let place = match act {
+        Act::Alloc { cache, object: _ } => *cache,
+        _ => return None,
+    };
+    let number = lists.names()[place as usize]?;
+    let cache = lists.caches()[number as usize].as_ref()?;
+    Some(cache.layout.min_order)
+}
+
+/// The sums over all that was done, and over the machine that it left.
+pub fn total(lists: &Lists, trace: &Trace, items: &[Done]) -> Total
+    requires built { IsBuilt trace.now }
+    requires coherent { IsCoherent lists.now }
+    requires run { RunsItems (opening_of trace.now) trace.now trace.now.items items.now lists.now }
+    ensures { IsTotal lists.now items.now result }
+{
+    let CacheSums {
+        live,
+        free,
+        aside,
+        frozen,
+        slabs,
+    } = CacheSums::of(lists);
+    Total {
+        given: sums::given(items),
+        freed: sums::freed(items),
+        live,
+        free,
+        aside,
+        frozen,
+        slabs,
+        frames: u64::from(lists.free_frames()),
+    }
+}

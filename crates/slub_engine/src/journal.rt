@@ -1,0 +1,92 @@
+//! What was done.
+
+ghost use Rattle.slub_engine.specs.Journal.{IsEmpty};
+
+use slub_lists::reply::Reply;
+use slub_object_layout::layout::LayoutRefusal;
+use slub_object_layout::sequence::Sequence;
+use slub_slabinfo_text::counts::InfoRow;
+use std::alloc::Global;
+
+/// The cache that a creation made, by its number.
+#[derive(Clone, Copy, Debug, PartialEq, Eq)]
+pub enum Created {
+    New(u32),
+}
+
+/// Why no cache was created.
+#[derive(Clone, Copy, Debug, PartialEq, Eq)]
+pub enum CreateRefusal {
+    NameTaken,
+    /// 32 caches are live.
+    TooMany,
+    Layout(LayoutRefusal),
+}
+
+/// What a worker did in a round.
+#[derive(Clone, Copy, Debug, PartialEq, Eq)]
+pub struct Ledger {
+    /// The objects that it was given.
+    pub given: u64,
+    /// The objects that it freed.
+    pub freed: u64,
+    /// By order: how often no run was there for a slab of this least order.
+    pub no_frames: [u64; 11],
+}
+
+/// What came of a round.
+#[derive(Debug, Drop)]
+pub struct RoundResult {
+    /// The answers, in the order of the events.
+    pub replies: Sequence<Reply>,
+    /// By worker.
+    pub ledgers: Sequence<Ledger>,
+}
+
+/// What came of an item.
+#[derive(Debug, Drop)]
+pub enum Done {
+    Created(Result<Created, CreateRefusal>),
+    Round(RoundResult),
+    Slabinfo(Sequence<InfoRow>),
+}
+
+/// The sums at the end: of the ledgers, and over the live caches.
+#[derive(Clone, Copy, Debug, PartialEq, Eq)]
+pub struct Total {
+    pub given: u64,
+    pub freed: u64,
+    pub live: u64,
+    pub free: u64,
+    pub aside: u64,
+    pub frozen: u64,
+    pub slabs: u64,
+    /// The free page frames.
+    pub frames: u64,
+}
+
+/// What a run did: the machine that it was for, and what came of each item.
+#[derive(Debug, Drop)]
+pub struct Journal {
+    pub frames: u32,
+    pub cpus: u32,
+    pub tid: u32,
+    pub items: Sequence<Done>,
+    /// There where every item was done.
+    pub total: Option<Total>,
+}
+
+impl Journal {
+    /// The journal of nothing: no machine, no items, no total.
+    pub fn empty(alloc: Global) -> Journal
+        ensures { IsEmpty result }
+    {
+        Journal {
+            frames: 0,
+            cpus: 0,
+            tid: 0,
+            items: Sequence::new(alloc),
+            total: None,
+        }
+    }
+}

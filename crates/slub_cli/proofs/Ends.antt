@@ -1,0 +1,200 @@
+-- From the parts of a run to its clauses.
+use Rattle.std.proofs.Common.{◌≡◌, ◌≢◌, ℕ, ◌-◌, ◌≤◌, List, [], ◌∷◌, ◌++◌, Bool, true, false, cond, Some, None, Ok, Err, Result, IfSome, refl, sym, ap, ◌∙◌, length, take, arith, length-append, append-nil, inl, inr, map, zero, suc, zero-le, get_or}
+use Rattle.std.specs.Prelude.{Option, ◌⊎◌, IsSomeAnd, codes, IsTrue, string_bytes, IsSome}
+use Rattle.std.specs.declared.string.String.{String}
+use Rattle.std.specs.declared.alloc.Global.{Global}
+use Rattle.std.specs.Str.{bytes_eq}
+use Rattle.std.proofs.lemmas.Slice.Eq.{bytes_eq-Decides}
+use Rattle.std.proofs.lemmas.Bool.{false≢true}
+use Rattle.std.specs.Io.KnownBytes.{Appends}
+use Rattle.std.proofs.KnownBytes.{Appends-trans}
+use Rattle.slub_edges.specs.Edges.{Rose, AppendsFront}
+use Rattle.slub_edges.proofs.Told.{AppendsFront-after, AppendsFront-then, AppendsFront-none, AppendsFront-past, AppendsFront-whole}
+use Rattle.slub_trace_reader.specs.declared.trace.Item.{Item}
+use Rattle.slub_trace_reader.specs.declared.trace.Trace.{Trace}
+use Rattle.slub_trace_reader.specs.Reads.{IsNoTrace, IsTooLong, Spells}
+use Rattle.slub_engine.specs.declared.journal.Done.{Done}
+use Rattle.slub_engine.specs.declared.journal.Total.{Total}
+use Rattle.slub_engine.specs.declared.journal.Journal.{Journal}
+use Rattle.slub_engine.specs.Text.{text_of, done_text, items_text, end_text}
+use Rattle.slub_cli.specs.declared.stop.Stop.{Stop}
+use Rattle.slub_cli.specs.declared.stop.Stop.TheVariants as stop
+use Rattle.slub_cli.specs.declared.status.Status.{Status}
+use Rattle.slub_cli.specs.declared.status.Status.TheVariants.{Fine, Refused, BadWords, BadTrace, ReadFault, WriteFault, NoMemory}
+use Rattle.slub_cli.specs.Run.{Call, IsBadInput, IsCause, IsCommand, IsFaultLine, IsBadBytes, IsDone, IsJournalOf, IsSomeTrace, TookAll, TookFront, done_status, last_begins, last_from, last_in, text_in}
+use Rattle.slub_cli.specs.Inner.{Comes, Finishes, TookText, stop_line, stop_status}
+use Rattle.slub_cli.proofs.Texts.{items_text-none}
+
+-- ---- where the last entry begins
+
+front_shorter : (trace : Trace) (n : ℕ) (items : List Item) (dones : List Done) → length (items_text trace items (take n dones)) ≤ length (items_text trace items dones)
+front_shorter trace zero items dones = rw (items_text-none trace items) zero-le
+front_shorter trace (suc n) [] dones = zero-le
+front_shorter trace (suc n) (item ∷ items) [] = zero-le
+front_shorter trace (suc n) (item ∷ items) (d ∷ dones) =
+    omega (arith, front_shorter trace n items dones, length-append (done_text trace item d) (items_text trace items (take n dones)), length-append (done_text trace item d) (items_text trace items dones))
+
+last_from-within : (trace : Trace) (total : Option Total) (dones : List Done) → last_from trace total dones ≤ length (items_text trace trace.items dones ++ end_text total)
+last_from-within trace (Some total) dones = omega (arith, length-append (items_text trace trace.items dones) (end_text (Some total)))
+last_from-within trace None dones = omega (arith, front_shorter trace (length dones - 1) trace.items dones, length-append (items_text trace trace.items dones) [])
+
+begins_within : (trace : Option Trace) (journal : Journal) → last_in trace journal ≤ length (text_in trace journal)
+unfolding last_begins text_of
+begins_within None journal = zero-le
+begins_within (Some trace) journal = last_from-within trace journal.total journal.items
+
+-- ---- the status of a run that did everything
+
+done_line : (c : Call) (b : Bool) → IsFaultLine c (cond b Refused Fine) []
+done_line c true = refl
+done_line c false = refl
+
+done_apart : (b : Bool) → cond b Refused Fine ≡ WriteFault → ⊥
+done_apart true h = cc
+done_apart false h = cc
+
+-- ---- at the end of the work, and at the end of the run
+module _ (words : List (List ℕ)) (told left old mid new : Option (List ℕ)) (read write after : ℕ × ℕ) (trace : Option Trace) (j : Journal) where
+  abbrev pub worked : Call
+  worked = record { words = words; told = told; left = left; read = read; write = write }
+
+  abbrev pub ran : Call
+  ran = record { words = words; told = told; left = left; read = read; write = (write.0, after.1) }
+
+  -- the line of a stop is that of its status
+  stop_has_line : (e : Stop) → stop_status e ≢ WriteFault → Comes worked trace j (Err e) → IsFaultLine ran (stop_status e) (stop_line e)
+  stop_has_line stop.BadWords apart h = refl
+  stop_has_line stop.BadTrace apart h = inl (refl, h.2, h.3)
+  stop_has_line stop.TooLong apart h = inr (refl, h.2)
+  stop_has_line stop.ReadFault apart h = refl
+  stop_has_line stop.WriteFault apart h = absurd (apart refl)
+  stop_has_line stop.NoMemory apart h = refl
+
+  stop_text : (e : Stop) → stop_status e ≢ WriteFault → TookText old mid trace j (Err e) → Appends old mid (text_in trace j)
+  stop_text stop.BadWords apart h = h
+  stop_text stop.BadTrace apart h = h
+  stop_text stop.TooLong apart h = h
+  stop_text stop.ReadFault apart h = h
+  stop_text stop.WriteFault apart h = absurd (apart refl)
+  stop_text stop.NoMemory apart h = h
+
+  pub run_text : (r : Result (Unit {0}) Stop) (status : Status) → TookText old mid trace j r → Comes worked trace j r → Finishes mid new after j r status → status ≢ WriteFault → TookAll ran old new trace j status
+  run_text (Ok x) status took comes ends apart = ([], rw ends.0 (done_line ran _), rw (ends.1, append-nil (text_in trace j)) took)
+  run_text (Err e) status took comes (inl (is, wrote)) apart =
+      let named : stop_status e ≢ WriteFault = λ h. apart (is ∙ h) in
+      (stop_line e, rw is (stop_has_line e named comes), Appends-trans old mid new (text_in trace j) (stop_line e) (stop_text e named took) wrote)
+  run_text (Err e) status took comes (inr (is, rose, wrote)) apart = absurd (apart is)
+
+  -- the status that a stop means has its cause
+  stop_cause : (e : Stop) → stop_status e ≢ WriteFault → Comes worked trace j (Err e) → IsCause ran trace j (stop_status e)
+  stop_cause stop.BadWords apart h = h
+  stop_cause stop.BadTrace apart h = (h.0, inl (h.2, h.3), h.1)
+  stop_cause stop.TooLong apart h = (h.0, inr h.2, h.1)
+  stop_cause stop.ReadFault apart h = h
+  stop_cause stop.WriteFault apart h = absurd (apart refl)
+  stop_cause stop.NoMemory apart h = h
+
+  cut_line : (e : Stop) → stop_status e ≢ WriteFault → Comes worked trace j (Err e) → Appends old mid (text_in trace j) → AppendsFront mid new 0 (stop_line e) → TookFront ran old new trace j
+  cut_line e named comes took wrote =
+      inr (stop_status e, stop_line e, stop_cause e named comes, stop_has_line e named comes, AppendsFront-past old new (length (text_in trace j)) _ (text_in trace j ++ stop_line e) (omega arith) (AppendsFront-after old mid new 0 (text_in trace j) (stop_line e) took wrote))
+
+  cut : (e : Stop) → TookText old mid trace j (Err e) → Comes worked trace j (Err e) → AppendsFront mid new 0 (stop_line e) → TookFront ran old new trace j
+  cut stop.WriteFault took comes wrote = inl (AppendsFront-then old mid new (last_in trace j) (text_in trace j) took (AppendsFront-none mid new wrote))
+  cut stop.BadWords took comes wrote = cut_line stop.BadWords (λ h. cc) comes took wrote
+  cut stop.BadTrace took comes wrote = cut_line stop.BadTrace (λ h. cc) comes took wrote
+  cut stop.TooLong took comes wrote = cut_line stop.TooLong (λ h. cc) comes took wrote
+  cut stop.ReadFault took comes wrote = cut_line stop.ReadFault (λ h. cc) comes took wrote
+  cut stop.NoMemory took comes wrote = cut_line stop.NoMemory (λ h. cc) comes took wrote
+
+  pub run_prefix : (r : Result (Unit {0}) Stop) (status : Status) → TookText old mid trace j r → Comes worked trace j r → Finishes mid new after j r status → status ≡ WriteFault → TookFront ran old new trace j
+  run_prefix (Ok x) status took comes ends is = absurd (done_apart _ (sym ends.0 ∙ is))
+  run_prefix (Err e) status took comes (inl (same, wrote)) is = cut e took comes (AppendsFront-whole mid new (stop_line e) wrote)
+  run_prefix (Err e) status took comes (inr (same, rose, wrote)) is = cut e took comes wrote
+
+-- ---- corollaries of the table
+
+-- bytes that are a trace are no bad input
+good_told : (told : Option (List ℕ)) → IsSomeAnd told IsSomeTrace → IfSome told IsNoTrace ⊎ IfSome told IsTooLong → ⊥
+good_told None good bad = absurd good
+good_told (Some bytes) good (inl none) = none.1 good.0 good.1
+good_told (Some bytes) good (inr long) = absurd (omega (arith, good.1.short))
+
+bad_told : (c : Call) → IsBadInput c → IfSome c.told IsNoTrace ⊎ IfSome c.told IsTooLong
+bad_told c (inl h) = inl h.1
+bad_told c (inr h) = inr h
+
+good_input : (c : Call) → IsSomeAnd c.told IsSomeTrace → IsBadInput c → ⊥
+good_input c good bad = good_told c.told good (bad_told c bad)
+
+none_some : {A : Type 0} (o : Option A) → o ≡ None → IsSome o → ⊥
+none_some None is some = false≢true some
+none_some (Some x) is some = absurd (let e : Some x ≡ None = is in cc)
+
+bad_apart : (bytes : List ℕ) → IsBadBytes bytes → IsSomeTrace bytes → ⊥
+bad_apart bytes (inl none) good = none.1 good.0 good.1
+bad_apart bytes (inr long) good = absurd (omega (arith, good.1.short))
+
+told_apart : (told : Option (List ℕ)) (trace : Trace) → IsSomeAnd told IsBadBytes → Spells told trace → ⊥
+told_apart None trace bad spells = absurd bad
+told_apart (Some bytes) trace bad spells = bad_apart bytes bad (trace, rw spells.all_told spells.spells)
+
+-- where a trace was read, the bytes are no bad ones
+read_bad : (c : Call) (trace : Option Trace) (j : Journal) → IsJournalOf c trace j → IsSome trace → IsSomeAnd c.told IsBadBytes → ⊥
+read_bad c None j law some bad = false≢true some
+read_bad c (Some trace) j law some bad = told_apart c.told trace bad law.1
+
+-- a run whose input is bad, and neither of whose ends failed, ends so
+pub bad_trace : (c : Call) (trace : Option Trace) (j : Journal) (status : Status) → IsCause c trace j status → IsJournalOf c trace j
+    → IsCommand c.words → IsSomeAnd c.told IsBadBytes → (Rose c.read.0 c.read.1 → ⊥) → (Rose c.write.0 c.write.1 → ⊥) → (status ≡ BadTrace) ⊎ (status ≡ NoMemory)
+bad_trace c trace j Fine cause law command bad no_read no_write = absurd (read_bad c trace j law cause.0.1 bad)
+bad_trace c trace j Refused cause law command bad no_read no_write = absurd (read_bad c trace j law cause.0.1 bad)
+bad_trace c trace j BadWords cause law command bad no_read no_write = absurd (cause.0 command)
+bad_trace c trace j BadTrace cause law command bad no_read no_write = inl refl
+bad_trace c trace j ReadFault cause law command bad no_read no_write = absurd (no_read cause.1)
+bad_trace c trace j WriteFault cause law command bad no_read no_write = absurd (no_write cause.0)
+bad_trace c trace j NoMemory cause law command bad no_read no_write = inr refl
+
+-- where everything was done, the status is that of the replies
+pub refused : (c : Call) (trace : Option Trace) (j : Journal) (status : Status) → IsCause c trace j status
+    → IsDone c trace j → done_status j ≡ Refused → (Rose c.write.0 c.write.1 → ⊥) → status ≡ Refused
+refused c trace j Fine cause done is no_write = sym cause.1 ∙ is
+refused c trace j Refused cause done is no_write = refl
+refused c trace j BadWords cause done is no_write = absurd (cause.0 done.0)
+refused c trace j BadTrace cause done is no_write = absurd (none_some trace cause.2 done.1)
+refused c trace j ReadFault cause done is no_write = absurd (none_some trace cause.2 done.1)
+refused c trace j WriteFault cause done is no_write = absurd (no_write cause.0)
+refused c trace j NoMemory cause done is no_write = absurd (none_some j.total cause.1 done.2)
+
+pub complete : (c : Call) (trace : Option Trace) (j : Journal) (status : Status) → IsCause c trace j status
+    → IsCommand c.words → IsSomeAnd c.told IsSomeTrace → (Rose c.read.0 c.read.1 → ⊥) → (Rose c.write.0 c.write.1 → ⊥) → (status ≡ done_status j) ⊎ (status ≡ NoMemory)
+complete c trace j Fine cause command good no_read no_write = inl (sym cause.1)
+complete c trace j Refused cause command good no_read no_write = inl (sym cause.1)
+complete c trace j BadWords cause command good no_read no_write = absurd (cause.0 command)
+complete c trace j BadTrace cause command good no_read no_write = absurd (good_input c good cause.1)
+complete c trace j ReadFault cause command good no_read no_write = absurd (no_read cause.1)
+complete c trace j WriteFault cause command good no_read no_write = absurd (no_write cause.0)
+complete c trace j NoMemory cause command good no_read no_write = inr refl
+
+pub bad_words : (c : Call) (trace : Option Trace) (j : Journal) (status : Status) → IsCause c trace j status
+    → status ≢ WriteFault → (status ≡ BadWords → IsCommand c.words → ⊥) × ((IsCommand c.words → ⊥) → status ≡ BadWords)
+bad_words c trace j Fine cause apart = (λ h _. cc, λ h. absurd (h cause.0.0))
+bad_words c trace j Refused cause apart = (λ h _. cc, λ h. absurd (h cause.0.0))
+bad_words c trace j BadWords cause apart = (λ h. cause.0, λ h. refl)
+bad_words c trace j BadTrace cause apart = (λ h _. cc, λ h. absurd (h cause.0))
+bad_words c trace j ReadFault cause apart = (λ h _. cc, λ h. absurd (h cause.0))
+bad_words c trace j WriteFault cause apart = absurd (apart refl)
+bad_words c trace j NoMemory cause apart = (λ h _. cc, λ h. absurd (h cause.0))
+
+-- two words, compared with the command
+pub two_words : (words : List (String Global)) (v w : String Global) (a b : Bool) → length words ≡ 2 → v ≡ get_or words 0 v → a ≡ bytes_eq (string_bytes v) (codes "replay") → w ≡ get_or words 1 w → b ≡ bytes_eq (string_bytes w) (codes "--replies") → IsTrue a
+    → (IsTrue b → IsCommand (map string_bytes words)) × (IsCommand (map string_bytes words) → IsTrue b)
+two_words [] v w a b two first is_first second is_second named = absurd (omega arith)
+two_words (x ∷ []) v w a b two first is_first second is_second named = absurd (omega arith)
+two_words (x ∷ y ∷ z ∷ words) v w a b two first is_first second is_second named = absurd (omega arith)
+two_words (x ∷ y ∷ []) v w a b two first is_first second is_second named =
+    let decides = bytes_eq-Decides (string_bytes w) (codes "--replies") in
+    let name = bytes_eq-Decides (string_bytes v) (codes "replay") in
+    let head : string_bytes x ≡ codes "replay" = ap string_bytes (sym first) ∙ name.0 (sym is_first ∙ named) in (
+      λ h. ap (λ l. l ∷ string_bytes y ∷ []) head ∙ ap (λ l. codes "replay" ∷ l ∷ []) (ap string_bytes (sym second) ∙ decides.0 (sym is_second ∙ h)),
+      λ h. is_second ∙ decides.1 (ap string_bytes second ∙ (let e : string_bytes y ≡ codes "--replies" = cc in e)),
+    )

@@ -1,0 +1,149 @@
+-- How a run grows.
+use Rattle.std.proofs.Common.{◌≡◌, ℕ, ◌+◌, ◌<◌, ◌≤◌, List, [], ◌∷◌, ◌++◌, None, Ok, Err, Result, refl, ap, ◌∙◌, subst, length, take, arith, length-append, le_refl, zero, suc, zero-le}
+use Rattle.std.specs.Prelude.{slice_get, MatchOption}
+use Rattle.std.proofs.lemmas.List.{take_all}
+use Rattle.slub_lists.specs.State.{State}
+use Rattle.slub_lists.specs.Coherent.{IsCoherent}
+use Rattle.slub_trace_reader.specs.declared.trace.Item.{Item}
+use Rattle.slub_trace_reader.specs.declared.trace.Trace.{Trace}
+use Rattle.slub_engine.specs.declared.journal.Done.{Done}
+use Rattle.slub_engine.specs.declared.journal.Journal.{Journal}
+use Rattle.slub_engine.specs.Lawful.{Does, IsBuilt, IsLawful, IsReady, RunsItems, opening_of}
+use Rattle.slub_engine.proofs.Laws.{opened_ready}
+use Rattle.slub_cli.specs.declared.stop.Stop.{Stop}
+use Rattle.slub_cli.specs.declared.stop.Stop.TheVariants.{BadWords, BadTrace, TooLong, ReadFault, WriteFault, NoMemory}
+use Rattle.slub_cli.specs.Inner.{Adds, AddsTotal, DoesItem, IsMachineOf, SameMachine, Totals}
+
+-- a run goes on by one item
+RunsItems-more : (s : State) (trace : Trace) (items : List Item) (dones : List Done) (mid : State) (item : Item) (d : Done) (after : State)
+    → RunsItems s trace items dones mid → Does mid trace item d after → IsCoherent after → RunsItems s trace (items ++ item ∷ []) (dones ++ d ∷ []) after
+RunsItems-more s trace [] [] mid item d after run does coherent = (after, subst (λ x. Does x trace item d after) run does, coherent, refl)
+RunsItems-more s trace (i ∷ items) (e ∷ dones) mid item d after (next, first, sound, run) does coherent =
+    (next, first, sound, RunsItems-more next trace items dones mid item d after run does coherent)
+RunsItems-more s trace [] (e ∷ dones) mid item d after run does coherent = absurd run
+RunsItems-more s trace (i ∷ items) [] mid item d after run does coherent = absurd run
+
+-- each item has one answer
+RunsItems-length : (s : State) (trace : Trace) (items : List Item) (dones : List Done) (after : State) → RunsItems s trace items dones after → length dones ≡ length items
+RunsItems-length s trace [] [] after run = refl
+RunsItems-length s trace (i ∷ items) (e ∷ dones) after (next, first, sound, run) = ap suc (RunsItems-length next trace items dones after run)
+RunsItems-length s trace [] (e ∷ dones) after run = absurd run
+RunsItems-length s trace (i ∷ items) [] after run = absurd run
+
+-- the first items are done so far
+pub record Reached (trace : Trace) (number : ℕ) (s : State) (journal : Journal) : Type 0 where
+  pub run : RunsItems (opening_of trace) trace (take number trace.items) journal.items s
+  pub length_is : length journal.items ≡ number
+  pub no_total : journal.total ≡ None
+  pub ready : IsReady s trace number
+  pub machine : IsMachineOf trace journal
+
+-- the item of a number, where there is one
+take_next : (items : List Item) (number : ℕ) (P : Item → Type 0) → MatchOption (slice_get items number) ⊥ P → (item : Item) × (take (number + 1) items ≡ take number items ++ item ∷ []) × P item
+take_next [] number P there = absurd there
+take_next (item ∷ items) zero P there = (item, refl, there)
+take_next (item ∷ items) (suc number) P there =
+    let next = take_next items number P there in
+    (next.0, ap (λ n. take n (item ∷ items)) (let e : suc number + 1 ≡ suc (number + 1) = omega arith in e) ∙ ap (λ l. item ∷ l) next.1, next.2)
+
+same_machine : (trace : Trace) (old new : Journal) → IsMachineOf trace old → SameMachine old new → IsMachineOf trace new
+same_machine trace old new machine same = record {
+  frames = same.frames ∙ machine.frames;
+  cpus = same.cpus ∙ machine.cpus;
+  tid = same.tid ∙ machine.tid;
+}
+
+pub Reached-more : (trace : Trace) (number : ℕ) (s after : State) (old new : Journal) → Reached trace number s old → Adds s trace number after old new → Reached trace (number + 1) after new
+Reached-more trace number s after old new so_far adds =
+    let next = take_next trace.items number (λ item. Does s trace item adds.answer after) adds.does in
+    record {
+      run = rw (next.1, adds.items) (RunsItems-more (opening_of trace) trace (take number trace.items) old.items s next.0 adds.answer after so_far.run next.2 adds.ready.coherent);
+      length_is = ap length adds.items ∙ length-append old.items _ ∙ ap (λ n. n + 1) so_far.length_is;
+      no_total = adds.total ∙ so_far.no_total;
+      ready = adds.ready;
+      machine = same_machine trace old new so_far.machine adds.machine;
+    }
+
+-- what was done so far is lawful
+pub Reached-lawful : (trace : Trace) (number : ℕ) (s : State) (journal : Journal) → IsCoherent (opening_of trace) → number ≤ length trace.items → Reached trace number s journal → IsLawful trace journal
+Reached-lawful trace number s journal coherent within so_far = record {
+  frames = so_far.machine.frames;
+  cpus = so_far.machine.cpus;
+  tid = so_far.machine.tid;
+  state = s;
+  coherent = coherent;
+  within = omega (arith, so_far.length_is);
+  run = rw so_far.length_is so_far.run;
+  total = rw so_far.no_total tt;
+}
+
+-- what an item that stopped leaves is lawful
+pub stopped_lawful : (trace : Trace) (number : ℕ) (s after : State) (old new : Journal) (e : Stop) → IsCoherent (opening_of trace) → number < length trace.items → Reached trace number s old → DoesItem s trace number after old new (Err e) → IsLawful trace new
+stopped_lawful trace number s after old new WriteFault coherent within so_far adds =
+    Reached-lawful trace (number + 1) after new coherent (omega arith) (Reached-more trace number s after old new so_far adds)
+stopped_lawful trace number s after old new NoMemory coherent within so_far same =
+    Reached-lawful trace number s new coherent (omega arith) (record { run = rw same.items so_far.run; length_is = rw same.items so_far.length_is; no_total = same.total ∙ so_far.no_total; ready = so_far.ready; machine = same_machine trace old new so_far.machine same.machine })
+stopped_lawful trace number s after old new BadWords coherent within so_far h = absurd h
+stopped_lawful trace number s after old new BadTrace coherent within so_far h = absurd h
+stopped_lawful trace number s after old new TooLong coherent within so_far h = absurd h
+stopped_lawful trace number s after old new ReadFault coherent within so_far h = absurd h
+
+total_lawful : (trace : Trace) (s : State) (old new : Journal) → RunsItems (opening_of trace) trace trace.items old.items s → IsLawful trace old → AddsTotal s old new → IsLawful trace new
+total_lawful trace s old new run lawful adds =
+    let whole : length new.items ≡ length trace.items = ap length adds.items ∙ RunsItems-length (opening_of trace) trace trace.items old.items s run in
+    record {
+      frames = adds.machine.frames ∙ lawful.frames;
+      cpus = adds.machine.cpus ∙ lawful.cpus;
+      tid = adds.machine.tid ∙ lawful.tid;
+      state = s;
+      coherent = lawful.coherent;
+      within = omega arith;
+      run = rw (whole, take_all (length trace.items) trace.items (le_refl _), adds.items) run;
+      total = rw adds.there (rw adds.items adds.sums, whole);
+    }
+
+-- what the total leaves is lawful
+pub totals_lawful : (trace : Trace) (s : State) (old new : Journal) (r : Result (Unit {0}) Stop) → RunsItems (opening_of trace) trace trace.items old.items s → IsLawful trace old → Totals s old new r → IsLawful trace new
+totals_lawful trace s old new (Ok x) run lawful adds = total_lawful trace s old new run lawful adds
+totals_lawful trace s old new (Err WriteFault) run lawful adds = total_lawful trace s old new run lawful adds
+totals_lawful trace s old new (Err NoMemory) run lawful same = record {
+  frames = same.machine.frames ∙ lawful.frames;
+  cpus = same.machine.cpus ∙ lawful.cpus;
+  tid = same.machine.tid ∙ lawful.tid;
+  state = lawful.state;
+  coherent = lawful.coherent;
+  within = rw same.items lawful.within;
+  run = rw same.items lawful.run;
+  total = rw (same.items, same.total) lawful.total;
+}
+totals_lawful trace s old new (Err BadWords) run lawful h = absurd h
+totals_lawful trace s old new (Err BadTrace) run lawful h = absurd h
+totals_lawful trace s old new (Err TooLong) run lawful h = absurd h
+totals_lawful trace s old new (Err ReadFault) run lawful h = absurd h
+
+-- nothing is done yet
+pub Reached-begins : (trace : Trace) (s : State) (journal : Journal) → IsBuilt trace → IsCoherent (opening_of trace) → s ≡ opening_of trace → IsMachineOf trace journal → journal.items ≡ [] → journal.total ≡ None → Reached trace 0 s journal
+Reached-begins trace s journal built coherent is machine no_items no_total = record {
+  run = rw no_items is;
+  length_is = ap length no_items;
+  no_total = no_total;
+  ready = rw is (opened_ready trace built coherent);
+  machine = machine;
+}
+
+-- a journal that is for the machine and has no items is lawful
+pub no_items_lawful : (trace : Trace) (journal : Journal) → IsCoherent (opening_of trace) → IsMachineOf trace journal → journal.items ≡ [] → journal.total ≡ None → IsLawful trace journal
+no_items_lawful trace journal coherent machine no_items no_total = record {
+  frames = machine.frames;
+  cpus = machine.cpus;
+  tid = machine.tid;
+  state = opening_of trace;
+  coherent = coherent;
+  within = rw no_items zero-le;
+  run = rw no_items refl;
+  total = rw no_total tt;
+}
+
+-- where all items are done, their run is that of the whole trace
+pub Reached-whole : (trace : Trace) (number : ℕ) (s : State) (journal : Journal) → length trace.items ≤ number → Reached trace number s journal → RunsItems (opening_of trace) trace trace.items journal.items s
+Reached-whole trace number s journal all so_far = let e : take number trace.items ≡ trace.items = take_all number trace.items all in rw e at so_far.run

@@ -1,0 +1,28 @@
+use Rattle.std.proofs.Common.{arith, le_trans, le_refl}
+use Rattle.slub_cli.proofs.Laws.{Reached-begins, Reached-more, Reached-lawful, stopped_lawful}
+use Rattle.slub_cli.proofs.replay.do_items.Goals as goal
+
+pub loop-number-init : goal.loop-number-init
+loop-number-init g c = record {
+  reached = Reached-begins c.args.trace.now c.args.lists.now c.args.journal.now c.requires.built c.requires.coherent c.requires.opened c.requires.machine c.requires.no_items c.requires.no_total;
+  told = λ start h. h;
+  counts = le_refl _;
+}
+
+pub returns-in_err-do_item-clause-lawful : goal.returns-in_err-do_item-clause-lawful
+returns-in_err-do_item-clause-lawful g c =
+    let at = c.loop-number in
+    stopped_lawful c.args.trace.now at.number at.lists c.do_item.new.lists at.journal c.do_item.new.journal _ c.requires.coherent (omega (arith, c.len-number-end.ensures)) at.invariant.reached c.in_err-do_item.ensures.done
+
+pub loop-number-preserved : goal.loop-number-preserved
+loop-number-preserved g c =
+    let at = c.loop-number in
+    record {
+      reached = Reached-more c.args.trace.now at.number at.lists c.do_item.new.lists at.journal c.do_item.new.journal at.invariant.reached c.in_ok-do_item.ensures.done;
+      told = λ start h. c.in_ok-do_item.ensures.told start (at.invariant.told start h);
+      counts = le_trans at.invariant.counts c.do_item.ensures.counts;
+    }
+
+pub returns-clause-lawful : goal.returns-clause-lawful
+returns-clause-lawful g c =
+    Reached-lawful c.args.trace.now c.loop-number.number c.loop-number.lists c.loop-number.journal c.requires.coherent (omega (arith, c.len-number-end.ensures)) c.loop-number.invariant.reached

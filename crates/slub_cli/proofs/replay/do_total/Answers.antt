@@ -1,0 +1,12 @@
+use Rattle.std.proofs.Common.{refl, ◌∙◌}
+use Rattle.std.proofs.lemmas.Result.{err_from_is_err_and}
+use Rattle.slub_cli.proofs.Texts.{grows_text, grows_front, total_entry}
+use Rattle.slub_cli.proofs.replay.do_total.Goals as goal
+
+pub returns-in_err-write_lines-clause-told : goal.returns-in_err-write_lines-clause-told
+returns-in_err-write_lines-clause-told g c =
+    let p = err_from_is_err_and c.from_residual-in_err-write_lines.result c.from_residual-in_err-write_lines.ensures.1 in
+    rw (p.1, p.2) (grows_front _ _ c.args.trace.now _ _ _ _ (total_entry c.args.trace.now _ _ c.total-sums.result c.requires.no_total refl refl) (c.deref.ensures.value ∙ c.in_ok-text.ensures) c.in_err-write_lines.ensures.err)
+
+pub returns-clause-told : goal.returns-clause-told
+returns-clause-told g c = grows_text _ _ c.args.trace.now _ _ _ _ (total_entry c.args.trace.now _ _ c.total-sums.result c.requires.no_total refl refl) (c.deref.ensures.value ∙ c.in_ok-text.ensures) c.in_ok-write_lines.ensures.ok

@@ -1,0 +1,137 @@
+//! Replaying a trace: each item is done, its text made, put into the journal, and written.
+
+ghost use Rattle.std.specs.Prelude.{◌≡◌, ◌<◌, ◌≤◌, [], None, Some, length, IfErr, IfOk, OnOk, IsSome};
+ghost use Rattle.slub_lists.specs.Coherent.{IsCoherent};
+ghost use Rattle.slub_engine.specs.Journal.{IsEmpty};
+ghost use Rattle.slub_engine.specs.Lawful.{IsBuilt, IsLawful, IsReady, RunsItems, opening_of};
+ghost use Rattle.slub_cli.specs.Inner.{DoesItem, IsItemStop, IsMachineOf, Tells, TookText, Totals};
+
+use crate::stop::Stop;
+use slub_edges::edges::Sink;
+use slub_edges::pieces::write_lines;
+use slub_engine::item::{item, total};
+use slub_engine::journal::Journal;
+use slub_engine::text::{text_of_item, text_of_total};
+use slub_lists::lists::{Lists, NoMemory};
+use slub_trace_reader::trace::Trace;
+use std::alloc::Global;
+
+/// Does the item of a number. Its text is made before it is put into the journal, and written after.
+fn do_item<K: Sink>(
+    alloc: Global,
+    trace: &Trace,
+    number: usize,
+    lists: &mut Lists,
+    sink: &mut K,
+    journal: &mut Journal,
+) -> Result<(), Stop>
+    requires built { IsBuilt trace.now }
+    requires within { number < length trace.now.items }
+    requires ready { IsReady lists.old trace.now number }
+    requires so_far { length journal.old.items ≡ number }
+    requires no_total { journal.old.total ≡ None }
+    ensures done { DoesItem lists.old trace.now number lists.new journal.old journal.new result }
+    ensures told { Tells (K.taken sink.old) (K.taken sink.new) trace.now journal.old journal.new result }
+    ensures stops { IfErr result (IsItemStop (K.faults sink.old) (K.faults sink.new) journal.new) }
+    ensures counts { K.faults sink.old ≤ K.faults sink.new }
+{
+    let done = item(alloc, lists, trace, number)?;
+    let text = text_of_item(alloc, trace, number, &done)?;
+    journal.items.push(done)?;
+    write_lines(sink, &text)?;
+    Ok(())
+}
+
+/// Does the items in order.
+fn do_items<K: Sink>(
+    alloc: Global,
+    trace: &Trace,
+    lists: &mut Lists,
+    sink: &mut K,
+    journal: &mut Journal,
+) -> Result<(), Stop>
+    requires built { IsBuilt trace.now }
+    requires opened { lists.old ≡ opening_of trace.now }
+    requires coherent { IsCoherent (opening_of trace.now) }
+    requires machine { IsMachineOf trace.now journal.old }
+    requires no_items { journal.old.items ≡ [] }
+    requires no_total { journal.old.total ≡ None }
+    ensures run { OnOk result (RunsItems (opening_of trace.now) trace.now trace.now.items journal.new.items lists.new) }
+    ensures coherent { OnOk result (IsCoherent lists.new) }
+    ensures lawful { IsLawful trace.now journal.new }
+    ensures no_total { journal.new.total ≡ None }
+    ensures told { Tells (K.taken sink.old) (K.taken sink.new) trace.now journal.old journal.new result }
+    ensures stops { IfErr result (IsItemStop (K.faults sink.old) (K.faults sink.new) journal.new) }
+    ensures counts { K.faults sink.old ≤ K.faults sink.new }
+{
+    for number in 0..trace.items.len() {
+        do_item(alloc, trace, number, lists, sink, journal)?;
+    }
+    Ok(())
+}
+
+/// Sums up. The text of the total is made before it is put into the journal, and written after.
+fn do_total<K: Sink>(
+    alloc: Global,
+    trace: &Trace,
+    lists: &Lists,
+    sink: &mut K,
+    journal: &mut Journal,
+) -> Result<(), Stop>
+    requires built { IsBuilt trace.now }
+    requires coherent { IsCoherent lists.now }
+    requires run { RunsItems (opening_of trace.now) trace.now trace.now.items journal.old.items lists.now }
+    requires no_total { journal.old.total ≡ None }
+    ensures done { Totals lists.now journal.old journal.new result }
+    ensures told { Tells (K.taken sink.old) (K.taken sink.new) trace.now journal.old journal.new result }
+    ensures stops { IfErr result (IsItemStop (K.faults sink.old) (K.faults sink.new) journal.new) }
+    ensures counts { K.faults sink.old ≤ K.faults sink.new }
+{
+    let sums = total(lists, trace, journal.items.as_slice());
+    let text = text_of_total(alloc, &sums)?;
+    journal.total = Some(sums);
+    write_lines(sink, &text)?;
+    Ok(())
+}
+
+/// The journal is for the machine of the trace.
+fn begin(trace: &Trace, journal: &mut Journal)
+    ensures machine { IsMachineOf trace.now journal.new }
+    ensures items { journal.new.items ≡ journal.old.items }
+    ensures total { journal.new.total ≡ journal.old.total }
+{
+    journal.frames = trace.frames;
+    journal.cpus = trace.cpus;
+    journal.tid = trace.tid;
+}
+
+/// The machine before the first item of a trace.
+fn open(alloc: Global, trace: &Trace) -> Result<Lists, NoMemory>
+    requires { IsBuilt trace.now }
+    ensures opened { IfOk result (λ lists. lists ≡ opening_of trace.now) }
+    ensures coherent { IsCoherent (opening_of trace.now) }
+{
+    let names = trace.names.len() as u32;
+    Lists::open(alloc, trace.frames, trace.cpus, trace.objects, names)
+}
+
+/// Replays a trace on a machine of its own.
+pub fn do_trace<K: Sink>(
+    alloc: Global,
+    trace: &Trace,
+    sink: &mut K,
+    journal: &mut Journal,
+) -> Result<(), Stop>
+    requires built { IsBuilt trace.now }
+    requires empty { IsEmpty journal.old }
+    ensures lawful { IsLawful trace.now journal.new }
+    ensures all { OnOk result (IsSome journal.new.total) }
+    ensures told { TookText (K.taken sink.old) (K.taken sink.new) (Some trace.now) journal.new result }
+    ensures stops { IfErr result (IsItemStop (K.faults sink.old) (K.faults sink.new) journal.new) }
+    ensures counts { K.faults sink.old ≤ K.faults sink.new }
+{
+    begin(trace, journal);
+    let mut lists = open(alloc, trace)?;
+    do_items(alloc, trace, &mut lists, sink, journal)?;
+    do_total(alloc, trace, &lists, sink, journal)
+}

@@ -1,0 +1,267 @@
+use crate::run::run;
+use crate::status::Status;
+use slub_edges::memory::{MemSink, MemSource};
+use std::alloc::{AllocError, Global};
+use std::test::*;
+
+const HEADER: &str =
+    "slabinfo - version: 2.1\n# name            <active_objs> <num_objs> <objsize> <objperslab> <pagesperslab> : tunables <limit> <batchcount> <sharedfactor> : slabdata <active_slabs> <num_slabs> <sharedavail>\n";
+
+/// One live object: the first allocation.
+const FIRST: &str =
+    "slubtrace 1\nmachine 16 2\ncache dentry 192 8 -\nround 1\nalloc 0 0 dentry 1\ndone\nslabinfo\nend\n";
+
+/// What the first allocation prints, but for the two header lines of slabinfo.
+const FIRST_LINES: [&str; 4] = [
+    "cache dentry: new\n",
+    "alloc 1: given 4096\n",
+    "dentry                21     21    192   21    1 : tunables    0    0    0 : slabdata      1      1      0\n",
+    "total given 1 freed 0 live 1 free 20 aside 0 frozen 1 slabs 1 frames 14\n",
+];
+
+/// How a run is made to fail, and how much its sink takes at a call.
+#[derive(Clone, Copy)]
+struct Ends<'a> {
+    reads: &'a [u64],
+    writes: &'a [u64],
+    most: usize,
+}
+
+const SOUND: Ends<'static> = Ends {
+    reads: &[],
+    writes: &[],
+    most: 4096,
+};
+
+fn text_of(alloc: Global, parts: &[&str]) -> Result<String, AllocError> {
+    let mut text = String::new(alloc);
+    for part in parts {
+        text.push_str(part)?;
+    }
+    Ok(text)
+}
+
+fn first_text(alloc: Global) -> Result<String, AllocError> {
+    text_of(
+        alloc,
+        &[
+            FIRST_LINES[0],
+            FIRST_LINES[1],
+            HEADER,
+            FIRST_LINES[2],
+            FIRST_LINES[3],
+        ],
+    )
+}
+
+/// Runs words on an input, and gives the status and the bytes that were taken.
+fn ran(alloc: Global, words: &[&str], input: &str, ends: &Ends) -> Result<(Status, Vec<u8>), Fail> {
+    let mut source = MemSource::of(alloc, input.as_bytes(), ends.reads)?;
+    let mut sink = MemSink::of(alloc, ends.writes, ends.most.max(1))?;
+    let mut owned = Vec::new(alloc);
+    for word in words {
+        owned.push(String::from_str(alloc, word)?)?;
+    }
+    let outcome = run(alloc, &owned, &mut source, &mut sink);
+    let taken = sink.bytes().to_vec(alloc)?;
+    Ok((outcome.status, taken))
+}
+
+fn expect(
+    alloc: Global,
+    words: &[&str],
+    input: &str,
+    ends: &Ends,
+    status: Status,
+    text: &str,
+) -> Result<(), Fail> {
+    let (ended, taken) = ran(alloc, words, input, ends)?;
+    if ended != status {
+        return Err("another status".into());
+    }
+    if taken.as_slice() != text.as_bytes() {
+        return Err("another text".into());
+    }
+    Ok(())
+}
+
+const REPLAY: [&str; 2] = ["replay", "--replies"];
+
+#[test]
+fn the_first_allocation(rt: HostRuntime) -> Result<(), Fail> {
+    let alloc = rt.alloc();
+    let text = first_text(alloc)?;
+    expect(alloc, &REPLAY, FIRST, &SOUND, Status::Fine, text.as_str())?;
+    let slow = Ends { most: 1, ..SOUND };
+    expect(alloc, &REPLAY, FIRST, &slow, Status::Fine, text.as_str())
+}
+
+/// A trace of one cache and so many allocations on CPU 0, numbered from 1 on.
+fn trace_of(
+    alloc: Global,
+    machine: &str,
+    name: &str,
+    size: u32,
+    count: u32,
+) -> Result<String, AllocError> {
+    let mut text = format!(in alloc;
+        "slubtrace 1\nmachine {machine}\ncache {name} {size} 8 -\nround 1\n"
+    )?;
+    for object in 1..=count {
+        let line = format!(in alloc; "alloc 0 0 {name} {object}\n")?;
+        text.push_str(line.as_str())?;
+    }
+    text.push_str("done\nslabinfo\nend\n")?;
+    Ok(text)
+}
+
+/// The replies to so many allocations from frame 1 on, each so many bytes after the other.
+fn replies_of(alloc: Global, name: &str, count: u32, size: u32) -> Result<String, AllocError> {
+    let mut text = format!(in alloc; "cache {name}: new\n")?;
+    for object in 1..=count {
+        let address = 4096 + u64::from(object - 1) * u64::from(size);
+        let line = format!(in alloc; "alloc {object}: given {address}\n")?;
+        text.push_str(line.as_str())?;
+    }
+    Ok(text)
+}
+
+#[test]
+fn a_second_slab_and_a_smaller_one(rt: HostRuntime) -> Result<(), Fail> {
+    let alloc = rt.alloc();
+
+    let input = trace_of(alloc, "16 2", "dentry", 192, 22)?;
+    let replies = replies_of(alloc, "dentry", 21, 192)?;
+    let text = text_of(
+        alloc,
+        &[
+            replies.as_str(),
+            "alloc 22: given 8192\n",
+            HEADER,
+            "dentry                42     42    192   21    1 : tunables    0    0    0 : slabdata      2      2      0\n",
+            "total given 22 freed 0 live 22 free 20 aside 0 frozen 1 slabs 2 frames 13\n",
+        ],
+    )?;
+    expect(
+        alloc,
+        &REPLAY,
+        input.as_str(),
+        &SOUND,
+        Status::Fine,
+        text.as_str(),
+    )?;
+
+    let input = trace_of(alloc, "3 2", "big", 1024, 1)?;
+    let text = text_of(
+        alloc,
+        &[
+            "cache big: new\nalloc 1: given 4096\n",
+            HEADER,
+            "big                    4      4   1024   16    4 : tunables    0    0    0 : slabdata      1      1      0\n",
+            "total given 1 freed 0 live 1 free 3 aside 0 frozen 1 slabs 1 frames 1\n",
+        ],
+    )?;
+    expect(
+        alloc,
+        &REPLAY,
+        input.as_str(),
+        &SOUND,
+        Status::Fine,
+        text.as_str(),
+    )?;
+
+    let input = trace_of(alloc, "3 2", "big", 1024, 9)?;
+    let replies = replies_of(alloc, "big", 8, 1024)?;
+    let text = text_of(
+        alloc,
+        &[
+            replies.as_str(),
+            "alloc 9: no frames\n",
+            HEADER,
+            "big                    8      8   1024   16    4 : tunables    0    0    0 : slabdata      2      2      0\n",
+            "total given 8 freed 0 live 8 free 0 aside 0 frozen 0 slabs 2 frames 0\n",
+        ],
+    )?;
+    expect(
+        alloc,
+        &REPLAY,
+        input.as_str(),
+        &SOUND,
+        Status::Refused,
+        text.as_str(),
+    )
+}
+
+#[test]
+fn faults_of_the_ends(rt: HostRuntime) -> Result<(), Fail> {
+    let alloc = rt.alloc();
+    for call in 0..2 {
+        let ends = Ends {
+            reads: &[call],
+            ..SOUND
+        };
+        expect(
+            alloc,
+            &REPLAY,
+            FIRST,
+            &ends,
+            Status::ReadFault,
+            "slub: read fault\n",
+        )?;
+    }
+    let text = first_text(alloc)?;
+    let lines = text.as_bytes();
+    let mut written = 0;
+    for call in 0..6 {
+        let ends = Ends {
+            writes: &[call],
+            ..SOUND
+        };
+        let (status, taken) = ran(alloc, &REPLAY, FIRST, &ends)?;
+        if status != Status::WriteFault
+            || taken.len() < written
+            || !lines.starts_with(taken.as_slice())
+        {
+            return Err("no front of the text".into());
+        }
+        if taken.iter().filter(|byte| **byte == b'\n').count() as u64 != call {
+            return Err("another number of lines".into());
+        }
+        written = taken.len();
+    }
+    Ok(())
+}
+
+#[test]
+fn what_is_no_command_and_no_trace(rt: HostRuntime) -> Result<(), Fail> {
+    let alloc = rt.alloc();
+    let bad = "slub: bad command\n";
+    for words in [
+        &[] as &[&str],
+        &["replay"],
+        &["--replies", "replay"],
+        &["replay", "--replies", ""],
+    ] {
+        expect(alloc, words, FIRST, &SOUND, Status::BadWords, bad)?;
+    }
+    let bad = "slub: bad trace\n";
+    for input in [
+        "",
+        "slubtrace 1\n",
+        "slubtrace 1\nmachine 16 2\ncache dentry 192 8 -\nround 1\nalloc 0 0 den",
+    ] {
+        expect(alloc, &REPLAY, input, &SOUND, Status::BadTrace, bad)?;
+    }
+    let long = vec![in alloc; b'#'; 16777217]?;
+    let mut source = MemSource::of(alloc, &long, &[])?;
+    let mut sink = MemSink::of(alloc, &[], 64)?;
+    let words = vec![in alloc;
+        String::from_str(alloc, "replay")?,
+        String::from_str(alloc, "--replies")?,
+    ]?;
+    let outcome = run(alloc, &words, &mut source, &mut sink);
+    if outcome.status != Status::BadTrace || sink.bytes() != b"slub: input too long\n".as_slice() {
+        return Err("too long an input was taken".into());
+    }
+    Ok(())
+}

@@ -1,0 +1,34 @@
+//! `slub`: replays traces on the slab allocator of Linux 6.1.
+//!
+//! The words after the program's name are the command, the trace comes on standard input, the text
+//! goes to standard output, and the process ends with the number of the status. All of that is
+//! `slub_cli::run::run`; this file hands it the real ends.
+#![tactic(auto)]
+
+use slub_cli::run::run;
+use slub_cli::status::Status;
+use slub_edges::adapters::{ReadSource, WriteSink};
+use std::alloc::AllocError;
+use std::process::ExitCode;
+use std::rt::Env;
+use std::{env, io};
+
+/// The words after the program's name; none where one of them is no text, which is no command.
+fn words(rt: &(impl Env + AllocGlobal)) -> Result<Vec<String>, AllocError> {
+    match env::args(rt) {
+        Ok(args) => args.skip(1).collect(rt.alloc()),
+        Err(error) if error.kind() == io::ErrorKind::OutOfMemory => Err(AllocError),
+        Err(_) => Ok(Vec::new(rt.alloc())),
+    }
+}
+
+fn main(rt: HostRuntime) -> ExitCode {
+    let Ok(words) = words(&rt) else {
+        let _ = println!(rt; "slub: out of memory");
+        return ExitCode::from(Status::NoMemory as u8);
+    };
+    let mut source = ReadSource::of(rt.stdin());
+    let mut sink = WriteSink::of(rt.stdout());
+    let outcome = run(rt.alloc(), &words, &mut source, &mut sink);
+    ExitCode::from(outcome.status as u8)
+}

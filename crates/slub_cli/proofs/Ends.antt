@@ -27,6 +27,7 @@ use Rattle.slub_cli.proofs.Texts.{items_text-none}
 
 -- ---- where the last entry begins
 
+-- the first items have no more text than all
 front_shorter : (trace : Trace) (n : ℕ) (items : List Item) (dones : List Done) → length (items_text trace items (take n dones)) ≤ length (items_text trace items dones)
 front_shorter trace zero items dones = rw (items_text-none trace items) zero-le
 front_shorter trace (suc n) [] dones = zero-le
@@ -34,10 +35,12 @@ front_shorter trace (suc n) (item ∷ items) [] = zero-le
 front_shorter trace (suc n) (item ∷ items) (d ∷ dones) =
     omega (arith, front_shorter trace n items dones, length-append (done_text trace item d) (items_text trace items (take n dones)), length-append (done_text trace item d) (items_text trace items dones))
 
+-- the last entry begins within the text
 last_from-within : (trace : Trace) (total : Option Total) (dones : List Done) → last_from trace total dones ≤ length (items_text trace trace.items dones ++ end_text total)
 last_from-within trace (Some total) dones = omega (arith, length-append (items_text trace trace.items dones) (end_text (Some total)))
 last_from-within trace None dones = omega (arith, front_shorter trace (length dones - 1) trace.items dones, length-append (items_text trace trace.items dones) [])
 
+-- the same of what was read
 begins_within : (trace : Option Trace) (journal : Journal) → last_in trace journal ≤ length (text_in trace journal)
 unfolding last_begins text_of
 begins_within None journal = zero-le
@@ -45,10 +48,12 @@ begins_within (Some trace) journal = last_from-within trace journal.total journa
 
 -- ---- the status of a run that did everything
 
+-- a run that did everything has no line of its own
 done_line : (c : Call) (b : Bool) → IsFaultLine c (cond b Refused Fine) []
 done_line c true = refl
 done_line c false = refl
 
+-- and does not end as a write fault
 done_apart : (b : Bool) → cond b Refused Fine ≡ WriteFault → ⊥
 done_apart true h = cc
 done_apart false h = cc
@@ -99,7 +104,7 @@ module _ (words : List (List ℕ)) (told left old mid new : Option (List ℕ)) (
       inr (stop_status e, stop_line e, stop_cause e named comes, stop_has_line e named comes, AppendsFront-past old new (length (text_in trace j)) _ (text_in trace j ++ stop_line e) (omega arith) (AppendsFront-after old mid new 0 (text_in trace j) (stop_line e) took wrote))
 
   cut : (e : Stop) → TookText old mid trace j (Err e) → Comes worked trace j (Err e) → AppendsFront mid new 0 (stop_line e) → TookFront ran old new trace j
-  cut stop.WriteFault took comes wrote = inl (AppendsFront-then old mid new (last_in trace j) (text_in trace j) took (AppendsFront-none mid new wrote))
+  cut stop.WriteFault took comes wrote = inl (comes.2, AppendsFront-then old mid new (last_in trace j) (text_in trace j) took (AppendsFront-none mid new wrote))
   cut stop.BadWords took comes wrote = cut_line stop.BadWords (λ h. cc) comes took wrote
   cut stop.BadTrace took comes wrote = cut_line stop.BadTrace (λ h. cc) comes took wrote
   cut stop.TooLong took comes wrote = cut_line stop.TooLong (λ h. cc) comes took wrote
@@ -119,21 +124,26 @@ good_told None good bad = absurd good
 good_told (Some bytes) good (inl none) = none.1 good.0 good.1
 good_told (Some bytes) good (inr long) = absurd (omega (arith, good.1.short))
 
+-- bad input is one of two kinds of bytes
 bad_told : (c : Call) → IsBadInput c → IfSome c.told IsNoTrace ⊎ IfSome c.told IsTooLong
 bad_told c (inl h) = inl h.1
 bad_told c (inr h) = inr h
 
+-- bytes that are a trace are no bad input
 good_input : (c : Call) → IsSomeAnd c.told IsSomeTrace → IsBadInput c → ⊥
 good_input c good bad = good_told c.told good (bad_told c bad)
 
+-- what is None is not Some
 none_some : {A : Type 0} (o : Option A) → o ≡ None → IsSome o → ⊥
 none_some None is some = false≢true some
 none_some (Some x) is some = absurd (let e : Some x ≡ None = is in cc)
 
+-- bad bytes spell no trace
 bad_apart : (bytes : List ℕ) → IsBadBytes bytes → IsSomeTrace bytes → ⊥
 bad_apart bytes (inl none) good = none.1 good.0 good.1
 bad_apart bytes (inr long) good = absurd (omega (arith, good.1.short))
 
+-- and no trace was read where they are told
 told_apart : (told : Option (List ℕ)) (trace : Trace) → IsSomeAnd told IsBadBytes → Spells told trace → ⊥
 told_apart None trace bad spells = absurd bad
 told_apart (Some bytes) trace bad spells = bad_apart bytes bad (trace, rw spells.all_told spells.spells)
@@ -165,6 +175,7 @@ refused c trace j ReadFault cause done is no_write = absurd (none_some trace cau
 refused c trace j WriteFault cause done is no_write = absurd (no_write cause.0)
 refused c trace j NoMemory cause done is no_write = absurd (none_some j.total cause.1 done.2)
 
+-- a run on a command and a trace, neither of whose ends failed, did everything or lacked memory
 pub complete : (c : Call) (trace : Option Trace) (j : Journal) (status : Status) → IsCause c trace j status
     → IsCommand c.words → IsSomeAnd c.told IsSomeTrace → (Rose c.read.0 c.read.1 → ⊥) → (Rose c.write.0 c.write.1 → ⊥) → (status ≡ done_status j) ⊎ (status ≡ NoMemory)
 complete c trace j Fine cause command good no_read no_write = inl (sym cause.1)
@@ -175,6 +186,7 @@ complete c trace j ReadFault cause command good no_read no_write = absurd (no_re
 complete c trace j WriteFault cause command good no_read no_write = absurd (no_write cause.0)
 complete c trace j NoMemory cause command good no_read no_write = inr refl
 
+-- but for a write fault, a run ends as one of bad words exactly where the words are no command
 pub bad_words : (c : Call) (trace : Option Trace) (j : Journal) (status : Status) → IsCause c trace j status
     → status ≢ WriteFault → (status ≡ BadWords → IsCommand c.words → ⊥) × ((IsCommand c.words → ⊥) → status ≡ BadWords)
 bad_words c trace j Fine cause apart = (λ h _. cc, λ h. absurd (h cause.0.0))

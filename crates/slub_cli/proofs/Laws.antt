@@ -46,6 +46,7 @@ take_next (item ∷ items) (suc number) P there =
     let next = take_next items number P there in
     (next.0, ap (λ n. take n (item ∷ items)) (let e : suc number + 1 ≡ suc (number + 1) = omega arith in e) ∙ ap (λ l. item ∷ l) next.1, next.2)
 
+-- a journal stays one for the machine of the trace
 same_machine : (trace : Trace) (old new : Journal) → IsMachineOf trace old → SameMachine old new → IsMachineOf trace new
 same_machine trace old new machine same = record {
   frames = same.frames ∙ machine.frames;
@@ -53,6 +54,7 @@ same_machine trace old new machine same = record {
   tid = same.tid ∙ machine.tid;
 }
 
+-- one item more is done
 pub Reached-more : (trace : Trace) (number : ℕ) (s after : State) (old new : Journal) → Reached trace number s old → Adds s trace number after old new → Reached trace (number + 1) after new
 Reached-more trace number s after old new so_far adds =
     let next = take_next trace.items number (λ item. Does s trace item adds.answer after) adds.does in
@@ -88,6 +90,7 @@ stopped_lawful trace number s after old new BadTrace coherent within so_far h = 
 stopped_lawful trace number s after old new TooLong coherent within so_far h = absurd h
 stopped_lawful trace number s after old new ReadFault coherent within so_far h = absurd h
 
+-- with its total a journal of all items is lawful
 total_lawful : (trace : Trace) (s : State) (old new : Journal) → RunsItems (opening_of trace) trace trace.items old.items s → IsLawful trace old → AddsTotal s old new → IsLawful trace new
 total_lawful trace s old new run lawful adds =
     let whole : length new.items ≡ length trace.items = ap length adds.items ∙ RunsItems-length (opening_of trace) trace trace.items old.items s run in

@@ -50,6 +50,7 @@ pub grows_none : (old : Option (List ℕ)) (trace : Trace) (before after : Journ
 unfolding text_of
 grows_none old trace before after same start told = rw (same.items, same.total) told
 
+-- an item that was put in is an entry, of its text
 pub item_entry : (trace : Trace) (before after : Journal) (d : Done) (number : ℕ) → length before.items ≡ number → before.total ≡ None → after.total ≡ before.total → after.items ≡ before.items ++ d ∷ [] → Entry trace before after (text_at trace number d)
 unfolding text_of last_begins
 item_entry trace before after d number is none total items = record {
@@ -57,6 +58,7 @@ item_entry trace before after d number is none total items = record {
   last = rw (total, none, items) (ap (λ l. length (items_text trace trace.items l)) (take_at before.items (d ∷ []) _ (omega (arith, length-append before.items (d ∷ [])))) ∙ ap length (sym (append-nil _)));
 }
 
+-- and so is the total
 pub total_entry : (trace : Trace) (before after : Journal) (n : Total) → before.total ≡ None → after.total ≡ Some n → after.items ≡ before.items → Entry trace before after (total_text n)
 unfolding text_of last_begins
 total_entry trace before after n none total items = record {

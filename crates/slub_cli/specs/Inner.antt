@@ -1,5 +1,5 @@
 -- What the parts of a run promise.
-use Rattle.std.specs.Prelude.{◌≡◌, ℕ, ◌+◌, ◌⊎◌, List, [], ◌∷◌, ◌++◌, Option, Some, None, IfSome, Result, Ok, Err, codes}
+use Rattle.std.specs.Prelude.{IsSome, ◌≡◌, ℕ, ◌+◌, ◌⊎◌, List, [], ◌∷◌, ◌++◌, Option, Some, None, IfSome, Result, Ok, Err, codes}
 use Rattle.std.specs.Io.KnownBytes.{Appends, IsAtEnd}
 use Rattle.slub_edges.specs.Edges.{Rose, AppendsFront}
 use Rattle.slub_lists.specs.State.{State}
@@ -28,6 +28,7 @@ abbrev pub GrowsFront : Option (List ℕ) → Option (List ℕ) → Trace → Jo
 GrowsFront old new trace before after =
     (start : Option (List ℕ)) → Appends start old (text_of trace before) → AppendsFront start new (last_begins trace after) (text_of trace after)
 
+-- what the sink tells after doing stopped: at a write fault a front of the last entry
 abbrev pub TellsStopped : Option (List ℕ) → Option (List ℕ) → Trace → Journal → Journal → Stop → Type 0
 TellsStopped old new trace before after WriteFault = GrowsFront old new trace before after
 TellsStopped old new trace before after BadWords = GrowsText old new trace before after
@@ -36,6 +37,7 @@ TellsStopped old new trace before after TooLong = GrowsText old new trace before
 TellsStopped old new trace before after ReadFault = GrowsText old new trace before after
 TellsStopped old new trace before after NoMemory = GrowsText old new trace before after
 
+-- what the sink tells after doing that may have stopped
 abbrev pub Tells : {A : Type 0} → Option (List ℕ) → Option (List ℕ) → Trace → Journal → Journal → Result A Stop → Type 0
 Tells old new trace before after (Ok x) = GrowsText old new trace before after
 Tells old new trace before after (Err stop) = TellsStopped old new trace before after stop
@@ -125,7 +127,7 @@ Comes c trace journal (Err BadWords) = (IsCommand c.words → ⊥) × (trace ≡
 Comes c trace journal (Err BadTrace) = IsCommand c.words × (trace ≡ None) × IsAtEnd c.left × IfSome c.told IsNoTrace
 Comes c trace journal (Err TooLong) = IsCommand c.words × (trace ≡ None) × IfSome c.told IsTooLong
 Comes c trace journal (Err ReadFault) = IsCommand c.words × Rose c.read.0 c.read.1 × (trace ≡ None)
-Comes c trace journal (Err WriteFault) = IsCommand c.words × Rose c.write.0 c.write.1
+Comes c trace journal (Err WriteFault) = IsCommand c.words × Rose c.write.0 c.write.1 × IsSome trace
 Comes c trace journal (Err NoMemory) = IsCommand c.words × (journal.total ≡ None)
 
 -- the line of a stop

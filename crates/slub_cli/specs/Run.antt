@@ -26,6 +26,7 @@ IsCommand words = words ≡ codes "replay" ∷ codes "--replies" ∷ []
 
 -- ---- the replies
 
+-- a reply that isn't Ok
 abbrev pub refuses : Reply → Bool
 refuses (reply.Given address) = false
 refuses reply.NoFrames = true
@@ -59,14 +60,16 @@ abbrev pub text_in : Option Trace → Journal → List ℕ
 text_in None journal = []
 text_in (Some trace) journal = text_of trace journal
 
+-- where the text of the last entry begins: the total, where it is there, or else the last item
 abbrev pub last_from : Trace → Option Total → List Done → ℕ
 last_from trace None dones = length (items_text trace trace.items (take (length dones - 1) dones))
 last_from trace (Some total) dones = length (items_text trace trace.items dones)
 
--- where the text of the last entry begins: of the last item, or of the total
+-- the same of a journal
 unfoldable pub last_begins : Trace → Journal → ℕ
 last_begins trace journal = last_from trace journal.total journal.items
 
+-- the same where a trace was read
 abbrev pub last_in : Option Trace → Journal → ℕ
 last_in None journal = 0
 last_in (Some trace) journal = last_begins trace journal
@@ -122,7 +125,7 @@ TookAll c old new trace journal status =
 -- a front of the text was taken, past where the last entry's text begins; or the text and a front of the line that was meant
 abbrev pub TookFront : Call → Option (List ℕ) → Option (List ℕ) → Option Trace → Journal → Type 0
 TookFront c old new trace journal =
-    AppendsFront old new (last_in trace journal) (text_in trace journal)
+    (IsSome trace × AppendsFront old new (last_in trace journal) (text_in trace journal))
     ⊎ ((meant : Status) × (line : List ℕ) × IsCause c trace journal meant × IsFaultLine c meant line × AppendsFront old new (length (text_in trace journal)) (text_in trace journal ++ line))
 
 -- the bytes are a trace

@@ -45,6 +45,7 @@ fn work<S: Source, K: Sink>(
       write = (K.faults sink.old, K.faults sink.new);
     }) trace.new journal.new }
     ensures told { TookText (K.taken sink.old) (K.taken sink.new) trace.new journal.new result }
+    ensures untouched { ¬ (IsCommand (map string_bytes words.now)) → source.new ≡ source.old }
     ensures counts { K.faults sink.old ≤ K.faults sink.new }
 {
     if !is_command(words) {
@@ -178,6 +179,7 @@ fn run_all<S: Source, K: Sink>(
       read = (S.faults source.old, S.faults source.new);
       write = (K.faults sink.old, K.faults sink.new);
     }) result.trace result.journal result.status }
+    ensures untouched { ¬ (IsCommand (map string_bytes words.now)) → source.new ≡ source.old }
 {
     let mut trace = None;
     let mut journal = Journal::empty(alloc);
@@ -230,6 +232,7 @@ pub fn run<S: Source, K: Sink>(
     }) result.trace result.journal result.status }
     ensures bad_words { result.status ≢ Status.WriteFault →
         (result.status ≡ Status.BadWords ↔ ¬ (IsCommand (map string_bytes words.now))) }
+    ensures untouched { ¬ (IsCommand (map string_bytes words.now)) → source.new ≡ source.old }
     ensures bad_trace { IsCommand (map string_bytes words.now) →
         IsSomeAnd (S.rest source.old) IsBadBytes →
         ¬ (Rose (S.faults source.old) (S.faults source.new)) →

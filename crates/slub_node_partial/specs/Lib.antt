@@ -1,0 +1,4 @@
+pub mod Gathering
+pub mod PartialList
+pub mod Promotion
+pub mod Window

@@ -1,0 +1,11 @@
+pub mod Times
+pub mod Asides
+pub mod Counting
+pub mod OneSlab
+pub mod Whole
+pub mod Opening
+pub mod Sums
+pub mod Stocks
+pub mod Given
+pub mod Taken
+pub mod Comings

@@ -1,0 +1,5 @@
+pub mod Zones
+pub mod State
+pub mod Steps
+pub mod Sound
+pub mod Kept

@@ -1,7 +1,7 @@
-pub mod EventText
-pub mod Fronts
-pub mod LineTexts
-pub mod Numbers
-pub mod Rounds
-pub mod Separated
-pub mod Traces
+pub mod Fields
+pub mod LinesBelow
+pub mod ReadingLaws
+pub mod Readings
+pub mod Reasons
+pub mod Soundness
+pub mod Texts

@@ -1,98 +1,170 @@
--- Which bytes are a trace, and of what: a trace is spelled line by line.
-use Rattle.std.specs.Prelude.{◌≡◌, ℕ, ◌+◌, ◌<◌, ◌≤◌, false, List, [], ◌∷◌, ◌++◌, length, map, flat_map, max, fold, ⊤, codes, nat_eq}
-use Rattle.std.specs.List.{join_with_byte, IsDistinct}
-use Rattle.std.specs.Fmt.{decimal}
-use Rattle.slub_object_layout.specs.declared.layout.Flags.{Flags}
-use Rattle.slub_object_layout.specs.declared.layout.Spec.{Spec}
-use Rattle.slub_object_layout.specs.declared.event.Act.{Act}
-use Rattle.slub_object_layout.specs.declared.event.Act.TheVariants.{Alloc, Free, Write, Read, Poke, Trim, Flush}
-use Rattle.slub_object_layout.specs.declared.event.Event.{Event}
-use Rattle.slub_object_layout.specs.Layout.{IsAccepted}
-use Rattle.slub_object_layout.specs.Name.{IsName}
-use Rattle.slub_trace_reader.specs.declared.trace.Item.TheVariants.{Cache, Round, Slabinfo}
+-- Which lines may stand where, and which bytes are a trace.
+use Rattle.std.specs.Prelude.{◌≡◌, ℕ, ◌+◌, ◌%◌, ◌<◌, ◌≤◌, Bool, true, false, List, [], ◌∷◌, ◌++◌, length, Option, None, Some, nat_le, if◌then◌else◌, All, ⊤, ◌≢◌, nat_eq}
+use Rattle.slub_trace_reader.specs.declared.line.Line.{Line}
+use Rattle.slub_trace_reader.specs.declared.line.Line.TheVariants.{Passed, Slubtrace, Machine, Cache, Shrink, Destroy, Slabinfo, Round, Alloc, Free, Write, Read, Poke, Done, End}
+use Rattle.slub_trace_reader.specs.declared.place.Place.{Place}
+use Rattle.slub_trace_reader.specs.declared.place.Place.TheVariants.{First, Second, Between, Within, After}
 use Rattle.slub_trace_reader.specs.declared.trace.Trace.{Trace}
+use Rattle.slub_trace_reader.specs.Above.{Above, start, after, after_all, trace_of, workers_in, is_spot}
+use Rattle.std.specs.List.{list_any}
+use Rattle.std.specs.Str.{bytes_eq}
+use Rattle.slub_trace_reader.specs.Lines.{Says}
 
--- ---- lines
+-- ---- places
 
--- words parted by one space, and a line feed
-abbrev pub line : List (List ℕ) → List ℕ
-line words = join_with_byte 32 words ++ 10 ∷ []
+-- a round isn't ended
+abbrev pub IsInRound : Place → Type 0
+IsInRound First = ⊥
+IsInRound Second = ⊥
+IsInRound Between = ⊥
+IsInRound (Within workers) = ⊤
+IsInRound After = ⊥
 
-abbrev pub machine_line : ℕ → ℕ → List ℕ
-machine_line frames cpus = line (codes "machine" ∷ decimal frames ∷ decimal cpus ∷ [])
+-- where a line of this form may stand
+abbrev pub MayStand : Line → Place → Type 0
+MayStand Passed place = ⊤
+MayStand (Slubtrace version) place = place ≡ First
+MayStand (Machine frames cpus tid) place = place ≡ Second
+MayStand (Cache name size align flags) place = place ≡ Between
+MayStand (Shrink name) place = place ≡ Between
+MayStand (Destroy name) place = place ≡ Between
+MayStand Slabinfo place = place ≡ Between
+MayStand (Round workers) place = place ≡ Between
+MayStand (Alloc worker cpu name object) place = IsInRound place
+MayStand (Free worker cpu object) place = IsInRound place
+MayStand (Write worker object word value) place = IsInRound place
+MayStand (Read worker object word) place = IsInRound place
+MayStand (Poke worker object negative offset byte) place = IsInRound place
+MayStand Done place = IsInRound place
+MayStand End place = place ≡ Between
 
--- the flags of a cache line are `-`: none is set
-abbrev pub cache_line : List ℕ → Spec → List ℕ
-cache_line name spec = line (codes "cache" ∷ name ∷ decimal spec.size ∷ decimal spec.align ∷ codes "-" ∷ [])
+-- ---- ranges
 
--- the object that an act allocates, or 0
-abbrev pub object_of : Act → ℕ
-object_of (Alloc cache object) = object
-object_of (Free object) = 0
-object_of (Write object word value) = 0
-object_of (Read object word) = 0
-object_of (Poke object offset byte) = 0
-object_of (Trim cache) = 0
-object_of Flush = 0
+-- the least power of two that is not below 1 to 16 CPUs
+abbrev pub step_of : ℕ → ℕ
+step_of cpus =
+    if nat_le cpus 1 then 1 else (if nat_le cpus 2 then 2 else (if nat_le cpus 4 then 4 else (if nat_le cpus 8 then 8 else 16)))
 
-abbrev pub alloc_line : List ℕ → Event → List ℕ
-alloc_line name event =
-    line (codes "alloc" ∷ decimal event.worker ∷ decimal event.cpu ∷ name ∷ decimal (object_of event.act) ∷ [])
+-- a transaction id that the CPUs can start at: a multiple of the step, a step below 2 ^ 32
+abbrev pub IsTid : ℕ → Option ℕ → Type 0
+IsTid cpus None = ⊤
+IsTid cpus (Some tid) = (tid % step_of cpus ≡ 0) × (tid + step_of cpus ≤ 4294967296)
 
--- ---- events
+abbrev pub IsObject : ℕ → Type 0
+IsObject object = (1 ≤ object) × (object ≤ 1048576)
 
--- an allocation from the cache of the first name, under a number of its range
-abbrev pub IsAllocation : Act → Type 0
-IsAllocation (Alloc cache object) = (cache ≡ 0) × (1 ≤ object) × (object ≤ 1048576)
-IsAllocation (Free object) = ⊥
-IsAllocation (Write object word value) = ⊥
-IsAllocation (Read object word) = ⊥
-IsAllocation (Poke object offset byte) = ⊥
-IsAllocation (Trim cache) = ⊥
-IsAllocation Flush = ⊥
+-- a worker of this round
+abbrev pub IsWorker : Above → ℕ → Type 0
+IsWorker a worker = worker < workers_in a.place
 
--- an allocation by worker 0 on a CPU of the machine, on this line
-pub record IsAllocEvent (cpus number : ℕ) (event : Event) : Type 0 where
-  pub line : event.line ≡ number
-  pub worker : event.worker ≡ 0
-  pub cpu : event.cpu < cpus
-  pub act : IsAllocation event.act
+-- below an object's address, or not
+abbrev pub IsOffset : Bool → ℕ → Type 0
+IsOffset true size = size ≤ 32768
+IsOffset false size = size ≤ 32767
 
--- such events, one on each line from this one on
-abbrev pub AreAllocEvents : ℕ → ℕ → List Event → Type 0
-AreAllocEvents cpus number [] = ⊤
-AreAllocEvents cpus number (event ∷ events) = IsAllocEvent cpus number event × AreAllocEvents cpus (number + 1) events
+-- each number of the line is in its range
+abbrev pub InRange : Above → Line → Type 0
+InRange a Passed = ⊤
+InRange a (Slubtrace version) = ⊤
+InRange a (Machine frames cpus tid) = (2 ≤ frames) × (frames ≤ 4096) × (1 ≤ cpus) × (cpus ≤ 16) × IsTid cpus tid
+InRange a (Cache name size align flags) = (size ≤ 4294967295) × (align ≤ 4294967295)
+InRange a (Shrink name) = ⊤
+InRange a (Destroy name) = ⊤
+InRange a Slabinfo = ⊤
+InRange a (Round workers) = (1 ≤ workers) × (workers ≤ 16)
+InRange a (Alloc worker cpu name object) = IsWorker a worker × (cpu < a.cpus) × IsObject object
+InRange a (Free worker cpu object) = IsWorker a worker × (cpu < a.cpus) × IsObject object
+InRange a (Write worker object word value) = IsWorker a worker × IsObject object × (word ≤ 4095) × (value ≤ 18446744073709551615)
+InRange a (Read worker object word) = IsWorker a worker × IsObject object × (word ≤ 4095)
+InRange a (Poke worker object negative offset byte) = IsWorker a worker × IsObject object × IsOffset negative offset
+InRange a Done = ⊤
+InRange a End = ⊤
 
-abbrev pub objects_of : List Event → List ℕ
-objects_of events = map (λ event. object_of event.act) events
+-- ---- what has to stand above
 
--- ---- the trace
+-- a round is the 256th or one before it
+abbrev pub HasRoom : Above → Line → Type 0
+HasRoom a (Round workers) = a.rounds + 1 ≤ 256
+HasRoom a _ = ⊤
 
-abbrev pub no_flags : Flags
-no_flags = record { line = false; reclaim = false; checks = false; zones = false; poison = false; user = false; trace = false; fail = false }
+-- the name that the line has of a cache line above, where it has one
+abbrev pub name_in : Line → Option (List ℕ)
+name_in (Shrink name) = Some name
+name_in (Destroy name) = Some name
+name_in (Alloc worker cpu name object) = Some name
+name_in _ = None
 
-abbrev pub trace_text : ℕ → ℕ → List ℕ → Spec → List Event → List ℕ
-trace_text frames cpus name spec events =
-    line (codes "slubtrace" ∷ codes "1" ∷ []) ++ machine_line frames cpus ++ cache_line name spec
-    ++ line (codes "round" ∷ codes "1" ∷ []) ++ flat_map (alloc_line name) events ++ line (codes "done" ∷ []) ++ line (codes "slabinfo" ∷ []) ++ line (codes "end" ∷ [])
+-- the object that the line allocates, where it allocates one
+abbrev pub object_in : Line → Option ℕ
+object_in (Alloc worker cpu name object) = Some object
+object_in _ = None
 
--- the bytes spell this trace: one cache, one round of allocations by worker 0, a slabinfo
+-- the object that has to be allocated above, where there is one
+abbrev pub needs_in : Line → Option ℕ
+needs_in (Free worker cpu object) = Some object
+needs_in (Write worker object word value) = Some object
+needs_in (Read worker object word) = Some object
+needs_in (Poke worker object negative offset byte) = Some object
+needs_in _ = None
+
+-- the worker, object and word that have to be written above in this round, where there are any
+abbrev pub reads_in : Line → Option (ℕ × ℕ × ℕ)
+reads_in (Read worker object word) = Some (worker, object, word)
+reads_in _ = None
+
+-- the thing is among these by this equality, where there is one
+abbrev pub IsAmong : {X : Type 0} → (X → X → Bool) → Option X → List X → Type 0
+IsAmong eq None things = ⊤
+IsAmong eq (Some x) things = list_any (eq x) things ≡ true
+
+-- the thing is not among these
+abbrev pub IsApart : {X : Type 0} → (X → X → Bool) → Option X → List X → Type 0
+IsApart eq None things = ⊤
+IsApart eq (Some x) things = list_any (eq x) things ≡ false
+
+-- the name has a cache line above
+abbrev pub HasCache : Above → Line → Type 0
+HasCache a line = IsAmong bytes_eq (name_in line) a.names
+
+-- no line above allocates the object
+abbrev pub IsFresh : Above → Line → Type 0
+IsFresh a line = IsApart nat_eq (object_in line) a.objects
+
+-- a line above allocates the object
+abbrev pub IsKnown : Above → Line → Type 0
+IsKnown a line = IsAmong nat_eq (needs_in line) a.objects
+
+-- a write above in this round has the worker, object and word
+abbrev pub IsWritten : Above → Line → Type 0
+IsWritten a line = IsAmong is_spot (reads_in line) a.written
+
+-- ---- traces
+
+-- a line that may stand below those that say this
+pub record IsLine (a : Above) (text : List ℕ) (line : Line) : Type 0 where
+  pub says : Says text line
+  pub stands : MayStand line a.place
+  pub range : InRange a line
+  pub room : HasRoom a line
+  pub named : HasCache a line
+  pub fresh : IsFresh a line
+  pub known : IsKnown a line
+  pub written : IsWritten a line
+
+-- no line feed stands in the text
+abbrev pub IsOneLine : List ℕ → Type 0
+IsOneLine text = All (λ b. b ≢ 10) text
+
+-- the bytes are these lines, each with its line feed and each below those before it
+abbrev pub AreLines : Above → List ℕ → List Line → Type 0
+AreLines a bytes [] = bytes ≡ []
+AreLines a bytes (line ∷ lines) =
+    (text rest : List ℕ) × (bytes ≡ text ++ 10 ∷ rest) × IsOneLine text × IsLine a text line × AreLines (after a line) rest lines
+
+-- the bytes spell this trace: lines that end with `end`, the passed-over aside
 pub record IsTrace (bytes : List ℕ) (trace : Trace) : Type 0 where
-  pub name : List ℕ
-  pub spec : Spec
-  pub events : List Event
   pub short : length bytes ≤ 16777216
-  pub spelled : bytes ≡ trace_text trace.frames trace.cpus name spec events
-  pub version : trace.version ≡ 1
-  pub frames : (2 ≤ trace.frames) × (trace.frames ≤ 4096)
-  pub cpus : (1 ≤ trace.cpus) × (trace.cpus ≤ 16)
-  pub tid : trace.tid ≡ 0
-  pub named : IsName name
-  pub plain : spec.flags ≡ no_flags
-  pub accepted : IsAccepted spec
-  -- the events begin on line 5, and no object number stands twice
-  pub allocs : AreAllocEvents trace.cpus 5 events
-  pub distinct : IsDistinct nat_eq (objects_of events)
-  pub objects : trace.objects ≡ fold max 0 (objects_of events)
-  pub names : trace.names ≡ name ∷ []
-  pub items : trace.items ≡ Cache 0 spec ∷ Round (record { workers = 1; events = events }) ∷ Slabinfo ∷ []
+  pub lines : List Line
+  pub are : AreLines start bytes lines
+  pub ended : (after_all start lines).place ≡ After
+  pub gives : trace ≡ trace_of (after_all start lines)

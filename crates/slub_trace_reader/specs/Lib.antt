@@ -1,6 +1,12 @@
-pub mod Events
-pub mod Front
+pub mod Above
+pub mod Cut
+pub mod Faults
+pub mod Forms
 pub mod Grammar
 pub mod Lines
 pub mod Parsing
+pub mod Reading
 pub mod Reads
+pub mod Sound
+pub mod State
+pub mod Words

@@ -1,38 +1,47 @@
--- The parts of a trace that are read at once, and their texts.
-use Rattle.std.specs.Prelude.{◌≡◌, ℕ, ◌≤◌, List, [], ◌∷◌, ◌++◌, codes}
-use Rattle.slub_object_layout.specs.declared.layout.Spec.{Spec}
-use Rattle.slub_object_layout.specs.Layout.{IsAccepted}
+-- What a line says: its form, and the values of its words.
+use Rattle.std.specs.Prelude.{◌≡◌, ℕ, List, [], ◌∷◌, Option, Some, None, ⊤, codes}
+use Rattle.std.specs.List.{join_with_byte}
 use Rattle.slub_object_layout.specs.Name.{IsName}
-use Rattle.slub_trace_reader.specs.declared.lines.Machine.{Machine}
-use Rattle.slub_trace_reader.specs.declared.lines.Cache.{Cache}
-use Rattle.slub_trace_reader.specs.declared.lines.Head.{Head}
-use Rattle.slub_trace_reader.specs.Front.{number_text}
-use Rattle.slub_trace_reader.specs.Grammar.{line, machine_line, cache_line, no_flags}
+use Rattle.slub_trace_reader.specs.declared.line.Line.{Line}
+use Rattle.slub_trace_reader.specs.declared.line.Line.TheVariants.{Passed, Slubtrace, Machine, Cache, Shrink, Destroy, Slabinfo, Round, Alloc, Free, Write, Read, Poke, Done, End}
+use Rattle.slub_trace_reader.specs.Words.{Writes, WritesOffset, WritesFlags, WritesByte}
 
--- 2 to 4096 frames and 1 to 16 CPUs
-abbrev pub IsMachine : Machine → Type 0
-IsMachine machine = (2 ≤ machine.frames) × (machine.frames ≤ 4096) × (1 ≤ machine.cpus) × (machine.cpus ≤ 16)
+-- words parted by one space
+abbrev pub parted : List (List ℕ) → List ℕ
+parted words = join_with_byte 32 words
 
-abbrev pub machine_text : Machine → List ℕ
-machine_text machine = machine_line machine.frames machine.cpus
+-- empty, or a comment, which begins with `#`
+abbrev pub IsPassed : List ℕ → Type 0
+IsPassed [] = ⊤
+IsPassed (c ∷ cs) = c ≡ 35
 
--- no flag is set, and there is a layout
-abbrev pub IsSpec : Spec → Type 0
-IsSpec spec = (spec.flags ≡ no_flags) × IsAccepted spec
+-- the end of a machine line: nothing, or the transaction id
+abbrev pub SaysTid : List (List ℕ) → Option ℕ → Type 0
+SaysTid words None = words ≡ []
+SaysTid words (Some tid) = (t : List ℕ) × Writes t tid × (words ≡ codes "tid" ∷ t ∷ [])
 
--- the end of a cache line, from the size on
-abbrev pub spec_text : Spec → List ℕ
-spec_text spec = number_text 32 spec.size ++ (number_text 32 spec.align ++ line (codes "-" ∷ []))
-
-abbrev pub IsCache : Cache → Type 0
-IsCache cache = IsName cache.name × IsSpec cache.spec
-
-abbrev pub cache_text : Cache → List ℕ
-cache_text cache = cache_line cache.name cache.spec
-
--- what stands before the events
-abbrev pub IsHead : Head → Type 0
-IsHead head = IsMachine head.machine × IsCache head.cache
-
-abbrev pub head_text : Head → List ℕ
-head_text head = line (codes "slubtrace" ∷ codes "1" ∷ []) ++ (machine_text head.machine ++ cache_text head.cache ++ line (codes "round" ∷ codes "1" ∷ []))
+-- the text of the line, without its line feed, says this; its numbers may be any
+abbrev pub Says : List ℕ → Line → Type 0
+Says text Passed = IsPassed text
+Says text (Slubtrace version) = (text ≡ parted (codes "slubtrace" ∷ codes "1" ∷ [])) × (version ≡ 1)
+Says text (Machine frames cpus tid) =
+    (f c : List ℕ) × (rest : List (List ℕ)) × Writes f frames × Writes c cpus × SaysTid rest tid × (text ≡ parted (codes "machine" ∷ f ∷ c ∷ rest))
+Says text (Cache name size align flags) =
+    (s a f : List ℕ) × IsName name × Writes s size × Writes a align × WritesFlags f flags × (text ≡ parted (codes "cache" ∷ name ∷ s ∷ a ∷ f ∷ []))
+Says text (Shrink name) = IsName name × (text ≡ parted (codes "shrink" ∷ name ∷ []))
+Says text (Destroy name) = IsName name × (text ≡ parted (codes "destroy" ∷ name ∷ []))
+Says text Slabinfo = text ≡ codes "slabinfo"
+Says text (Round workers) = (w : List ℕ) × Writes w workers × (text ≡ parted (codes "round" ∷ w ∷ []))
+Says text (Alloc worker cpu name object) =
+    (w c o : List ℕ) × Writes w worker × Writes c cpu × IsName name × Writes o object × (text ≡ parted (codes "alloc" ∷ w ∷ c ∷ name ∷ o ∷ []))
+Says text (Free worker cpu object) =
+    (w c o : List ℕ) × Writes w worker × Writes c cpu × Writes o object × (text ≡ parted (codes "free" ∷ w ∷ c ∷ o ∷ []))
+Says text (Write worker object word value) =
+    (w o k v : List ℕ) × Writes w worker × Writes o object × Writes k word × Writes v value × (text ≡ parted (codes "write" ∷ w ∷ o ∷ k ∷ v ∷ []))
+Says text (Read worker object word) =
+    (w o k : List ℕ) × Writes w worker × Writes o object × Writes k word × (text ≡ parted (codes "read" ∷ w ∷ o ∷ k ∷ []))
+Says text (Poke worker object negative offset byte) =
+    (w o z b : List ℕ) × Writes w worker × Writes o object × WritesOffset z negative offset × WritesByte b byte
+    × (text ≡ parted (codes "poke" ∷ w ∷ o ∷ z ∷ b ∷ []))
+Says text Done = text ≡ codes "done"
+Says text End = text ≡ codes "end"

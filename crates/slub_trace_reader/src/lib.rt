@@ -1,18 +1,25 @@
 //! Traces: what a program is asked to replay, read from bytes.
 //!
 //! A `Trace` is a machine and the items that it is to do. `read_trace` reads a source to its end
-//! and says which trace its bytes spell (`IsTrace` of `specs/Grammar.antt`), or that they are none
-//! (`Reads` of `specs/Reads.antt`). Each function below it takes one part off the front of the bytes:
-//! it answers the one part whose text stands there and what follows it, or that none stands there
-//! (`IsFront` and `HasNoFront` of `specs/Front.antt`).
+//! and says which trace its bytes spell, or which line is bad first and why.
 //!
-//! Today's grammar has one cache, one round of allocations by one worker, and one slabinfo; a trace
-//! that is none of these has the single reason `Bad`.
+//! `specs/` has the grammar. `Lines` says which text says which line, `Above` what the lines above a
+//! line say, and `Grammar` which lines may stand where, which numbers are in range and what has to
+//! stand above; `IsTrace` puts them together. `Faults` has the ten reasons and their order,
+//! `Reads` what a caller of `read_trace` is promised, and `Sound` what holds of every trace that is
+//! read. `Forms` is the reading of one line as a function, which the code computes and `Lines` does
+//! not share, and `Reading` that of all bytes; `laws` says that it is the grammar, both ways.
+//!
+//! Each line costs steps in its length alone: names, objects and written words are looked up by
+//! their hashes. `read_trace` alone takes memory from the caller's allocator.
 #![tactic(auto)]
 
-mod events;
-mod lines;
+mod check;
+pub mod laws;
+pub mod line;
+pub mod place;
 pub mod reading;
+mod state;
 #[cfg(test)]
 mod tests;
 pub mod trace;

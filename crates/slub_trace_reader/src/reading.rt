@@ -1,23 +1,72 @@
 //! Reading a trace.
+//!
+//! Last bytes without a line feed are an unfinished line, whatever they say. Comments may stand
+//! before the `slubtrace` line, and count as lines. A `cache` line above counts for its name,
+//! whatever it answers when it runs.
 
-ghost use Rattle.std.specs.Prelude.{◌≡◌, ◌≤◌, length, IfOk, IfErr, MatchResult};
+ghost use Rattle.std.specs.Prelude.{◌≡◌, ◌-◌, ◌<◌, ◌≤◌, ◌^◌, ◌∷◌, ◌++◌, length, IfOk, IfErr, OnOk, IfSome, IfNone};
 ghost use Rattle.slub_trace_reader.specs.declared.reading.TraceFault.TheVariants.{NoMemory};
-ghost use Rattle.slub_trace_reader.specs.declared.trace.Trace.{Trace};
-ghost use Rattle.slub_trace_reader.specs.Grammar.{IsTrace};
-ghost use Rattle.slub_trace_reader.specs.Parsing.{Refuses, fault_of, trace_with};
+ghost use Rattle.slub_trace_reader.specs.Faults.{why_text, Finished};
+ghost use Rattle.slub_trace_reader.specs.Grammar.{IsTrace, IsOneLine};
+ghost use Rattle.slub_trace_reader.specs.Parsing.{fault_of, Refuses, Takes, StopsAt, Tells};
+ghost use Rattle.slub_trace_reader.specs.State.{above, IsModest, Keeps};
 ghost use Rattle.slub_trace_reader.specs.Reads.{Reads};
+ghost use Rattle.slub_trace_reader.specs.Sound.{IsSound};
 
-use crate::events::{Events, read_events};
-use crate::lines::{Head, read_head};
-use crate::trace::{Item, Trace};
+use crate::state::State;
+use crate::trace::Trace;
+use crate::words::cut;
 use slub_edges::edges::Source;
 use slub_edges::reading::{ReadAllFault, read_all};
-use slub_object_layout::event::Round;
-use slub_object_layout::sequence::Sequence;
-use std::alloc::{AllocError, AllocFailed, Global};
+use std::alloc::{AllocError, Global};
 
 /// The most bytes of a trace.
 pub const INPUT_MAX: usize = 16777216;
+
+/// Why a line is bad, in the order in which the reasons are tried.
+#[derive(Clone, Copy, Debug, PartialEq, Eq)]
+pub enum Why {
+    /// The last bytes have no line feed.
+    Unfinished,
+    /// It stands after `end`, and isn't passed over.
+    AfterEnd,
+    /// It is none of the forms of its place.
+    Form,
+    /// A number of it is out of its range.
+    Range,
+    /// It begins round 257.
+    TooManyRounds,
+    /// No `cache` line above has its name.
+    UnknownCache,
+    /// It allocates an object that a line above allocates.
+    ObjectTwice,
+    /// No line above allocates its object.
+    UnknownObject,
+    /// No `write` above in this round has its worker, object and word.
+    ReadBeforeWrite,
+    /// The bytes end, every line good, without `end`.
+    NoEnd,
+}
+
+impl Why {
+    /// The reason in words.
+    pub fn text(&self) -> &'static [u8]
+        ensures { result.now ≡ why_text self.now }
+    {
+        match self {
+            Why::Unfinished => b"unfinished line",
+            Why::AfterEnd => b"text after end",
+            Why::Form => b"bad form",
+            Why::Range => b"out of range",
+            Why::TooManyRounds => b"too many rounds",
+            Why::UnknownCache => b"unknown cache",
+            Why::ObjectTwice => b"object twice",
+            Why::UnknownObject => b"unknown object",
+            Why::ReadBeforeWrite => b"read before write",
+            Why::NoEnd => b"no end",
+        }
+    }
+}
 
 /// Why no trace was read.
 #[derive(Clone, Copy, Debug, PartialEq, Eq)]
@@ -26,8 +75,9 @@ pub enum TraceFault {
     ReadFault,
     /// There are more than 16777216 bytes.
     TooLong,
-    /// The bytes are no trace.
-    Bad,
+    /// The bytes are no trace: their first bad line, from 1 on, and why it is bad. Where they end
+    /// without `end`, it is the line after the last.
+    BadLine { line: u32, why: Why },
     NoMemory,
 }
 
@@ -51,18 +101,11 @@ impl From<AllocError> for TraceFault {
     }
 }
 
-impl<T: Drop> From<AllocFailed<T>> for TraceFault {
-    ghost from_gives = { λ _ e. e ≡ NoMemory };
-
-    fn from(_e: AllocFailed<T>) -> TraceFault {
-        TraceFault::NoMemory
-    }
-}
-
 /// Reads a source to its end, and answers the trace that its bytes spell: at most `INPUT_MAX`
 /// bytes. At an error the bytes that were read are lost.
 pub fn read_trace<S: Source>(alloc: Global, source: &mut S) -> Result<Trace, TraceFault>
     ensures reads { Reads (S.rest source.old) (S.rest source.new) (S.faults source.old) (S.faults source.new) result }
+    ensures sound { IfOk result IsSound }
     ensures counts { S.faults source.old ≤ S.faults source.new }
 {
     let bytes = read_all(alloc, source, INPUT_MAX)?;
@@ -73,38 +116,62 @@ pub fn read_trace<S: Source>(alloc: Global, source: &mut S) -> Result<Trace, Tra
 fn parse(alloc: Global, bytes: &[u8]) -> Result<Trace, TraceFault>
     requires { length bytes.now ≤ 16777216 }
     ensures found { IfOk result (IsTrace bytes.now) }
-    ensures only { IfOk result (λ trace. (other : Trace) → IsTrace bytes.now other → other ≡ trace) }
-    ensures refused { IfErr result (λ fault. Refuses fault ((trace : Trace) → IsTrace bytes.now trace → ⊥)) }
+    ensures refused { IfErr result (Refuses bytes.now) }
 {
-    let Some((head, rest)) = read_head(bytes) else {
-        return Err(TraceFault::Bad);
-    };
-    let read = read_events(alloc, rest, head.machine.cpus, head.cache.name.as_bytes())?;
-    trace_of(alloc, head, read)
+    let state = read_lines(alloc, bytes)?;
+    let trace = state.into_trace(alloc)?;
+    Ok(trace)
 }
 
-/// The trace of what was read.
-fn trace_of(alloc: Global, head: Head, read: Events) -> Result<Trace, TraceFault>
-    ensures { MatchResult result (λ trace. trace ≡ trace_with head read) (λ fault. fault ≡ NoMemory) }
+/// Takes one line.
+fn take_line(alloc: Global, state: &mut State, text: &[u8]) -> Result<(), TraceFault>
+    requires room { state.old.count < 2 ^ 32 - 1 }
+    requires keeps { Keeps state.old }
+    requires modest { IsModest (above state.old) }
+    ensures taken { OnOk result (Takes (above state.old) text.now (above state.new)) }
+    ensures keeps { OnOk result (Keeps state.new) }
+    ensures refused { IfErr result (StopsAt (above state.old) (Finished text.now)) }
 {
-    let Head { machine, cache } = head;
-    let Events { events, objects } = read;
-    let mut names = Sequence::new(alloc);
-    names.push(cache.name)?;
-    let mut items = Sequence::new(alloc);
-    items.push(Item::Cache {
-        name: 0,
-        spec: cache.spec,
-    })?;
-    items.push(Item::Round(Round { workers: 1, events }))?;
-    items.push(Item::Slabinfo)?;
-    Ok(Trace {
-        version: 1,
-        frames: machine.frames,
-        cpus: machine.cpus,
-        tid: 0,
-        objects,
-        names,
-        items,
-    })
+    match state.judge(text) {
+        Ok(line) => {
+            state.take(alloc, &line)?;
+            Ok(())
+        }
+        Err(why) => {
+            let line = state.count + 1;
+            Err(TraceFault::BadLine { line, why })
+        }
+    }
+}
+
+/// What all lines say.
+fn read_lines(alloc: Global, bytes: &[u8]) -> Result<State, TraceFault>
+    requires { length bytes.now ≤ 16777216 }
+    ensures found { IfOk result (λ state. Tells bytes.now (above state)) }
+    ensures keeps { IfOk result Keeps }
+    ensures refused { IfErr result (Refuses bytes.now) }
+{
+    let mut state = State::new(alloc);
+    let mut rest = bytes;
+    while let Some((text, more)) = cut(rest, b'\n') {
+        match take_line(alloc, &mut state, text) {
+            Ok(()) => {}
+            Err(fault) => return Err(fault),
+        }
+        rest = more;
+    }
+    let next = state.count + 1;
+    if !rest.is_empty() {
+        return Err(TraceFault::BadLine {
+            line: next,
+            why: Why::Unfinished,
+        });
+    }
+    if !state.place.is_after() {
+        return Err(TraceFault::BadLine {
+            line: next,
+            why: Why::NoEnd,
+        });
+    }
+    Ok(state)
 }

@@ -1,67 +1,205 @@
-//! The words of a line.
+//! The words of a line, taken off the front one after the other.
 
-ghost use Rattle.std.specs.Prelude.{◌≡◌, ℕ, ◌^◌, ◌<◌, ◌==◌, ◌↔◌, IsTrue, List, ◌++◌, IfSome, IfNone, position};
-ghost use Rattle.std.specs.Fmt.{decimal};
-ghost use Rattle.slub_trace_reader.specs.Front.{IsFront, HasNoFront, Lacks, IsPlain, IsWithin, number_text, word_text};
+ghost use Rattle.std.specs.Prelude.{◌≡◌, ◌≢◌, ◌∷◌, ◌++◌, All, IfSome, IfNone, true};
+ghost use Rattle.std.specs.List.{list_all};
+ghost use Rattle.slub_trace_reader.specs.Forms.{Gives, strip, field, number_of, offset_of, name_of, flags_of, byte_of, number_at, name_at, offset_at};
+ghost use Rattle.slub_trace_reader.specs.Words.{is_digit, is_number, is_letter, stands_in, are_distinct, are_flags, flags_in, is_hex, hex_value};
+
+use slub_object_layout::layout::Flags;
+use slub_object_layout::name::Name;
+
+/// As great as every number that 64 bits don't hold.
+const GREAT: u128 = 18446744073709551616;
 
 /// What follows a fixed text.
 pub(crate) fn after<'a>(bytes: &'a [u8], text: &[u8]) -> Option<&'a [u8]>
-    ensures found { IfSome result (λ rest. bytes.now ≡ text.now ++ rest.now) }
-    ensures none { IfNone result ((rest : List ℕ) → bytes.now ≡ text.now ++ rest → ⊥) }
+    ensures { Gives (λ rest. rest.now) result (strip text.now bytes.now) }
 {
     bytes.strip_prefix(text)
 }
 
-/// The word up to the first `end`, and what follows that byte.
-pub(crate) fn word(bytes: &[u8], end: u8) -> Option<(&[u8], &[u8])>
-    ensures found { IfSome result (λ found. IsFront (Lacks end) (word_text end) bytes.now found.0.now found.1.now) }
-    ensures none { IfNone result (HasNoFront (Lacks end) (word_text end) bytes.now) }
+/// The word up to the first space, and what follows that.
+pub(crate) fn field_of(bytes: &[u8]) -> Option<(&[u8], &[u8])>
+    ensures { Gives (λ x. (x.0.now, x.1.now)) result (field bytes.now) }
 {
-    let at = place(bytes, end)?;
+    cut(bytes, b' ')
+}
+
+/// What stands before the first `end`, and what follows that.
+pub(crate) fn cut(bytes: &[u8], end: u8) -> Option<(&[u8], &[u8])>
+    ensures found { IfSome result (λ x. (bytes.now ≡ x.0.now ++ end ∷ x.1.now) × All (λ b. b ≢ end) x.0.now) }
+    ensures none { IfNone result (All (λ b. b ≢ end) bytes.now) }
+{
+    let at = bytes.iter().position(|b| *b == end)?;
     Some((&bytes[..at], &bytes[at + 1..]))
 }
 
-/// Where the first `end` stands.
-fn place(bytes: &[u8], end: u8) -> Option<usize>
-    ensures { result ≡ position (λ b. b == end) bytes.now }
+fn is_decimal(c: u8) -> bool
+    ensures { result ≡ is_digit c }
 {
-    bytes.iter().position(|b| *b == end)
+    b'0' <= c && c <= b'9'
 }
 
-/// Whether no sign stands in front, and no zero that a byte follows.
-fn is_plain(digits: &[u8]) -> bool
-    ensures { IsTrue result ↔ IsPlain digits.now }
+fn are_digits(word: &[u8]) -> bool
+    ensures { result ≡ list_all is_digit word.now }
 {
-    match digits {
-        [first, rest @ ..] => first.is_ascii_digit() && (*first != b'0' || rest.is_empty()),
+    word.iter().all(|c| is_decimal(*c))
+}
+
+/// Whether a word is a number: digits, with no zero in front of others.
+fn is_numeral(word: &[u8]) -> bool
+    ensures { result ≡ is_number word.now }
+{
+    match word {
         [] => false,
+        [c] => is_decimal(*c),
+        [c, ..] => *c != b'0' && are_digits(word),
     }
 }
 
-/// The number that digits spell. A leading zero stands only where it is the whole number.
-fn value(digits: &[u8]) -> Option<u32>
-    ensures found { IfSome result (λ n. digits.now ≡ decimal n) }
-    ensures none { IfNone result ((n : ℕ) → n < 2 ^ 32 → digits.now ≡ decimal n → ⊥) }
+/// The number of a word, as great as `GREAT` where 64 bits don't hold it.
+#[tactic(auto, unfolding(crate::specs::Forms::number_of))]
+pub(crate) fn number(word: &[u8]) -> Option<u128>
+    ensures { result ≡ number_of word.now }
 {
-    if !is_plain(digits) {
+    if !is_numeral(word) {
         return None;
     }
-    let Ok(text) = str::from_utf8(digits) else {
+    let Ok(text) = str::from_utf8(word) else {
         return None;
     };
-    text.parse().ok()
+    match text.parse::<u64>() {
+        Ok(n) => Some(u128::from(n)),
+        Err(_) => Some(GREAT),
+    }
 }
 
-/// The number from `least` to `most` up to `end`, and what follows that byte.
-pub(crate) fn number(bytes: &[u8], least: u32, most: u32, end: u8) -> Option<(u32, &[u8])>
-    requires { end < 48 }
-    ensures found { IfSome result (λ found. IsFront (IsWithin least most) (number_text end) bytes.now found.0 found.1.now) }
-    ensures none { IfNone result (HasNoFront (IsWithin least most) (number_text end) bytes.now) }
+/// The sign and the size of an offset.
+#[tactic(auto, unfolding(crate::specs::Forms::offset_of))]
+pub(crate) fn offset(word: &[u8]) -> Option<(bool, u128)>
+    ensures { result ≡ offset_of word.now }
 {
-    let (digits, rest) = word(bytes, end)?;
-    let n = value(digits)?;
-    if n < least || most < n {
+    match word {
+        [] => None,
+        [b'-', rest @ ..] => Some((true, number(rest)?)),
+        _ => Some((false, number(word)?)),
+    }
+}
+
+pub(crate) fn name(word: &[u8]) -> Option<Name>
+    ensures { result ≡ name_of word.now }
+{
+    Name::read_bytes(word)
+}
+
+fn stands(word: &[u8], letter: u8) -> bool
+    ensures { result ≡ stands_in letter word.now }
+{
+    word.contains(&letter)
+}
+
+/// Whether no byte stands twice.
+fn is_each_once(word: &[u8]) -> bool
+    ensures { result ≡ are_distinct word.now }
+{
+    match word {
+        [] => true,
+        [c, rest @ ..] => !stands(rest, *c) && is_each_once(rest),
+    }
+}
+
+fn are_letters(word: &[u8]) -> bool
+    ensures { result ≡ list_all is_letter word.now }
+{
+    word.iter().all(|c| is_flag(*c))
+}
+
+/// Whether a word is `-`, or some of the letters.
+fn is_flags(word: &[u8]) -> bool
+    ensures { result ≡ are_flags word.now }
+{
+    word == b"-".as_slice() || (!word.is_empty() && are_letters(word) && is_each_once(word))
+}
+
+fn is_flag(c: u8) -> bool
+    ensures { result ≡ is_letter c }
+{
+    matches!(c, b'H' | b'R' | b'F' | b'Z' | b'P' | b'U' | b'T' | b'A')
+}
+
+/// The flags that a word says.
+#[tactic(auto, unfolding(crate::specs::Forms::flags_of))]
+pub(crate) fn flags(word: &[u8]) -> Option<Flags>
+    ensures { result ≡ flags_of word.now }
+{
+    if !is_flags(word) {
         return None;
     }
+    Some(Flags {
+        line: stands(word, b'H'),
+        reclaim: stands(word, b'R'),
+        checks: stands(word, b'F'),
+        zones: stands(word, b'Z'),
+        poison: stands(word, b'P'),
+        user: stands(word, b'U'),
+        trace: stands(word, b'T'),
+        fail: stands(word, b'A'),
+    })
+}
+
+fn is_hex_digit(c: u8) -> bool
+    ensures { result ≡ is_hex c }
+{
+    is_decimal(c) || (b'a' <= c && c <= b'f')
+}
+
+/// The value of a hexadecimal digit.
+fn digit(c: u8) -> u8
+    requires { is_hex c ≡ true }
+    ensures { result ≡ hex_value c }
+{
+    if c <= b'9' { c - b'0' } else { c - 87 }
+}
+
+/// The byte of two lower-case hexadecimal digits.
+#[tactic(auto, unfolding(crate::specs::Forms::byte_of))]
+pub(crate) fn byte(word: &[u8]) -> Option<u8>
+    ensures { result ≡ byte_of word.now }
+{
+    match word {
+        [high, low] if is_hex_digit(*high) && is_hex_digit(*low) => {
+            Some(16 * digit(*high) + digit(*low))
+        }
+        _ => None,
+    }
+}
+
+/// The number in front, with a space behind it, and what follows.
+#[tactic(auto, unfolding(crate::specs::Forms::number_at))]
+pub(crate) fn number_field(bytes: &[u8]) -> Option<(u128, &[u8])>
+    ensures { Gives (λ x. (x.0, x.1.now)) result (number_at bytes.now) }
+{
+    let (word, rest) = field_of(bytes)?;
+    let n = number(word)?;
+    Some((n, rest))
+}
+
+/// The name in front, with a space behind it, and what follows.
+#[tactic(auto, unfolding(crate::specs::Forms::name_at))]
+pub(crate) fn name_field(bytes: &[u8]) -> Option<(Name, &[u8])>
+    ensures { Gives (λ x. (x.0, x.1.now)) result (name_at bytes.now) }
+{
+    let (word, rest) = field_of(bytes)?;
+    let n = name(word)?;
+    Some((n, rest))
+}
+
+/// The offset in front, with a space behind it, and what follows.
+#[tactic(auto, unfolding(crate::specs::Forms::offset_at))]
+pub(crate) fn offset_field(bytes: &[u8]) -> Option<((bool, u128), &[u8])>
+    ensures { Gives (λ x. (x.0, x.1.now)) result (offset_at bytes.now) }
+{
+    let (word, rest) = field_of(bytes)?;
+    let n = offset(word)?;
     Some((n, rest))
 }

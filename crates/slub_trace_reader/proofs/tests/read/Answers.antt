@@ -1,7 +1,6 @@
 use Rattle.std.proofs.Common.{◌≡◌, ℕ, Result, Ok, Err, Option, Some, List, refl, subst}
 use Rattle.std.specs.Prelude.{IfOk}
 use Rattle.slub_trace_reader.specs.declared.reading.TraceFault.{TraceFault}
-use Rattle.slub_trace_reader.specs.declared.reading.TraceFault.TheVariants.{Bad}
 use Rattle.slub_trace_reader.specs.declared.trace.Trace.{Trace}
 use Rattle.slub_trace_reader.specs.Grammar.{IsTrace}
 use Rattle.slub_trace_reader.specs.Reads.{Reads}
@@ -15,14 +14,5 @@ only_of text told left old new (Ok trace) is reads =
     λ other one. spells.only other (let Q : List ℕ → Type 0 = λ s. IsTrace s other in subst Q spells.all_told one)
 only_of text told left old new (Err e) is reads = tt
 
-bad_of : (text : List ℕ) (told left : Option (List ℕ)) (old new : ℕ) (r : Result Trace TraceFault) → told ≡ Some text → Reads told left old new r → r ≡ Err Bad → (trace : Trace) → IsTrace text trace → ⊥
-bad_of text told left old new r is reads bad =
-    let P : Option (List ℕ) → Type 0 = λ t. Reads t left old new r in
-    let Q : Result Trace TraceFault → Type 0 = λ a. Reads (Some text) left old new a in
-    (subst Q bad (subst P is reads)).0.1
-
 pub returns-clause-only : goal.returns-clause-only
 returns-clause-only c = only_of c.args.text.now (Some c.in-Ok.source.rest) (Some c.read_trace.new.source.rest) c.in-Ok.source.faults c.read_trace.new.source.faults c.read_trace.result (rw c.in-Ok.ensures refl) c.read_trace.ensures.reads
-
-pub returns-clause-bad : goal.returns-clause-bad
-returns-clause-bad c = bad_of c.args.text.now (Some c.in-Ok.source.rest) (Some c.read_trace.new.source.rest) c.in-Ok.source.faults c.read_trace.new.source.faults c.read_trace.result (rw c.in-Ok.ensures refl) c.read_trace.ensures.reads

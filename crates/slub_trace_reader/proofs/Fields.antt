@@ -1,0 +1,210 @@
+-- Words taken off the front, and what stands there.
+use Rattle.std.proofs.Common.{◌≡◌, ◌≢◌, ℕ, ◌<◌, ◌≤◌, ◌^◌, true, false, not, ◌&&◌, min, Result, Ok, Err, Option, Some, None, Bor, List, [], ◌∷◌, ◌++◌, length, get_or, refl, ap, arith, eq-eqb, eqb, leb, inl, inr, subst, All, ◌⊎◌}
+use Rattle.std.specs.Prelude.{IfSome, IfNone, MatchOption, MatchResult, SomeIff, IsUtf8}
+use Rattle.std.specs.List.{list_all}
+use Rattle.std.specs.Str.Parse.{AllDigits, digits_value, ParsesUnsigned, IsNumeral, without_leading_plus}
+use Rattle.std.proofs.lemmas.Bool.{false≢true, cases_Bool, eqb-true, eqb-false, ne_eqb, and_parts, and_from, leb-true, le-leb, false_from_ne_true}
+use Rattle.std.proofs.lemmas.List.Elements.{All-cons, All-nil, All-tail}
+use Rattle.std.proofs.lemmas.Bool.Decides.{nat_tests}
+use Rattle.std.proofs.lemmas.Fmt.{IsAscii-from_digits}
+use Rattle.std.proofs.lemmas.Str.{IsUtf8-from_ascii}
+use Rattle.std.proofs.lemmas.Str.Parse.{IsNumeralModel, numerals_by_value, tells_digits, parse_plain, digit_at}
+use Rattle.slub_object_layout.specs.Name.{IsName, IsLetterOrDigit, IsNameByte}
+use Rattle.slub_trace_reader.specs.Forms.{Gives, strip, field, number_of, name_of, is_name, is_letter_or_digit, is_name_byte}
+use Rattle.slub_trace_reader.specs.Words.{is_digit, is_number}
+
+-- ---- a fixed text in front
+
+-- what follows the text
+pub strip_found : (t rest : List ℕ) → strip t (t ++ rest) ≡ Some rest
+unfolding strip
+strip_found [] rest = refl
+strip_found (c ∷ t) rest = rw (eq-eqb c c refl) (strip_found t rest)
+
+-- where something follows the text, it stands in front
+pub strip_some : (t bytes rest : List ℕ) → strip t bytes ≡ Some rest → bytes ≡ t ++ rest
+unfolding strip
+strip_some [] bytes rest is = cc
+strip_some (c ∷ t) [] rest is = cc
+strip_some (c ∷ t) (b ∷ bs) rest is =
+    elim (cases_Bool (eqb c b)) [
+      | inl same ↦
+          let more : strip t bs ≡ Some rest = rw same at is in
+          rw (eqb-true c b same, strip_some t bs rest more) refl
+      | inr apart ↦ (let never : None ≡ Some rest = rw apart at is in cc)
+    ]
+
+-- an answer that is there, or isn't
+pub cases_Option : {A : Type 0} (o : Option A) → (o ≡ None) ⊎ ((x : A) × (o ≡ Some x))
+cases_Option None = inl refl
+cases_Option (Some x) = inr (x, refl)
+
+-- where the text is not in front, nothing follows it
+pub strip_none : (t bytes : List ℕ) → ((rest : List ℕ) → bytes ≢ t ++ rest) → strip t bytes ≡ None
+strip_none t bytes none = elim (cases_Option (strip t bytes)) [
+  | inl is ↦ is
+  | inr found ↦ absurd (none found.0 (strip_some t bytes found.0 found.1))
+]
+
+-- the same of the code's answer
+pub strips : (t bytes : List ℕ) (r : Option (Bor (List ℕ))) → MatchOption r ((rest : List ℕ) → bytes ≢ t ++ rest) (λ x. bytes ≡ t ++ x.now) → Gives (λ rest. rest.now) r (strip t bytes)
+strips t bytes None none = strip_none t bytes none
+strips t bytes (Some x) is = rw is (strip_found t x.now)
+
+-- ---- a word and a space in front
+
+-- the parts of a pair that is there, or others
+first_of_some : {A B : Type 0} → A → Option (A × B) → A
+first_of_some a None = a
+first_of_some a (Some p) = p.0
+
+second_of_some : {A B : Type 0} → B → Option (A × B) → B
+second_of_some b None = b
+second_of_some b (Some p) = p.1
+
+-- equal pairs have equal parts
+pub same_pair : {A B : Type 0} (p q : A × B) → Some p ≡ Some q → (p.0 ≡ q.0) × (p.1 ≡ q.1)
+unfolding first_of_some second_of_some
+same_pair {A} {B} p q is = (ap (first_of_some {A = A} {B = B} p.0) is, ap (second_of_some {A = A} {B = B} p.1) is)
+
+-- no space stands in a word
+abbrev pub IsWord : List ℕ → Type 0
+IsWord word = All (λ b. b ≢ 32) word
+
+-- its first byte is no space
+not_space : (b : ℕ) (word : List ℕ) → IsWord (b ∷ word) → eqb b 32 ≡ false
+not_space b word is = ne_eqb b 32 (is 0 0 (omega arith))
+
+-- a word up to the first space
+pub field_found : (word rest : List ℕ) → IsWord word → field (word ++ 32 ∷ rest) ≡ Some (word, rest)
+unfolding field
+field_found [] rest is = refl
+field_found (b ∷ word) rest is = rw (not_space b word is, field_found word rest (All-tail (λ c. c ≢ 32) b word is)) refl
+
+-- a word without a space is no field
+pub field_none : (word : List ℕ) → IsWord word → field word ≡ None
+unfolding field
+field_none [] is = refl
+field_none (b ∷ word) is = rw (not_space b word is, field_none word (All-tail (λ c. c ≢ 32) b word is)) refl
+
+-- a field is a word, a space and what follows
+pub field_some : (bytes word rest : List ℕ) → field bytes ≡ Some (word, rest) → (bytes ≡ word ++ 32 ∷ rest) × IsWord word
+unfolding field
+field_some [] word rest is = cc
+field_some (b ∷ bytes) word rest is =
+    elim (cases_Bool (eqb b 32)) [
+      | inl space ↦
+          (let same : Some ([], bytes) ≡ Some (word, rest) = rw space at is in
+          let parts = same_pair ([], bytes) (word, rest) same in
+          rw (← parts.0, ← parts.1, eqb-true b 32 space) (refl, All-nil (λ c. c ≢ 32)))
+      | inr apart ↦
+          elim (cases_Option (field bytes)) [
+            | inl none ↦ (let never : None ≡ Some (word, rest) = rw (apart, none) at is in cc)
+            | inr found ↦
+                (let same : Some (b ∷ found.0.0, found.0.1) ≡ Some (word, rest) = rw (apart, found.1) at is in
+                let parts = same_pair (b ∷ found.0.0, found.0.1) (word, rest) same in
+                let more = field_some bytes found.0.0 found.0.1 found.1 in
+                let whole : b ∷ bytes ≡ (b ∷ found.0.0) ++ 32 ∷ found.0.1 = ap (λ bs. b ∷ bs) more.0 in
+                let P : List ℕ → List ℕ → Type 0 = λ w r. (b ∷ bytes ≡ w ++ 32 ∷ r) × IsWord w in
+                subst (λ r. P word r) parts.1 (subst (λ w. P w found.0.1) parts.0 (whole, All-cons (λ c. c ≢ 32) b found.0.0 (eqb-false b 32 apart) more.1)))
+          ]
+    ]
+
+-- the same of the code's answer
+pub fields : (bytes : List ℕ) (r : Option (Bor (List ℕ) × Bor (List ℕ))) → IfSome r (λ x. (bytes ≡ x.0.now ++ 32 ∷ x.1.now) × All (λ b. b ≢ 32) x.0.now) → IfNone r (All (λ b. b ≢ 32) bytes)
+    → Gives (λ x. (x.0.now, x.1.now)) r (field bytes)
+fields bytes None found none = field_none bytes none
+fields bytes (Some x) found none = rw (found.0) (field_found x.0.now x.1.now found.1)
+
+-- ---- numbers
+
+-- decimal digits, and the number that they write
+digits : IsNumeralModel (AllDigits 10) (digits_value 10)
+digits = numerals_by_value (AllDigits 10) tells_digits
+
+-- a digit by its test
+pub digit_within : (c : ℕ) → is_digit c ≡ true → (48 ≤ c) × (c ≤ 57)
+digit_within c is = let parts = and_parts (leb 48 c) (leb c 57) is in (leb-true 48 c parts.0, leb-true c 57 parts.1)
+
+-- digits by their tests
+pub all_digits : (cs : List ℕ) → list_all is_digit cs ≡ true → AllDigits 10 cs
+all_digits [] is = tt
+all_digits (c ∷ cs) is =
+    let parts = and_parts (is_digit c) (list_all is_digit cs) is in
+    tells_digits.more c cs (digit_within c parts.0) (all_digits cs parts.1)
+
+-- a number has digits alone, and some
+pub number_digits : (word : List ℕ) → is_number word ≡ true → AllDigits 10 word × (0 < length word)
+number_digits [] is = absurd (false≢true is)
+number_digits (c ∷ []) is = (tells_digits.more c [] (digit_within c is) tt, omega arith)
+number_digits (c ∷ d ∷ cs) is = (all_digits (c ∷ d ∷ cs) (and_parts (not (eqb c 48)) (list_all is_digit (c ∷ d ∷ cs)) is).1, omega arith)
+
+-- no plus stands in front of digits
+no_plus : (word : List ℕ) → AllDigits 10 word → 0 < length word → get_or word 0 0 ≢ 43
+no_plus word all some plus = let range = digit_at word 0 all some in absurd (omega arith)
+
+-- what is parsed of a number, cut at 2 ^ 64
+pub parsed : {E : Type 0} (word : List ℕ) (r : Result ℕ E) → is_number word ≡ true → ParsesUnsigned 64 10 word r
+    → MatchResult r (λ n. Some n ≡ number_of word) (λ _. Some (2 ^ 64) ≡ number_of word)
+unfolding number_of
+parsed {E} word (Ok n) is parses =
+    let all = number_digits word is in
+    let means = parse_plain digits {E = E} 64 word (Ok n) parses (no_plus word all.0 all.1) in
+    let cut : min (digits_value 10 word) (2 ^ 64) ≡ n = omega (arith, means.0.2, means.1) in
+    rw (is, cut) refl
+parsed {E} word (Err e) is parses =
+    let all = number_digits word is in
+    let means = parse_plain digits {E = E} 64 word (Err e) parses (no_plus word all.0 all.1) in
+    let great : (digits_value 10 word < 2 ^ 64) → ⊥ = λ low. means (all.0, all.1, low) in
+    let cut : min (digits_value 10 word) (2 ^ 64) ≡ 2 ^ 64 = omega (arith, great) in
+    rw (is, cut) refl
+
+-- the same of the code's answer where it is an error
+pub great : (word text : List ℕ) → text ≡ word → is_number word ≡ true
+    → ((IsNumeral 10 (without_leading_plus text) × (digits_value 10 (without_leading_plus text) < 2 ^ 64)) → ⊥) → Some 18446744073709551616 ≡ number_of word
+great word text same is none =
+    let P : List ℕ → Type 0 = λ t. (IsNumeral 10 (without_leading_plus t) × (digits_value 10 (without_leading_plus t) < 2 ^ 64)) → ⊥ in
+    parsed {E = ℕ} word (Err 0) is (subst P same none)
+
+-- a number is text
+pub number_utf8 : (word : List ℕ) → is_number word ≡ true → IsUtf8 word
+number_utf8 word is = IsUtf8-from_ascii word (IsAscii-from_digits word (number_digits word is).0)
+
+-- ---- names
+
+-- a letter or a digit by its test
+letter_tells : (c : ℕ) → (is_letter_or_digit c ≡ true → IsLetterOrDigit c) × (IsLetterOrDigit c → is_letter_or_digit c ≡ true)
+letter_tells c = (λ is. grind (arith, nat_tests), λ is. grind (arith, nat_tests))
+
+-- a byte of a name by its test
+byte_tells : (c : ℕ) → (is_name_byte c ≡ true → IsNameByte c) × (IsNameByte c → is_name_byte c ≡ true)
+byte_tells c = (λ is. grind (arith, nat_tests), λ is. grind (arith, nat_tests))
+
+name_bytes : (cs : List ℕ) → list_all is_name_byte cs ≡ true → All IsNameByte cs
+name_bytes [] is = All-nil IsNameByte
+name_bytes (c ∷ cs) is =
+    let parts = and_parts (is_name_byte c) (list_all is_name_byte cs) is in
+    All-cons IsNameByte c cs ((byte_tells c).0 parts.0) (name_bytes cs parts.1)
+
+are_name_bytes : (cs : List ℕ) → All IsNameByte cs → list_all is_name_byte cs ≡ true
+are_name_bytes [] is = refl
+are_name_bytes (c ∷ cs) is =
+    and_from (is_name_byte c) (list_all is_name_byte cs) ((byte_tells c).1 (is 0 0 (omega arith))) (are_name_bytes cs (All-tail IsNameByte c cs is))
+
+-- a name by its test
+pub name_tells : (word : List ℕ) → (is_name word ≡ true → IsName word) × (IsName word → is_name word ≡ true)
+name_tells [] = (λ is. false≢true is, λ is. absurd is)
+name_tells (c ∷ cs) = (
+  λ is.
+      (let parts = and_parts (is_letter_or_digit c && list_all is_name_byte cs) (leb (length cs) 30) is in
+      let front = and_parts (is_letter_or_digit c) (list_all is_name_byte cs) parts.0 in
+      ((letter_tells c).0 front.0, name_bytes cs front.1, leb-true (length cs) 30 parts.1)),
+  λ is. and_from (is_letter_or_digit c && list_all is_name_byte cs) (leb (length cs) 30)
+      (and_from (is_letter_or_digit c) (list_all is_name_byte cs) ((letter_tells c).1 is.0) (are_name_bytes cs is.1)) (le-leb (length cs) 30 is.2),
+)
+
+-- the same of the code's answer
+pub names : (word : List ℕ) (r : Option (List ℕ)) → SomeIff r (IsName word) word → r ≡ name_of word
+unfolding name_of
+names word None is = rw (false_from_ne_true (is_name word) (λ named. is ((name_tells word).0 named))) refl
+names word (Some x) is = rw ((name_tells word).1 is.0) (ap (λ t. Some t) is.1)

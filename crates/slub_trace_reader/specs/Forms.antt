@@ -1,0 +1,201 @@
+-- Reading one line: a function on lists of bytes, which takes one word after the other off the front.
+use Rattle.std.specs.Prelude.{◌≡◌, ℕ, ◌+◌, ◌*◌, ◌^◌, ◌==◌, ◌&&◌, ◌||◌, min, Bool, true, false, List, [], ◌∷◌, length, Option, Some, None, option_and_then, option_map, if◌then◌else◌, codes, nat_eq, nat_le}
+use Rattle.std.specs.List.{list_all}
+use Rattle.std.specs.Str.Parse.{digits_value}
+use Rattle.std.specs.Cmp.Lexicographic.{pointwise}
+use Rattle.slub_object_layout.specs.declared.layout.Flags.{Flags}
+use Rattle.slub_trace_reader.specs.declared.line.Line.{Line}
+use Rattle.slub_trace_reader.specs.declared.line.Line.TheVariants.{Passed, Slubtrace, Machine, Cache, Shrink, Destroy, Slabinfo, Round, Alloc, Free, Write, Read, Poke, Done, End}
+use Rattle.slub_trace_reader.specs.Words.{is_digit, is_number, are_flags, flags_in, is_hex, hex_value}
+
+infixl 10 ◌>>=◌
+abbrev pub ◌>>=◌ : {A B : Type 0} → Option A → (A → Option B) → Option B
+o >>= f = option_and_then f o
+
+-- an answer of the code is that of reading, seen by a view
+abbrev pub Gives : {X Y : Type 0} → (X → Y) → Option X → Option Y → Type 0
+Gives view None read = read ≡ None
+Gives view (Some x) read = read ≡ Some (view x)
+
+-- ---- words
+
+-- what follows a fixed text
+unfoldable pub strip : List ℕ → List ℕ → Option (List ℕ)
+strip [] bytes = Some bytes
+strip (t ∷ ts) [] = None
+strip (t ∷ ts) (b ∷ bs) = if t == b then strip ts bs else None
+
+-- the word up to the first space, and what follows that
+unfoldable pub field : List ℕ → Option (List ℕ × List ℕ)
+field [] = None
+field (b ∷ bs) = if b == 32 then Some ([], bs) else option_map (λ f. (b ∷ f.0, f.1)) (field bs)
+
+-- the number of a word; one that 64 bits don't hold is as great as the least of those
+unfoldable pub number_of : List ℕ → Option ℕ
+number_of word = if is_number word then Some (min (digits_value 10 word) (2 ^ 64)) else None
+
+-- the sign and the size of an offset
+unfoldable pub offset_of : List ℕ → Option (Bool × ℕ)
+offset_of [] = None
+offset_of (c ∷ cs) = if c == 45 then option_map (λ n. (true, n)) (number_of cs) else option_map (λ n. (false, n)) (number_of (c ∷ cs))
+
+abbrev pub is_letter_or_digit : ℕ → Bool
+is_letter_or_digit c = (nat_le 65 c && nat_le c 90) || (nat_le 97 c && nat_le c 122) || is_digit c
+
+abbrev pub is_name_byte : ℕ → Bool
+is_name_byte c = is_letter_or_digit c || c == 95 || c == 46 || c == 45
+
+-- a letter or a digit, and at most 30 bytes more
+abbrev pub is_name : List ℕ → Bool
+is_name [] = false
+is_name (c ∷ cs) = is_letter_or_digit c && list_all is_name_byte cs && nat_le (length cs) 30
+
+unfoldable pub name_of : List ℕ → Option (List ℕ)
+name_of word = if is_name word then Some word else None
+
+unfoldable pub flags_of : List ℕ → Option Flags
+flags_of word = if are_flags word then Some (flags_in word) else None
+
+unfoldable pub byte_of : List ℕ → Option ℕ
+byte_of [] = None
+byte_of (h ∷ []) = None
+byte_of (h ∷ l ∷ []) = if is_hex h && is_hex l then Some (16 * hex_value h + hex_value l) else None
+byte_of (h ∷ l ∷ x ∷ xs) = None
+
+-- ---- a word and a space in front
+
+unfoldable pub number_at : List ℕ → Option (ℕ × List ℕ)
+number_at bytes = do
+  f ← field bytes
+  n ← number_of f.0
+  Some (n, f.1)
+
+unfoldable pub name_at : List ℕ → Option (List ℕ × List ℕ)
+name_at bytes = do
+  f ← field bytes
+  n ← name_of f.0
+  Some (n, f.1)
+
+unfoldable pub offset_at : List ℕ → Option ((Bool × ℕ) × List ℕ)
+offset_at bytes = do
+  f ← field bytes
+  n ← offset_of f.0
+  Some (n, f.1)
+
+-- ---- the forms
+
+-- an empty line, or a comment
+abbrev pub is_passed : List ℕ → Bool
+is_passed [] = true
+is_passed (c ∷ cs) = c == 35
+
+-- the end of a machine line, by the field in front of it
+abbrev pub machine_tail : ℕ → List ℕ → Option (List ℕ × List ℕ) → Option Line
+machine_tail frames bytes None = option_map (λ cpus. Machine frames cpus None) (number_of bytes)
+machine_tail frames bytes (Some f) = do
+  cpus ← number_of f.0
+  word ← strip (codes "tid ") f.1
+  tid ← number_of word
+  Some (Machine frames cpus (Some tid))
+
+unfoldable pub machine_end : ℕ → List ℕ → Option Line
+machine_end frames bytes = machine_tail frames bytes (field bytes)
+
+unfoldable pub machine_line : List ℕ → Option Line
+machine_line bytes = do
+  rest ← strip (codes "machine ") bytes
+  frames ← number_at rest
+  machine_end frames.0 frames.1
+
+unfoldable pub cache_line : List ℕ → Option Line
+cache_line bytes = do
+  rest ← strip (codes "cache ") bytes
+  name ← name_at rest
+  size ← number_at name.1
+  align ← number_at size.1
+  flags ← flags_of align.1
+  Some (Cache name.0 size.0 align.0 flags)
+
+unfoldable pub shrink_line : List ℕ → Option Line
+shrink_line bytes = do
+  rest ← strip (codes "shrink ") bytes
+  name ← name_of rest
+  Some (Shrink name)
+
+unfoldable pub destroy_line : List ℕ → Option Line
+destroy_line bytes = do
+  rest ← strip (codes "destroy ") bytes
+  name ← name_of rest
+  Some (Destroy name)
+
+unfoldable pub round_line : List ℕ → Option Line
+round_line bytes = do
+  rest ← strip (codes "round ") bytes
+  workers ← number_of rest
+  Some (Round workers)
+
+unfoldable pub alloc_line : List ℕ → Option Line
+alloc_line bytes = do
+  rest ← strip (codes "alloc ") bytes
+  worker ← number_at rest
+  cpu ← number_at worker.1
+  name ← name_at cpu.1
+  object ← number_of name.1
+  Some (Alloc worker.0 cpu.0 name.0 object)
+
+unfoldable pub free_line : List ℕ → Option Line
+free_line bytes = do
+  rest ← strip (codes "free ") bytes
+  worker ← number_at rest
+  cpu ← number_at worker.1
+  object ← number_of cpu.1
+  Some (Free worker.0 cpu.0 object)
+
+unfoldable pub write_line : List ℕ → Option Line
+write_line bytes = do
+  rest ← strip (codes "write ") bytes
+  worker ← number_at rest
+  object ← number_at worker.1
+  word ← number_at object.1
+  value ← number_of word.1
+  Some (Write worker.0 object.0 word.0 value)
+
+unfoldable pub read_line : List ℕ → Option Line
+read_line bytes = do
+  rest ← strip (codes "read ") bytes
+  worker ← number_at rest
+  object ← number_at worker.1
+  word ← number_of object.1
+  Some (Read worker.0 object.0 word)
+
+unfoldable pub poke_line : List ℕ → Option Line
+poke_line bytes = do
+  rest ← strip (codes "poke ") bytes
+  worker ← number_at rest
+  object ← number_at worker.1
+  offset ← offset_at object.1
+  byte ← byte_of offset.1
+  Some (Poke worker.0 object.0 offset.0.0 offset.0.1 byte)
+
+-- a line of one word, or one that is passed over
+unfoldable pub plain_line : List ℕ → Option Line
+plain_line bytes =
+    if is_passed bytes then Some Passed else (if pointwise nat_eq bytes (codes "done") then Some Done else
+    (if pointwise nat_eq bytes (codes "slabinfo") then Some Slabinfo else (if pointwise nat_eq bytes (codes "end") then Some End else
+    (if pointwise nat_eq bytes (codes "slubtrace 1") then Some (Slubtrace 1) else None))))
+
+-- the first answer that is there
+infixr 9 ◌or_else◌
+abbrev pub ◌or_else◌ : {A : Type 0} → Option A → Option A → Option A
+None or_else other = other
+(Some x) or_else other = Some x
+
+unfoldable pub event_line : List ℕ → Option Line
+event_line bytes = alloc_line bytes or_else free_line bytes or_else write_line bytes or_else read_line bytes or_else poke_line bytes
+
+unfoldable pub item_line : List ℕ → Option Line
+item_line bytes = round_line bytes or_else shrink_line bytes or_else destroy_line bytes or_else cache_line bytes or_else machine_line bytes
+
+-- the line that a text says
+unfoldable pub line_of : List ℕ → Option Line
+line_of bytes = plain_line bytes or_else event_line bytes or_else item_line bytes

@@ -1,0 +1,169 @@
+-- Reading as a function on lists of bytes, which says the trace or the first fault.
+use Rattle.std.specs.Prelude.{ℕ, ◌+◌, ◌%◌, ◌==◌, Bool, true, false, not, ◌&&◌, List, [], ◌∷◌, Option, None, Some, Result, Ok, Err, nat_eq, nat_le, nat_lt, if◌then◌else◌}
+use Rattle.std.specs.List.{list_any}
+use Rattle.std.specs.Str.{bytes_eq}
+use Rattle.slub_trace_reader.specs.declared.line.Line.{Line}
+use Rattle.slub_trace_reader.specs.declared.line.Line.TheVariants.{Passed, Slubtrace, Machine, Cache, Shrink, Destroy, Slabinfo, Round, Alloc, Free, Write, Read, Poke, Done, End}
+use Rattle.slub_trace_reader.specs.declared.place.Place.{Place}
+use Rattle.slub_trace_reader.specs.declared.place.Place.TheVariants.{First, Second, Between, Within, After}
+use Rattle.slub_trace_reader.specs.declared.reading.Why.{Why}
+use Rattle.slub_trace_reader.specs.declared.reading.Why.TheVariants.{Unfinished, AfterEnd, Form, Range, TooManyRounds, UnknownCache, ObjectTwice, UnknownObject, ReadBeforeWrite, NoEnd}
+use Rattle.slub_trace_reader.specs.declared.trace.Trace.{Trace}
+use Rattle.slub_trace_reader.specs.Above.{Above, start, after, trace_of, workers_in, is_spot}
+use Rattle.slub_trace_reader.specs.Forms.{is_passed, line_of}
+use Rattle.slub_trace_reader.specs.Grammar.{step_of, name_in, object_in, needs_in, reads_in}
+
+-- ---- lines
+
+-- a byte in front of finished lines and a rest
+abbrev pub with_byte : ℕ → List (List ℕ) → List ℕ → List (List ℕ) × List ℕ
+with_byte b [] rest = ([], b ∷ rest)
+with_byte b (line ∷ lines) rest = ((b ∷ line) ∷ lines, rest)
+
+-- the lines that end with a line feed, and the bytes behind the last of them
+unfoldable pub cut_lines : List ℕ → List (List ℕ) × List ℕ
+cut_lines [] = ([], [])
+cut_lines (b ∷ bs) =
+    if b == 10 then ([] ∷ (cut_lines bs).0, (cut_lines bs).1) else with_byte b (cut_lines bs).0 (cut_lines bs).1
+
+-- ---- tests
+
+abbrev pub is_first : Place → Bool
+is_first First = true
+is_first Second = false
+is_first Between = false
+is_first (Within workers) = false
+is_first After = false
+
+abbrev pub is_second : Place → Bool
+is_second First = false
+is_second Second = true
+is_second Between = false
+is_second (Within workers) = false
+is_second After = false
+
+abbrev pub is_between : Place → Bool
+is_between First = false
+is_between Second = false
+is_between Between = true
+is_between (Within workers) = false
+is_between After = false
+
+abbrev pub is_in_round : Place → Bool
+is_in_round First = false
+is_in_round Second = false
+is_in_round Between = false
+is_in_round (Within workers) = true
+is_in_round After = false
+
+abbrev pub is_after : Place → Bool
+is_after First = false
+is_after Second = false
+is_after Between = false
+is_after (Within workers) = false
+is_after After = true
+
+unfoldable pub may_stand : Line → Place → Bool
+may_stand Passed place = true
+may_stand (Slubtrace version) place = is_first place
+may_stand (Machine frames cpus tid) place = is_second place
+may_stand (Cache name size align flags) place = is_between place
+may_stand (Shrink name) place = is_between place
+may_stand (Destroy name) place = is_between place
+may_stand Slabinfo place = is_between place
+may_stand (Round workers) place = is_between place
+may_stand (Alloc worker cpu name object) place = is_in_round place
+may_stand (Free worker cpu object) place = is_in_round place
+may_stand (Write worker object word value) place = is_in_round place
+may_stand (Read worker object word) place = is_in_round place
+may_stand (Poke worker object negative offset byte) place = is_in_round place
+may_stand Done place = is_in_round place
+may_stand End place = is_between place
+
+abbrev pub is_tid : ℕ → Option ℕ → Bool
+is_tid cpus None = true
+is_tid cpus (Some tid) = (tid % step_of cpus == 0) && nat_le (tid + step_of cpus) 4294967296
+
+abbrev pub is_object : ℕ → Bool
+is_object object = nat_le 1 object && nat_le object 1048576
+
+abbrev pub is_offset : Bool → ℕ → Bool
+is_offset true size = nat_le size 32768
+is_offset false size = nat_le size 32767
+
+unfoldable pub in_range : Above → Line → Bool
+in_range a Passed = true
+in_range a (Slubtrace version) = true
+in_range a (Machine frames cpus tid) = nat_le 2 frames && nat_le frames 4096 && nat_le 1 cpus && nat_le cpus 16 && is_tid cpus tid
+in_range a (Cache name size align flags) = nat_le size 4294967295 && nat_le align 4294967295
+in_range a (Shrink name) = true
+in_range a (Destroy name) = true
+in_range a Slabinfo = true
+in_range a (Round workers) = nat_le 1 workers && nat_le workers 16
+in_range a (Alloc worker cpu name object) = nat_lt worker (workers_in a.place) && nat_lt cpu a.cpus && is_object object
+in_range a (Free worker cpu object) = nat_lt worker (workers_in a.place) && nat_lt cpu a.cpus && is_object object
+in_range a (Write worker object word value) =
+    nat_lt worker (workers_in a.place) && is_object object && nat_le word 4095 && nat_le value 18446744073709551615
+in_range a (Read worker object word) = nat_lt worker (workers_in a.place) && is_object object && nat_le word 4095
+in_range a (Poke worker object negative offset byte) = nat_lt worker (workers_in a.place) && is_object object && is_offset negative offset
+in_range a Done = true
+in_range a End = true
+
+unfoldable pub has_room : Above → Line → Bool
+has_room a (Round workers) = nat_le (a.rounds + 1) 256
+has_room a _ = true
+
+-- the thing is among these, where there is one
+abbrev pub among : {X : Type 0} → (X → X → Bool) → Option X → List X → Bool
+among eq None things = true
+among eq (Some x) things = list_any (eq x) things
+
+-- the thing is not among these
+abbrev pub apart : {X : Type 0} → (X → X → Bool) → Option X → List X → Bool
+apart eq None things = true
+apart eq (Some x) things = not (list_any (eq x) things)
+
+-- ---- one line
+
+-- the first reason of those whose tests fail
+abbrev pub first_of : Bool → Bool → Bool → Bool → Bool → Bool → Bool → Option Why
+first_of stands range room named fresh known written =
+    if stands then (if range then (if room then (if named then (if fresh then (if known then (if written then None
+    else Some ReadBeforeWrite) else Some UnknownObject) else Some ObjectTwice) else Some UnknownCache) else Some TooManyRounds) else Some Range) else Some Form
+
+-- the first thing that a line lacks
+unfoldable pub lack_of : Above → Line → Option Why
+lack_of a line =
+    first_of (may_stand line a.place) (in_range a line) (has_room a line) (among bytes_eq (name_in line) a.names)
+    (apart nat_eq (object_in line) a.objects) (among nat_eq (needs_in line) a.objects) (among is_spot (reads_in line) a.written)
+
+abbrev pub good_or : Line → Option Why → Result Line Why
+good_or line None = Ok line
+good_or line (Some why) = Err why
+
+abbrev pub judged : Above → Option Line → Result Line Why
+judged a None = Err Form
+judged a (Some line) = good_or line (lack_of a line)
+
+-- the line that a text says below lines that say this, or its first reason
+unfoldable pub judge : Above → List ℕ → Result Line Why
+judge a text = if is_after a.place && not (is_passed text) then Err AfterEnd else judged a (line_of text)
+
+-- ---- all lines
+
+-- what is read of the bytes behind the last line feed
+abbrev pub end_of : Above → List ℕ → Result Trace (ℕ × Why)
+end_of a [] = if is_after a.place then Ok (trace_of a) else Err (a.count + 1, NoEnd)
+end_of a (b ∷ bs) = Err (a.count + 1, Unfinished)
+
+-- what is read of lines and of the bytes behind them
+unfoldable pub read_from : Above → List (List ℕ) → List ℕ → Result Trace (ℕ × Why)
+read_from a [] rest = end_of a rest
+read_from a (text ∷ texts) rest = elim (judge a text) [
+  | Ok line ↦ read_from (after a line) texts rest
+  | Err why ↦ Err (a.count + 1, why)
+]
+
+-- the trace that the bytes spell, or the first bad line and the first reason that it is bad for
+unfoldable pub reading : List ℕ → Result Trace (ℕ × Why)
+reading bytes = read_from start (cut_lines bytes).0 (cut_lines bytes).1

@@ -1,0 +1,81 @@
+-- What the reader keeps of the lines above.
+use Rattle.std.specs.Prelude.{◌≡◌, ◌≤◌, length, fold, max, Option, Some, None, ⊤}
+use Rattle.slub_trace_reader.specs.declared.line.Line.{Line}
+use Rattle.slub_trace_reader.specs.declared.line.Line.TheVariants.{Slubtrace, Machine, Alloc, Free, Write, Read, Poke}
+use Rattle.slub_trace_reader.specs.declared.reading.Why.{Why}
+use Rattle.slub_trace_reader.specs.declared.reading.Why.TheVariants.{Unfinished, AfterEnd, Form, Range, TooManyRounds, UnknownCache, ObjectTwice, UnknownObject, ReadBeforeWrite, NoEnd}
+use Rattle.slub_trace_reader.specs.declared.state.State.{State}
+use Rattle.slub_trace_reader.specs.Above.{Above, workers_in}
+use Rattle.slub_trace_reader.specs.Grammar.{MayStand, InRange, HasRoom, HasCache, IsFresh, IsKnown, IsWritten}
+
+-- what the lines above say, as it is kept
+abbrev pub above : State → Above
+above s = record {
+  count = s.count;
+  place = s.place;
+  version = s.version;
+  frames = s.frames;
+  cpus = s.cpus;
+  tid = s.tid;
+  names = s.names.keys;
+  objects = s.objects.keys;
+  rounds = s.rounds;
+  written = s.written.keys;
+  items = s.items;
+  events = s.events;
+}
+
+-- the greatest object is kept beside them, and each name came with a line
+pub record Keeps (s : State) : Type 0 where
+  pub greatest : s.greatest ≡ fold max 0 s.objects.keys
+  pub names : length s.names.keys ≤ s.count
+
+-- the workers of the round and the CPUs are few
+pub record IsModest (a : Above) : Type 0 where
+  pub workers : workers_in a.place ≤ 16
+  pub cpus : a.cpus ≤ 16
+
+-- the line may come next
+pub record IsFit (a : Above) (line : Line) : Type 0 where
+  pub stands : MayStand line a.place
+  pub range : InRange a line
+  pub room : HasRoom a line
+  pub named : HasCache a line
+  pub fresh : IsFresh a line
+  pub known : IsKnown a line
+  pub written : IsWritten a line
+
+-- the first or the second line
+abbrev pub IsHead : Line → Type 0
+IsHead (Slubtrace version) = ⊤
+IsHead (Machine frames cpus tid) = ⊤
+IsHead _ = ⊥
+
+-- a line of a round but its end
+abbrev pub IsEvent : Line → Type 0
+IsEvent (Alloc worker cpu name object) = ⊤
+IsEvent (Free worker cpu object) = ⊤
+IsEvent (Write worker object word value) = ⊤
+IsEvent (Read worker object word) = ⊤
+IsEvent (Poke worker object negative offset byte) = ⊤
+IsEvent _ = ⊥
+
+-- one of the others
+abbrev pub IsItem : Line → Type 0
+IsItem line = ¬ IsHead line × ¬ IsEvent line
+
+-- the first thing that the line lacks, where it lacks one
+abbrev pub Lacks : Above → Line → Option Why → Type 0
+Lacks a line None = IsFit a line
+Lacks a line (Some Unfinished) = ⊥
+Lacks a line (Some AfterEnd) = ⊥
+Lacks a line (Some Form) = ¬ MayStand line a.place
+Lacks a line (Some Range) = MayStand line a.place × ¬ InRange a line
+Lacks a line (Some TooManyRounds) = MayStand line a.place × InRange a line × ¬ HasRoom a line
+Lacks a line (Some UnknownCache) = MayStand line a.place × InRange a line × HasRoom a line × ¬ HasCache a line
+Lacks a line (Some ObjectTwice) = MayStand line a.place × InRange a line × HasRoom a line × HasCache a line × ¬ IsFresh a line
+Lacks a line (Some UnknownObject) =
+    MayStand line a.place × InRange a line × HasRoom a line × HasCache a line × IsFresh a line × ¬ IsKnown a line
+Lacks a line (Some ReadBeforeWrite) =
+    MayStand line a.place × InRange a line × HasRoom a line × HasCache a line × IsFresh a line × IsKnown a line × ¬ IsWritten a line
+Lacks a line (Some NoEnd) = ⊥

@@ -1,4 +1,4 @@
--- Each step keeps the machine coherent.
+-- Each step keeps the machine consistent.
 use Rattle.std.proofs.Common.{◌≡◌, ℕ, ◌+◌, ◌<◌, ◌≤◌, true, List, [], ◌∷◌, length, get_or, take, drop, reverse, Option, Some, None, is_some, IsSome, MatchOption, inl, inr, refl, ap, sym, ◌∙◌, subst, arith, set-set, get_or-set_same}
 use Rattle.std.proofs.lemmas.List.{get_or_past, set-get_or}
 use Rattle.std.proofs.lemmas.List.Sums.{sum_by-set}
@@ -12,7 +12,8 @@ use Rattle.slub_lists.specs.declared.lists.Cache.{Cache}
 use Rattle.slub_lists.specs.State.{State}
 use Rattle.slub_object_layout.specs.Layout.{IsWithinBounds}
 use Rattle.slub_lists.specs.Alloc.{IsStocked, from_node, from_partial, no_lists, cpu_place, cache_of, slab_of, own_free, lists_of, node_of, with_lists, with_node, retired, taken_up}
-use Rattle.slub_lists.specs.Coherent.{IsCoherent, IsShaped, times, times_current, times_partial, if_current, all_on_board, with_cache, opening}
+use Rattle.slub_page_pool.specs.History.{times}
+use Rattle.slub_lists.specs.Coherent.{IsConsistent, IsShaped, times_current, times_partial, if_current, all_on_board, with_cache, opening}
 use Rattle.slub_lists.specs.Steps.{IsTakable, IsRelisted, PopsNode, PopsPartial}
 use Rattle.slub_lists.proofs.Times.{times-cons, times-take-drop, times-reverse, current-same}
 use Rattle.slub_lists.proofs.Placed.{placed-retired, placed-taken_up, placed-partial, placed-all_on_board, placed-opening}
@@ -33,7 +34,7 @@ live-inside xs i live =
       | inr past ↦ let gone = ap is_some (get_or_past xs i None past) in cc
     ]
 
-IsSome-live : {X : Type 0} (x : Option X) (P : X → Type 0) → MatchOption x ⊥ P → IsSome x
+pub IsSome-live : {X : Type 0} (x : Option X) (P : X → Type 0) → MatchOption x ⊥ P → IsSome x
 IsSome-live None P h = absurd h
 IsSome-live (Some y) P h = refl
 
@@ -58,20 +59,20 @@ relisted-trans a b c ab bc = record {
   live = bc.live ∙ ab.live;
 }
 
-module _ (s : State) (cache cpu : ℕ) (coherent : IsCoherent s) (within : cache < 32) (cpu_within : cpu < s.cpus) where
+module _ (s : State) (cache cpu : ℕ) (consistent : IsConsistent s) (within : cache < 32) (cpu_within : cpu < s.cpus) where
   -- the place of what the CPU has of the cache
   inside : cpu_place s cache cpu < length s.cpu_lists
-  inside = place-inside s cache cpu coherent.shaped within cpu_within
+  inside = place-inside s cache cpu consistent.shaped within cpu_within
 
   -- the current slab is one of the machine's
   pub current-live : (frame : ℕ) → (lists_of s cache cpu).current ≡ Some frame → MatchOption (slab_of s frame) ⊥ (λ slab. slab.cache ≡ cache)
   current-live frame current =
-      live-from cache (slab_of s frame) (coherent.listed.live frame (omega (arith, current-counted s cache cpu cpu_within inside frame current))) (coherent.listed.of_current cache cpu frame cpu_within current)
+      live-from cache (slab_of s frame) (consistent.listed.live frame (omega (arith, current-counted s cache cpu cpu_within inside frame current))) (consistent.listed.of_current cache cpu frame cpu_within current)
 
   pub current-inside : (frame : ℕ) → (lists_of s cache cpu).current ≡ Some frame → frame < s.frames
   current-inside frame current =
       let slot = live-inside s.slabs frame (IsSome-live (slab_of s frame) (λ slab. slab.cache ≡ cache) (current-live frame current)) in
-      omega (arith, slot, coherent.shaped.slabs)
+      omega (arith, slot, consistent.shaped.slabs)
 
   -- the current slab can be taken up again
   pub takable-current : (frame : ℕ) → (lists_of s cache cpu).current ≡ Some frame → (lists_of s cache cpu).free ≡ [] → 0 < length (own_free s frame) → IsTakable s cache cpu frame
@@ -83,47 +84,47 @@ module _ (s : State) (cache cpu : ℕ) (coherent : IsCoherent s) (within : cache
         stocked = stocked;
         free = nothing;
         here = inr current;
-        nowhere_else = omega (arith, counted, one, coherent.listed.once frame);
-        unlisted = omega (arith, counted, coherent.listed.once frame);
+        nowhere_else = omega (arith, counted, one, consistent.listed.once frame);
+        unlisted = omega (arith, counted, consistent.listed.once frame);
       }
 
-  pub retired-coherent : (frame : ℕ) → (lists_of s cache cpu).current ≡ Some frame → (lists_of s cache cpu).free ≡ [] → IsCoherent (retired s cache cpu frame)
-  retired-coherent frame current nothing =
-      let slot : frame < length s.slabs = omega (arith, current-inside frame current, coherent.shaped.slabs) in
+  pub retired-consistent : (frame : ℕ) → (lists_of s cache cpu).current ≡ Some frame → (lists_of s cache cpu).free ≡ [] → IsConsistent (retired s cache cpu frame)
+  retired-consistent frame current nothing =
+      let slot : frame < length s.slabs = omega (arith, current-inside frame current, consistent.shaped.slabs) in
       record {
-        shaped = shaped-retired s cache cpu frame coherent.shaped;
-        placed = placed-retired s cache cpu inside frame nothing coherent.placed;
-        framed = framed-retired s cache cpu frame coherent.framed;
-        listed = listed-retired s cache cpu cpu_within inside frame slot current coherent.listed;
-        accounted = coherent.accounted;
+        shaped = shaped-retired s cache cpu frame consistent.shaped;
+        placed = placed-retired s cache cpu inside frame nothing consistent.placed;
+        framed = framed-retired s cache cpu frame consistent.framed;
+        listed = listed-retired s cache cpu cpu_within inside frame slot current consistent.listed;
+        accounted = consistent.accounted;
       }
 
   pub taken_up-inside : (frame : ℕ) → IsTakable s cache cpu frame → frame < s.frames
-  taken_up-inside frame takable = omega (arith, live-inside s.slabs frame (IsSome-live (slab_of s frame) (λ slab. slab.cache ≡ cache) takable.live), coherent.shaped.slabs)
+  taken_up-inside frame takable = omega (arith, live-inside s.slabs frame (IsSome-live (slab_of s frame) (λ slab. slab.cache ≡ cache) takable.live), consistent.shaped.slabs)
 
-  pub taken_up-coherent : (frame : ℕ) → IsTakable s cache cpu frame → IsCoherent (taken_up s cache cpu frame (lists_of s cache cpu).partial)
-  taken_up-coherent frame takable =
-      let slot : frame < length s.slabs = omega (arith, taken_up-inside frame takable, coherent.shaped.slabs) in
-      let own : frame < length s.frees = omega (arith, taken_up-inside frame takable, coherent.shaped.frees) in
+  pub taken_up-consistent : (frame : ℕ) → IsTakable s cache cpu frame → IsConsistent (taken_up s cache cpu frame (lists_of s cache cpu).partial)
+  taken_up-consistent frame takable =
+      let slot : frame < length s.slabs = omega (arith, taken_up-inside frame takable, consistent.shaped.slabs) in
+      let own : frame < length s.frees = omega (arith, taken_up-inside frame takable, consistent.shaped.frees) in
       record {
-        shaped = shaped-taken_up s cache cpu frame (lists_of s cache cpu).partial coherent.shaped;
-        placed = placed-taken_up s cache cpu inside frame (lists_of s cache cpu).partial own takable.free coherent.placed;
-        framed = framed-taken_up s cache cpu frame (lists_of s cache cpu).partial coherent.framed;
-        listed = listed-taken_up s cache cpu cpu_within inside frame slot own takable coherent.listed;
-        accounted = coherent.accounted;
+        shaped = shaped-taken_up s cache cpu frame (lists_of s cache cpu).partial consistent.shaped;
+        placed = placed-taken_up s cache cpu inside frame (lists_of s cache cpu).partial own takable.free consistent.placed;
+        framed = framed-taken_up s cache cpu frame (lists_of s cache cpu).partial consistent.framed;
+        listed = listed-taken_up s cache cpu cpu_within inside frame slot own takable consistent.listed;
+        accounted = consistent.accounted;
       }
 
   -- what is left where slabs come off the node list and go to the CPU's partial list
   abbrev pub gathered : List ℕ → List ℕ → State
   gathered partial frames = let lists : CpuLists = lists_of s cache cpu in with_lists (with_node s cache frames) cache cpu (record lists { partial = partial })
 
-  pub gathered-coherent : (partial frames : List ℕ) → ((f : ℕ) → times f partial + times f frames ≤ times f (lists_of s cache cpu).partial + times f (node_of s cache)) → IsCoherent (gathered partial frames)
-  gathered-coherent partial frames fewer = record {
-    shaped = shaped-partial s cache cpu partial frames coherent.shaped;
-    placed = placed-partial s cache cpu inside partial coherent.placed;
-    framed = coherent.framed;
-    listed = listed-relisted s cache cpu cpu_within inside partial frames (omega (arith, coherent.shaped.nodes)) fewer coherent.listed;
-    accounted = coherent.accounted;
+  pub gathered-consistent : (partial frames : List ℕ) → ((f : ℕ) → times f partial + times f frames ≤ times f (lists_of s cache cpu).partial + times f (node_of s cache)) → IsConsistent (gathered partial frames)
+  gathered-consistent partial frames fewer = record {
+    shaped = shaped-partial s cache cpu partial frames consistent.shaped;
+    placed = placed-partial s cache cpu inside partial consistent.placed;
+    framed = consistent.framed;
+    listed = listed-relisted s cache cpu cpu_within inside partial frames (omega (arith, consistent.shaped.nodes)) fewer consistent.listed;
+    accounted = consistent.accounted;
   }
 
   -- the one slab that is on neither any more can be taken up
@@ -136,18 +137,18 @@ module _ (s : State) (cache cpu : ℕ) (coherent : IsCoherent s) (within : cache
       let now : lists_of after cache cpu ≡ v = get_or-set_same s.cpu_lists (cpu_place s cache cpu) v no_lists inside in
       let current = sum_by-set (λ (lists : CpuLists). if_current frame 1 lists.current) s.cpu_lists (cpu_place s cache cpu) v no_lists inside in
       let on_cpu = sum_by-set (λ (lists : CpuLists). times frame lists.partial) s.cpu_lists (cpu_place s cache cpu) v no_lists inside in
-      let on_node = sum_by-set (times frame) s.nodes cache frames [] (omega (arith, coherent.shaped.nodes)) in
+      let on_node = sum_by-set (times frame) s.nodes cache frames [] (omega (arith, consistent.shaped.nodes)) in
       let same : times_current after frame ≡ times_current s frame = omega (arith, current) in
       let less : times_partial after frame + 1 ≡ times_partial s frame = omega (arith, on_cpu, on_node, one_less) in
-      let once = coherent.listed.once frame in
+      let once = consistent.listed.once frame in
       let nowhere : ◌≡◌ {A = ℕ} (if_current frame 1 (lists_of after cache cpu).current) 0 = ap (λ (l : CpuLists). if_current frame 1 l.current) now ∙ ap (if_current frame 1) bare in
       record {
-        live = live-from cache (slab_of s frame) (coherent.listed.live frame (omega (arith, less)))
+        live = live-from cache (slab_of s frame) (consistent.listed.live frame (omega (arith, less)))
             (elim (cases_eq (times frame (lists_of s cache cpu).partial) 0) [
-              | inl none ↦ coherent.listed.of_node cache frame (omega (arith, none, one_less))
-              | inr here ↦ coherent.listed.of_partial cache cpu frame cpu_within (omega arith)
+              | inl none ↦ consistent.listed.of_node cache frame (omega (arith, none, one_less))
+              | inr here ↦ consistent.listed.of_partial cache cpu frame cpu_within (omega arith)
             ]);
-        stocked = coherent.listed.stocked frame (omega (arith, less));
+        stocked = consistent.listed.stocked frame (omega (arith, less));
         free = ap (λ (l : CpuLists). l.free) now ∙ nothing;
         here = inl (ap (λ (l : CpuLists). l.current) now ∙ bare);
         nowhere_else = omega (arith, same, less, once, nowhere);
@@ -203,14 +204,14 @@ module _ (s : State) (cache cpu : ℕ) (coherent : IsCoherent s) (within : cache
       let v : CpuLists = record { current = None; free = []; partial = lists.partial } in
       get_or-set_same s.cpu_lists (cpu_place s cache cpu) v no_lists inside
 
--- a coherent machine by another name
-pub coherent-at : (s after : State) → after ≡ s → IsCoherent s → IsCoherent after
-coherent-at s after e coherent = subst IsCoherent (sym e) coherent
+-- a consistent machine by another name
+pub consistent-at : (s after : State) → after ≡ s → IsConsistent s → IsConsistent after
+consistent-at s after e consistent = subst IsConsistent (sym e) consistent
 
 -- the front of the CPU's partial list comes off
-module _ (s after : State) (cache cpu : ℕ) (coherent : IsCoherent s) (within : cache < 32) (cpu_within : cpu < s.cpus) (bare : (lists_of s cache cpu).current ≡ None) where
+module _ (s after : State) (cache cpu : ℕ) (consistent : IsConsistent s) (within : cache < 32) (cpu_within : cpu < s.cpus) (bare : (lists_of s cache cpu).current ≡ None) where
   nothing : (lists_of s cache cpu).free ≡ []
-  nothing = coherent.shaped.bare (cpu_place s cache cpu) bare
+  nothing = consistent.shaped.bare (cpu_place s cache cpu) bare
 
   -- one less of the slab
   partial-less : (frame : ℕ) (rest : List ℕ) (f : ℕ) → (lists_of s cache cpu).partial ≡ frame ∷ rest → times f (lists_of s cache cpu).partial ≡ if_current f 1 (Some frame) + times f rest
@@ -218,69 +219,69 @@ module _ (s after : State) (cache cpu : ℕ) (coherent : IsCoherent s) (within :
 
   pub popped-partial : (r : Option ℕ) (left : List ℕ) → MatchOption r (((lists_of s cache cpu).partial ≡ []) × (left ≡ [])) (λ item. (lists_of s cache cpu).partial ≡ item ∷ left)
       → (let lists : CpuLists = lists_of s cache cpu in after ≡ with_lists s cache cpu (record lists { partial = left }))
-      → MatchOption r (((lists_of s cache cpu).partial ≡ []) × (after ≡ s)) (λ frame. PopsPartial s cache cpu frame after) × IsCoherent after
+      → MatchOption r (((lists_of s cache cpu).partial ≡ []) × (after ≡ s)) (λ frame. PopsPartial s cache cpu frame after) × IsConsistent after
   popped-partial None left popped e =
       let lists : CpuLists = lists_of s cache cpu in
       let same : left ≡ lists.partial = popped.1 ∙ sym popped.0 in
       let unchanged : after ≡ s = e ∙ ap (λ (l : List ℕ). with_lists s cache cpu (record lists { partial = l })) same ∙ ap (λ (all : List CpuLists). record s { cpu_lists = all }) (set-get_or s.cpu_lists (cpu_place s cache cpu) no_lists) in
-      ((popped.0, unchanged), coherent-at s after unchanged coherent)
+      ((popped.0, unchanged), consistent-at s after unchanged consistent)
   popped-partial (Some frame) left popped e =
-      let whole = e ∙ sym (gathered-node s cache cpu coherent within cpu_within left) in
-      let taken = gathered-takable s cache cpu coherent within cpu_within left (node_of s cache) frame (omega (arith, partial-less frame left frame popped, current-same frame frame 1 refl)) nothing bare in
-      let kept = gathered-coherent s cache cpu coherent within cpu_within left (node_of s cache) (λ f. omega (arith, partial-less frame left f popped)) in (
+      let whole = e ∙ sym (gathered-node s cache cpu consistent within cpu_within left) in
+      let taken = gathered-takable s cache cpu consistent within cpu_within left (node_of s cache) frame (omega (arith, partial-less frame left frame popped, current-same frame frame 1 refl)) nothing bare in
+      let kept = gathered-consistent s cache cpu consistent within cpu_within left (node_of s cache) (λ f. omega (arith, partial-less frame left f popped)) in (
         record {
           rest = left;
           first = popped;
           left = e;
           takable = subst (λ (t : State). IsTakable t cache cpu frame) (sym whole) taken;
         },
-        subst IsCoherent (sym whole) kept,
+        subst IsConsistent (sym whole) kept,
       )
 
   -- the head of the node list comes off, and slabs after it
   pub popped-node : (frame batch : ℕ) (rest here there : List ℕ) → (lists_of s cache cpu).partial ≡ [] → node_of s cache ≡ frame ∷ rest → here ≡ reverse (take batch rest) → there ≡ drop batch rest
-      → after ≡ gathered s cache cpu coherent within cpu_within here there
-      → PopsNode s cache cpu batch frame after × IsCoherent after
+      → after ≡ gathered s cache cpu consistent within cpu_within here there
+      → PopsNode s cache cpu batch frame after × IsConsistent after
   popped-node frame batch rest here there none first is_here is_there e =
       let counted : (f : ℕ) → times f here + times f there ≡ times f rest = λ f.
       omega (arith, ap (times f) is_here, ap (times f) is_there, times-reverse f (take batch rest), times-take-drop f batch rest) in
       let before : (f : ℕ) → times f (node_of s cache) ≡ if_current f 1 (Some frame) + times f rest = λ f. ap (times f) first ∙ times-cons f frame rest in
       let empty : (f : ℕ) → times f (lists_of s cache cpu).partial ≡ 0 = λ f. ap (times f) none in
-      let taken = gathered-takable s cache cpu coherent within cpu_within here there frame (omega (arith, counted frame, before frame, empty frame, current-same frame frame 1 refl)) nothing bare in
-      let kept = gathered-coherent s cache cpu coherent within cpu_within here there (λ f. omega (arith, counted f, before f)) in
-      let named = ap (λ (l : List ℕ). gathered s cache cpu coherent within cpu_within l there) is_here ∙ ap (gathered s cache cpu coherent within cpu_within (reverse (take batch rest))) is_there in (
+      let taken = gathered-takable s cache cpu consistent within cpu_within here there frame (omega (arith, counted frame, before frame, empty frame, current-same frame frame 1 refl)) nothing bare in
+      let kept = gathered-consistent s cache cpu consistent within cpu_within here there (λ f. omega (arith, counted f, before f)) in
+      let named = ap (λ (l : List ℕ). gathered s cache cpu consistent within cpu_within l there) is_here ∙ ap (gathered s cache cpu consistent within cpu_within (reverse (take batch rest))) is_there in (
         record {
           rest = rest;
           first = first;
           left = e ∙ named;
           takable = subst (λ (t : State). IsTakable t cache cpu frame) (sym e) taken;
         },
-        subst IsCoherent (sym e) kept,
+        subst IsConsistent (sym e) kept,
       )
 
 -- the objects of a round are put on the board
-pub all_on_board-coherent : (s : State) → IsCoherent s → IsCoherent (all_on_board s)
-all_on_board-coherent s coherent = record {
-  shaped = shaped-all_on_board s coherent.shaped;
-  placed = placed-all_on_board s coherent.placed;
-  framed = coherent.framed;
-  listed = listed-all_on_board s coherent.listed;
-  accounted = accounted-all_on_board s coherent.accounted;
+pub all_on_board-consistent : (s : State) → IsConsistent s → IsConsistent (all_on_board s)
+all_on_board-consistent s consistent = record {
+  shaped = shaped-all_on_board s consistent.shaped;
+  placed = placed-all_on_board s consistent.placed;
+  framed = consistent.framed;
+  listed = listed-all_on_board s consistent.listed;
+  accounted = accounted-all_on_board s consistent.accounted;
 }
 
 -- a cache is made
-pub with_cache-coherent : (s : State) (place cache : ℕ) (made : Cache) → cache < length s.caches → cache_of s cache ≡ None → IsWithinBounds made.layout → IsCoherent s → IsCoherent (with_cache s place cache made)
-with_cache-coherent s place cache made within unused good coherent = record {
-  shaped = shaped-with_cache s place cache made within unused good coherent.shaped;
-  placed = coherent.placed;
-  framed = coherent.framed;
-  listed = listed-with_cache s place cache made coherent.listed;
-  accounted = coherent.accounted;
+pub with_cache-consistent : (s : State) (place cache : ℕ) (made : Cache) → cache < length s.caches → cache_of s cache ≡ None → IsWithinBounds made.layout → IsConsistent s → IsConsistent (with_cache s place cache made)
+with_cache-consistent s place cache made within unused good consistent = record {
+  shaped = shaped-with_cache s place cache made within unused good consistent.shaped;
+  placed = consistent.placed;
+  framed = consistent.framed;
+  listed = listed-with_cache s place cache made consistent.listed;
+  accounted = consistent.accounted;
 }
 
 -- before the first item
-pub opening-coherent : (frames cpus objects names : ℕ) → 2 ≤ frames → frames ≤ 4096 → 1 ≤ cpus → cpus ≤ 16 → objects ≤ 1048576 → IsPool (pool.opening frames) → IsCoherent (opening frames cpus objects names)
-opening-coherent frames cpus objects names least most one sixteen numbers good = record {
+pub opening-consistent : (frames cpus objects names : ℕ) → 2 ≤ frames → frames ≤ 4096 → 1 ≤ cpus → cpus ≤ 16 → objects ≤ 1048576 → IsPool (pool.opening frames) → IsConsistent (opening frames cpus objects names)
+opening-consistent frames cpus objects names least most one sixteen numbers good = record {
   shaped = shaped-opening frames cpus objects names least most one sixteen numbers good;
   placed = placed-opening frames cpus objects names;
   framed = framed-opening frames cpus objects names least;

@@ -12,7 +12,8 @@ use Rattle.slub_lists.specs.declared.lists.Held.{Held}
 use Rattle.slub_lists.specs.declared.lists.Run.{Run}
 use Rattle.slub_lists.specs.State.{State}
 use Rattle.slub_lists.specs.Alloc.{FindsRun, IsStocked, held_here, no_lists, cpu_place, cache_of, slab_of, lists_of, with_new_slab, with_given}
-use Rattle.slub_lists.specs.Coherent.{IsCoherent, IsSlabOf, IsTuned, has_object, if_current, on_cpu, times}
+use Rattle.slub_page_pool.specs.History.{times}
+use Rattle.slub_lists.specs.Coherent.{IsConsistent, IsSlabOf, IsTuned, has_object, if_current, on_cpu}
 use Rattle.slub_lists.specs.Steps.{HasLayout, IsRelisted}
 use Rattle.slub_lists.proofs.Times.{times-cons, current-same, element-counted}
 use Rattle.slub_lists.proofs.Placed.{placed-with_new_slab, placed-with_given}
@@ -44,14 +45,14 @@ layout-match (Some live) layout P h here = subst P (sym h) here
 pub HasLayout-same : (s after : State) (cache : ℕ) (layout : Layout) → IsRelisted s after → HasLayout s cache layout → HasLayout after cache layout
 HasLayout-same s after cache layout same has = subst (λ (xs : List (Option Cache)). MatchOption (get_or xs cache None) ⊥ (λ live. live.layout ≡ layout)) (sym same.caches) has
 
-module _ (s : State) (cache : ℕ) (layout : Layout) (coherent : IsCoherent s) (has : HasLayout s cache layout) where
+module _ (s : State) (cache : ℕ) (layout : Layout) (consistent : IsConsistent s) (has : HasLayout s cache layout) where
   -- its number is below 32
   pub cache-within : cache < 32
-  cache-within = omega (arith, live-inside s.caches cache (layout-live (cache_of s cache) layout has), coherent.shaped.caches)
+  cache-within = omega (arith, live-inside s.caches cache (layout-live (cache_of s cache) layout has), consistent.shaped.caches)
 
   -- its layout is a good one
   pub layout-good : IsTuned layout
-  layout-good = layout-at (cache_of s cache) layout IsTuned has (coherent.shaped.layouts cache)
+  layout-good = layout-at (cache_of s cache) layout IsTuned has (consistent.shaped.layouts cache)
 
   -- the objects of a run for it
   pub run-objects : (run : Run) (pool : FreeFrames) → FindsRun s.pool layout (Some run) pool → (1 ≤ run.objects) × (run.objects ≤ 512)
@@ -63,32 +64,32 @@ module _ (s : State) (cache : ℕ) (layout : Layout) (coherent : IsCoherent s) (
       ]
 
   pub run-slot : (run : Run) (pool : FreeFrames) → FindsRun s.pool layout (Some run) pool → run.frame < s.frames
-  run-slot run pool found = run-inside s 0 0 pool run (run-for s.pool layout run pool found).all_free coherent.framed
+  run-slot run pool found = run-inside s 0 0 pool run (run-for s.pool layout run pool found).all_free consistent.framed
 
-  pub with_new_slab-coherent : (cpu : ℕ) (run : Run) (pool : FreeFrames) → cpu < s.cpus → (lists_of s cache cpu).current ≡ None → IsPool pool → FindsRun s.pool layout (Some run) pool → IsCoherent (with_new_slab s cache cpu pool run)
-  with_new_slab-coherent cpu run pool cpu_within bare good found =
-      let inside = place-inside s cache cpu coherent.shaped cache-within cpu_within in
+  pub with_new_slab-consistent : (cpu : ℕ) (run : Run) (pool : FreeFrames) → cpu < s.cpus → (lists_of s cache cpu).current ≡ None → IsPool pool → FindsRun s.pool layout (Some run) pool → IsConsistent (with_new_slab s cache cpu pool run)
+  with_new_slab-consistent cpu run pool cpu_within bare good found =
+      let inside = place-inside s cache cpu consistent.shaped cache-within cpu_within in
       let is_run = run-for s.pool layout run pool found in
-      let slot : run.frame < length s.slabs = omega (arith, run-slot run pool found, coherent.shaped.slabs) in
-      let unused = run-unused s cache cpu pool run is_run.all_free coherent.framed slot in
+      let slot : run.frame < length s.slabs = omega (arith, run-slot run pool found, consistent.shaped.slabs) in
+      let unused = run-unused s cache cpu pool run is_run.all_free consistent.framed slot in
       let fits : IsSlabOf layout (record { cache = cache; order = run.order; objects = run.objects; frozen = true }) = is_run.fits in
       record {
         shaped = shaped-with_new_slab s cache cpu pool run slot unused good is_run.frames is_run.aligned
-            (layout-match (cache_of s cache) layout (λ l. IsSlabOf l (record { cache = cache; order = run.order; objects = run.objects; frozen = true })) has fits) coherent.shaped;
-        placed = placed-with_new_slab s cache cpu inside pool run slot unused bare coherent.placed;
-        framed = framed-with_new_slab s cache cpu pool run is_run.all_free slot is_run.less coherent.framed;
-        listed = listed-with_new_slab s cache cpu cpu_within inside pool run slot unused bare coherent.listed;
-        accounted = coherent.accounted;
+            (layout-match (cache_of s cache) layout (λ l. IsSlabOf l (record { cache = cache; order = run.order; objects = run.objects; frozen = true })) has fits) consistent.shaped;
+        placed = placed-with_new_slab s cache cpu inside pool run slot unused bare consistent.placed;
+        framed = framed-with_new_slab s cache cpu pool run is_run.all_free slot is_run.less consistent.framed;
+        listed = listed-with_new_slab s cache cpu cpu_within inside pool run slot unused bare consistent.listed;
+        accounted = consistent.accounted;
       }
 
   -- where no run is there, only a count of the pool changes
-  pub with_pool-coherent : (pool : FreeFrames) → IsPool pool → FindsRun s.pool layout None pool → IsCoherent (record s { pool = pool })
-  with_pool-coherent pool good found = record {
-    shaped = shaped-with_pool s pool good (none-frames s.pool layout pool found) coherent.shaped;
-    placed = coherent.placed;
-    framed = λ f. omega (arith, coherent.framed f, ap (times f) (none-free s.pool layout pool found));
-    listed = listed-with_pool s pool coherent.listed;
-    accounted = coherent.accounted;
+  pub with_pool-consistent : (pool : FreeFrames) → IsPool pool → FindsRun s.pool layout None pool → IsConsistent (record s { pool = pool })
+  with_pool-consistent pool good found = record {
+    shaped = shaped-with_pool s pool good (none-frames s.pool layout pool found) consistent.shaped;
+    placed = consistent.placed;
+    framed = λ f. omega (arith, consistent.framed f, ap (times f) (none-free s.pool layout pool found));
+    listed = listed-with_pool s pool consistent.listed;
+    accounted = consistent.accounted;
   }
 
   -- the first object of the CPU freelist
@@ -107,7 +108,7 @@ module _ (s : State) (cache : ℕ) (layout : Layout) (coherent : IsCoherent s) (
     one-object (Some slab) = grind (arith, nat_tests)
 
     pub unheld : sum_by (held_here frame index) s.board ≡ 0
-    unheld = omega (arith, coherent.placed frame index, counted, one-object (slab_of s frame))
+    unheld = omega (arith, consistent.placed frame index, counted, one-object (slab_of s frame))
 
     -- it is one of the slab's objects, which the layout bounds
     objects-most : (x : Option Slab) → 0 < has_object index x → IfSome x (λ slab. slab.cache ≡ cache) → IfSome x (λ slab. MatchOption (cache_of s slab.cache) ⊥ (λ live. IsSlabOf live.layout slab)) → index < layout.objects
@@ -125,28 +126,28 @@ module _ (s : State) (cache : ℕ) (layout : Layout) (coherent : IsCoherent s) (
         weaker P (Some live) h = h
 
     pub index-most : index < layout.objects
-    index-most = objects-most (slab_of s frame) (omega (arith, coherent.placed frame index, counted)) (coherent.listed.of_current cache cpu frame cpu_within current) (coherent.shaped.slab frame)
+    index-most = objects-most (slab_of s frame) (omega (arith, consistent.placed frame index, counted)) (consistent.listed.of_current cache cpu frame cpu_within current) (consistent.shaped.slab frame)
 
     pub frame-most : frame < 4096
-    frame-most = omega (arith, current-inside s cache cpu coherent cache-within cpu_within frame current, coherent.shaped.frames.1)
+    frame-most = omega (arith, current-inside s cache cpu consistent cache-within cpu_within frame current, consistent.shaped.frames.1)
 
-    pub with_given-coherent : (object worker : ℕ) → object < length s.board → get_or s.board object None ≡ None
-        → IsCoherent (with_given s cache cpu (record { current = Some frame; free = rest; partial = (lists_of s cache cpu).partial }) object (record { frame = frame; index = index; cache = cache; worker = Some worker }))
-    with_given-coherent object worker slot unused =
+    pub with_given-consistent : (object worker : ℕ) → object < length s.board → get_or s.board object None ≡ None
+        → IsConsistent (with_given s cache cpu (record { current = Some frame; free = rest; partial = (lists_of s cache cpu).partial }) object (record { frame = frame; index = index; cache = cache; worker = Some worker }))
+    with_given-consistent object worker slot unused =
         let held : Held = record { frame = frame; index = index; cache = cache; worker = Some worker } in
         let v : CpuLists = record { current = Some frame; free = rest; partial = (lists_of s cache cpu).partial } in
-        let inside = place-inside s cache cpu coherent.shaped cache-within cpu_within in
+        let inside = place-inside s cache cpu consistent.shaped cache-within cpu_within in
         record {
-          shaped = shaped-with_given s cache cpu object frame index worker rest (current-live s cache cpu coherent cache-within cpu_within frame current) coherent.shaped;
-          placed = placed-with_given s cache cpu inside object frame index worker rest slot unused current first coherent.placed;
-          framed = coherent.framed;
-          listed = listed-with_given s cache cpu cpu_within inside object frame rest held current coherent.listed;
-          accounted = accounted-with_given s cache cpu v object held (omega (arith, coherent.shaped.live, cache-within)) slot unused refl coherent.accounted;
+          shaped = shaped-with_given s cache cpu object frame index worker rest (current-live s cache cpu consistent cache-within cpu_within frame current) consistent.shaped;
+          placed = placed-with_given s cache cpu inside object frame index worker rest slot unused current first consistent.placed;
+          framed = consistent.framed;
+          listed = listed-with_given s cache cpu cpu_within inside object frame rest held current consistent.listed;
+          accounted = accounted-with_given s cache cpu v object held (omega (arith, consistent.shaped.live, cache-within)) slot unused refl consistent.accounted;
         }
 
 -- a count is far from its end
-pub count-room : (s : State) (cache : ℕ) → IsCoherent s → get_or s.live cache 0 ≤ 2 ^ 32
-count-room s cache coherent = omega (arith, accounted-most s cache coherent.accounted, coherent.shaped.board)
+pub count-room : (s : State) (cache : ℕ) → IsConsistent s → get_or s.live cache 0 ≤ 2 ^ 32
+count-room s cache consistent = omega (arith, accounted-most s cache consistent.accounted, consistent.shaped.board)
 
 -- a new slab has an object
 pub lists-with_new_slab : (s : State) (cache cpu : ℕ) (pool : FreeFrames) (run : Run) → cpu_place s cache cpu < length s.cpu_lists → 1 ≤ run.objects → 0 < length (lists_of (with_new_slab s cache cpu pool run) cache cpu).free

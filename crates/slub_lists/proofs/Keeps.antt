@@ -15,7 +15,7 @@ use Rattle.slub_lists.specs.Alloc.{Allocates, AllocatesNamed, AllocatesNew, Give
 use Rattle.slub_lists.specs.Coherent.{KeepsOthers}
 
 -- but for slabs, freelists, lists and pool, the machine is the same
-abbrev IsSame : State → State → Type 0
+abbrev pub IsSame : State → State → Type 0
 IsSame s after = (after.frames ≡ s.frames) × (after.cpus ≡ s.cpus) × (after.caches ≡ s.caches) × (after.ages ≡ s.ages) × (after.names ≡ s.names) × (after.board ≡ s.board)
 
 same_node : (s : State) (cache cpu batch : ℕ) (frames : List ℕ) → MatchResult (from_node s cache cpu batch frames) (IsSame s) (IsSame s)
@@ -51,7 +51,7 @@ gives_keeps s t layout cache cpu worker object reply after same gives = record {
   board = λ other apart. ap (λ (m : State). get_or m.board other None) gives.given ∙ get_or-set_other t.board object other _ None apart ∙ ap (λ b. get_or b other None) same.5;
 }
 
-same_keeps : (s t after : State) (object : ℕ) → IsSame s t → IsSame t after → KeepsOthers s object after
+pub same_keeps : (s t after : State) (object : ℕ) → IsSame s t → IsSame t after → KeepsOthers s object after
 same_keeps s t after object same more = record {
   frames = more.0 ∙ same.0;
   cpus = more.1 ∙ same.1;

@@ -11,3 +11,12 @@ pub mod Laying
 pub mod Runs
 pub mod Giving
 pub mod Keeps
+pub mod Kept
+pub mod Counting
+pub mod Discarding
+pub mod Taking
+pub mod Freeing
+pub mod Moving
+pub mod Settling
+pub mod KeepsFreed
+pub mod KeptFreed

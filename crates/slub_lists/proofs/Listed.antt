@@ -13,7 +13,8 @@ use Rattle.slub_lists.specs.declared.lists.Run.{Run}
 use Rattle.slub_lists.specs.declared.lists.Cache.{Cache}
 use Rattle.slub_lists.specs.State.{State}
 use Rattle.slub_lists.specs.Alloc.{marked, no_lists, cpu_place, lists_of, node_of, slab_of, own_free, retired, taken_up, with_new_slab, with_given, with_lists, with_node}
-use Rattle.slub_lists.specs.Coherent.{IsListed, times_current, times_partial, if_current, times, all_on_board, opening, with_cache}
+use Rattle.slub_page_pool.specs.History.{times}
+use Rattle.slub_lists.specs.Coherent.{IsListed, times_current, times_partial, if_current, all_on_board, opening, with_cache}
 use Rattle.slub_lists.specs.Steps.{IsTakable}
 use Rattle.slub_lists.proofs.Writes.{at_written, at_written_else, at_marked}
 use Rattle.slub_lists.proofs.Times.{current-same, current-other, element-counted, get_or-replicate_any}
@@ -38,7 +39,7 @@ IsSome-marked b (Some slab) h = h
 IsOf-same : (cache other : ℕ) (x : Option Slab) → cache ≡ other → IsOf cache x → IsOf other x
 IsOf-same cache other x e h = subst (λ n. IsOf n x) e h
 
-IsFrozenBy-same : (n m : ℕ) (x : Option Slab) → n ≡ m → IsFrozenBy n x → IsFrozenBy m x
+pub IsFrozenBy-same : (n m : ℕ) (x : Option Slab) → n ≡ m → IsFrozenBy n x → IsFrozenBy m x
 IsFrozenBy-same n m x e h = subst (λ n. IsFrozenBy n x) e h
 
 -- a slab that is unfrozen is current nowhere, and one that is frozen is current
@@ -50,11 +51,11 @@ IsFrozenBy-one : (n : ℕ) (x : Option Slab) → 0 < n → IsFrozenBy n (option_
 IsFrozenBy-one n None some = tt
 IsFrozenBy-one n (Some slab) some = (λ h. some, λ h. refl)
 
-IsOf-live : (cache : ℕ) (x : Option Slab) → MatchOption x ⊥ (λ slab. slab.cache ≡ cache) → IsOf cache x
+pub IsOf-live : (cache : ℕ) (x : Option Slab) → MatchOption x ⊥ (λ slab. slab.cache ≡ cache) → IsOf cache x
 IsOf-live cache None h = absurd h
 IsOf-live cache (Some slab) h = h
 
-IsSome-live : (cache : ℕ) (x : Option Slab) → MatchOption x ⊥ (λ slab. slab.cache ≡ cache) → IsSome x
+pub IsSome-live : (cache : ℕ) (x : Option Slab) → MatchOption x ⊥ (λ slab. slab.cache ≡ cache) → IsSome x
 IsSome-live cache None h = absurd h
 IsSome-live cache (Some slab) h = refl
 
@@ -76,12 +77,12 @@ unlisted-unused s frame unused listed =
     ]
 
 -- what stands in a list is counted
-current-counted-at : (s : State) (f at : ℕ) → (get_or s.cpu_lists at no_lists).current ≡ Some f → 0 < times_current s f
+pub current-counted-at : (s : State) (f at : ℕ) → (get_or s.cpu_lists at no_lists).current ≡ Some f → 0 < times_current s f
 current-counted-at s f at current =
     let one = ap (if_current f 1) current ∙ current-same f f 1 refl in
     omega (arith, one, element-counted (λ lists. if_current f 1 lists.current) s.cpu_lists at no_lists refl)
 
-partial-counted-at : (s : State) (f at : ℕ) → times f (get_or s.cpu_lists at no_lists).partial ≤ times_partial s f
+pub partial-counted-at : (s : State) (f at : ℕ) → times f (get_or s.cpu_lists at no_lists).partial ≤ times_partial s f
 partial-counted-at s f at = omega (arith, element-counted (λ lists. times f lists.partial) s.cpu_lists at no_lists refl)
 
 pub node-counted : (s : State) (f cache : ℕ) → times f (node_of s cache) ≤ times_partial s f
@@ -89,10 +90,10 @@ node-counted s f cache = omega (arith, element-counted (times f) s.nodes cache [
 
 module _ (s : State) (cache cpu : ℕ) (within : cpu < s.cpus) (inside : cpu_place s cache cpu < length s.cpu_lists) where
   -- what a CPU has of a cache is written
-  current-written : (f : ℕ) (v : CpuLists) → sum_by (λ lists. if_current f 1 lists.current) (set s.cpu_lists (cpu_place s cache cpu) v) + if_current f 1 (lists_of s cache cpu).current ≡ times_current s f + if_current f 1 v.current
+  pub current-written : (f : ℕ) (v : CpuLists) → sum_by (λ lists. if_current f 1 lists.current) (set s.cpu_lists (cpu_place s cache cpu) v) + if_current f 1 (lists_of s cache cpu).current ≡ times_current s f + if_current f 1 v.current
   current-written f v = sum_by-set (λ lists. if_current f 1 lists.current) s.cpu_lists (cpu_place s cache cpu) v no_lists inside
 
-  partial-written : (f : ℕ) (v : CpuLists) → sum_by (λ lists. times f lists.partial) (set s.cpu_lists (cpu_place s cache cpu) v) + times f (lists_of s cache cpu).partial ≡ sum_by (λ lists. times f lists.partial) s.cpu_lists + times f v.partial
+  pub partial-written : (f : ℕ) (v : CpuLists) → sum_by (λ lists. times f lists.partial) (set s.cpu_lists (cpu_place s cache cpu) v) + times f (lists_of s cache cpu).partial ≡ sum_by (λ lists. times f lists.partial) s.cpu_lists + times f v.partial
   partial-written f v = sum_by-set (λ lists. times f lists.partial) s.cpu_lists (cpu_place s cache cpu) v no_lists inside
 
   -- a current slab is counted, and so is one on the CPU's partial list
@@ -103,7 +104,7 @@ module _ (s : State) (cache cpu : ℕ) (within : cpu < s.cpus) (inside : cpu_pla
   partial-counted frame = partial-counted-at s frame (cpu_place s cache cpu)
 
   -- what holds of what is written and of the old lists holds of each CPU's lists
-  of-written : (P : ℕ → CpuLists → Type 0) (v : CpuLists) → P cache v → (other other_cpu : ℕ) → other_cpu < s.cpus → P other (lists_of s other other_cpu) → P other (get_or (set s.cpu_lists (cpu_place s cache cpu) v) (cpu_place s other other_cpu) no_lists)
+  pub of-written : (P : ℕ → CpuLists → Type 0) (v : CpuLists) → P cache v → (other other_cpu : ℕ) → other_cpu < s.cpus → P other (lists_of s other other_cpu) → P other (get_or (set s.cpu_lists (cpu_place s cache cpu) v) (cpu_place s other other_cpu) no_lists)
   of-written P v new other other_cpu other_within old =
       at_written (P other) s.cpu_lists (cpu_place s cache cpu) (cpu_place s other other_cpu) v no_lists
       (λ e. subst (λ n. P n v) (same-cache s.cpus cache cpu other other_cpu within other_within e) new) old

@@ -11,7 +11,8 @@ use Rattle.slub_lists.specs.declared.lists.Held.{Held}
 use Rattle.slub_lists.specs.declared.lists.Run.{Run}
 use Rattle.slub_lists.specs.State.{State}
 use Rattle.slub_lists.specs.Alloc.{marked, no_lists, cpu_place, lists_of, slab_of, own_free, retired, taken_up, with_new_slab, with_given, with_lists, held_here}
-use Rattle.slub_lists.specs.Coherent.{IsPlaced, places, has_object, on_cpu, if_current, times, laid_down, all_on_board, opening}
+use Rattle.slub_page_pool.specs.History.{times}
+use Rattle.slub_lists.specs.Coherent.{IsPlaced, places, has_object, on_cpu, if_current, laid_down, all_on_board, opening}
 use Rattle.slub_lists.proofs.Writes.{at_written_else, at_marked}
 use Rattle.slub_lists.proofs.Times.{times-cons, times-range, current-same, current-other, get_or-replicate_any, sum_by-same, sum_by-map}
 
@@ -59,7 +60,7 @@ held_here-laid_down f i (Some held) = refl
 
 module _ (s : State) (cache cpu : ℕ) (inside : cpu_place s cache cpu < length s.cpu_lists) where
   -- what a CPU has of a cache is written
-  on_cpu-written : (f i : ℕ) (v : CpuLists) → sum_by (on_cpu f i) (set s.cpu_lists (cpu_place s cache cpu) v) + on_cpu f i (lists_of s cache cpu) ≡ sum_by (on_cpu f i) s.cpu_lists + on_cpu f i v
+  pub on_cpu-written : (f i : ℕ) (v : CpuLists) → sum_by (on_cpu f i) (set s.cpu_lists (cpu_place s cache cpu) v) + on_cpu f i (lists_of s cache cpu) ≡ sum_by (on_cpu f i) s.cpu_lists + on_cpu f i v
   on_cpu-written f i v = sum_by-set (on_cpu f i) s.cpu_lists (cpu_place s cache cpu) v no_lists inside
 
   pub placed-retired : (frame : ℕ) → (lists_of s cache cpu).free ≡ [] → IsPlaced s → IsPlaced (retired s cache cpu frame)

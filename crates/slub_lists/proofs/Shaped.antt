@@ -14,7 +14,8 @@ use Rattle.slub_lists.specs.declared.lists.Cache.{Cache}
 use Rattle.slub_lists.specs.declared.lists.Run.{Run}
 use Rattle.slub_lists.specs.State.{State}
 use Rattle.slub_lists.specs.Alloc.{marked, no_lists, cpu_place, cache_of, named, slab_of, lists_of, with_lists, with_node, retired, taken_up, with_new_slab, with_given}
-use Rattle.slub_lists.specs.Coherent.{IsShaped, IsSlabOf, IsTuned, held_under, times, laid_down, all_on_board, with_cache, opening}
+use Rattle.slub_page_pool.specs.History.{times}
+use Rattle.slub_lists.specs.Coherent.{IsShaped, IsSlabOf, IsTuned, held_under, laid_down, all_on_board, with_cache, opening}
 use Rattle.slub_lists.proofs.Writes.{at_written, at_written_else, at_marked}
 use Rattle.slub_lists.proofs.Times.{times-cons, current-same, current-other, count_by-lt-length, get_or-replicate_any}
 
@@ -47,11 +48,11 @@ IsLiveOf-marked cache b None h = h
 IsLiveOf-marked cache b (Some slab) h = h
 
 -- what holds of the value, if there is one, holds of it in another form
-IfSome-weaker : {X : Type 0} (x : Option X) (P Q : X → Type 0) → ((y : X) → P y → Q y) → IfSome x P → IfSome x Q
+pub IfSome-weaker : {X : Type 0} (x : Option X) (P Q : X → Type 0) → ((y : X) → P y → Q y) → IfSome x P → IfSome x Q
 IfSome-weaker None P Q weaker h = tt
 IfSome-weaker (Some y) P Q weaker h = weaker y h
 
-MatchOption-weaker : {X : Type 0} (x : Option X) (P Q : X → Type 0) → ((y : X) → P y → Q y) → MatchOption x ⊥ P → MatchOption x ⊥ Q
+pub MatchOption-weaker : {X : Type 0} (x : Option X) (P Q : X → Type 0) → ((y : X) → P y → Q y) → MatchOption x ⊥ P → MatchOption x ⊥ Q
 MatchOption-weaker None P Q weaker h = h
 MatchOption-weaker (Some y) P Q weaker h = weaker y h
 
@@ -86,7 +87,7 @@ shaped-relisted s slabs frees cpu_lists nodes same_slabs same_frees same_lists s
 
 module _ (s : State) (cache cpu : ℕ) where
   -- what a CPU has of a cache is written
-  bare-written : (v : CpuLists) → IsBare v → IsShaped s → (place : ℕ) → IsBare (get_or (set s.cpu_lists (cpu_place s cache cpu) v) place no_lists)
+  pub bare-written : (v : CpuLists) → IsBare v → IsShaped s → (place : ℕ) → IsBare (get_or (set s.cpu_lists (cpu_place s cache cpu) v) place no_lists)
   bare-written v new shaped place = at_written IsBare s.cpu_lists (cpu_place s cache cpu) place v no_lists (λ e. new) (shaped.bare place)
 
   pub shaped-retired : (frame : ℕ) → IsShaped s → IsShaped (retired s cache cpu frame)

@@ -6,7 +6,8 @@ use Rattle.std.proofs.lemmas.List.{get_or_past}
 use Rattle.std.proofs.lemmas.Bool.{cases_lt}
 use Rattle.std.proofs.lemmas.List.Sorted.{sum_by-IsPermutation, IsPermutation-reverse}
 use Rattle.std.proofs.lemmas.Bool.Decides.{nat_tests}
-use Rattle.slub_lists.specs.Coherent.{times, if_current}
+use Rattle.slub_page_pool.specs.History.{times}
+use Rattle.slub_lists.specs.Coherent.{if_current}
 
 -- the head counts where it is the number
 pub times-cons : (x y : ℕ) (ys : List ℕ) → times x (y ∷ ys) ≡ if_current x 1 (Some y) + times x ys

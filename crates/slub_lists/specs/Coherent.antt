@@ -1,7 +1,8 @@
--- What holds of the machine between any two steps.
+-- What holds of the machine between any two operations, and between their steps.
 use Rattle.std.specs.Prelude.{◌≡◌, ◌≢◌, ℕ, ◌+◌, ◌*◌, ◌%◌, ◌^◌, ◌<◌, ◌≤◌, ◌↔◌, ◌&&◌, ◌==◌, nat_lt, nat_le, if◌then◌else◌, List, [], ◌∷◌, length, map, sum_by, count_by, replicate, Option, Some, None, IsSome, IfSome, IsTrue, All, MatchOption, is_some, ◌⊎◌, slice_index_or, slice_set}
 use Rattle.std.specs.Option.{option_map}
 use Rattle.slub_page_pool.specs.FreeFrames as pool
+use Rattle.slub_page_pool.specs.History.{times}
 use Rattle.slub_object_layout.specs.declared.layout.Layout.{Layout}
 use Rattle.slub_object_layout.specs.Layout.{IsWithinBounds}
 use Rattle.slub_lists.specs.declared.lists.Slab.{Slab}
@@ -10,10 +11,6 @@ use Rattle.slub_lists.specs.declared.lists.Cache.{Cache}
 use Rattle.slub_lists.specs.declared.lists.Held.{Held}
 use Rattle.slub_lists.specs.State.{State}
 use Rattle.slub_lists.specs.Alloc.{held_here, slab_of, own_free, cache_of, named, lists_of, node_of, no_lists}
-
--- how often a number stands in a list
-abbrev pub times : ℕ → List ℕ → ℕ
-times x xs = count_by (λ y. y == x) xs
 
 -- a number where the frame is the current one, else 0
 abbrev pub if_current : ℕ → ℕ → Option ℕ → ℕ
@@ -134,13 +131,26 @@ pub record IsShaped (s : State) : Type 0 where
   -- a CPU with no slab has no freelist
   pub bare : (place : ℕ) → (slice_index_or s.cpu_lists place no_lists).current ≡ None → (slice_index_or s.cpu_lists place no_lists).free ≡ []
 
--- each object in one place, each frame in one role, each slab on one list at most, and the counts true
+-- each object in one place, each frame in one role, each slab on one list at most, and the counts true: what holds inside an operation too
+pub record IsConsistent (s : State) : Type 0 where
+  pub shaped : IsShaped s
+  pub placed : IsPlaced s
+  pub framed : IsFramed s
+  pub listed : IsListed s
+  pub accounted : IsAccounted s
+
+-- no slab is lost: one with an object on its own freelist is current or on a list
+abbrev pub IsKept : State → Type 0
+IsKept s = (frame : ℕ) → 0 < length (own_free s frame) → 0 < times_current s frame + times_partial s frame
+
+-- the whole, between two operations
 pub record IsCoherent (s : State) : Type 0 where
   pub shaped : IsShaped s
   pub placed : IsPlaced s
   pub framed : IsFramed s
   pub listed : IsListed s
   pub accounted : IsAccounted s
+  pub kept : IsKept s
 
 -- ---- the opening
 
@@ -189,7 +199,7 @@ laid_down held = record held { worker = None }
 abbrev pub all_on_board : State → State
 all_on_board s = record s { board = map (option_map laid_down) s.board }
 
--- what an allocation under a number leaves as it was
+-- what an allocation or a free under a number leaves as it was
 pub record KeepsOthers (s : State) (object : ℕ) (after : State) : Type 0 where
   pub frames : after.frames ≡ s.frames
   pub cpus : after.cpus ≡ s.cpus

@@ -2,3 +2,4 @@ pub mod State
 pub mod Alloc
 pub mod Coherent
 pub mod Steps
+pub mod Free

@@ -4,7 +4,7 @@ ghost use Rattle.std.specs.Prelude.{◌≡◌, ◌<◌, ◌≤◌, length, None,
 ghost use Rattle.std.specs.Bool.{OnTrue};
 ghost use Rattle.slub_page_pool.specs.FreeFrames.{IsPool};
 ghost use Rattle.slub_lists.specs.Alloc.{Allocates, AllocatesNamed, AllocatesNew, FindsRun, Gives, MakesSlab, cache_of, lists_of};
-ghost use Rattle.slub_lists.specs.Coherent.{IsCoherent, IsTuned, KeepsOthers};
+ghost use Rattle.slub_lists.specs.Coherent.{IsCoherent, IsConsistent, IsTuned, KeepsOthers};
 ghost use Rattle.slub_lists.specs.Steps.{HasLayout, IsRelisted};
 
 use crate::lists::{Held, Lists, Run, Slab};
@@ -63,13 +63,13 @@ impl Lists {
 
     /// Allocates an object of the cache that a name names.
     fn alloc_by_name(&mut self, place: u32, cpu: u32, worker: u32, object: u32) -> Reply
-        requires coherent { IsCoherent self.old }
+        requires consistent { IsConsistent self.old }
         requires place { place < length self.old.names }
         requires cpu { cpu < self.old.cpus }
         requires object { object < length self.old.board }
         requires unused { slice_index_or self.old.board object None ≡ None }
         ensures allocates { AllocatesNamed self.old place cpu worker object result self.new }
-        ensures coherent { IsCoherent self.new }
+        ensures consistent { IsConsistent self.new }
     {
         match self.names[place as usize] {
             Some(cache) => self.alloc(cache, cpu, worker, object),
@@ -79,13 +79,13 @@ impl Lists {
 
     /// Allocates an object of a live cache.
     fn alloc(&mut self, cache: u32, cpu: u32, worker: u32, object: u32) -> Reply
-        requires coherent { IsCoherent self.old }
+        requires consistent { IsConsistent self.old }
         requires live { IsSome (cache_of self.old cache) }
         requires cpu { cpu < self.old.cpus }
         requires object { object < length self.old.board }
         requires unused { slice_index_or self.old.board object None ≡ None }
         ensures allocates { IfSome (cache_of self.old cache) (λ live. Allocates self.old live.layout cache cpu worker object result self.new) }
-        ensures coherent { IsCoherent self.new }
+        ensures consistent { IsConsistent self.new }
     {
         let layout = self.layout(cache);
         let batch = layout.cpu_partial_slabs as usize / 2 + 1;
@@ -105,14 +105,14 @@ impl Lists {
         object: u32,
         layout: &Layout,
     ) -> Reply
-        requires coherent { IsCoherent self.old }
+        requires consistent { IsConsistent self.old }
         requires live { HasLayout self.old cache layout.now }
         requires cpu { cpu < self.old.cpus }
         requires current { (lists_of self.old cache cpu).current ≡ None }
         requires object { object < length self.old.board }
         requires unused { slice_index_or self.old.board object None ≡ None }
         ensures allocates { AllocatesNew self.old layout.now cache cpu worker object result self.new }
-        ensures coherent { IsCoherent self.new }
+        ensures consistent { IsConsistent self.new }
     {
         if self.new_slab(cache, cpu, layout) {
             Reply::Given(self.give(cache, cpu, worker, object, layout))
@@ -122,7 +122,7 @@ impl Lists {
     }
 
     /// The layout of a live cache.
-    fn layout(&self, cache: u32) -> Layout
+    pub(crate) fn layout(&self, cache: u32) -> Layout
         requires live { IsSome (cache_of self.now cache) }
         ensures { HasLayout self.now cache result }
     {
@@ -135,14 +135,14 @@ impl Lists {
     /// Makes a slab that is frozen and current on a CPU, whose objects in rising order are the CPU
     /// freelist (`new_slab`). False where no run of frames is there.
     fn new_slab(&mut self, cache: u32, cpu: u32, layout: &Layout) -> bool
-        requires coherent { IsCoherent self.old }
+        requires consistent { IsConsistent self.old }
         requires live { HasLayout self.old cache layout.now }
         requires cpu { cpu < self.old.cpus }
         requires current { (lists_of self.old cache cpu).current ≡ None }
         ensures made { MakesSlab self.old layout.now cache cpu result self.new }
         ensures stocked { OnTrue result (0 < length (lists_of self.new cache cpu).free) }
         ensures relisted { IsRelisted self.old self.new }
-        ensures coherent { IsCoherent self.new }
+        ensures consistent { IsConsistent self.new }
     {
         let at = self.place(cache, cpu);
         let Some(run) = find_run(&mut self.pool, layout) else {
@@ -162,14 +162,14 @@ impl Lists {
 
     /// Gives the first object of the CPU freelist, and says its address.
     fn give(&mut self, cache: u32, cpu: u32, worker: u32, object: u32, layout: &Layout) -> u32
-        requires coherent { IsCoherent self.old }
+        requires consistent { IsConsistent self.old }
         requires live { HasLayout self.old cache layout.now }
         requires cpu { cpu < self.old.cpus }
         requires free { 0 < length (lists_of self.old cache cpu).free }
         requires object { object < length self.old.board }
         requires unused { slice_index_or self.old.board object None ≡ None }
         ensures gives { Gives self.old layout.now cache cpu worker object (Reply.Given result) self.new }
-        ensures coherent { IsCoherent self.new }
+        ensures consistent { IsConsistent self.new }
     {
         let at = self.place(cache, cpu);
         let lists = &mut self.cpu_lists[at];

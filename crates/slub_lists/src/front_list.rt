@@ -1,7 +1,8 @@
-//! Lists that are pushed to and taken from at the front.
+//! Lists of small numbers, front first, whose room is taken once.
 
 ghost use Rattle.std.specs.List.{range_with_len};
-ghost use Rattle.std.specs.Prelude.{slice_get, ◌≡◌, ◌+◌, ◌<◌, ◌≤◌, ◌==◌, ◌++◌, [], ◌∷◌, length, take, drop, reverse, IfOk, MatchOption};
+ghost use Rattle.std.specs.Prelude.{slice_get, ◌≡◌, ◌+◌, ◌<◌, ◌≤◌, ◌==◌, ◌++◌, [], ◌∷◌, length, take, drop, filter, reverse, nat_lt, not, IfOk, MatchOption};
+ghost use Rattle.slub_page_pool.specs.History.{times};
 
 use std::alloc::{AllocError, Global};
 use std::collections::VecDeque;
@@ -64,6 +65,31 @@ impl<const ROOM: usize> FrontList<ROOM> {
         ensures { self.new ≡ item ∷ self.old }
     {
         self.items.push_front_reserved(item);
+    }
+
+    /// Puts one behind the others.
+    pub fn push_back(&mut self, item: u16)
+        requires { length self.old < ROOM }
+        ensures { self.new ≡ self.old ++ item ∷ [] }
+    {
+        self.items.push_back_reserved(item);
+    }
+
+    /// Takes one out, wherever it stands. False where it doesn't stand there.
+    pub fn remove(&mut self, item: u16) -> bool
+        ensures found { result ≡ nat_lt 0 (times item self.old) }
+        ensures removed { self.new ≡ filter (λ other. not (other == item)) self.old }
+    {
+        let before = self.items.len();
+        self.items.retain(|other| *other != item);
+        self.items.len() < before
+    }
+
+    /// Takes all out.
+    pub fn clear(&mut self)
+        ensures { self.new ≡ [] }
+    {
+        self.items.clear();
     }
 
     /// Takes up to `most` off the front of another list, and puts each before the others here.

@@ -9,4 +9,8 @@ pub enum Reply {
     NoFrames,
     /// The name that the event names isn't live.
     NoSuchCache,
+    /// A free took back the object at this address, in bytes.
+    Freed(u32),
+    /// The worker holds no object of the number, and none of it is on the board.
+    NotHeld,
 }

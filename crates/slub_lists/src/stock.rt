@@ -2,7 +2,7 @@
 
 ghost use Rattle.std.specs.Prelude.{◌≡◌, ◌<◌, [], None, Some, length, MatchBool, MatchOption};
 ghost use Rattle.slub_lists.specs.Alloc.{IsStocked, cpu_place, from_current, from_free, from_node, from_partial, lists_of, node_of, own_free, retired, taken_up, with_frozen};
-ghost use Rattle.slub_lists.specs.Coherent.{IsCoherent, IsShaped};
+ghost use Rattle.slub_lists.specs.Coherent.{IsConsistent, IsShaped};
 ghost use Rattle.slub_lists.specs.Steps.{IsRelisted, IsTakable, PopsNode, PopsPartial};
 
 use crate::lists::Lists;
@@ -32,13 +32,13 @@ impl Lists {
 
     /// The current slab is unfrozen, stands on no list and is current no more.
     fn retire(&mut self, cache: u32, cpu: u32, frame: u16)
-        requires coherent { IsCoherent self.old }
+        requires consistent { IsConsistent self.old }
         requires cache { cache < 32 }
         requires cpu { cpu < self.old.cpus }
         requires current { (lists_of self.old cache cpu).current ≡ Some frame }
         requires free { (lists_of self.old cache cpu).free ≡ [] }
         ensures retired { self.new ≡ retired self.old cache cpu frame }
-        ensures coherent { IsCoherent self.new }
+        ensures consistent { IsConsistent self.new }
     {
         let at = self.place(cache, cpu);
         self.set_frozen(frame, false);
@@ -47,13 +47,13 @@ impl Lists {
 
     /// A slab is frozen and current, and its whole freelist is the CPU freelist (`get_freelist`).
     fn take_up(&mut self, cache: u32, cpu: u32, frame: u16)
-        requires coherent { IsCoherent self.old }
+        requires consistent { IsConsistent self.old }
         requires cache { cache < 32 }
         requires cpu { cpu < self.old.cpus }
         requires takable { IsTakable self.old cache cpu frame }
         ensures taken { self.new ≡ taken_up self.old cache cpu frame (lists_of self.old cache cpu).partial }
         ensures stocked { 0 < length (lists_of self.new cache cpu).free }
-        ensures coherent { IsCoherent self.new }
+        ensures consistent { IsConsistent self.new }
     {
         let at = self.place(cache, cpu);
         self.set_frozen(frame, true);
@@ -66,13 +66,13 @@ impl Lists {
     /// or the node list. False where none of these has a slab with a free object, and then there is
     /// no current slab.
     pub(crate) fn stock(&mut self, cache: u32, cpu: u32, batch: usize) -> bool
-        requires coherent { IsCoherent self.old }
+        requires consistent { IsConsistent self.old }
         requires cache { cache < 32 }
         requires cpu { cpu < self.old.cpus }
         ensures cases { IsStocked (from_free self.old cache cpu batch (lists_of self.old cache cpu).free) result self.new }
         ensures stocked { MatchBool result (0 < length (lists_of self.new cache cpu).free) ((lists_of self.new cache cpu).current ≡ None) }
         ensures relisted { IsRelisted self.old self.new }
-        ensures coherent { IsCoherent self.new }
+        ensures consistent { IsConsistent self.new }
     {
         let at = self.place(cache, cpu);
         if !self.cpu_lists[at].free.is_empty() {
@@ -86,7 +86,7 @@ impl Lists {
 
     /// By the current slab's own freelist, or else by the lists.
     fn stock_from_current(&mut self, cache: u32, cpu: u32, batch: usize, frame: u16) -> bool
-        requires coherent { IsCoherent self.old }
+        requires consistent { IsConsistent self.old }
         requires cache { cache < 32 }
         requires cpu { cpu < self.old.cpus }
         requires current { (lists_of self.old cache cpu).current ≡ Some frame }
@@ -94,7 +94,7 @@ impl Lists {
         ensures cases { IsStocked (from_current self.old cache cpu batch frame (own_free self.old frame)) result self.new }
         ensures stocked { MatchBool result (0 < length (lists_of self.new cache cpu).free) ((lists_of self.new cache cpu).current ≡ None) }
         ensures relisted { IsRelisted self.old self.new }
-        ensures coherent { IsCoherent self.new }
+        ensures consistent { IsConsistent self.new }
     {
         if self.frees[frame as usize].is_empty() {
             self.retire(cache, cpu, frame);
@@ -106,14 +106,14 @@ impl Lists {
 
     /// By the CPU's partial list, or else by the node list.
     fn stock_from_partial(&mut self, cache: u32, cpu: u32, batch: usize) -> bool
-        requires coherent { IsCoherent self.old }
+        requires consistent { IsConsistent self.old }
         requires cache { cache < 32 }
         requires cpu { cpu < self.old.cpus }
         requires current { (lists_of self.old cache cpu).current ≡ None }
         ensures cases { IsStocked (from_partial self.old cache cpu batch (lists_of self.old cache cpu).partial) result self.new }
         ensures stocked { MatchBool result (0 < length (lists_of self.new cache cpu).free) ((lists_of self.new cache cpu).current ≡ None) }
         ensures relisted { IsRelisted self.old self.new }
-        ensures coherent { IsCoherent self.new }
+        ensures consistent { IsConsistent self.new }
     {
         let Some(frame) = self.pop_partial(cache, cpu) else {
             return self.stock_from_node(cache, cpu, batch);
@@ -124,7 +124,7 @@ impl Lists {
 
     /// By the node list.
     fn stock_from_node(&mut self, cache: u32, cpu: u32, batch: usize) -> bool
-        requires coherent { IsCoherent self.old }
+        requires consistent { IsConsistent self.old }
         requires cache { cache < 32 }
         requires cpu { cpu < self.old.cpus }
         requires current { (lists_of self.old cache cpu).current ≡ None }
@@ -132,7 +132,7 @@ impl Lists {
         ensures cases { IsStocked (from_node self.old cache cpu batch (node_of self.old cache)) result self.new }
         ensures stocked { MatchBool result (0 < length (lists_of self.new cache cpu).free) ((lists_of self.new cache cpu).current ≡ None) }
         ensures relisted { IsRelisted self.old self.new }
-        ensures coherent { IsCoherent self.new }
+        ensures consistent { IsConsistent self.new }
     {
         let Some(frame) = self.pop_node(cache, cpu, batch) else {
             return false;
@@ -143,12 +143,12 @@ impl Lists {
 
     /// Takes the front off the CPU's partial list.
     fn pop_partial(&mut self, cache: u32, cpu: u32) -> Option<u16>
-        requires coherent { IsCoherent self.old }
+        requires consistent { IsConsistent self.old }
         requires cache { cache < 32 }
         requires cpu { cpu < self.old.cpus }
         requires current { (lists_of self.old cache cpu).current ≡ None }
         ensures popped { MatchOption result (((lists_of self.old cache cpu).partial ≡ []) × (self.new ≡ self.old)) (λ frame. PopsPartial self.old cache cpu frame self.new) }
-        ensures coherent { IsCoherent self.new }
+        ensures consistent { IsConsistent self.new }
     {
         let at = self.place(cache, cpu);
         self.cpu_lists[at].partial.pop()
@@ -157,13 +157,13 @@ impl Lists {
     /// Takes the head off the node list, and after it `batch` slabs to the CPU's partial list, which
     /// is empty (`get_partial_node`).
     fn pop_node(&mut self, cache: u32, cpu: u32, batch: usize) -> Option<u16>
-        requires coherent { IsCoherent self.old }
+        requires consistent { IsConsistent self.old }
         requires cache { cache < 32 }
         requires cpu { cpu < self.old.cpus }
         requires current { (lists_of self.old cache cpu).current ≡ None }
         requires partial { (lists_of self.old cache cpu).partial ≡ [] }
         ensures popped { MatchOption result ((node_of self.old cache ≡ []) × (self.new ≡ self.old)) (λ frame. PopsNode self.old cache cpu batch frame self.new) }
-        ensures coherent { IsCoherent self.new }
+        ensures consistent { IsConsistent self.new }
     {
         let at = self.place(cache, cpu);
         let node = &mut self.nodes[cache as usize];

@@ -4,7 +4,8 @@ use Rattle.std.proofs.lemmas.List.{with_items_is}
 use Rattle.slub_lists.specs.Coherent.{IsCoherent, laid_down, all_on_board}
 use Rattle.slub_lists.specs.contracts.lists.Lists.{the_view}
 use Rattle.slub_lists.proofs.Laying.{laid-next, laid-rest, laid-all, with_board}
-use Rattle.slub_lists.proofs.Coherence.{all_on_board-coherent}
+use Rattle.slub_lists.proofs.Coherence.{all_on_board-consistent}
+use Rattle.slub_lists.proofs.Kept.{coherent-of, consistent-of}
 use Rattle.slub_lists.proofs.lists.Lists.end_round.Goals as goal
 use Rattle.slub_lists.proofs.lists.Lists.end_round.Goals.{in-Some, in_default}
 
@@ -35,4 +36,6 @@ returns-clause-on_board c =
     with_board (the_view c.self.inside) (with_items c.self.inside.board c.loop-held.held-items).items (items ∙ laid ∙ ap (map (option_map laid_down)) c.deref_mut-held-items.ensures.value) ∙ ap all_on_board c.self.view_is
 
 pub returns-clause-coherent : goal.returns-clause-coherent
-returns-clause-coherent c = subst IsCoherent (sym (returns-clause-on_board c)) (all_on_board-coherent c.args.self.now c.requires.coherent)
+returns-clause-coherent c =
+    subst IsCoherent (sym (returns-clause-on_board c))
+    (coherent-of (all_on_board c.args.self.now) (all_on_board-consistent c.args.self.now (consistent-of c.args.self.now c.requires.coherent)) c.requires.coherent.kept)

@@ -1,8 +1,12 @@
-use Rattle.slub_lists.proofs.Coherence.{opening-coherent}
+use Rattle.slub_lists.specs.Coherent.{opening}
+use Rattle.slub_lists.proofs.Coherence.{opening-consistent}
 use Rattle.slub_lists.proofs.Keeps.{opening_pool}
+use Rattle.slub_lists.proofs.Kept.{coherent-of, kept-opening}
 use Rattle.slub_lists.proofs.lists.Lists.open.Goals as goal
 
 pub returns-clause-coherent : goal.returns-clause-coherent
 returns-clause-coherent c =
-    opening-coherent c.args.frames c.args.cpus c.args.objects c.args.names c.requires.frames.0 c.requires.frames.1 c.requires.cpus.0 c.requires.cpus.1 c.requires.objects
-    (opening_pool c.args.frames c.requires.frames.0 c.requires.frames.1)
+    coherent-of (opening c.args.frames c.args.cpus c.args.objects c.args.names)
+    (opening-consistent c.args.frames c.args.cpus c.args.objects c.args.names c.requires.frames.0 c.requires.frames.1 c.requires.cpus.0 c.requires.cpus.1 c.requires.objects
+    (opening_pool c.args.frames c.requires.frames.0 c.requires.frames.1))
+    (kept-opening c.args.frames c.args.cpus c.args.objects c.args.names)

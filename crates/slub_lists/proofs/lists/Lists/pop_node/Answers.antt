@@ -20,10 +20,10 @@ here c =
 
 pub returns-clause-popped : goal.returns-clause-popped
 returns-clause-popped c =
-    (popped-node c.args.self.now _ c.args.cache c.args.cpu c.requires.coherent c.requires.cache c.requires.cpu c.requires.current c.in_ok-frame.frame c.args.batch c.pop.new.self c.gather.new.self c.gather.new.from c.requires.partial
+    (popped-node c.args.self.now _ c.args.cache c.args.cpu c.requires.consistent c.requires.cache c.requires.cpu c.requires.current c.in_ok-frame.frame c.args.batch c.pop.new.self c.gather.new.self c.gather.new.from c.requires.partial
     (first c) (here c) c.gather.ensures.there (grind (arith, common_steps))).0
 
-pub returns-clause-coherent : goal.returns-clause-coherent
-returns-clause-coherent c =
-    (popped-node c.args.self.now _ c.args.cache c.args.cpu c.requires.coherent c.requires.cache c.requires.cpu c.requires.current c.in_ok-frame.frame c.args.batch c.pop.new.self c.gather.new.self c.gather.new.from c.requires.partial
+pub returns-clause-consistent : goal.returns-clause-consistent
+returns-clause-consistent c =
+    (popped-node c.args.self.now _ c.args.cache c.args.cpu c.requires.consistent c.requires.cache c.requires.cpu c.requires.current c.in_ok-frame.frame c.args.batch c.pop.new.self c.gather.new.self c.gather.new.from c.requires.partial
     (first c) (here c) c.gather.ensures.there (grind (arith, common_steps))).1

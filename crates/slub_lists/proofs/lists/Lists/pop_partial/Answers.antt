@@ -13,8 +13,8 @@ popped c =
 
 pub returns-clause-popped : goal.returns-clause-popped
 returns-clause-popped c =
-    (popped-partial c.args.self.now _ c.args.cache c.args.cpu c.requires.coherent c.requires.cache c.requires.cpu c.requires.current c.pop.result c.pop.new.self (popped c) (grind (arith, common_steps))).0
+    (popped-partial c.args.self.now _ c.args.cache c.args.cpu c.requires.consistent c.requires.cache c.requires.cpu c.requires.current c.pop.result c.pop.new.self (popped c) (grind (arith, common_steps))).0
 
-pub returns-clause-coherent : goal.returns-clause-coherent
-returns-clause-coherent c =
-    (popped-partial c.args.self.now _ c.args.cache c.args.cpu c.requires.coherent c.requires.cache c.requires.cpu c.requires.current c.pop.result c.pop.new.self (popped c) (grind (arith, common_steps))).1
+pub returns-clause-consistent : goal.returns-clause-consistent
+returns-clause-consistent c =
+    (popped-partial c.args.self.now _ c.args.cache c.args.cpu c.requires.consistent c.requires.cache c.requires.cpu c.requires.current c.pop.result c.pop.new.self (popped c) (grind (arith, common_steps))).1

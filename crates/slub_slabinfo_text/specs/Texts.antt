@@ -14,25 +14,27 @@ use Rattle.slub_slabinfo_text.specs.declared.text.ItemAnswer.TheVariants as answ
 
 -- ---- replies
 
-abbrev pub alloc_answer : Reply → List ℕ
-alloc_answer (reply.Given address) = codes "given " ++ decimal address
-alloc_answer reply.NoFrames = codes "no frames"
-alloc_answer reply.NoSuchCache = codes "no such cache"
+abbrev pub reply_answer : Reply → List ℕ
+reply_answer (reply.Given address) = codes "given " ++ decimal address
+reply_answer reply.NoFrames = codes "no frames"
+reply_answer reply.NoSuchCache = codes "no such cache"
+reply_answer (reply.Freed address) = codes "freed " ++ decimal address
+reply_answer reply.NotHeld = codes "not held"
 
--- the act of an event that is answered so today: an allocation
+-- the act of an event that is answered so today: an allocation or a free
 abbrev pub IsAnswered : Act → Type 0
 IsAnswered (Alloc cache object) = Unit {0}
-IsAnswered (Free object) = ⊥
+IsAnswered (Free object) = Unit {0}
 IsAnswered (Write object word value) = ⊥
 IsAnswered (Read object word) = ⊥
 IsAnswered (Poke object offset byte) = ⊥
 IsAnswered (Trim cache) = ⊥
 IsAnswered Flush = ⊥
 
--- `alloc O: ` and the answer
+-- `alloc O: ` or `free O: `, and the answer
 abbrev pub reply_text : Act → Reply → List ℕ
-reply_text (Alloc cache object) reply = codes "alloc " ++ decimal object ++ codes ": " ++ alloc_answer reply ++ 10 ∷ []
-reply_text (Free object) reply = []
+reply_text (Alloc cache object) reply = codes "alloc " ++ decimal object ++ codes ": " ++ reply_answer reply ++ 10 ∷ []
+reply_text (Free object) reply = codes "free " ++ decimal object ++ codes ": " ++ reply_answer reply ++ 10 ∷ []
 reply_text (Write object word value) reply = []
 reply_text (Read object word) reply = []
 reply_text (Poke object offset byte) reply = []

@@ -31,6 +31,7 @@ const EMPTY: Counts = Counts {
 
 #[test]
 fn replies(rt: HostRuntime) -> Result<(), Fail> {
+    let alloc = rt.alloc();
     let cases: [(u32, Reply, &[u8]); 4] = [
         (1, Reply::Given(4096), b"alloc 1: given 4096\n"),
         (9, Reply::NoFrames, b"alloc 9: no frames\n"),
@@ -43,8 +44,12 @@ fn replies(rt: HostRuntime) -> Result<(), Fail> {
     ];
     for (object, reply, want) in cases {
         let act = Act::Alloc { cache: 0, object };
-        assert_eq!(rt; reply_line(rt.alloc(), &act, &reply)?.as_slice(), want);
+        assert_eq!(rt; reply_line(alloc, &act, &reply)?.as_slice(), want);
     }
+    let freed = reply_line(alloc, &Act::Free { object: 1 }, &Reply::Freed(4096))?;
+    assert_eq!(rt; freed.as_slice(), b"free 1: freed 4096\n".as_slice());
+    let not_held = reply_line(alloc, &Act::Free { object: 7 }, &Reply::NotHeld)?;
+    assert_eq!(rt; not_held.as_slice(), b"free 7: not held\n".as_slice());
     Ok(())
 }
 

@@ -2,7 +2,7 @@
 
 ghost use Rattle.std.specs.Prelude.{◌≡◌, ◌∷◌, [], ◌++◌, IfOk, OnOk, codes, replicate, slice_index};
 ghost use Rattle.std.specs.Fmt.{decimal};
-ghost use Rattle.slub_slabinfo_text.specs.Texts.{IsAnswered, alloc_answer, answer_text, column, header_text, info_text, item_line, left, reply_text, row_numbers, row_objects, row_slabs, row_text, total_line, word_text};
+ghost use Rattle.slub_slabinfo_text.specs.Texts.{IsAnswered, answer_text, column, header_text, info_text, item_line, left, reply_answer, reply_text, row_numbers, row_objects, row_slabs, row_text, total_line, word_text};
 
 use crate::counts::{Counts, InfoRow};
 use crate::no_memory::NoMemory;
@@ -43,29 +43,39 @@ pub enum ItemAnswer {
     Checked,
 }
 
-/// The line that answers an event, with its line feed. An allocation alone is answered.
+/// The line that answers an event, with its line feed. An allocation and a free alone are answered.
 pub fn reply_line(alloc: Global, act: &Act, reply: &Reply) -> Result<Vec<u8>, NoMemory>
     requires { IsAnswered act.now }
     ensures { IfOk result (λ text. text.items ≡ reply_text act.now reply.now) }
 {
     match act {
-        Act::Alloc { cache: _, object } => alloc_line(alloc, *object, reply),
+        Act::Alloc { cache: _, object } => event_line(alloc, b"alloc ", *object, reply),
+        Act::Free { object } => event_line(alloc, b"free ", *object, reply),
         _ => Ok(Vec::new(alloc)),
     }
 }
 
-/// The line that answers an allocation under a number.
-fn alloc_line(alloc: Global, object: u32, reply: &Reply) -> Result<Vec<u8>, NoMemory>
-    ensures { IfOk result (λ text. text.items ≡ codes "alloc " ++ decimal object ++ codes ": " ++ alloc_answer reply.now ++ 10 ∷ []) }
+/// The line of an event: its word, the number of its object, and the answer.
+fn event_line(alloc: Global, word: &[u8], object: u32, reply: &Reply) -> Result<Vec<u8>, NoMemory>
+    ensures { IfOk result (λ text. text.items ≡ word.now ++ decimal object ++ codes ": " ++ reply_answer reply.now ++ 10 ∷ []) }
+{
+    let mut text = Vec::from_slice(alloc, word)?;
+    text.extend_from_slice(format!(in alloc; "{object}")?.as_bytes())?;
+    text.extend_from_slice(b": ")?;
+    push_reply(alloc, &mut text, reply)?;
+    text.push(b'\n')?;
+    Ok(text)
+}
+
+fn push_reply(alloc: Global, text: &mut Vec<u8>, reply: &Reply) -> Result<(), NoMemory>
+    ensures { OnOk result (text.new.items ≡ text.old.items ++ reply_answer reply.now) }
 {
     match reply {
-        Reply::Given(address) => {
-            Ok(format!(in alloc; "alloc {object}: given {address}\n")?.into_bytes())
-        }
-        Reply::NoFrames => Ok(format!(in alloc; "alloc {object}: no frames\n")?.into_bytes()),
-        Reply::NoSuchCache => {
-            Ok(format!(in alloc; "alloc {object}: no such cache\n")?.into_bytes())
-        }
+        Reply::Given(address) => push_words(text, format!(in alloc; "given {address}")?.as_bytes()),
+        Reply::NoFrames => push_words(text, b"no frames"),
+        Reply::NoSuchCache => push_words(text, b"no such cache"),
+        Reply::Freed(address) => push_words(text, format!(in alloc; "freed {address}")?.as_bytes()),
+        Reply::NotHeld => push_words(text, b"not held"),
     }
 }
 

@@ -9,7 +9,8 @@ use Rattle.std.proofs.lemmas.Option.{get_or_from_slice_get, slice_get_within}
 use Rattle.slub_lists.specs.declared.lists.Cache.{Cache}
 use Rattle.slub_lists.specs.State.{State}
 use Rattle.slub_lists.specs.Alloc.{cache_of}
-use Rattle.slub_lists.specs.Coherent.{IsCoherent, times}
+use Rattle.slub_page_pool.specs.History.{times}
+use Rattle.slub_lists.specs.Coherent.{IsCoherent}
 use Rattle.slub_slabinfo_text.specs.declared.counts.Counts.{Counts}
 use Rattle.slub_slabinfo_text.specs.declared.counts.InfoRow.{InfoRow}
 use Rattle.slub_slabinfo_text.specs.Counts.{counts_of, row_of, row_with}

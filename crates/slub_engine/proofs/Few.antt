@@ -14,7 +14,8 @@ use Rattle.slub_lists.specs.declared.lists.CpuLists.{CpuLists}
 use Rattle.slub_lists.specs.declared.lists.Held.{Held}
 use Rattle.slub_lists.specs.State.{State}
 use Rattle.slub_lists.specs.Alloc.{cache_of, no_lists, own_free, slab_of}
-use Rattle.slub_lists.specs.Coherent.{IsCoherent, IsShaped, IsSlabOf, IsTuned, has_object, held_of, if_current, on_cpu, times}
+use Rattle.slub_page_pool.specs.History.{times}
+use Rattle.slub_lists.specs.Coherent.{IsCoherent, IsShaped, IsSlabOf, IsTuned, has_object, held_of, if_current, on_cpu}
 use Rattle.slub_slabinfo_text.specs.Counts.{counts_of, free_in, free_of, is_frozen_of, is_slab_of}
 use Rattle.slub_engine.specs.Sums.{IsAtMost}
 

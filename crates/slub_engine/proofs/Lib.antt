@@ -1,8 +1,11 @@
 pub mod Zips
-pub mod Built
+pub mod Parts
+pub mod Unheld
 pub mod Rounds
+pub mod Items
 pub mod Ready
 pub mod Few
 pub mod Counted
 pub mod Whole
 pub mod Laws
+pub mod Tested

@@ -1,9 +1,20 @@
 -- Where a machine stands before and after an item.
-use Rattle.std.proofs.Common.{◌<◌, length, subst, arith, None, IsSome, Option}
+use Rattle.std.proofs.Common.{◌≡◌, ℕ, ◌+◌, ◌<◌, List, ◌∷◌, ◌++◌, length, take, drop, get_or, flat_map, refl, sym, ◌∙◌, ap, subst, arith, All, nat_eq, None, IsSome, Option}
+use Rattle.std.specs.List.{IsDistinct}
+use Rattle.std.proofs.lemmas.List.{drop_more, take-append-drop}
+use Rattle.std.proofs.lemmas.List.Concat.{flat_map-append}
+use Rattle.slub_object_layout.specs.declared.event.Round.{Round}
 use Rattle.slub_lists.specs.declared.lists.Cache.{Cache}
 use Rattle.slub_lists.specs.State.{State}
 use Rattle.slub_lists.specs.Coherent.{AreAllUsed, IsCoherent}
-use Rattle.slub_engine.specs.Lawful.{HasNoCache}
+use Rattle.slub_trace_reader.specs.declared.trace.Item.{Item}
+use Rattle.slub_trace_reader.specs.declared.trace.Item.TheVariants as item
+use Rattle.slub_trace_reader.specs.declared.trace.Trace.{Trace}
+use Rattle.slub_trace_reader.specs.Sound.{IsSound, objects_in, objects_of}
+use Rattle.slub_engine.specs.Lawful.{HasNoCache, IsReady, IsUnheld, coming}
+use Rattle.slub_engine.specs.Steps.{KeepsSizes, KeepsUnheld}
+use Rattle.slub_engine.proofs.Parts.{All-back, All-front, distinct_back, distinct_front}
+use Rattle.slub_engine.proofs.Unheld.{still_unheld}
 
 -- with no cache there is room for one
 pub has_room_for_cache : (s : State) → IsCoherent s → HasNoCache s → AreAllUsed s → ⊥
@@ -12,3 +23,59 @@ has_room_for_cache s coherent none all =
     let some : IsSome {T = Cache} None = subst (λ (cache : Option Cache). IsSome cache) (none 0 None within) (all 0 None within) in
     let never : ⊥ = cc in
     never
+
+-- ---- the numbers that are to come
+
+-- those of an item, and those of the items after it
+coming_split : (trace : Trace) (number : ℕ) (it : Item) → number < length trace.items → it ≡ get_or trace.items number it
+    → coming trace number ≡ objects_in it ++ coming trace (number + 1)
+coming_split trace number it within is =
+    ap (λ (items : List Item). flat_map objects_in items) (drop_more trace.items number it within ∙ ap (λ (first : Item). first ∷ drop (number + 1) trace.items) (sym is))
+
+-- no number comes twice
+coming_distinct : (trace : Trace) (number : ℕ) (it : Item) → IsSound trace → number < length trace.items → it ≡ get_or trace.items number it
+    → IsDistinct nat_eq (objects_in it ++ coming trace (number + 1))
+coming_distinct trace number it sound within is =
+    let all : flat_map objects_in trace.items ≡ flat_map objects_in (take number trace.items) ++ coming trace number =
+    ap (λ (items : List Item). flat_map objects_in items) (sym (take-append-drop number trace.items)) ∙ flat_map-append objects_in (take number trace.items) (drop number trace.items) in
+    subst (IsDistinct nat_eq) (coming_split trace number it within is) (distinct_back (flat_map objects_in (take number trace.items)) (coming trace number) (subst (IsDistinct nat_eq) all sound.distinct))
+
+coming_unheld : (s : State) (trace : Trace) (number : ℕ) (it : Item) → IsReady s trace number → number < length trace.items → it ≡ get_or trace.items number it
+    → All (IsUnheld s) (objects_in it ++ coming trace (number + 1))
+coming_unheld s trace number it ready within is = subst (All (IsUnheld s)) (coming_split trace number it within is) ready.unheld
+
+-- ---- after an item
+
+pub ready_next : (s after : State) (trace : Trace) (number : ℕ) (it : Item) → IsSound trace → IsReady s trace number → number < length trace.items → it ≡ get_or trace.items number it
+    → IsCoherent after → KeepsSizes s after → KeepsUnheld s (objects_in it) after → IsReady after trace (number + 1)
+ready_next s after trace number it sound ready within is coherent sizes keeps = record {
+  coherent = coherent;
+  cpus = sizes.cpus ∙ ready.cpus;
+  names = sizes.names ∙ ready.names;
+  board = sizes.board ∙ ready.board;
+  opened = λ first. absurd (let never : ⊥ = omega arith in never);
+  unheld = still_unheld s after (objects_in it) (coming trace (number + 1)) keeps (coming_distinct trace number it sound within is)
+      (All-back (IsUnheld s) (objects_in it) (coming trace (number + 1)) (coming_unheld s trace number it ready within is));
+}
+
+-- after a round
+pub ready_round : (s after : State) (trace : Trace) (number : ℕ) (it : Item) (round : Round) → IsSound trace → IsReady s trace number → number < length trace.items → it ≡ get_or trace.items number it
+    → it ≡ item.Round round → IsCoherent after → KeepsSizes s after → KeepsUnheld s (objects_of round.events) after → IsReady after trace (number + 1)
+ready_round s after trace number it round sound ready within at is coherent sizes keeps =
+    ready_next s after trace number it sound ready within at coherent sizes (subst (λ (objects : List ℕ). KeepsUnheld s objects after) (sym (ap objects_in is)) keeps)
+
+-- after an item that leaves the machine as it was
+pub ready_same : (s : State) (trace : Trace) (number : ℕ) (it : Item) → IsSound trace → IsReady s trace number → number < length trace.items → it ≡ get_or trace.items number it → IsReady s trace (number + 1)
+ready_same s trace number it sound ready within at =
+    ready_next s s trace number it sound ready within at ready.coherent (record { cpus = refl; names = refl; board = refl }) (λ object unheld out. unheld)
+
+-- ---- before a round
+
+-- its numbers are different, and no object has one of them
+pub round_ready : (s : State) (trace : Trace) (number : ℕ) (it : Item) (round : Round) → IsSound trace → IsReady s trace number → number < length trace.items → it ≡ get_or trace.items number it
+    → it ≡ item.Round round → All (IsUnheld s) (objects_of round.events) × IsDistinct nat_eq (objects_of round.events)
+round_ready s trace number it round sound ready within at is =
+    let mine : objects_in it ≡ objects_of round.events = ap objects_in is in (
+      subst (All (IsUnheld s)) mine (All-front (IsUnheld s) (objects_in it) (coming trace (number + 1)) (coming_unheld s trace number it ready within at)),
+      subst (IsDistinct nat_eq) mine (distinct_front (objects_in it) (coming trace (number + 1)) (coming_distinct trace number it sound within at)),
+    )

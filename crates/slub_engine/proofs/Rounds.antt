@@ -1,9 +1,9 @@
 -- How far a round has come, and one event more.
-use Rattle.std.proofs.Common.{◌≡◌, ◌≢◌, ℕ, ◌+◌, ◌<◌, ◌≤◌, Bool, cond, List, [], ◌∷◌, ◌++◌, length, take, get_or, refl, sym, ◌∙◌, ap, subst, arith, All, nat_eq, count_by, slice_index}
+use Rattle.std.proofs.Common.{true, false, ◌≡◌, ◌≢◌, ℕ, ◌+◌, ◌<◌, ◌≤◌, ◌&&◌, Bool, cond, eqb, List, [], ◌∷◌, ◌++◌, length, take, drop, get_or, set, refl, sym, ◌∙◌, ap, subst, arith, All, nat_eq, count_by, inl, inr}
 use Rattle.std.specs.List.{IsDistinct, zip}
-use Rattle.std.proofs.lemmas.Bool.Decides.{Decides-eqb}
-use Rattle.std.proofs.lemmas.Map.Made.{AllPairs-from_IsDistinct}
-use Rattle.std.proofs.lemmas.List.{get_or-map, take_all, take_more, length-map, length-take-le}
+use Rattle.std.proofs.lemmas.Bool.{cases_eq, eq-eqb, ne_eqb}
+use Rattle.std.proofs.lemmas.List.{drop_more, get_or-set_other, get_or-set_same, length-set, length-take-le, take-append-drop, take_all, take_more}
+use Rattle.std.proofs.lemmas.List.Elements.{filter_map-append}
 use Rattle.std.proofs.lemmas.List.Sums.{sum_by-append, count_by-le-length}
 use Rattle.std.proofs.lemmas.Option.{get_or_from_slice_get, slice_get-get_or}
 use Rattle.std.proofs.lemmas.Slice.Zip.{length-zip}
@@ -11,23 +11,25 @@ use Rattle.slub_object_layout.specs.declared.event.Act.{Act}
 use Rattle.slub_object_layout.specs.declared.event.Act.TheVariants.{Alloc, Free, Write, Read, Poke, Trim, Flush}
 use Rattle.slub_object_layout.specs.declared.event.Event.{Event}
 use Rattle.slub_lists.specs.declared.reply.Reply.{Reply}
-use Rattle.slub_lists.specs.declared.reply.Reply.TheVariants.{Given, NoFrames, NoSuchCache}
+use Rattle.slub_lists.specs.declared.reply.Reply.TheVariants.{Given, NoFrames, NoSuchCache, Freed, NotHeld}
 use Rattle.slub_lists.specs.State.{State}
 use Rattle.slub_lists.specs.Coherent.{IsCoherent, KeepsOthers}
-use Rattle.slub_trace_reader.specs.Grammar.{object_of, objects_of}
+use Rattle.slub_trace_reader.specs.Sound.{allocated, objects_of}
 use Rattle.slub_engine.specs.declared.journal.Ledger.{Ledger}
-use Rattle.slub_engine.specs.Lawful.{Answers, IsLedger, RunsEvents, is_given, is_order, lacks, least_order_of}
-use Rattle.slub_engine.specs.Steps.{IsBelow, IsKnown, IsKnownAct, IsUnheld, KeepsCaches, Notes}
+use Rattle.slub_engine.specs.Lawful.{Answers, AreLedgers, IsLedger, IsUnheld, RunsEvents, is_by, is_freed, is_given, is_order, lacks, least_order_of}
+use Rattle.slub_engine.specs.Steps.{IsBelow, IsBlank, IsKnown, IsKnownAct, KeepsCaches, KeepsUnheld, Notes, NotesOwn, object_of}
+use Rattle.slub_engine.proofs.Parts.{All-back, All-front}
+use Rattle.slub_engine.proofs.Unheld.{keeps_then, still_unheld}
 use Rattle.slub_engine.proofs.Zips.{length-snoc, zip-snoc}
 
 -- the first `done` events of a round were answered
-pub record HasRun (s : State) (events : List Event) (done : ℕ) (replies : List Reply) (ledger : Ledger) (now : State) : Type 0 where
+pub record HasRun (s : State) (workers : ℕ) (events : List Event) (done : ℕ) (replies : List Reply) (ledgers : List Ledger) (now : State) : Type 0 where
   pub coherent : IsCoherent now
   pub runs : RunsEvents s (take done events) replies now
   pub caches : KeepsCaches s now
-  pub counted : IsLedger s (take done events) replies ledger
+  pub counted : AreLedgers s (zip (take done events) replies) workers ledgers
   pub answered : length replies ≡ done
-  pub coming : (k : ℕ) → done ≤ k → k < length events → IsUnheld now (get_or (objects_of events) k 0)
+  pub unheld : KeepsUnheld s (objects_of (take done events)) now
 
 -- one more event is answered
 runs_more : (s : State) (events : List Event) (replies : List Reply) (mid after : State) (event : Event) (reply : Reply)
@@ -55,35 +57,95 @@ lacks_kept : (s now : State) (order : ℕ) (event : Event) (reply : Reply) → n
 lacks_kept s now order event (Given address) names caches = refl
 lacks_kept s now order event NoFrames names caches = ap (is_order order) (least_order_kept s now event.act names caches)
 lacks_kept s now order event NoSuchCache names caches = refl
+lacks_kept s now order event (Freed address) names caches = refl
+lacks_kept s now order event NotHeld names caches = refl
+
+-- ---- ledgers
 
 -- a count of one element more
 count_more : {A : Type 0} (p : A → Bool) (xs : List A) (x : A) → count_by p (xs ++ x ∷ []) ≡ count_by p xs + cond (p x) 1 0
 count_more p xs x = omega (arith, sum_by-append (λ x. cond (p x) 1 0) xs (x ∷ []))
 
-ledger_more : (s now : State) (events : List Event) (replies : List Reply) (event : Event) (reply : Reply) (before after : Ledger)
-    → now.names ≡ s.names → now.caches ≡ s.caches → length events ≡ length replies
-    → IsLedger s events replies before → Notes now event reply before after
-    → IsLedger s (events ++ event ∷ []) (replies ++ reply ∷ []) after
-ledger_more s now events replies event reply before after names caches even counted noted = record {
-  given = noted.given ∙ rw counted.given (sym (count_more is_given replies reply));
-  freed = noted.freed ∙ counted.freed;
+-- a count of a worker's replies, with one more of its own
+count_own : (p : Event × Reply → Bool) (answers : List (Event × Reply)) (event : Event) (reply : Reply)
+    → count_by (λ one. is_by event.worker one && p one) (answers ++ (event, reply) ∷ []) ≡ count_by (λ one. is_by event.worker one && p one) answers + cond (p (event, reply)) 1 0
+count_own p answers event reply =
+    let mine : eqb event.worker event.worker ≡ true = eq-eqb event.worker event.worker refl in
+    count_more (λ one. is_by event.worker one && p one) answers (event, reply) ∙ ap (λ b. count_by (λ one. is_by event.worker one && p one) answers + cond (b && p (event, reply)) 1 0) mine
+
+-- and with one more of another worker
+count_other : (p : Event × Reply → Bool) (answers : List (Event × Reply)) (event : Event) (reply : Reply) (worker : ℕ) → event.worker ≢ worker
+    → count_by (λ one. is_by worker one && p one) (answers ++ (event, reply) ∷ []) ≡ count_by (λ one. is_by worker one && p one) answers
+count_other p answers event reply worker differ =
+    let other : eqb event.worker worker ≡ false = ne_eqb event.worker worker differ in
+    count_more (λ one. is_by worker one && p one) answers (event, reply) ∙ ap (λ b. count_by (λ one. is_by worker one && p one) answers + cond (b && p (event, reply)) 1 0) other ∙ omega arith
+
+-- the ledger of the event's worker
+ledger_own : (s now : State) (answers : List (Event × Reply)) (event : Event) (reply : Reply) (before after : Ledger)
+    → now.names ≡ s.names → now.caches ≡ s.caches → IsLedger s answers event.worker before → Notes now event reply before after
+    → IsLedger s (answers ++ (event, reply) ∷ []) event.worker after
+ledger_own s now answers event reply before after names caches counted noted = record {
+  given = noted.given ∙ rw counted.given (sym (count_own (λ one. is_given one.1) answers event reply));
+  freed = noted.freed ∙ rw counted.freed (sym (count_own (λ one. is_freed one.1) answers event reply));
   no_frames = λ order within.
       noted.no_frames order within
-      ∙ rw (counted.no_frames order within, lacks_kept s now order event reply names caches, zip-snoc events replies event reply even) (sym (count_more (lacks s order) (zip events replies) (event, reply)));
+      ∙ rw (counted.no_frames order within, lacks_kept s now order event reply names caches) (sym (count_own (lacks s order) answers event reply));
 }
 
--- no number of a ledger is greater than the replies are many
-ledger_below : (s : State) (events : List Event) (replies : List Reply) (ledger : Ledger) (limit : ℕ) → length replies < limit → IsLedger s events replies ledger → IsBelow limit ledger
-ledger_below s events replies ledger limit few counted = record {
-  given = omega (arith, counted.given, count_by-le-length is_given replies);
-  no_frames = λ order within.
-      omega (arith, counted.no_frames order within, count_by-le-length (lacks s order) (zip events replies), length-zip events replies);
+-- the ledger of another worker
+ledger_other : (s : State) (answers : List (Event × Reply)) (event : Event) (reply : Reply) (worker : ℕ) (ledger : Ledger)
+    → event.worker ≢ worker → IsLedger s answers worker ledger → IsLedger s (answers ++ (event, reply) ∷ []) worker ledger
+ledger_other s answers event reply worker ledger differ counted = record {
+  given = counted.given ∙ sym (count_other (λ one. is_given one.1) answers event reply worker differ);
+  freed = counted.freed ∙ sym (count_other (λ one. is_freed one.1) answers event reply worker differ);
+  no_frames = λ order within. counted.no_frames order within ∙ sym (count_other (lacks s order) answers event reply worker differ);
 }
+
+ledgers_more : (s now : State) (answers : List (Event × Reply)) (workers : ℕ) (event : Event) (reply : Reply) (before after : List Ledger)
+    → now.names ≡ s.names → now.caches ≡ s.caches → event.worker < workers → AreLedgers s answers workers before → NotesOwn now event reply before after
+    → AreLedgers s (answers ++ (event, reply) ∷ []) workers after
+ledgers_more s now answers workers event reply before after names caches mine counted noted = record {
+  each = ap length noted.after_is ∙ length-set before event.worker noted.ledger ∙ counted.each;
+  counts = λ worker other within. rw noted.after_is (elim (cases_eq worker event.worker) [ inl same ↦ at_own worker other same | inr differ ↦ at_other worker other within differ ]);
+}
+  where
+    at_own : (worker : ℕ) (other : Ledger) → worker ≡ event.worker → IsLedger s (answers ++ (event, reply) ∷ []) worker (get_or (set before event.worker noted.ledger) worker other)
+    at_own worker other same =
+        let here : get_or (set before event.worker noted.ledger) event.worker other ≡ noted.ledger = get_or-set_same before event.worker noted.ledger other (omega (arith, counted.each)) in
+        let own = ledger_own s now answers event reply (get_or before event.worker noted.ledger) noted.ledger names caches (counted.counts event.worker noted.ledger mine) noted.noted in
+        rw (same, here) own
+
+    at_other : (worker : ℕ) (other : Ledger) → worker < workers → worker ≢ event.worker → IsLedger s (answers ++ (event, reply) ∷ []) worker (get_or (set before event.worker noted.ledger) worker other)
+    at_other worker other within differ =
+        rw (get_or-set_other before event.worker worker noted.ledger other differ) (ledger_other s answers event reply worker (get_or before worker other) (λ same. differ (sym same)) (counted.counts worker other within))
+
+-- no number of a ledger is greater than the replies are many
+ledgers_below : (s : State) (events : List Event) (replies : List Reply) (workers : ℕ) (ledgers : List Ledger) (limit : ℕ)
+    → length replies < limit → AreLedgers s (zip events replies) workers ledgers → All (IsBelow limit) ledgers
+ledgers_below s events replies workers ledgers limit few counted k d within =
+    let mine = counted.counts k d (omega (arith, counted.each)) in
+    record {
+      given = omega (arith, mine.given, count_by-le-length (λ one. is_by k one && is_given one.1) (zip events replies), length-zip events replies);
+      freed = omega (arith, mine.freed, count_by-le-length (λ one. is_by k one && is_freed one.1) (zip events replies), length-zip events replies);
+      no_frames = λ order small.
+          omega (arith, mine.no_frames order small, count_by-le-length (λ one. is_by k one && lacks s order one) (zip events replies), length-zip events replies);
+    }
+
+-- before the first event
+blank_ledgers : (s : State) (ledgers : List Ledger) → All IsBlank ledgers → AreLedgers s [] (length ledgers) ledgers
+blank_ledgers s ledgers blank = record {
+  each = refl;
+  counts = λ worker other within.
+      let mine = blank worker other within in
+      record { given = mine.given; freed = mine.freed; no_frames = mine.no_frames };
+}
+
+-- ---- the loop
 
 -- what an act names is still there
 pub known_kept : (s now : State) (act : Act) → length now.names ≡ length s.names → length now.board ≡ length s.board → IsKnownAct s act → IsKnownAct now act
 known_kept s now (Alloc place object) names board known = (omega (arith, known.0), omega (arith, known.1))
-known_kept s now (Free object) names board known = known
+known_kept s now (Free object) names board known = omega (arith, known)
 known_kept s now (Write object word value) names board known = known
 known_kept s now (Read object word) names board known = known
 known_kept s now (Poke object offset byte) names board known = known
@@ -91,75 +153,85 @@ known_kept s now (Trim place) names board known = known
 known_kept s now Flush names board known = known
 
 -- before the first event
-pub has_run_none : (s : State) (events : List Event) (replies : List Reply) (ledger : Ledger)
-    → IsCoherent s → replies ≡ [] → ledger.given ≡ 0 → ledger.freed ≡ 0 → ((order : ℕ) → order < 11 → slice_index ledger.no_frames order ≡ 0)
-    → All (IsUnheld s) (objects_of events) → HasRun s events 0 replies ledger s
-has_run_none s events replies ledger coherent none given freed no_frames unheld = rw none (record {
+pub has_run_none : (s : State) (events : List Event) (replies : List Reply) (ledgers : List Ledger)
+    → IsCoherent s → replies ≡ [] → All IsBlank ledgers → HasRun s (length ledgers) events 0 replies ledgers s
+has_run_none s events replies ledgers coherent none blank = rw none (record {
   coherent = coherent;
   runs = refl;
   caches = record { cpus = refl; names = refl; caches = refl; board = refl };
-  counted = record { given = given; freed = freed; no_frames = no_frames };
+  counted = blank_ledgers s ledgers blank;
   answered = refl;
-  coming = λ k least within. unheld k 0 (omega (arith, length-map events (λ (event : Event). object_of event.act)));
+  unheld = λ object unheld out. unheld;
 })
-
--- the object of the event at an index
-object_at : (events : List Event) (k : ℕ) (event : Event) → k < length events → event ≡ get_or events k event → get_or (objects_of events) k 0 ≡ object_of event.act
-object_at events k event within is =
-    get_or-map (λ (event : Event). object_of event.act) events k event 0 within ∙ ap (λ (event : Event). object_of event.act) (sym is)
 
 -- an element that was read, as its own default
 pub own_default : {A : Type 0} (xs : List A) (i : ℕ) (d : A) → i < length xs → get_or xs i d ≡ get_or xs i (get_or xs i d)
 own_default xs i d within = sym (get_or_from_slice_get xs i (get_or xs i d) (get_or xs i d) (slice_get-get_or xs i d within))
 
--- the next event can be answered
-pub next_is_known : (s : State) (events : List Event) (done : ℕ) (replies : List Reply) (ledger : Ledger) (now : State) (event : Event)
-    → HasRun s events done replies ledger now → All (IsKnown s) events → done < length events → event ≡ get_or events done event → IsKnown now event
-next_is_known s events done replies ledger now event has_run known within is =
-    let here : IsKnown s event = subst (IsKnown s) (sym is) (known done event within) in
-    record {
-      cpu = omega (arith, has_run.caches.cpus, here.cpu);
-      act = known_kept s now event.act (ap length has_run.caches.names) has_run.caches.board here.act;
-    }
+-- the next event is one of a worker of the round, on a CPU, of a known kind
+next_is : (s : State) (workers : ℕ) (events : List Event) (done : ℕ) (event : Event) → All (IsKnown s workers) events → done < length events → event ≡ get_or events done event → IsKnown s workers event
+next_is s workers events done event known within is = subst (IsKnown s workers) (sym is) (known done event within)
 
-pub next_is_unheld : (s : State) (events : List Event) (done : ℕ) (replies : List Reply) (ledger : Ledger) (now : State) (event : Event)
-    → HasRun s events done replies ledger now → done < length events → event ≡ get_or events done event → IsUnheld now (object_of event.act)
-next_is_unheld s events done replies ledger now event has_run within is =
-    subst (IsUnheld now) (object_at events done event within is) (has_run.coming done (omega arith) within)
+pub next_is_here : (s : State) (workers : ℕ) (events : List Event) (done : ℕ) (replies : List Reply) (ledgers : List Ledger) (now : State) (event : Event)
+    → HasRun s workers events done replies ledgers now → All (IsKnown s workers) events → done < length events → event ≡ get_or events done event
+    → (event.worker < length ledgers) × (event.cpu < now.cpus) × IsKnownAct now event.act
+next_is_here s workers events done replies ledgers now event has_run known within is =
+    let here = next_is s workers events done event known within is in
+    (omega (arith, here.worker, has_run.counted.each), omega (arith, has_run.caches.cpus, here.cpu), known_kept s now event.act (ap length has_run.caches.names) has_run.caches.board here.act)
 
-pub has_room : (s : State) (events : List Event) (done : ℕ) (replies : List Reply) (ledger : Ledger) (now : State) (limit : ℕ)
-    → HasRun s events done replies ledger now → done < limit → IsBelow limit ledger
-has_room s events done replies ledger now limit has_run few =
-    ledger_below s (take done events) replies ledger limit (omega (arith, has_run.answered)) has_run.counted
+-- the events are those that were answered, the next, and the others
+objects_split : (events : List Event) (done : ℕ) (event : Event) → done < length events → event ≡ get_or events done event
+    → objects_of events ≡ objects_of (take done events) ++ (objects_of (event ∷ []) ++ objects_of (drop (done + 1) events))
+objects_split events done event within is =
+    let rest = drop (done + 1) events in
+    let parts : events ≡ take done events ++ event ∷ rest =
+    sym (take-append-drop done events) ∙ ap (λ (others : List Event). take done events ++ others) (drop_more events done event within ∙ ap (λ (first : Event). first ∷ rest) (sym is)) in
+    ap (λ (all : List Event). objects_of all) parts
+    ∙ filter_map-append (λ event. allocated event.act) (take done events) (event ∷ rest)
+    ∙ ap (λ (others : List ℕ). objects_of (take done events) ++ others) (filter_map-append (λ event. allocated event.act) (event ∷ []) rest)
+
+pub next_is_unheld : (s : State) (workers : ℕ) (events : List Event) (done : ℕ) (replies : List Reply) (ledgers : List Ledger) (now : State) (event : Event)
+    → HasRun s workers events done replies ledgers now → All (IsUnheld s) (objects_of events) → IsDistinct nat_eq (objects_of events)
+    → done < length events → event ≡ get_or events done event → All (IsUnheld now) (objects_of (event ∷ []))
+next_is_unheld s workers events done replies ledgers now event has_run unheld distinct within is =
+    let before = objects_of (take done events) in
+    let mine = objects_of (event ∷ []) in
+    let rest = objects_of (drop (done + 1) events) in
+    let split : objects_of events ≡ before ++ (mine ++ rest) = objects_split events done event within is in
+    let others : All (IsUnheld s) (mine ++ rest) = All-back (IsUnheld s) before (mine ++ rest) (subst (All (IsUnheld s)) split unheld) in
+    All-front (IsUnheld now) mine rest (still_unheld s now before (mine ++ rest) has_run.unheld (subst (IsDistinct nat_eq) split distinct) others)
+
+pub has_room : (s : State) (workers : ℕ) (events : List Event) (done : ℕ) (replies : List Reply) (ledgers : List Ledger) (now : State) (limit : ℕ)
+    → HasRun s workers events done replies ledgers now → done < limit → All (IsBelow limit) ledgers
+has_room s workers events done replies ledgers now limit has_run few =
+    ledgers_below s (take done events) replies workers ledgers limit (omega (arith, has_run.answered)) has_run.counted
 
 -- after one more event
-pub has_run_more : (s : State) (events : List Event) (done : ℕ) (replies : List Reply) (before : Ledger) (now : State) (event : Event) (reply : Reply) (after : State) (ledger : Ledger)
-    → HasRun s events done replies before now → IsDistinct nat_eq (objects_of events) → done < length events → event ≡ get_or events done event
-    → Answers now event event.act reply after → IsCoherent after → KeepsOthers now (object_of event.act) after → Notes after event reply before ledger
-    → HasRun s events (done + 1) (replies ++ reply ∷ []) ledger after
-has_run_more s events done replies before now event reply after ledger has_run distinct within is answers coherent others noted =
+pub has_run_more : (s : State) (workers : ℕ) (events : List Event) (done : ℕ) (replies : List Reply) (before : List Ledger) (now : State) (event : Event) (reply : Reply) (after : State) (ledgers : List Ledger)
+    → HasRun s workers events done replies before now → All (IsKnown s workers) events → done < length events → event ≡ get_or events done event
+    → Answers now event event.act reply after → IsCoherent after → KeepsOthers now (object_of event.act) after → KeepsUnheld now (objects_of (event ∷ [])) after
+    → NotesOwn after event reply before ledgers
+    → HasRun s workers events (done + 1) (replies ++ reply ∷ []) ledgers after
+has_run_more s workers events done replies before now event reply after ledgers has_run known within is answers coherent others unheld noted =
     let more : take (done + 1) events ≡ take done events ++ event ∷ [] = take_more events done event within ∙ ap (λ (e : Event). take done events ++ e ∷ []) (sym is) in
     let even : length (take done events) ≡ length replies = length-take-le done events (omega arith) ∙ sym has_run.answered in
     let names : after.names ≡ s.names = others.names ∙ has_run.caches.names in
     let caches : after.caches ≡ s.caches = others.caches ∙ has_run.caches.caches in
-    let apart = AllPairs-from_IsDistinct Decides-eqb (objects_of events) distinct in
-    let mine = object_at events done event within is in
+    let worker = (next_is s workers events done event known within is).worker in
+    let objects : objects_of (take done events ++ event ∷ []) ≡ objects_of (take done events) ++ objects_of (event ∷ []) = filter_map-append (λ event. allocated event.act) (take done events) (event ∷ []) in
     record {
       coherent = coherent;
       runs = rw more (runs_more s (take done events) replies now after event reply has_run.runs answers coherent);
       caches = record { cpus = others.cpus ∙ has_run.caches.cpus; names = names; caches = caches; board = others.board_length ∙ has_run.caches.board };
-      counted = rw more (ledger_more s after (take done events) replies event reply before ledger names caches even has_run.counted noted);
+      counted = rw (more, zip-snoc (take done events) replies event reply even) (ledgers_more s after (zip (take done events) replies) workers event reply before ledgers names caches worker has_run.counted noted);
       answered = length-snoc replies reply ∙ ap (λ n. n + 1) has_run.answered;
-      coming = λ k least below.
-          let other : get_or (objects_of events) k 0 ≢ object_of event.act =
-          λ same. apart done k 0 (omega arith) (omega (arith, length-map events (λ (event : Event). object_of event.act))) (mine ∙ sym same) in
-          others.board (get_or (objects_of events) k 0) other ∙ has_run.coming k (omega arith) below;
+      unheld = subst (λ (objects : List ℕ). KeepsUnheld s objects after) (sym (ap (λ (events : List Event). objects_of events) more ∙ objects)) (keeps_then s now after _ _ has_run.unheld unheld);
     }
 
 -- after the last event
-pub has_run_all : (s : State) (events : List Event) (done : ℕ) (replies : List Reply) (ledger : Ledger) (now : State)
-    → HasRun s events done replies ledger now → length events ≤ done
-    → RunsEvents s events replies now × IsLedger s events replies ledger
-has_run_all s events done replies ledger now has_run all =
+pub has_run_all : (s : State) (workers : ℕ) (events : List Event) (done : ℕ) (replies : List Reply) (ledgers : List Ledger) (now : State)
+    → HasRun s workers events done replies ledgers now → length events ≤ done
+    → RunsEvents s events replies now × AreLedgers s (zip events replies) workers ledgers × KeepsUnheld s (objects_of events) now
+has_run_all s workers events done replies ledgers now has_run all =
     let whole : take done events ≡ events = take_all done events all in
-    (rw whole at has_run.runs, rw whole at has_run.counted)
+    (rw whole at has_run.runs, rw whole at has_run.counted, rw whole at has_run.unheld)

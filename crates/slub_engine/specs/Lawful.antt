@@ -1,6 +1,6 @@
 -- Which journals are lawful for a trace.
-use Rattle.std.specs.Prelude.{◌≡◌, ℕ, ◌+◌, ◌^◌, ◌<◌, ◌≤◌, Bool, true, false, ◌==◌, List, [], ◌∷◌, length, take, sum_by, count_by, Option, Some, None, MatchOption, ⊤, Result, Ok, Err, slice_index, slice_index_or, slice_get, nat_eq, All}
-use Rattle.std.specs.List.{zip, IsDistinct}
+use Rattle.std.specs.Prelude.{◌≡◌, ℕ, ◌+◌, ◌<◌, ◌≤◌, ◌&&◌, Bool, true, false, ◌==◌, List, [], ◌∷◌, length, take, drop, sum_by, count_by, flat_map, Option, Some, None, MatchOption, ⊤, Result, Ok, Err, slice_index, slice_index_or, slice_get, All}
+use Rattle.std.specs.List.{zip}
 use Rattle.std.specs.Option.{option_map, option_and_then}
 use Rattle.slub_object_layout.specs.declared.layout.Layout.{Layout}
 use Rattle.slub_object_layout.specs.declared.layout.Spec.{Spec}
@@ -11,16 +11,17 @@ use Rattle.slub_object_layout.specs.declared.event.Round.{Round}
 use Rattle.slub_object_layout.specs.Layout.{IsAccepted, IsLayout, is_checked}
 use Rattle.slub_lists.specs.declared.lists.Cache.{Cache}
 use Rattle.slub_lists.specs.declared.reply.Reply.{Reply}
-use Rattle.slub_lists.specs.declared.reply.Reply.TheVariants.{Given, NoFrames, NoSuchCache}
+use Rattle.slub_lists.specs.declared.reply.Reply.TheVariants.{Given, NoFrames, NoSuchCache, Freed, NotHeld}
 use Rattle.slub_lists.specs.State.{State}
 use Rattle.slub_lists.specs.Alloc.{AllocatesNamed, cache_of, named}
+use Rattle.slub_lists.specs.Free.{Frees}
 use Rattle.slub_lists.specs.Coherent.{Creates, IsCoherent, all_on_board, opening}
 use Rattle.slub_slabinfo_text.specs.declared.counts.Counts.{Counts}
 use Rattle.slub_slabinfo_text.specs.Counts.{rows_of}
 use Rattle.slub_trace_reader.specs.declared.trace.Item.{Item}
 use Rattle.slub_trace_reader.specs.declared.trace.Item.TheVariants as item
 use Rattle.slub_trace_reader.specs.declared.trace.Trace.{Trace}
-use Rattle.slub_trace_reader.specs.Grammar.{objects_of}
+use Rattle.slub_trace_reader.specs.Sound.{objects_in}
 use Rattle.slub_engine.specs.declared.journal.Created.{Created}
 use Rattle.slub_engine.specs.declared.journal.Created.TheVariants.{New}
 use Rattle.slub_engine.specs.declared.journal.CreateRefusal.{CreateRefusal}
@@ -50,12 +51,12 @@ CreatesCache s trace place spec (Err refusal.NameTaken) after = ⊥
 CreatesCache s trace place spec (Err refusal.TooMany) after = ⊥
 CreatesCache s trace place spec (Err (refusal.Layout why)) after = ⊥
 
--- ---- rounds
+-- ---- events
 
--- an event is answered: today an allocation
+-- an event is answered: today an allocation or a free
 abbrev pub Answers : State → Event → Act → Reply → State → Type 0
 Answers s event (Alloc place object) reply after = AllocatesNamed s place event.cpu event.worker object reply after
-Answers s event (Free object) reply after = ⊥
+Answers s event (Free object) reply after = Frees s event.cpu event.worker object reply after
 Answers s event (Write object word value) reply after = ⊥
 Answers s event (Read object word) reply after = ⊥
 Answers s event (Poke object offset byte) reply after = ⊥
@@ -70,10 +71,23 @@ RunsEvents s (event ∷ events) (reply ∷ replies) after =
 RunsEvents s [] (reply ∷ replies) after = ⊥
 RunsEvents s (event ∷ events) [] after = ⊥
 
+-- ---- what a round counts
+
+-- an object was given
 abbrev pub is_given : Reply → Bool
 is_given (Given address) = true
 is_given NoFrames = false
 is_given NoSuchCache = false
+is_given (Freed address) = false
+is_given NotHeld = false
+
+-- an object was freed
+abbrev pub is_freed : Reply → Bool
+is_freed (Given address) = false
+is_freed NoFrames = false
+is_freed NoSuchCache = false
+is_freed (Freed address) = true
+is_freed NotHeld = false
 
 -- the least order of a cache
 abbrev pub min_order_of : Cache → ℕ
@@ -98,31 +112,50 @@ abbrev pub lacks : State → ℕ → Event × Reply → Bool
 lacks s order (event, NoFrames) = is_order order (least_order_of s event.act)
 lacks s order (event, Given address) = false
 lacks s order (event, NoSuchCache) = false
+lacks s order (event, Freed address) = false
+lacks s order (event, NotHeld) = false
 
--- a worker's ledger counts its replies
-pub record IsLedger (s : State) (events : List Event) (replies : List Reply) (ledger : Ledger) : Type 0 where
-  pub given : ledger.given ≡ count_by is_given replies
-  pub freed : ledger.freed ≡ 0
-  pub no_frames : (order : ℕ) → order < 11 → slice_index ledger.no_frames order ≡ count_by (lacks s order) (zip events replies)
+-- the event is one of this worker
+abbrev pub is_by : ℕ → Event × Reply → Bool
+is_by worker answered = answered.0.worker == worker
 
--- a round of one worker: its events are answered in their order, and then what it holds is put on the board
+-- a worker's ledger counts the replies to its events
+pub record IsLedger (s : State) (answers : List (Event × Reply)) (worker : ℕ) (ledger : Ledger) : Type 0 where
+  pub given : ledger.given ≡ count_by (λ answered. is_by worker answered && is_given answered.1) answers
+  pub freed : ledger.freed ≡ count_by (λ answered. is_by worker answered && is_freed answered.1) answers
+  pub no_frames : (order : ℕ) → order < 11 → slice_index ledger.no_frames order ≡ count_by (λ answered. is_by worker answered && lacks s order answered) answers
+
+-- each worker has its ledger, in rising number
+pub record AreLedgers (s : State) (answers : List (Event × Reply)) (workers : ℕ) (ledgers : List Ledger) : Type 0 where
+  pub each : length ledgers ≡ workers
+  pub counts : (worker : ℕ) (other : Ledger) → worker < workers → IsLedger s answers worker (slice_index_or ledgers worker other)
+
+-- ---- a round
+
+-- its events are answered in their order, and then what the workers hold is put on the board
 pub record DoesRound (s : State) (round : Round) (result : RoundResult) (after : State) : Type 0 where
   pub last : State
-  pub one : round.workers ≡ 1
   pub runs : RunsEvents s round.events result.replies last
   pub after_is : after ≡ all_on_board last
-  pub ledger : Ledger
-  pub ledgers : result.ledgers ≡ ledger ∷ []
-  pub counts : IsLedger s round.events result.replies ledger
+  pub ledgers : AreLedgers s (zip round.events result.replies) round.workers result.ledgers
 
 -- ---- items
 
--- an item is done; what is no pair of an item and its answer isn't done today
+-- an item is done, by an answer of its kind; the other items aren't done today
 unfoldable pub Does : State → Trace → Item → Done → State → Type 0
 Does s trace (item.Cache place spec) (done.Created answer) after = CreatesCache s trace place spec answer after
+Does s trace (item.Cache place spec) (done.Round result) after = ⊥
+Does s trace (item.Cache place spec) (done.Slabinfo rows) after = ⊥
+Does s trace (item.Round round) (done.Created answer) after = ⊥
 Does s trace (item.Round round) (done.Round result) after = DoesRound s round result after
+Does s trace (item.Round round) (done.Slabinfo rows) after = ⊥
+Does s trace item.Slabinfo (done.Created answer) after = ⊥
+Does s trace item.Slabinfo (done.Round result) after = ⊥
 Does s trace item.Slabinfo (done.Slabinfo rows) after = (rows ≡ rows_of s) × (after ≡ s)
-Does s trace item done after = ⊥
+Does s trace (item.Shrink place) done after = ⊥
+Does s trace (item.Destroy place) done after = ⊥
+Does s trace (item.Tune place setting) done after = ⊥
+Does s trace (item.Client client) done after = ⊥
 
 -- the item of this number is done
 abbrev pub DoesAt : State → Trace → ℕ → Done → State → Type 0
@@ -185,44 +218,58 @@ pub record IsLawful (trace : Trace) (journal : Journal) : Type 0 where
 
 -- ---- what is built
 
--- an allocation of a name of the trace, under a number of its range
-abbrev pub IsBuiltAct : Trace → Act → Type 0
-IsBuiltAct trace (Alloc place object) = (place < length trace.names) × (object ≤ trace.objects)
-IsBuiltAct trace (Free object) = ⊥
-IsBuiltAct trace (Write object word value) = ⊥
-IsBuiltAct trace (Read object word) = ⊥
-IsBuiltAct trace (Poke object offset byte) = ⊥
-IsBuiltAct trace (Trim place) = ⊥
-IsBuiltAct trace Flush = ⊥
+-- an act that is answered today: an allocation or a free
+abbrev pub IsBuiltAct : Act → Type 0
+IsBuiltAct (Alloc place object) = ⊤
+IsBuiltAct (Free object) = ⊤
+IsBuiltAct (Write object word value) = ⊥
+IsBuiltAct (Read object word) = ⊥
+IsBuiltAct (Poke object offset byte) = ⊥
+IsBuiltAct (Trim place) = ⊥
+IsBuiltAct Flush = ⊥
 
--- such an act of worker 0 on a CPU of the machine
-pub record IsBuiltEvent (trace : Trace) (event : Event) : Type 0 where
-  pub worker : event.worker ≡ 0
-  pub cpu : event.cpu < trace.cpus
-  pub act : IsBuiltAct trace event.act
+-- a round of such acts
+abbrev pub IsBuiltRound : Round → Type 0
+IsBuiltRound round = All (λ event. IsBuiltAct event.act) round.events
 
--- the trace is one that `item` can do today: a cache, a round of allocations by one worker under different numbers, a slabinfo
+-- there is a layout for the spec, and the cache is not checked
+abbrev pub IsBuiltSpec : Spec → Type 0
+IsBuiltSpec spec = IsAccepted spec × (is_checked spec.flags ≡ false)
+
+-- the item of this number: a cache as the first item, a round, or a slabinfo
+abbrev pub IsBuiltItem : ℕ → Item → Type 0
+IsBuiltItem number (item.Cache place spec) = (number ≡ 0) × IsBuiltSpec spec
+IsBuiltItem number (item.Round round) = IsBuiltRound round
+IsBuiltItem number (item.Shrink place) = ⊥
+IsBuiltItem number (item.Destroy place) = ⊥
+IsBuiltItem number item.Slabinfo = ⊤
+IsBuiltItem number (item.Tune place setting) = ⊥
+IsBuiltItem number (item.Client client) = ⊥
+
+-- each of the items is one that is replayed today
+abbrev pub AreBuilt : List Item → Type 0
+AreBuilt items = (number : ℕ) (other : Item) → number < length items → IsBuiltItem number (slice_index_or items number other)
+
+-- the trace is one that is replayed today: no transaction id to start at, at most one creation, which comes first, and then rounds and slabinfos
 pub record IsBuilt (trace : Trace) : Type 0 where
-  pub place : ℕ
-  pub spec : Spec
-  pub round : Round
-  pub frames : (2 ≤ trace.frames) × (trace.frames ≤ 4096)
-  pub cpus : (1 ≤ trace.cpus) × (trace.cpus ≤ 16)
-  pub objects : trace.objects ≤ 1048576
-  pub items : trace.items ≡ item.Cache place spec ∷ item.Round round ∷ item.Slabinfo ∷ []
-  pub few : length trace.names < 2 ^ 32
-  pub named : place < length trace.names
-  pub accepted : IsAccepted spec
-  pub unchecked : is_checked spec.flags ≡ false
-  pub workers : round.workers ≡ 1
-  pub events : All (IsBuiltEvent trace) round.events
-  pub distinct : IsDistinct nat_eq (objects_of round.events)
+  pub tid : trace.tid ≡ 0
+  pub items : AreBuilt trace.items
 
--- the machine stands before the item of this number of a trace that is built
+-- ---- where the machine stands
+
+-- no object that was given and not freed has this number
+abbrev pub IsUnheld : State → ℕ → Type 0
+IsUnheld s object = slice_index_or s.board object None ≡ None
+
+-- the numbers that the items from this one on allocate
+abbrev pub coming : Trace → ℕ → List ℕ
+coming trace number = flat_map objects_in (drop number trace.items)
+
+-- the machine stands before the item of this number: it has the trace's sizes, no cache before the first item, and no object with a number that is still to be allocated
 pub record IsReady (s : State) (trace : Trace) (number : ℕ) : Type 0 where
   pub coherent : IsCoherent s
   pub cpus : s.cpus ≡ trace.cpus
   pub names : length s.names ≡ length trace.names
   pub board : length s.board ≡ trace.objects + 1
   pub opened : number ≡ 0 → HasNoCache s
-  pub unused : number ≤ 1 → All (λ held. held ≡ None) s.board
+  pub unheld : All (IsUnheld s) (coming trace number)

@@ -1,27 +1,39 @@
--- The steps of a round of allocations.
-use Rattle.std.specs.Prelude.{◌≡◌, ℕ, ◌+◌, ◌<◌, length, if◌then◌else◌, slice_index, slice_index_or, None}
+-- The steps of a round.
+use Rattle.std.specs.Prelude.{◌≡◌, ℕ, ◌+◌, ◌<◌, List, length, if◌then◌else◌, slice_index, slice_index_or, slice_set}
+use Rattle.std.specs.List.{Contains}
 use Rattle.slub_object_layout.specs.declared.event.Act.{Act}
 use Rattle.slub_object_layout.specs.declared.event.Act.TheVariants.{Alloc, Free, Write, Read, Poke, Trim, Flush}
 use Rattle.slub_object_layout.specs.declared.event.Event.{Event}
 use Rattle.slub_lists.specs.declared.reply.Reply.{Reply}
 use Rattle.slub_lists.specs.State.{State}
 use Rattle.slub_engine.specs.declared.journal.Ledger.{Ledger}
-use Rattle.slub_engine.specs.Lawful.{is_given, lacks}
+use Rattle.slub_engine.specs.Lawful.{IsUnheld, is_freed, is_given, lacks}
 
--- an allocation of a name of the machine, under a number that it has
+-- an allocation of a name of the machine, or a free, under a number that it has
 abbrev pub IsKnownAct : State → Act → Type 0
 IsKnownAct s (Alloc place object) = (place < length s.names) × (object < length s.board)
-IsKnownAct s (Free object) = ⊥
+IsKnownAct s (Free object) = object < length s.board
 IsKnownAct s (Write object word value) = ⊥
 IsKnownAct s (Read object word) = ⊥
 IsKnownAct s (Poke object offset byte) = ⊥
 IsKnownAct s (Trim place) = ⊥
 IsKnownAct s Flush = ⊥
 
--- an allocation on a CPU of the machine
-pub record IsKnown (s : State) (event : Event) : Type 0 where
+-- such an act of one of so many workers on a CPU of the machine
+pub record IsKnown (s : State) (workers : ℕ) (event : Event) : Type 0 where
+  pub worker : event.worker < workers
   pub cpu : event.cpu < s.cpus
   pub act : IsKnownAct s event.act
+
+-- the number that an act names, or 0
+abbrev pub object_of : Act → ℕ
+object_of (Alloc place object) = object
+object_of (Free object) = object
+object_of (Write object word value) = 0
+object_of (Read object word) = 0
+object_of (Poke object offset byte) = 0
+object_of (Trim place) = 0
+object_of Flush = 0
 
 -- what an item leaves of the machine: its CPUs, names and numbers
 pub record KeepsSizes (s after : State) : Type 0 where
@@ -36,17 +48,30 @@ pub record KeepsCaches (s after : State) : Type 0 where
   pub caches : after.caches ≡ s.caches
   pub board : length after.board ≡ length s.board
 
--- nothing was given under this number
-abbrev pub IsUnheld : State → ℕ → Type 0
-IsUnheld s object = slice_index_or s.board object None ≡ None
+-- a number that no object has stays so, but for these
+abbrev pub KeepsUnheld : State → List ℕ → State → Type 0
+KeepsUnheld s objects after = (object : ℕ) → IsUnheld s object → ¬ Contains objects object → IsUnheld after object
+
+-- nothing is counted yet
+pub record IsBlank (ledger : Ledger) : Type 0 where
+  pub given : ledger.given ≡ 0
+  pub freed : ledger.freed ≡ 0
+  pub no_frames : (order : ℕ) → order < 11 → slice_index ledger.no_frames order ≡ 0
 
 -- one more reply is counted
 pub record Notes (s : State) (event : Event) (reply : Reply) (before after : Ledger) : Type 0 where
   pub given : after.given ≡ before.given + (if is_given reply then 1 else 0)
-  pub freed : after.freed ≡ before.freed
+  pub freed : after.freed ≡ before.freed + (if is_freed reply then 1 else 0)
   pub no_frames : (order : ℕ) → order < 11 → slice_index after.no_frames order ≡ slice_index before.no_frames order + (if lacks s order (event, reply) then 1 else 0)
+
+-- one more reply is counted in the ledger of the event's worker, and in no other
+pub record NotesOwn (s : State) (event : Event) (reply : Reply) (before after : List Ledger) : Type 0 where
+  pub ledger : Ledger
+  pub noted : Notes s event reply (slice_index_or before event.worker ledger) ledger
+  pub after_is : after ≡ slice_set before event.worker ledger
 
 -- every number of a ledger is below this one
 pub record IsBelow (limit : ℕ) (ledger : Ledger) : Type 0 where
   pub given : ledger.given < limit
+  pub freed : ledger.freed < limit
   pub no_frames : (order : ℕ) → order < 11 → slice_index ledger.no_frames order < limit

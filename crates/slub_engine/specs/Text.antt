@@ -38,12 +38,21 @@ name_at trace place = slice_index_or trace.names place []
 abbrev pub event_text : Event × Reply → List ℕ
 event_text answered = reply_text answered.0.act answered.1
 
--- the lines of an item that was done
+-- the lines of an item that was done as what it is; none of another
 unfoldable pub done_text : Trace → Item → Done → List ℕ
 done_text trace (item.Cache place spec) (done.Created answer) = item_line word.Cache (name_at trace place) (created_answer answer)
+done_text trace (item.Cache place spec) (done.Round result) = []
+done_text trace (item.Cache place spec) (done.Slabinfo rows) = []
+done_text trace (item.Round round) (done.Created answer) = []
 done_text trace (item.Round round) (done.Round result) = flat_map event_text (zip round.events result.replies)
+done_text trace (item.Round round) (done.Slabinfo rows) = []
+done_text trace item.Slabinfo (done.Created answer) = []
+done_text trace item.Slabinfo (done.Round result) = []
 done_text trace item.Slabinfo (done.Slabinfo rows) = info_text rows
-done_text trace item done = []
+done_text trace (item.Shrink place) done = []
+done_text trace (item.Destroy place) done = []
+done_text trace (item.Tune place setting) done = []
+done_text trace (item.Client client) done = []
 
 -- the lines of the item of this number
 abbrev pub text_at : Trace → ℕ → Done → List ℕ

@@ -1,13 +1,13 @@
 //! Doing an item.
 
-ghost use Rattle.std.specs.Prelude.{false, ◌≡◌, ◌+◌, ◌-◌, ◌^◌, ◌<◌, ◌≤◌, [], length, All, IfOk, IfSome, OnOk, OnErr, nat_eq, vec_capacity};
-ghost use Rattle.std.specs.List.{IsDistinct};
+ghost use Rattle.std.specs.Prelude.{false, ◌≡◌, ◌+◌, ◌-◌, ◌^◌, ◌<◌, ◌≤◌, [], ◌∷◌, length, All, IfOk, IfSome, OnOk, OnErr, nat_eq, vec_capacity};
+ghost use Rattle.std.specs.List.{IsDistinct, zip};
 ghost use Rattle.slub_lists.specs.Coherent.{IsCoherent, KeepsOthers};
 ghost use Rattle.slub_object_layout.specs.Layout.{IsAccepted, is_checked};
-ghost use Rattle.slub_trace_reader.specs.Grammar.{object_of, objects_of};
-ghost use Rattle.slub_engine.specs.Lawful.{Answers, CreatesCache, DoesAt, DoesRound, HasNoCache, IsBuilt, IsLedger, IsReady, IsTotal, RunsEvents, RunsItems, least_order_of, opening_of};
+ghost use Rattle.slub_trace_reader.specs.Sound.{IsSound, objects_of};
+ghost use Rattle.slub_engine.specs.Lawful.{Answers, AreLedgers, CreatesCache, DoesAt, DoesRound, HasNoCache, IsBuilt, IsReady, IsTotal, IsUnheld, RunsEvents, RunsItems, least_order_of, opening_of};
 ghost use Rattle.slub_engine.specs.declared.item.NoMemory.{NoMemory};
-ghost use Rattle.slub_engine.specs.Steps.{IsBelow, IsKnown, IsKnownAct, IsUnheld, KeepsCaches, KeepsSizes, Notes};
+ghost use Rattle.slub_engine.specs.Steps.{IsBelow, IsBlank, IsKnown, IsKnownAct, KeepsCaches, KeepsSizes, KeepsUnheld, Notes, NotesOwn, object_of};
 
 use crate::journal::{CreateRefusal, Created, Done, Ledger, RoundResult, Total};
 use crate::sums::{self, CacheSums};
@@ -55,6 +55,7 @@ pub fn item(
     trace: &Trace,
     number: usize,
 ) -> Result<Done, NoMemory>
+    requires sound { IsSound trace.now }
     requires built { IsBuilt trace.now }
     requires within { number < length trace.now.items }
     requires ready { IsReady lists.old trace.now number }
@@ -103,71 +104,93 @@ fn create(
     }
 }
 
-/// Does a round of one worker: each event to its end, in the order of the text.
+/// Does a round: each event to its end, in the order of the text.
 ///
 /// All memory is taken before the first event.
 fn serial(alloc: Global, lists: &mut Lists, round: &Round) -> Result<RoundResult, NoMemory>
     requires coherent { IsCoherent lists.old }
-    requires workers { round.now.workers ≡ 1 }
-    requires known { All (IsKnown lists.old) round.now.events }
+    requires known { All (IsKnown lists.old round.now.workers) round.now.events }
     requires unheld { All (IsUnheld lists.old) (objects_of round.now.events) }
     requires distinct { IsDistinct nat_eq (objects_of round.now.events) }
     ensures round { IfOk result (λ outcome. DoesRound lists.old round.now outcome lists.new) }
     ensures coherent { IsCoherent lists.new }
     ensures sizes { KeepsSizes lists.old lists.new }
+    ensures unheld { KeepsUnheld lists.old (objects_of round.now.events) lists.new }
     ensures err { OnErr result (lists.new ≡ lists.old) }
 {
     let events = round.events.as_slice();
     let mut replies = Vec::with_capacity(alloc, events.len())?;
-    let mut ledgers = Vec::with_capacity(alloc, 1)?;
-    let ledger = run_events(lists, events, &mut replies);
+    let mut ledgers = blank_ledgers(alloc, round.workers as usize)?;
+    run_events(lists, events, &mut replies, &mut ledgers);
     lists.end_round();
-    ledgers.push_reserved(ledger);
     Ok(RoundResult {
         replies: Sequence::from_vec(replies),
         ledgers: Sequence::from_vec(ledgers),
     })
 }
 
-/// Answers events in their order, and counts the replies.
-fn run_events(lists: &mut Lists, events: &[Event], replies: &mut Vec<Reply>) -> Ledger
-    requires coherent { IsCoherent lists.old }
-    requires known { All (IsKnown lists.old) events.now }
-    requires unheld { All (IsUnheld lists.old) (objects_of events.now) }
-    requires distinct { IsDistinct nat_eq (objects_of events.now) }
-    requires empty { replies.old.items ≡ [] }
-    requires room { vec_capacity replies.old ≡ length events.now }
-    ensures runs { RunsEvents lists.old events.now replies.new.items lists.new }
-    ensures coherent { IsCoherent lists.new }
-    ensures caches { KeepsCaches lists.old lists.new }
-    ensures ledger { IsLedger lists.old events.now replies.new.items result }
+/// So many ledgers with nothing counted.
+fn blank_ledgers(alloc: Global, workers: usize) -> Result<Vec<Ledger>, NoMemory>
+    ensures each { IfOk result (λ ledgers. length ledgers.items ≡ workers) }
+    ensures blank { IfOk result (λ ledgers. All IsBlank ledgers.items) }
 {
-    let mut ledger = Ledger {
+    let blank = Ledger {
         given: 0,
         freed: 0,
         no_frames: [0; 11],
     };
+    Ok(vec![in alloc; blank; workers]?)
+}
+
+/// Answers events in their order, and counts the replies in the ledgers of the workers.
+fn run_events(lists: &mut Lists, events: &[Event], replies: &mut Vec<Reply>, ledgers: &mut [Ledger])
+    requires coherent { IsCoherent lists.old }
+    requires known { All (IsKnown lists.old (length ledgers.old)) events.now }
+    requires unheld { All (IsUnheld lists.old) (objects_of events.now) }
+    requires distinct { IsDistinct nat_eq (objects_of events.now) }
+    requires empty { replies.old.items ≡ [] }
+    requires room { vec_capacity replies.old ≡ length events.now }
+    requires blank { All IsBlank ledgers.old }
+    ensures runs { RunsEvents lists.old events.now replies.new.items lists.new }
+    ensures coherent { IsCoherent lists.new }
+    ensures caches { KeepsCaches lists.old lists.new }
+    ensures unheld { KeepsUnheld lists.old (objects_of events.now) lists.new }
+    ensures ledgers { AreLedgers lists.old (zip events.now replies.new.items) (length ledgers.old) ledgers.new }
+{
     for event in events {
         let reply = answer(lists, event);
-        note(&mut ledger, lists, event, reply);
+        note_own(ledgers, lists, event, reply);
         replies.push_reserved(reply);
     }
-    ledger
 }
 
 /// Answers an event.
 fn answer(lists: &mut Lists, event: &Event) -> Reply
     requires coherent { IsCoherent lists.old }
-    requires known { IsKnown lists.old event.now }
-    requires unheld { IsUnheld lists.old (object_of event.now.act) }
+    requires cpu { event.now.cpu < lists.old.cpus }
+    requires known { IsKnownAct lists.old event.now.act }
+    requires unheld { All (IsUnheld lists.old) (objects_of (event.now ∷ [])) }
     ensures answers { Answers lists.old event.now event.now.act result lists.new }
     ensures coherent { IsCoherent lists.new }
     ensures others { KeepsOthers lists.old (object_of event.now.act) lists.new }
+    ensures unheld { KeepsUnheld lists.old (objects_of (event.now ∷ [])) lists.new }
 {
     match event.act {
         Act::Alloc { cache, object } => lists.alloc_named(cache, event.cpu, event.worker, object),
+        Act::Free { object } => lists.free(event.cpu, event.worker, object),
         _ => unreachable!(),
     }
+}
+
+/// Counts a reply in the ledger of the event's worker.
+fn note_own(ledgers: &mut [Ledger], lists: &Lists, event: &Event, reply: Reply)
+    requires coherent { IsCoherent lists.now }
+    requires known { IsKnownAct lists.now event.now.act }
+    requires worker { event.now.worker < length ledgers.old }
+    requires room { All (IsBelow (2 ^ 64 - 1)) ledgers.old }
+    ensures { NotesOwn lists.now event.now reply ledgers.old ledgers.new }
+{
+    note(&mut ledgers[event.worker as usize], lists, event, reply);
 }
 
 /// Counts a reply.
@@ -184,7 +207,8 @@ fn note(ledger: &mut Ledger, lists: &Lists, event: &Event, reply: Reply)
                 ledger.no_frames[order as usize] += 1;
             }
         }
-        Reply::NoSuchCache => {}
+        Reply::Freed(_) => ledger.freed += 1,
+        Reply::NoSuchCache | Reply::NotHeld => {}
     }
 }
 
@@ -206,7 +230,7 @@ fn least_order(lists: &Lists, act: &Act) -> Option<u32>
 
 /// The sums over all that was done, and over the machine that it left.
 pub fn total(lists: &Lists, trace: &Trace, items: &[Done]) -> Total
-    requires built { IsBuilt trace.now }
+    requires sound { IsSound trace.now }
     requires coherent { IsCoherent lists.now }
     requires run { RunsItems (opening_of trace.now) trace.now trace.now.items items.now lists.now }
     ensures { IsTotal lists.now items.now result }

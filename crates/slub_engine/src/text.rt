@@ -4,6 +4,7 @@ ghost use Rattle.std.specs.Prelude.{◌≡◌, ◌<◌, length, flat_map, All, I
 ghost use Rattle.std.specs.List.{zip};
 ghost use Rattle.slub_slabinfo_text.specs.Texts.{IsAnswered, item_line as line_of_item};
 ghost use Rattle.slub_slabinfo_text.specs.declared.text.ItemWord.TheVariants as word;
+ghost use Rattle.slub_trace_reader.specs.Sound.{IsSound};
 ghost use Rattle.slub_engine.specs.Lawful.{IsBuilt};
 ghost use Rattle.slub_engine.specs.Text.{created_answer, event_text, text_at, total_text};
 
@@ -25,6 +26,7 @@ pub fn text_of_item(
     number: usize,
     done: &Done,
 ) -> Result<Vec<u8>, NoMemory>
+    requires sound { IsSound trace.now }
     requires built { IsBuilt trace.now }
     requires within { number < length trace.now.items }
     ensures { IfOk result (λ text. text.items ≡ text_at trace.now number done.now) }

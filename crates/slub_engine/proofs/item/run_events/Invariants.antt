@@ -4,7 +4,7 @@ use Rattle.slub_engine.proofs.item.run_events.Given as goal
 
 abbrev pub invariant-loop-event : goal.invariant-loop-event
 invariant-loop-event l = record {
-  has_run : HasRun l.initial.lists l.events l.event-index l.replies.items l.ledger l.lists;
+  has_run : HasRun l.initial.lists (length l.fn.ledgers) l.events l.event-index l.replies.items l.ledgers l.lists;
   capacity : vec_capacity l.replies ≡ length l.events;
   len : vec_len l.replies ≡ l.event-index;
 }

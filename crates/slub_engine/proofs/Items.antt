@@ -1,15 +1,14 @@
--- What the items of a trace that is built are.
-use Rattle.std.proofs.Common.{false, ◌≡◌, ℕ, zero, suc, ◌<◌, List, [], ◌∷◌, length, get_or, refl, sym, ap, subst, arith, All, nat_eq, Option, Some, MatchOption, Result, flat_map, slice_get}
-use Rattle.std.specs.List.{IsDistinct, zip}
+-- What the items of a trace that is sound and built are, what was done for them, and their text.
+use Rattle.std.proofs.Common.{◌≡◌, ℕ, ◌<◌, List, [], length, get_or, refl, sym, ap, subst, Option, Some, MatchOption, Result, flat_map, slice_get}
+use Rattle.std.specs.List.{zip}
 use Rattle.std.proofs.lemmas.Option.{get_or_from_slice_get, slice_get_read}
 use Rattle.std.specs.Option.{option_map_or}
 use Rattle.slub_object_layout.specs.declared.event.Round.{Round}
 use Rattle.slub_object_layout.specs.declared.layout.Spec.{Spec}
-use Rattle.slub_object_layout.specs.Layout.{IsAccepted, is_checked}
 use Rattle.slub_trace_reader.specs.declared.trace.Item.{Item}
 use Rattle.slub_trace_reader.specs.declared.trace.Item.TheVariants as item
 use Rattle.slub_trace_reader.specs.declared.trace.Trace.{Trace}
-use Rattle.slub_trace_reader.specs.Grammar.{objects_of}
+use Rattle.slub_trace_reader.specs.Sound.{IsSound, IsSoundItem}
 use Rattle.slub_lists.specs.State.{State}
 use Rattle.slub_slabinfo_text.specs.declared.counts.InfoRow.{InfoRow}
 use Rattle.slub_slabinfo_text.specs.Counts.{rows_of}
@@ -20,38 +19,16 @@ use Rattle.slub_engine.specs.declared.journal.CreateRefusal.{CreateRefusal}
 use Rattle.slub_engine.specs.declared.journal.RoundResult.{RoundResult}
 use Rattle.slub_engine.specs.declared.journal.Done.{Done}
 use Rattle.slub_engine.specs.declared.journal.Done.TheVariants as done
-use Rattle.slub_engine.specs.Lawful.{CreatesCache, Does, DoesAt, DoesRound, IsBuilt, IsBuiltEvent}
+use Rattle.slub_engine.specs.Lawful.{CreatesCache, Does, DoesAt, DoesRound, IsBuilt, IsBuiltItem}
 use Rattle.slub_engine.specs.Text.{created_answer, done_text, event_text, name_at, text_at}
 
--- a round of allocations by one worker under different numbers
-pub record IsBuiltRound (trace : Trace) (round : Round) : Type 0 where
-  pub workers : round.workers ≡ 1
-  pub events : All (IsBuiltEvent trace) round.events
-  pub distinct : IsDistinct nat_eq (objects_of round.events)
+-- ---- an item that was read
 
--- the item of this number of a trace that is built: a cache, a round, a slabinfo
-abbrev pub IsBuiltItem : Trace → ℕ → Item → Type 0
-IsBuiltItem trace number (item.Cache place spec) = (number ≡ 0) × (place < length trace.names) × IsAccepted spec × (is_checked spec.flags ≡ false)
-IsBuiltItem trace number (item.Round round) = (number ≡ 1) × IsBuiltRound trace round
-IsBuiltItem trace number (item.Shrink place) = ⊥
-IsBuiltItem trace number (item.Destroy place) = ⊥
-IsBuiltItem trace number item.Slabinfo = number ≡ 2
-IsBuiltItem trace number (item.Tune place setting) = ⊥
-IsBuiltItem trace number (item.Client client) = ⊥
+pub sound_at : (trace : Trace) (number : ℕ) (it : Item) → IsSound trace → number < length trace.items → it ≡ get_or trace.items number it → IsSoundItem trace it
+sound_at trace number it sound within is = subst (IsSoundItem trace) (sym is) (sound.items number it within)
 
-item_in : (trace : Trace) (built : IsBuilt trace) (number : ℕ) (it : Item)
-    → number < length (item.Cache built.place built.spec ∷ item.Round built.round ∷ item.Slabinfo ∷ [])
-    → it ≡ get_or (item.Cache built.place built.spec ∷ item.Round built.round ∷ item.Slabinfo ∷ []) number it
-    → IsBuiltItem trace number it
-item_in trace built zero it within is = subst (IsBuiltItem trace 0) (sym is) (refl, built.named, built.accepted, built.unchecked)
-item_in trace built (suc zero) it within is = subst (IsBuiltItem trace 1) (sym is) (refl, record { workers = built.workers; events = built.events; distinct = built.distinct })
-item_in trace built (suc (suc zero)) it within is = subst (IsBuiltItem trace 2) (sym is) refl
-item_in trace built (suc (suc (suc number))) it within is = absurd (let never : ⊥ = omega arith in never)
-
--- an item that is read from a trace that is built
-pub item_at : (trace : Trace) (number : ℕ) (it : Item) → IsBuilt trace → number < length trace.items → it ≡ get_or trace.items number it → IsBuiltItem trace number it
-item_at trace number it built within is =
-    item_in trace built number it (rw built.items at within) (rw built.items at is)
+pub built_at : (trace : Trace) (number : ℕ) (it : Item) → IsBuilt trace → number < length trace.items → it ≡ get_or trace.items number it → IsBuiltItem number it
+built_at trace number it built within is = subst (IsBuiltItem number) (sym is) (built.items number it within)
 
 -- an element that was read, under another default
 pub at_any_default : {A : Type 0} (xs : List A) (i : ℕ) (x d : A) → i < length xs → x ≡ get_or xs i x → get_or xs i d ≡ x
@@ -101,16 +78,16 @@ no_slabinfo_text trace (done.Round outcome) isnt = refl
 no_slabinfo_text trace (done.Slabinfo rows) isnt = absurd (isnt rows refl)
 
 -- an item of another kind is none of a trace that is built
-pub no_other : (trace : Trace) (number : ℕ) (it : Item)
+pub no_other : (number : ℕ) (it : Item)
     → ((place : ℕ) (spec : Spec) → it ≡ item.Cache place spec → ⊥) → ((round : Round) → it ≡ item.Round round → ⊥) → (it ≡ item.Slabinfo → ⊥)
-    → IsBuiltItem trace number it → ⊥
-no_other trace number (item.Cache place spec) cache round info built = cache place spec refl
-no_other trace number (item.Round it) cache round info built = round it refl
-no_other trace number (item.Shrink place) cache round info built = built
-no_other trace number (item.Destroy place) cache round info built = built
-no_other trace number item.Slabinfo cache round info built = info refl
-no_other trace number (item.Tune place setting) cache round info built = built
-no_other trace number (item.Client client) cache round info built = built
+    → IsBuiltItem number it → ⊥
+no_other number (item.Cache place spec) cache round info built = cache place spec refl
+no_other number (item.Round it) cache round info built = round it refl
+no_other number (item.Shrink place) cache round info built = built
+no_other number (item.Destroy place) cache round info built = built
+no_other number item.Slabinfo cache round info built = info refl
+no_other number (item.Tune place setting) cache round info built = built
+no_other number (item.Client client) cache round info built = built
 
 -- ---- an item that was read is done
 

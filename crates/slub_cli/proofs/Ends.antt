@@ -1,18 +1,21 @@
 -- From the parts of a run to its clauses.
-use Rattle.std.proofs.Common.{◌≡◌, ◌≢◌, ℕ, ◌-◌, ◌≤◌, List, [], ◌∷◌, ◌++◌, Bool, true, false, cond, Some, None, Ok, Err, Result, IfSome, refl, sym, ap, ◌∙◌, length, take, arith, length-append, append-nil, inl, inr, map, zero, suc, zero-le, get_or}
+use Rattle.std.proofs.Common.{◌≡◌, ◌≢◌, ℕ, ◌-◌, ◌<◌, ◌≤◌, List, [], ◌∷◌, ◌++◌, Bool, true, false, cond, Some, None, Ok, Err, Result, refl, sym, ap, subst, ◌∙◌, length, take, arith, length-append, append-nil, inl, inr, map, zero, suc, zero-le, get_or}
 use Rattle.std.specs.Prelude.{Option, ◌⊎◌, IsSomeAnd, codes, IsTrue, string_bytes, IsSome}
 use Rattle.std.specs.declared.string.String.{String}
 use Rattle.std.specs.declared.alloc.Global.{Global}
 use Rattle.std.specs.Str.{bytes_eq}
 use Rattle.std.proofs.lemmas.Slice.Eq.{bytes_eq-Decides}
-use Rattle.std.proofs.lemmas.Bool.{false≢true}
+use Rattle.std.proofs.lemmas.Bool.{false≢true, cases_lt}
 use Rattle.std.specs.Io.KnownBytes.{Appends}
 use Rattle.std.proofs.KnownBytes.{Appends-trans}
 use Rattle.slub_edges.specs.Edges.{Rose, AppendsFront}
 use Rattle.slub_edges.proofs.Told.{AppendsFront-after, AppendsFront-then, AppendsFront-none, AppendsFront-past, AppendsFront-whole}
 use Rattle.slub_trace_reader.specs.declared.trace.Item.{Item}
 use Rattle.slub_trace_reader.specs.declared.trace.Trace.{Trace}
-use Rattle.slub_trace_reader.specs.Reads.{IsNoTrace, IsTooLong, Spells}
+use Rattle.slub_trace_reader.specs.declared.reading.Why.{Why}
+use Rattle.slub_trace_reader.specs.Grammar.{IsTrace}
+use Rattle.slub_trace_reader.specs.Reads.{IsBadIn, Spells}
+use Rattle.slub_engine.specs.Lawful.{IsBuilt}
 use Rattle.slub_engine.specs.declared.journal.Done.{Done}
 use Rattle.slub_engine.specs.declared.journal.Total.{Total}
 use Rattle.slub_engine.specs.declared.journal.Journal.{Journal}
@@ -58,6 +61,20 @@ done_apart : (b : Bool) → cond b Refused Fine ≡ WriteFault → ⊥
 done_apart true h = cc
 done_apart false h = cc
 
+-- a count that rose and then did not fall rose
+rose_then : (a b c : ℕ) → a ≤ b → b ≤ c → Rose a b → Rose a c
+rose_then a b c before after (inl rose) = inl (omega arith)
+rose_then a b c before after (inr greatest) =
+    elim (cases_lt b c) [
+      | inl more ↦ inl (omega arith)
+      | inr same ↦ inr ((let is : c ≡ b = omega arith in is) ∙ greatest)
+    ]
+
+-- a count that did not fall and then rose rose
+rose_from : (a b c : ℕ) → a ≤ b → Rose b c → Rose a c
+rose_from a b c before (inl rose) = inl (omega arith)
+rose_from a b c before (inr greatest) = inr greatest
+
 -- ---- at the end of the work, and at the end of the run
 module _ (words : List (List ℕ)) (told left old mid new : Option (List ℕ)) (read write after : ℕ × ℕ) (trace : Option Trace) (j : Journal) where
   abbrev pub worked : Call
@@ -69,15 +86,17 @@ module _ (words : List (List ℕ)) (told left old mid new : Option (List ℕ)) (
   -- the line of a stop is that of its status
   stop_has_line : (e : Stop) → stop_status e ≢ WriteFault → Comes worked trace j (Err e) → IsFaultLine ran (stop_status e) (stop_line e)
   stop_has_line stop.BadWords apart h = refl
-  stop_has_line stop.BadTrace apart h = inl (refl, h.2, h.3)
-  stop_has_line stop.TooLong apart h = inr (refl, h.2)
+  stop_has_line (stop.BadLine text) apart h = inl (h.2, h.3, h.4, h.5)
+  stop_has_line stop.NotBuilt apart h = inr (inr (refl, h.2))
+  stop_has_line stop.TooLong apart h = inr (inl (refl, h.2))
   stop_has_line stop.ReadFault apart h = refl
   stop_has_line stop.WriteFault apart h = absurd (apart refl)
   stop_has_line stop.NoMemory apart h = refl
 
   stop_text : (e : Stop) → stop_status e ≢ WriteFault → TookText old mid trace j (Err e) → Appends old mid (text_in trace j)
   stop_text stop.BadWords apart h = h
-  stop_text stop.BadTrace apart h = h
+  stop_text (stop.BadLine text) apart h = h
+  stop_text stop.NotBuilt apart h = h
   stop_text stop.TooLong apart h = h
   stop_text stop.ReadFault apart h = h
   stop_text stop.WriteFault apart h = absurd (apart refl)
@@ -93,8 +112,9 @@ module _ (words : List (List ℕ)) (told left old mid new : Option (List ℕ)) (
   -- the status that a stop means has its cause
   stop_cause : (e : Stop) → stop_status e ≢ WriteFault → Comes worked trace j (Err e) → IsCause ran trace j (stop_status e)
   stop_cause stop.BadWords apart h = h
-  stop_cause stop.BadTrace apart h = (h.0, inl (h.2, h.3), h.1)
-  stop_cause stop.TooLong apart h = (h.0, inr h.2, h.1)
+  stop_cause (stop.BadLine text) apart h = (h.0, inl (h.2, h.3, h.5), h.1)
+  stop_cause stop.NotBuilt apart h = (h.0, inr (inr h.2), h.1)
+  stop_cause stop.TooLong apart h = (h.0, inr (inl h.2), h.1)
   stop_cause stop.ReadFault apart h = h
   stop_cause stop.WriteFault apart h = absurd (apart refl)
   stop_cause stop.NoMemory apart h = h
@@ -106,7 +126,8 @@ module _ (words : List (List ℕ)) (told left old mid new : Option (List ℕ)) (
   cut : (e : Stop) → TookText old mid trace j (Err e) → Comes worked trace j (Err e) → AppendsFront mid new 0 (stop_line e) → TookFront ran old new trace j
   cut stop.WriteFault took comes wrote = inl (comes.2, AppendsFront-then old mid new (last_in trace j) (text_in trace j) took (AppendsFront-none mid new wrote))
   cut stop.BadWords took comes wrote = cut_line stop.BadWords (λ h. cc) comes took wrote
-  cut stop.BadTrace took comes wrote = cut_line stop.BadTrace (λ h. cc) comes took wrote
+  cut (stop.BadLine text) took comes wrote = cut_line (stop.BadLine text) (λ h. cc) comes took wrote
+  cut stop.NotBuilt took comes wrote = cut_line stop.NotBuilt (λ h. cc) comes took wrote
   cut stop.TooLong took comes wrote = cut_line stop.TooLong (λ h. cc) comes took wrote
   cut stop.ReadFault took comes wrote = cut_line stop.ReadFault (λ h. cc) comes took wrote
   cut stop.NoMemory took comes wrote = cut_line stop.NoMemory (λ h. cc) comes took wrote
@@ -116,42 +137,84 @@ module _ (words : List (List ℕ)) (told left old mid new : Option (List ℕ)) (
   run_prefix (Err e) status took comes (inl (same, wrote)) is = cut e took comes (AppendsFront-whole mid new (stop_line e) wrote)
   run_prefix (Err e) status took comes (inr (same, rose, wrote)) is = cut e took comes wrote
 
+  -- the row of a run that did everything
+  done_cause : (b : Bool) → done_status j ≡ cond b Refused Fine → IsDone ran trace j → IsCause ran trace j (cond b Refused Fine)
+  done_cause true is done = (done, is)
+  done_cause false is done = (done, is)
+
+  write_cause : (e : Stop) → write.0 ≤ write.1 → write.1 ≤ after.1 → Comes worked trace j (Err e) → IsCause ran trace j (stop_status e)
+  write_cause stop.WriteFault counts more h = (rose_then write.0 write.1 after.1 counts more h.1, inl h.0)
+  write_cause stop.BadWords counts more h = stop_cause stop.BadWords (λ h. cc) h
+  write_cause (stop.BadLine text) counts more h = stop_cause (stop.BadLine text) (λ h. cc) h
+  write_cause stop.NotBuilt counts more h = stop_cause stop.NotBuilt (λ h. cc) h
+  write_cause stop.TooLong counts more h = stop_cause stop.TooLong (λ h. cc) h
+  write_cause stop.ReadFault counts more h = stop_cause stop.ReadFault (λ h. cc) h
+  write_cause stop.NoMemory counts more h = stop_cause stop.NoMemory (λ h. cc) h
+
+  -- what a stop leaves known of the command and the trace
+  stop_known : (e : Stop) → Comes worked trace j (Err e) → IsCommand words ⊎ (trace ≡ None)
+  stop_known stop.WriteFault h = inl h.0
+  stop_known stop.BadWords h = inr h.1
+  stop_known (stop.BadLine text) h = inl h.0
+  stop_known stop.NotBuilt h = inl h.0
+  stop_known stop.TooLong h = inl h.0
+  stop_known stop.ReadFault h = inl h.0
+  stop_known stop.NoMemory h = inl h.0
+
+  -- the status of a run has its row; after.0 is the count of write faults after the work
+  pub run_cause : (r : Result (Unit {0}) Stop) (status : Status) → write.0 ≤ write.1 → after.0 ≡ write.1 → after.0 ≤ after.1
+      → Comes worked trace j r → Finishes mid new after j r status → IsCause ran trace j status
+  run_cause (Ok x) status counts same more comes ends = rw ends.0 (done_cause _ refl comes)
+  run_cause (Err e) status counts same more comes (inl (is, wrote)) = rw is (write_cause e counts (omega arith) comes)
+  run_cause (Err e) status counts same more comes (inr (is, rose, wrote)) =
+      rw is (rose_from write.0 after.0 after.1 (omega arith) rose, stop_known e comes)
+
 -- ---- corollaries of the table
 
--- bytes that are a trace are no bad input
-good_told : (told : Option (List ℕ)) → IsSomeAnd told IsSomeTrace → IfSome told IsNoTrace ⊎ IfSome told IsTooLong → ⊥
-good_told None good bad = absurd good
-good_told (Some bytes) good (inl none) = none.1 good.0 good.1
-good_told (Some bytes) good (inr long) = absurd (omega (arith, good.1.short))
+-- bytes of which a line is bad are no trace
+bad_in_apart : (bytes : List ℕ) (line : ℕ) (why : Why) → IsSomeTrace bytes → IsBadIn (Some bytes) line why → ⊥
+bad_in_apart bytes line why good bad = (rw (sym bad.all_told) at bad.bad.none.1) good.0 good.1
 
--- bad input is one of two kinds of bytes
-bad_told : (c : Call) → IsBadInput c → IfSome c.told IsNoTrace ⊎ IfSome c.told IsTooLong
-bad_told c (inl h) = inl h.1
-bad_told c (inr h) = inr h
+-- bytes that are a trace that is replayed spell no other
+unbuilt_apart : (bytes : List ℕ) (trace : Trace) → IsSomeTrace bytes → Spells (Some bytes) trace → ¬ IsBuilt trace → ⊥
+unbuilt_apart bytes trace good spells unbuilt =
+    let mine : IsTrace spells.bytes good.0 = subst (λ all. IsTrace all good.0) spells.all_told good.1 in
+    unbuilt (subst IsBuilt (spells.only good.0 mine) good.2)
 
--- bytes that are a trace are no bad input
+-- bytes that are a trace that is replayed are no bad input
+good_told : (c : Call) (told : Option (List ℕ)) → c.told ≡ told → IsSomeAnd told IsSomeTrace → IsBadInput c → ⊥
+good_told c None is good bad = absurd good
+good_told c (Some bytes) is good (inl (line, why, bad)) = bad_in_apart bytes line why good (rw is at bad.1)
+good_told c (Some bytes) is good (inr (inl long)) = (let far : 16777216 < length bytes = rw is at long in absurd (omega (arith, good.1.short, far)))
+good_told c (Some bytes) is good (inr (inr unbuilt)) = unbuilt_apart bytes unbuilt.1 good (rw is at unbuilt.2) unbuilt.3
+
 good_input : (c : Call) → IsSomeAnd c.told IsSomeTrace → IsBadInput c → ⊥
-good_input c good bad = good_told c.told good (bad_told c bad)
+good_input c good bad = good_told c c.told refl good bad
 
 -- what is None is not Some
 none_some : {A : Type 0} (o : Option A) → o ≡ None → IsSome o → ⊥
 none_some None is some = false≢true some
 none_some (Some x) is some = absurd (let e : Some x ≡ None = is in cc)
 
--- bad bytes spell no trace
-bad_apart : (bytes : List ℕ) → IsBadBytes bytes → IsSomeTrace bytes → ⊥
-bad_apart bytes (inl none) good = none.1 good.0 good.1
-bad_apart bytes (inr long) good = absurd (omega (arith, good.1.short))
+-- bad bytes spell no trace that is replayed
+bad_apart : (bytes : List ℕ) → IsBadBytes bytes → (trace : Trace) → Spells (Some bytes) trace → IsBuilt trace → ⊥
+bad_apart bytes (inl none) trace spells built = none.1 trace (subst (λ all. IsTrace all trace) (sym spells.all_told) spells.spells)
+bad_apart bytes (inr (inl long)) trace spells built =
+    let short : length bytes ≤ 16777216 = subst (λ all. length all ≤ 16777216) (sym spells.all_told) spells.spells.short in
+    absurd (omega (arith, short, long))
+bad_apart bytes (inr (inr unbuilt)) trace spells built =
+    let other : IsTrace spells.bytes unbuilt.0 = subst (λ all. IsTrace all unbuilt.0) spells.all_told unbuilt.1 in
+    unbuilt.2 (subst IsBuilt (sym (spells.only unbuilt.0 other)) built)
 
 -- and no trace was read where they are told
-told_apart : (told : Option (List ℕ)) (trace : Trace) → IsSomeAnd told IsBadBytes → Spells told trace → ⊥
-told_apart None trace bad spells = absurd bad
-told_apart (Some bytes) trace bad spells = bad_apart bytes bad (trace, rw spells.all_told spells.spells)
+told_apart : (told : Option (List ℕ)) (trace : Trace) → IsSomeAnd told IsBadBytes → Spells told trace → IsBuilt trace → ⊥
+told_apart None trace bad spells built = absurd bad
+told_apart (Some bytes) trace bad spells built = bad_apart bytes bad trace spells built
 
 -- where a trace was read, the bytes are no bad ones
 read_bad : (c : Call) (trace : Option Trace) (j : Journal) → IsJournalOf c trace j → IsSome trace → IsSomeAnd c.told IsBadBytes → ⊥
 read_bad c None j law some bad = false≢true some
-read_bad c (Some trace) j law some bad = told_apart c.told trace bad law.1
+read_bad c (Some trace) j law some bad = told_apart c.told trace bad law.1 law.2
 
 -- a run whose input is bad, and neither of whose ends failed, ends so
 pub bad_trace : (c : Call) (trace : Option Trace) (j : Journal) (status : Status) → IsCause c trace j status → IsJournalOf c trace j

@@ -8,10 +8,10 @@ use Rattle.slub_trace_reader.specs.declared.trace.Item.{Item}
 use Rattle.slub_trace_reader.specs.declared.trace.Trace.{Trace}
 use Rattle.slub_engine.specs.declared.journal.Done.{Done}
 use Rattle.slub_engine.specs.declared.journal.Journal.{Journal}
-use Rattle.slub_engine.specs.Lawful.{Does, IsBuilt, IsLawful, IsReady, RunsItems, opening_of}
+use Rattle.slub_engine.specs.Lawful.{Does, IsLawful, IsReady, RunsItems, opening_of}
 use Rattle.slub_engine.proofs.Laws.{opened_ready}
 use Rattle.slub_cli.specs.declared.stop.Stop.{Stop}
-use Rattle.slub_cli.specs.declared.stop.Stop.TheVariants.{BadWords, BadTrace, TooLong, ReadFault, WriteFault, NoMemory}
+use Rattle.slub_cli.specs.declared.stop.Stop.TheVariants.{BadWords, BadLine, NotBuilt, TooLong, ReadFault, WriteFault, NoMemory}
 use Rattle.slub_cli.specs.Inner.{Adds, AddsTotal, DoesItem, IsMachineOf, SameMachine, Totals}
 
 -- a run goes on by one item
@@ -86,7 +86,8 @@ stopped_lawful trace number s after old new WriteFault coherent within so_far ad
 stopped_lawful trace number s after old new NoMemory coherent within so_far same =
     Reached-lawful trace number s new coherent (omega arith) (record { run = rw same.items so_far.run; length_is = rw same.items so_far.length_is; no_total = same.total ∙ so_far.no_total; ready = so_far.ready; machine = same_machine trace old new so_far.machine same.machine })
 stopped_lawful trace number s after old new BadWords coherent within so_far h = absurd h
-stopped_lawful trace number s after old new BadTrace coherent within so_far h = absurd h
+stopped_lawful trace number s after old new (BadLine line) coherent within so_far h = absurd h
+stopped_lawful trace number s after old new NotBuilt coherent within so_far h = absurd h
 stopped_lawful trace number s after old new TooLong coherent within so_far h = absurd h
 stopped_lawful trace number s after old new ReadFault coherent within so_far h = absurd h
 
@@ -120,17 +121,18 @@ totals_lawful trace s old new (Err NoMemory) run lawful same = record {
   total = rw (same.items, same.total) lawful.total;
 }
 totals_lawful trace s old new (Err BadWords) run lawful h = absurd h
-totals_lawful trace s old new (Err BadTrace) run lawful h = absurd h
+totals_lawful trace s old new (Err (BadLine line)) run lawful h = absurd h
+totals_lawful trace s old new (Err NotBuilt) run lawful h = absurd h
 totals_lawful trace s old new (Err TooLong) run lawful h = absurd h
 totals_lawful trace s old new (Err ReadFault) run lawful h = absurd h
 
 -- nothing is done yet
-pub Reached-begins : (trace : Trace) (s : State) (journal : Journal) → IsBuilt trace → IsCoherent (opening_of trace) → s ≡ opening_of trace → IsMachineOf trace journal → journal.items ≡ [] → journal.total ≡ None → Reached trace 0 s journal
-Reached-begins trace s journal built coherent is machine no_items no_total = record {
+pub Reached-begins : (trace : Trace) (s : State) (journal : Journal) → IsCoherent (opening_of trace) → s ≡ opening_of trace → IsMachineOf trace journal → journal.items ≡ [] → journal.total ≡ None → Reached trace 0 s journal
+Reached-begins trace s journal coherent is machine no_items no_total = record {
   run = rw no_items is;
   length_is = ap length no_items;
   no_total = no_total;
-  ready = rw is (opened_ready trace built coherent);
+  ready = rw is (opened_ready trace coherent);
   machine = machine;
 }
 

@@ -16,7 +16,7 @@ use Rattle.slub_engine.specs.Text.{text_of, text_at, done_text, items_text, tota
 use Rattle.slub_cli.specs.Run.{last_begins}
 use Rattle.slub_cli.specs.Inner.{GrowsText, GrowsFront, IsSame, Tells, TookText}
 use Rattle.slub_cli.specs.declared.stop.Stop.{Stop}
-use Rattle.slub_cli.specs.declared.stop.Stop.TheVariants.{BadWords, BadTrace, TooLong, ReadFault, WriteFault, NoMemory}
+use Rattle.slub_cli.specs.declared.stop.Stop.TheVariants.{BadWords, BadLine, NotBuilt, TooLong, ReadFault, WriteFault, NoMemory}
 
 -- no items done have no text
 pub items_text-none : (trace : Trace) (items : List Item) → items_text trace items [] ≡ []
@@ -75,7 +75,8 @@ empty_text trace journal no_items no_total = rw (no_items, no_total, items_text-
 pub tells_then : (old mid new : Option (List ℕ)) (trace : Trace) (before middle after : Journal) (r : Result (Unit {0}) Stop) → GrowsText old mid trace before middle → Tells mid new trace middle after r → Tells old new trace before after r
 tells_then old mid new trace before middle after (Ok x) first more = λ start h. more start (first start h)
 tells_then old mid new trace before middle after (Err BadWords) first more = λ start h. more start (first start h)
-tells_then old mid new trace before middle after (Err BadTrace) first more = λ start h. more start (first start h)
+tells_then old mid new trace before middle after (Err (BadLine line)) first more = λ start h. more start (first start h)
+tells_then old mid new trace before middle after (Err NotBuilt) first more = λ start h. more start (first start h)
 tells_then old mid new trace before middle after (Err TooLong) first more = λ start h. more start (first start h)
 tells_then old mid new trace before middle after (Err ReadFault) first more = λ start h. more start (first start h)
 tells_then old mid new trace before middle after (Err WriteFault) first more = λ start h. more start (first start h)
@@ -85,7 +86,8 @@ tells_then old mid new trace before middle after (Err NoMemory) first more = λ 
 pub took_of : (old new : Option (List ℕ)) (trace : Trace) (before after : Journal) (r : Result (Unit {0}) Stop) → text_of trace before ≡ [] → Tells old new trace before after r → TookText old new (Some trace) after r
 took_of old new trace before after (Ok x) none tells = tells old (rw none (Appends-nil old))
 took_of old new trace before after (Err BadWords) none tells = tells old (rw none (Appends-nil old))
-took_of old new trace before after (Err BadTrace) none tells = tells old (rw none (Appends-nil old))
+took_of old new trace before after (Err (BadLine line)) none tells = tells old (rw none (Appends-nil old))
+took_of old new trace before after (Err NotBuilt) none tells = tells old (rw none (Appends-nil old))
 took_of old new trace before after (Err TooLong) none tells = tells old (rw none (Appends-nil old))
 took_of old new trace before after (Err ReadFault) none tells = tells old (rw none (Appends-nil old))
 took_of old new trace before after (Err WriteFault) none tells = tells old (rw none (Appends-nil old))

@@ -1,20 +1,21 @@
 -- What the parts of a run promise.
 use Rattle.std.specs.Prelude.{IsSome, ◌≡◌, ℕ, ◌+◌, ◌⊎◌, List, [], ◌∷◌, ◌++◌, Option, Some, None, IfSome, Result, Ok, Err, codes}
-use Rattle.std.specs.Io.KnownBytes.{Appends, IsAtEnd}
+use Rattle.std.specs.Io.KnownBytes.{Appends}
 use Rattle.slub_edges.specs.Edges.{Rose, AppendsFront}
 use Rattle.slub_lists.specs.State.{State}
 use Rattle.slub_trace_reader.specs.declared.trace.Trace.{Trace}
-use Rattle.slub_trace_reader.specs.Reads.{IsNoTrace, IsTooLong}
+use Rattle.slub_trace_reader.specs.declared.reading.Why.{Why}
+use Rattle.slub_trace_reader.specs.Reads.{IsTooLong}
 use Rattle.slub_engine.specs.declared.journal.Done.{Done}
 use Rattle.slub_engine.specs.declared.journal.Total.{Total}
 use Rattle.slub_engine.specs.declared.journal.Journal.{Journal}
 use Rattle.slub_engine.specs.Lawful.{DoesAt, IsReady, IsTotal}
 use Rattle.slub_engine.specs.Text.{text_of}
 use Rattle.slub_cli.specs.declared.stop.Stop.{Stop}
-use Rattle.slub_cli.specs.declared.stop.Stop.TheVariants.{BadWords, BadTrace, TooLong, ReadFault, WriteFault, NoMemory}
+use Rattle.slub_cli.specs.declared.stop.Stop.TheVariants.{BadWords, BadLine, NotBuilt, TooLong, ReadFault, WriteFault, NoMemory}
 use Rattle.slub_cli.specs.declared.status.Status.{Status}
 use Rattle.slub_cli.specs.declared.status.Status.TheVariants as ends
-use Rattle.slub_cli.specs.Run.{Call, IsCommand, IsDone, done_status, fault_line, last_begins, last_in, text_in}
+use Rattle.slub_cli.specs.Run.{Call, IsBadLine, IsCommand, IsDone, IsUnbuilt, bad_line, done_status, fault_line, last_begins, last_in, text_in}
 
 -- ---- what the sink tells
 
@@ -32,7 +33,8 @@ GrowsFront old new trace before after =
 abbrev pub TellsStopped : Option (List ℕ) → Option (List ℕ) → Trace → Journal → Journal → Stop → Type 0
 TellsStopped old new trace before after WriteFault = GrowsFront old new trace before after
 TellsStopped old new trace before after BadWords = GrowsText old new trace before after
-TellsStopped old new trace before after BadTrace = GrowsText old new trace before after
+TellsStopped old new trace before after (BadLine line) = GrowsText old new trace before after
+TellsStopped old new trace before after NotBuilt = GrowsText old new trace before after
 TellsStopped old new trace before after TooLong = GrowsText old new trace before after
 TellsStopped old new trace before after ReadFault = GrowsText old new trace before after
 TellsStopped old new trace before after NoMemory = GrowsText old new trace before after
@@ -47,7 +49,8 @@ abbrev pub TookText : Option (List ℕ) → Option (List ℕ) → Option Trace �
 TookText old new trace journal (Ok x) = Appends old new (text_in trace journal)
 TookText old new trace journal (Err WriteFault) = AppendsFront old new (last_in trace journal) (text_in trace journal)
 TookText old new trace journal (Err BadWords) = Appends old new (text_in trace journal)
-TookText old new trace journal (Err BadTrace) = Appends old new (text_in trace journal)
+TookText old new trace journal (Err (BadLine line)) = Appends old new (text_in trace journal)
+TookText old new trace journal (Err NotBuilt) = Appends old new (text_in trace journal)
 TookText old new trace journal (Err TooLong) = Appends old new (text_in trace journal)
 TookText old new trace journal (Err ReadFault) = Appends old new (text_in trace journal)
 TookText old new trace journal (Err NoMemory) = Appends old new (text_in trace journal)
@@ -87,7 +90,8 @@ DoesItem s trace number after old new (Ok x) = Adds s trace number after old new
 DoesItem s trace number after old new (Err WriteFault) = Adds s trace number after old new
 DoesItem s trace number after old new (Err NoMemory) = IsSame old new
 DoesItem s trace number after old new (Err BadWords) = ⊥
-DoesItem s trace number after old new (Err BadTrace) = ⊥
+DoesItem s trace number after old new (Err (BadLine line)) = ⊥
+DoesItem s trace number after old new (Err NotBuilt) = ⊥
 DoesItem s trace number after old new (Err TooLong) = ⊥
 DoesItem s trace number after old new (Err ReadFault) = ⊥
 
@@ -105,7 +109,8 @@ Totals s old new (Ok x) = AddsTotal s old new
 Totals s old new (Err WriteFault) = AddsTotal s old new
 Totals s old new (Err NoMemory) = IsSame old new
 Totals s old new (Err BadWords) = ⊥
-Totals s old new (Err BadTrace) = ⊥
+Totals s old new (Err (BadLine line)) = ⊥
+Totals s old new (Err NotBuilt) = ⊥
 Totals s old new (Err TooLong) = ⊥
 Totals s old new (Err ReadFault) = ⊥
 
@@ -116,7 +121,8 @@ abbrev pub IsItemStop : ℕ → ℕ → Journal → Stop → Type 0
 IsItemStop old new journal WriteFault = Rose old new
 IsItemStop old new journal NoMemory = journal.total ≡ None
 IsItemStop old new journal BadWords = ⊥
-IsItemStop old new journal BadTrace = ⊥
+IsItemStop old new journal (BadLine line) = ⊥
+IsItemStop old new journal NotBuilt = ⊥
 IsItemStop old new journal TooLong = ⊥
 IsItemStop old new journal ReadFault = ⊥
 
@@ -124,7 +130,9 @@ IsItemStop old new journal ReadFault = ⊥
 abbrev pub Comes : Call → Option Trace → Journal → Result (Unit {0}) Stop → Type 0
 Comes c trace journal (Ok x) = IsDone c trace journal
 Comes c trace journal (Err BadWords) = (IsCommand c.words → ⊥) × (trace ≡ None)
-Comes c trace journal (Err BadTrace) = IsCommand c.words × (trace ≡ None) × IsAtEnd c.left × IfSome c.told IsNoTrace
+Comes c trace journal (Err (BadLine text)) =
+    IsCommand c.words × (trace ≡ None) × (line : ℕ) × (why : Why) × (text.items ≡ bad_line line why) × IsBadLine c line why
+Comes c trace journal (Err NotBuilt) = IsCommand c.words × (trace ≡ None) × IsUnbuilt c
 Comes c trace journal (Err TooLong) = IsCommand c.words × (trace ≡ None) × IfSome c.told IsTooLong
 Comes c trace journal (Err ReadFault) = IsCommand c.words × Rose c.read.0 c.read.1 × (trace ≡ None)
 Comes c trace journal (Err WriteFault) = IsCommand c.words × Rose c.write.0 c.write.1 × IsSome trace
@@ -133,7 +141,8 @@ Comes c trace journal (Err NoMemory) = IsCommand c.words × (journal.total ≡ N
 -- the line of a stop
 abbrev pub stop_line : Stop → List ℕ
 stop_line BadWords = fault_line (codes "bad command")
-stop_line BadTrace = fault_line (codes "bad trace")
+stop_line (BadLine line) = line.items
+stop_line NotBuilt = fault_line (codes "bad trace")
 stop_line TooLong = fault_line (codes "input too long")
 stop_line ReadFault = fault_line (codes "read fault")
 stop_line WriteFault = []
@@ -142,7 +151,8 @@ stop_line NoMemory = fault_line (codes "out of memory")
 -- the status of a stop
 abbrev pub stop_status : Stop → Status
 stop_status BadWords = ends.BadWords
-stop_status BadTrace = ends.BadTrace
+stop_status (BadLine line) = ends.BadTrace
+stop_status NotBuilt = ends.BadTrace
 stop_status TooLong = ends.BadTrace
 stop_status ReadFault = ends.ReadFault
 stop_status WriteFault = ends.WriteFault

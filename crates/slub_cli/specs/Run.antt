@@ -1,19 +1,22 @@
 -- What a run promises: the table of statuses, the text, the law.
 use Rattle.std.specs.Prelude.{◌≡◌, ℕ, ◌-◌, ◌⊎◌, List, [], ◌∷◌, ◌++◌, length, take, Bool, true, false, cond, Option, Some, None, IfSome, IsSome, Ok, Err, codes}
 use Rattle.std.specs.List.{list_any}
+use Rattle.std.specs.Fmt.{decimal}
 use Rattle.std.specs.Io.KnownBytes.{Appends, IsAtEnd}
 use Rattle.slub_edges.specs.Edges.{Rose, AppendsFront}
 use Rattle.slub_lists.specs.declared.reply.Reply.{Reply}
 use Rattle.slub_lists.specs.declared.reply.Reply.TheVariants as reply
 use Rattle.slub_trace_reader.specs.declared.trace.Trace.{Trace}
 use Rattle.slub_trace_reader.specs.Grammar.{IsTrace}
-use Rattle.slub_trace_reader.specs.Reads.{IsNoTrace, IsTooLong, Spells}
+use Rattle.slub_trace_reader.specs.declared.reading.Why.{Why}
+use Rattle.slub_trace_reader.specs.Faults.{why_text}
+use Rattle.slub_trace_reader.specs.Reads.{IsBadIn, IsNoTrace, IsTooLong, Spells}
 use Rattle.slub_engine.specs.declared.journal.Done.{Done}
 use Rattle.slub_engine.specs.declared.journal.Done.TheVariants as done
 use Rattle.slub_engine.specs.declared.journal.Total.{Total}
 use Rattle.slub_engine.specs.declared.journal.Journal.{Journal}
 use Rattle.slub_engine.specs.Journal.{IsEmpty}
-use Rattle.slub_engine.specs.Lawful.{IsLawful}
+use Rattle.slub_engine.specs.Lawful.{IsBuilt, IsLawful}
 use Rattle.slub_engine.specs.Text.{text_of, items_text}
 use Rattle.slub_cli.specs.declared.status.Status.{Status}
 use Rattle.slub_cli.specs.declared.status.Status.TheVariants.{Fine, Refused, BadWords, BadTrace, ReadFault, WriteFault, NoMemory}
@@ -31,6 +34,8 @@ abbrev pub refuses : Reply → Bool
 refuses (reply.Given address) = false
 refuses reply.NoFrames = true
 refuses reply.NoSuchCache = true
+refuses (reply.Freed address) = false
+refuses reply.NotHeld = true
 
 -- a creation was refused, or a reply isn't Ok
 abbrev pub has_refused : Done → Bool
@@ -76,11 +81,11 @@ last_in (Some trace) journal = last_begins trace journal
 
 -- ---- the law
 
--- where a trace was read, the source was read to its end, its bytes spell that trace and no other, and the journal
--- is lawful for it; where none was read, the journal is empty
+-- where a trace was read, the source was read to its end, its bytes spell that trace and no other, it is one that is
+-- replayed today, and the journal is lawful for it; where none was read, the journal is empty
 abbrev pub IsJournalOf : Call → Option Trace → Journal → Type 0
 IsJournalOf c None journal = IsEmpty journal
-IsJournalOf c (Some trace) journal = IsAtEnd c.left × Spells c.told trace × IsLawful trace journal
+IsJournalOf c (Some trace) journal = IsAtEnd c.left × Spells c.told trace × IsBuilt trace × IsLawful trace journal
 
 -- ---- the statuses
 
@@ -88,9 +93,17 @@ IsJournalOf c (Some trace) journal = IsAtEnd c.left × Spells c.told trace × Is
 abbrev pub IsDone : Call → Option Trace → Journal → Type 0
 IsDone c trace journal = IsCommand c.words × IsSome trace × IsSome journal.total
 
--- the bytes read to their end are no trace, or there are too many
+-- the bytes were read to their end, and this is their first bad line and why it is bad
+abbrev pub IsBadLine : Call → ℕ → Why → Type 0
+IsBadLine c line why = IsAtEnd c.left × IsBadIn c.told line why
+
+-- the bytes were read to their end, and spell a trace that is not replayed today
+abbrev pub IsUnbuilt : Call → Type 0
+IsUnbuilt c = IsAtEnd c.left × (trace : Trace) × Spells c.told trace × ¬ IsBuilt trace
+
+-- the bytes read are no trace, there are too many, or they spell one that is not replayed today
 abbrev pub IsBadInput : Call → Type 0
-IsBadInput c = (IsAtEnd c.left × IfSome c.told IsNoTrace) ⊎ IfSome c.told IsTooLong
+IsBadInput c = ((line : ℕ) × (why : Why) × IsBadLine c line why) ⊎ IfSome c.told IsTooLong ⊎ IsUnbuilt c
 
 -- the row of each status
 abbrev pub IsCause : Call → Option Trace → Journal → Status → Type 0
@@ -106,13 +119,19 @@ IsCause c trace journal NoMemory = IsCommand c.words × (journal.total ≡ None)
 abbrev pub fault_line : List ℕ → List ℕ
 fault_line why = codes "slub: " ++ why ++ 10 ∷ []
 
+-- `slub: line N: WHY`
+abbrev pub bad_line : ℕ → Why → List ℕ
+bad_line line why = fault_line (codes "line " ++ decimal line ++ codes ": " ++ why_text why)
+
 -- the line after the text, where a run of such input ended with this status
 abbrev pub IsFaultLine : Call → Status → List ℕ → Type 0
 IsFaultLine c Fine line = line ≡ []
 IsFaultLine c Refused line = line ≡ []
 IsFaultLine c BadWords line = line ≡ fault_line (codes "bad command")
 IsFaultLine c BadTrace line =
-    ((line ≡ fault_line (codes "bad trace")) × IsAtEnd c.left × IfSome c.told IsNoTrace) ⊎ ((line ≡ fault_line (codes "input too long")) × IfSome c.told IsTooLong)
+    ((number : ℕ) × (why : Why) × (line ≡ bad_line number why) × IsBadLine c number why)
+    ⊎ ((line ≡ fault_line (codes "input too long")) × IfSome c.told IsTooLong)
+    ⊎ ((line ≡ fault_line (codes "bad trace")) × IsUnbuilt c)
 IsFaultLine c ReadFault line = line ≡ fault_line (codes "read fault")
 IsFaultLine c WriteFault line = ⊥
 IsFaultLine c NoMemory line = line ≡ fault_line (codes "out of memory")
@@ -128,10 +147,10 @@ TookFront c old new trace journal =
     (IsSome trace × AppendsFront old new (last_in trace journal) (text_in trace journal))
     ⊎ ((meant : Status) × (line : List ℕ) × IsCause c trace journal meant × IsFaultLine c meant line × AppendsFront old new (length (text_in trace journal)) (text_in trace journal ++ line))
 
--- the bytes are a trace
+-- the bytes are a trace that is replayed today
 abbrev pub IsSomeTrace : List ℕ → Type 0
-IsSomeTrace bytes = (trace : Trace) × IsTrace bytes trace
+IsSomeTrace bytes = (trace : Trace) × IsTrace bytes trace × IsBuilt trace
 
--- the bytes are no trace, or too many
+-- the bytes are no trace, or too many, or a trace that is not replayed today
 abbrev pub IsBadBytes : List ℕ → Type 0
-IsBadBytes bytes = IsNoTrace bytes ⊎ IsTooLong bytes
+IsBadBytes bytes = IsNoTrace bytes ⊎ IsTooLong bytes ⊎ ((trace : Trace) × IsTrace bytes trace × ¬ IsBuilt trace)

@@ -1,12 +1,16 @@
 -- What a trace that was not read stops a run for.
+use Rattle.std.specs.Prelude.{◌≡◌, ℕ, ◌⊎◌}
+use Rattle.std.specs.declared.alloc.Global.{Global}
+use Rattle.std.specs.declared.vec.Vec.{Vec}
 use Rattle.slub_trace_reader.specs.declared.reading.TraceFault.{TraceFault}
 use Rattle.slub_trace_reader.specs.declared.reading.TraceFault.TheVariants as fault
 use Rattle.slub_cli.specs.declared.stop.Stop.{Stop}
-use Rattle.slub_cli.specs.declared.stop.Stop.TheVariants.{BadTrace, TooLong, ReadFault, NoMemory}
+use Rattle.slub_cli.specs.declared.stop.Stop.TheVariants.{BadLine, TooLong, ReadFault, NoMemory}
+use Rattle.slub_cli.specs.Run.{bad_line}
 
--- a fault of the reader stops the run under the like name
-abbrev pub stop_of : TraceFault → Stop
-stop_of fault.ReadFault = ReadFault
-stop_of fault.TooLong = TooLong
-stop_of fault.Bad = BadTrace
-stop_of fault.NoMemory = NoMemory
+-- a fault of the reader stops the run under the like name, with the line made that tells a bad one; that may find no memory
+abbrev pub IsStopOf : TraceFault → Stop → Type 0
+IsStopOf fault.ReadFault stop = stop ≡ ReadFault
+IsStopOf fault.TooLong stop = stop ≡ TooLong
+IsStopOf (fault.BadLine line why) stop = (stop ≡ NoMemory) ⊎ ((text : Vec ℕ Global) × (stop ≡ BadLine text) × (text.items ≡ bad_line line why))
+IsStopOf fault.NoMemory stop = stop ≡ NoMemory

@@ -3,6 +3,7 @@
 ghost use Rattle.std.specs.Prelude.{◌≡◌, ◌<◌, ◌≤◌, [], None, Some, length, IfErr, IfOk, OnOk, IsSome};
 ghost use Rattle.slub_lists.specs.Coherent.{IsCoherent};
 ghost use Rattle.slub_engine.specs.Journal.{IsEmpty};
+ghost use Rattle.slub_trace_reader.specs.Sound.{IsSound};
 ghost use Rattle.slub_engine.specs.Lawful.{IsBuilt, IsLawful, IsReady, RunsItems, opening_of};
 ghost use Rattle.slub_cli.specs.Inner.{DoesItem, IsItemStop, IsMachineOf, Tells, TookText, Totals};
 
@@ -25,6 +26,7 @@ fn do_item<K: Sink>(
     sink: &mut K,
     journal: &mut Journal,
 ) -> Result<(), Stop>
+    requires sound { IsSound trace.now }
     requires built { IsBuilt trace.now }
     requires within { number < length trace.now.items }
     requires ready { IsReady lists.old trace.now number }
@@ -50,6 +52,7 @@ fn do_items<K: Sink>(
     sink: &mut K,
     journal: &mut Journal,
 ) -> Result<(), Stop>
+    requires sound { IsSound trace.now }
     requires built { IsBuilt trace.now }
     requires opened { lists.old ≡ opening_of trace.now }
     requires coherent { IsCoherent (opening_of trace.now) }
@@ -78,7 +81,7 @@ fn do_total<K: Sink>(
     sink: &mut K,
     journal: &mut Journal,
 ) -> Result<(), Stop>
-    requires built { IsBuilt trace.now }
+    requires sound { IsSound trace.now }
     requires coherent { IsCoherent lists.now }
     requires run { RunsItems (opening_of trace.now) trace.now trace.now.items journal.old.items lists.now }
     requires no_total { journal.old.total ≡ None }
@@ -107,7 +110,7 @@ fn begin(trace: &Trace, journal: &mut Journal)
 
 /// The machine before the first item of a trace.
 fn open(alloc: Global, trace: &Trace) -> Result<Lists, NoMemory>
-    requires { IsBuilt trace.now }
+    requires { IsSound trace.now }
     ensures opened { IfOk result (λ lists. lists ≡ opening_of trace.now) }
     ensures coherent { IsCoherent (opening_of trace.now) }
 {
@@ -122,6 +125,7 @@ pub fn do_trace<K: Sink>(
     sink: &mut K,
     journal: &mut Journal,
 ) -> Result<(), Stop>
+    requires sound { IsSound trace.now }
     requires built { IsBuilt trace.now }
     requires empty { IsEmpty journal.old }
     ensures lawful { IsLawful trace.now journal.new }

@@ -13,6 +13,7 @@ use crate::stop::Stop;
 use crate::words::is_command;
 use slub_edges::edges::{Sink, Source};
 use slub_edges::pieces::write_lines;
+use slub_engine::built::is_built;
 use slub_engine::journal::{Done, Journal};
 use slub_lists::reply::Reply;
 use slub_trace_reader::reading::read_trace;
@@ -51,7 +52,13 @@ fn work<S: Source, K: Sink>(
     if !is_command(words) {
         return Err(Stop::BadWords);
     }
-    let read = read_trace(alloc, source)?;
+    let read = match read_trace(alloc, source) {
+        Ok(read) => read,
+        Err(fault) => return Err(Stop::of(alloc, fault)),
+    };
+    if !is_built(&read) {
+        return Err(Stop::NotBuilt);
+    }
     let end = do_trace(alloc, &read, sink, journal);
     *trace = Some(read);
     end
@@ -62,7 +69,7 @@ fn has_refusal(replies: &[Reply]) -> bool
     ensures { result ≡ list_any refuses replies.now }
 {
     for reply in replies {
-        if !matches!(reply, Reply::Given(_)) {
+        if !matches!(reply, Reply::Given(_) | Reply::Freed(_)) {
             return true;
         }
     }
@@ -111,20 +118,21 @@ fn finish<K: Sink>(sink: &mut K, journal: &Journal, end: Result<(), Stop>) -> St
 {
     match end {
         Ok(()) => done_status(journal),
-        Err(stop) => match write_lines(sink, line_of(stop)) {
-            Ok(()) => status_of(stop),
+        Err(stop) => match write_lines(sink, line_of(&stop)) {
+            Ok(()) => status_of(&stop),
             Err(_) => Status::WriteFault,
         },
     }
 }
 
 /// The fault line of a stop; nothing more is written after a write that failed.
-fn line_of(stop: Stop) -> &'static [u8]
-    ensures { result.now ≡ stop_line stop }
+fn line_of(stop: &Stop) -> &[u8]
+    ensures { result.now ≡ stop_line stop.now }
 {
     match stop {
         Stop::BadWords => b"slub: bad command\n",
-        Stop::BadTrace => b"slub: bad trace\n",
+        Stop::BadLine(text) => text.as_slice(),
+        Stop::NotBuilt => b"slub: bad trace\n",
         Stop::TooLong => b"slub: input too long\n",
         Stop::ReadFault => b"slub: read fault\n",
         Stop::WriteFault => b"",
@@ -132,12 +140,12 @@ fn line_of(stop: Stop) -> &'static [u8]
     }
 }
 
-fn status_of(stop: Stop) -> Status
-    ensures { result ≡ stop_status stop }
+fn status_of(stop: &Stop) -> Status
+    ensures { result ≡ stop_status stop.now }
 {
     match stop {
         Stop::BadWords => Status::BadWords,
-        Stop::BadTrace | Stop::TooLong => Status::BadTrace,
+        Stop::BadLine(_) | Stop::NotBuilt | Stop::TooLong => Status::BadTrace,
         Stop::ReadFault => Status::ReadFault,
         Stop::WriteFault => Status::WriteFault,
         Stop::NoMemory => Status::NoMemory,
@@ -195,7 +203,8 @@ fn run_all<S: Source, K: Sink>(
 /// Runs a command: reads a trace from the source, does its items in order, writes the text of each
 /// to the sink as it is done and the total at the end, and says how it ended.
 ///
-/// Today's command is `replay --replies`, and today's traces are those of the reader.
+/// Today's command is `replay --replies`, and today's traces are those that are built (`is_built` of
+/// `slub_engine`): another one ends the run as bytes that are no trace do.
 pub fn run<S: Source, K: Sink>(
     alloc: Global,
     words: &[String],

@@ -12,7 +12,7 @@ pub enum Status {
     Refused,
     /// The words are no command.
     BadWords,
-    /// The bytes are no trace, or too many.
+    /// The bytes are no trace, or too many, or a trace that is not replayed today.
     BadTrace,
     /// A read failed.
     ReadFault,
@@ -26,7 +26,7 @@ pub enum Status {
 #[derive(Debug, Drop)]
 pub struct Outcome {
     pub status: Status,
-    /// None where no trace was read.
+    /// None where no trace was read, or one that is not replayed today.
     pub trace: Option<Trace>,
     pub journal: Journal,
 }

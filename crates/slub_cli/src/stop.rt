@@ -1,18 +1,22 @@
 //! Why a run ended early.
 
-ghost use Rattle.std.specs.Prelude.{◌≡◌};
+ghost use Rattle.std.specs.Prelude.{◌≡◌, IfOk};
 ghost use Rattle.slub_cli.specs.declared.stop.Stop.TheVariants.{WriteFault, NoMemory};
-ghost use Rattle.slub_cli.specs.Stop.{stop_of};
+ghost use Rattle.slub_cli.specs.Run.{bad_line};
+ghost use Rattle.slub_cli.specs.Stop.{IsStopOf};
 
 use slub_edges::edges::Failed;
-use slub_trace_reader::reading::TraceFault;
-use std::alloc::{AllocError, AllocFailed};
+use slub_trace_reader::reading::{TraceFault, Why};
+use std::alloc::{AllocError, AllocFailed, Global};
 
 /// Why a run ended early.
-#[derive(Clone, Copy, Debug, PartialEq, Eq)]
+#[derive(Debug, Drop)]
 pub enum Stop {
     BadWords,
-    BadTrace,
+    /// A line of the trace is bad: the line that tells of it.
+    BadLine(Vec<u8>),
+    /// The trace is one that is not replayed today.
+    NotBuilt,
     TooLong,
     ReadFault,
     WriteFault,
@@ -51,17 +55,32 @@ impl From<slub_engine::item::NoMemory> for Stop {
     }
 }
 
-impl From<TraceFault> for Stop {
-    ghost from_gives = { λ fault e. e ≡ stop_of fault };
-
-    fn from(fault: TraceFault) -> Stop {
+impl Stop {
+    /// What a fault of the reader stops for. The line of a bad one is made here; want of memory for it
+    /// stops the run as any other.
+    pub fn of(alloc: Global, fault: TraceFault) -> Stop
+        ensures { IsStopOf fault result }
+    {
         match fault {
             TraceFault::ReadFault => Stop::ReadFault,
             TraceFault::TooLong => Stop::TooLong,
-            TraceFault::Bad => Stop::BadTrace,
+            TraceFault::BadLine { line, why } => match bad_line(alloc, line, why) {
+                Ok(text) => Stop::BadLine(text),
+                Err(_) => Stop::NoMemory,
+            },
             TraceFault::NoMemory => Stop::NoMemory,
         }
     }
+}
+
+/// The line that tells of a bad one.
+fn bad_line(alloc: Global, line: u32, why: Why) -> Result<Vec<u8>, AllocError>
+    ensures { IfOk result (λ text. text.items ≡ bad_line line why) }
+{
+    let mut text = format!(in alloc; "slub: line {line}: ")?.into_bytes();
+    text.extend_from_slice(why.text())?;
+    text.extend_from_slice(b"\n")?;
+    Ok(text)
 }
 
 // What a piece that wasn't written stops for.

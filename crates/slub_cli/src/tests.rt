@@ -244,13 +244,23 @@ fn what_is_no_command_and_no_trace(rt: HostRuntime) -> Result<(), Fail> {
     ] {
         expect(alloc, words, FIRST, &SOUND, Status::BadWords, bad)?;
     }
-    let bad = "slub: bad trace\n";
-    for input in [
-        "",
-        "slubtrace 1\n",
-        "slubtrace 1\nmachine 16 2\ncache dentry 192 8 -\nround 1\nalloc 0 0 den",
+    for (input, line) in [
+        ("", "slub: line 1: no end\n"),
+        (
+            "slubtrace 1\nmachine 16 17\n",
+            "slub: line 2: out of range\n",
+        ),
+        (
+            "slubtrace 1\nmachine 16 2\ncache dentry 192 8 -\nround 1\nalloc 0 0 den",
+            "slub: line 5: unfinished line\n",
+        ),
+        // a trace, which is not replayed yet
+        (
+            "slubtrace 1\nmachine 16 2\ncache node 24 8 FZP\nend\n",
+            "slub: bad trace\n",
+        ),
     ] {
-        expect(alloc, &REPLAY, input, &SOUND, Status::BadTrace, bad)?;
+        expect(alloc, &REPLAY, input, &SOUND, Status::BadTrace, line)?;
     }
     let long = vec![in alloc; b'#'; 16777217]?;
     let mut source = MemSource::of(alloc, &long, &[])?;

@@ -4,7 +4,7 @@ use Rattle.slub_cli.proofs.replay.do_items.Goals as goal
 
 pub loop-number-init : goal.loop-number-init
 loop-number-init g c = record {
-  reached = Reached-begins c.args.trace.now c.args.lists.now c.args.journal.now c.requires.built c.requires.coherent c.requires.opened c.requires.machine c.requires.no_items c.requires.no_total;
+  reached = Reached-begins c.args.trace.now c.args.lists.now c.args.journal.now c.requires.coherent c.requires.opened c.requires.machine c.requires.no_items c.requires.no_total;
   told = λ start h. h;
   counts = le_refl _;
 }

@@ -1,104 +1,29 @@
 //! Measures parts of the allocator against plain bodies of the same meaning, both in one run.
 //!
 //! The word after the program's name is the part: `pool` drains a page pool of 4096 frames, and
-//! prints what a take costs, by the pool and by a scan of all frames, and the ratio.
+//! prints what a take costs, by the pool and by a scan of all frames, and the ratio; `reader` reads a
+//! trace of some twelve million bytes, and prints what that costs against counting its lines and
+//! words.
 #![tactic(auto)]
 
-ghost use Rattle.std.specs.Prelude.{◌≤◌, length};
+mod pool;
+mod reader;
 
-use slub_page_pool::Pool;
-use std::alloc::Global;
 use std::rt::{Clock, Env};
 use std::time::Instant;
 use std::{env, io};
 
-/// The page frames of the machine that is measured.
-const FRAMES: u32 = 4096;
-
-/// Whether a block of this order is free at a frame.
-fn is_free(marks: &[bool], frame: usize, len: usize) -> bool {
-    match marks.get(frame..).and_then(|rest| rest.get(..len)) {
-        Some(run) => run.iter().all(|mark| *mark),
-        None => false,
-    }
-}
-
-/// Takes the lowest free run of an order by a scan of all frames.
-fn plain_take(marks: &mut [bool], order: u32) -> Option<usize>
-    requires { order ≤ 10 }
-{
-    let len = 1usize << order;
-    let found = (0..marks.len()).find(|frame| frame % len == 0 && is_free(marks, *frame, len))?;
-    for mark in marks.iter_mut().skip(found).take(len) {
-        *mark = false;
-    }
-    Some(found)
-}
-
-/// How often a pool gave a run of an order, and the nanoseconds that took.
-fn drain_pool(rt: &(impl Clock + AllocGlobal), order: u32) -> io::Result<(u64, u64)>
-    requires { order ≤ 10 }
-{
-    let Ok(mut pool) = Pool::open(rt.alloc(), FRAMES) else {
-        return Err(io::Error::from(io::ErrorKind::OutOfMemory));
-    };
-    let start = Instant::now(rt)?;
-    let mut takes = 0u64;
-    for _ in 0..FRAMES {
-        if pool.take(order).is_none() {
-            break;
-        }
-        takes = takes.saturating_add(1);
-    }
-    Ok((takes, nanos_since(rt, &start)?))
-}
-
-/// The same of a scan of all frames.
-fn drain_plain(rt: &(impl Clock + AllocGlobal), order: u32) -> io::Result<(u64, u64)>
-    requires { order ≤ 10 }
-{
-    let mut marks = vec![in rt.alloc(); true; FRAMES as usize]?;
-    if let Some(first) = marks.first_mut() {
-        *first = false;
-    }
-    let start = Instant::now(rt)?;
-    let mut takes = 0u64;
-    for _ in 0..FRAMES {
-        if plain_take(&mut marks, order).is_none() {
-            break;
-        }
-        takes = takes.saturating_add(1);
-    }
-    Ok((takes, nanos_since(rt, &start)?))
-}
-
-fn nanos_since(rt: &impl Clock, start: &Instant) -> io::Result<u64> {
+/// The nanoseconds since a start.
+pub(crate) fn nanos_since(rt: &impl Clock, start: &Instant) -> io::Result<u64> {
     let spent = start.elapsed(rt)?.as_nanos();
     Ok(u64::try_from(spent).unwrap_or(u64::MAX))
-}
-
-fn measure(rt: &(impl Clock + AllocGlobal + Print), order: u32) -> io::Result<()>
-    requires { order ≤ 10 }
-{
-    let (takes, nanos) = drain_pool(rt, order)?;
-    let (plain_takes, plain_nanos) = drain_plain(rt, order)?;
-    let each = nanos / takes.max(1);
-    let plain = plain_nanos / plain_takes.max(1);
-    let ratio = plain / each.max(1);
-    println!(rt;
-        "order {order}: {takes} takes of {each} ns; {plain_takes} plain takes of {plain} ns; {ratio} times"
-    )
 }
 
 fn main(rt: HostRuntime) -> io::Result<()> {
     let part = env::args(&rt)?.nth(1);
     match part {
-        Some(word) if word.as_str() == "pool" => {
-            for order in [0, 1, 3] {
-                measure(&rt, order)?;
-            }
-            Ok(())
-        }
-        _ => println!(rt; "slub_bench: name what is to be measured: pool"),
+        Some(word) if word.as_str() == "pool" => pool::measure_all(&rt),
+        Some(word) if word.as_str() == "reader" => reader::measure(&rt),
+        _ => println!(rt; "slub_bench: name what is to be measured: pool or reader"),
     }
 }

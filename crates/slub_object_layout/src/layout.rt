@@ -50,6 +50,15 @@ pub struct Flags {
     pub fail: bool,
 }
 
+impl Flags {
+    /// Whether a cache with these flags is checked: F, Z or P is set.
+    pub fn is_checked(&self) -> bool
+        ensures { result ≡ is_checked self.now }
+    {
+        self.checks || self.zones || self.poison
+    }
+}
+
 /// What a cache is asked to be.
 #[derive(Clone, Copy, Debug, PartialEq, Eq)]
 pub struct Spec {
@@ -270,10 +279,11 @@ fn line_of(size: u32) -> u32
 }
 
 /// The least multiple of `a` that is `x` or more (`ALIGN`).
-fn align_up(x: u32, a: u32) -> u32
+pub fn align_up(x: u32, a: u32) -> u32
     requires some { 1 ≤ a }
     requires fits { x + a < 2 ^ 32 }
-    ensures { result ≡ align_up x a }
+    ensures value { result ≡ align_up x a }
+    ensures within { result < x + a }
 {
     (x + (a - 1)) / a * a
 }
@@ -368,7 +378,7 @@ fn cpu_partial_slabs(flags: &Flags, size: u32, objects: u32) -> u32
     requires { 1 ≤ objects }
     ensures { result ≡ (if is_checked flags.now then 0 else cpu_partial_slabs_of (cpu_partial_of size) objects) }
 {
-    if flags.checks || flags.zones || flags.poison {
+    if flags.is_checked() {
         return 0;
     }
     let held: u32 = match size {

@@ -8,7 +8,7 @@ alignment : (c : goal.After-align_up) → c.align_up.result ≡ alignment_of c.a
 unfolding alignment_of
 alignment c =
     let spec = c.args.spec.now in
-    let whole = c.align_up.ensures ∙ ap (λ (x : ℕ). align_up x 8) (c.max-2.ensures ∙ ap (λ (x : ℕ). max x 8) c.max.ensures) in
+    let whole = c.align_up.ensures.value ∙ ap (λ (x : ℕ). align_up x 8) (c.max-2.ensures ∙ ap (λ (x : ℕ). max x 8) c.max.ensures) in
     elim c.if-spec.branch [
       | then-spec w ↦
           rw w.if-spec.true (whole ∙ ap (λ (x : ℕ). align_up x 8) (ap (λ (x : ℕ). max (max spec.align x) 8) w.line-is ∙ same_max spec.align _ _ w.line_of-line.ensures.line))

@@ -128,7 +128,7 @@ module _ (s : CheckedState) (frame : ℕ) (slab : SlabState) (sound : IsSound s)
   its : IsSlab s.layout slab
   its = let P : Option SlabState → Type 0 = λ y. IfSome y (IsSlab s.layout) in subst P there (sound.slab frame)
 
-  full : (length slab.free ≡ objects_in slab) × (1 ≤ objects_in slab) × (used_in slab ≡ 0) × (aside_in slab ≡ 0)
+  pub full : (length slab.free ≡ objects_in slab) × (1 ≤ objects_in slab) × (used_in slab ≡ 0) × (aside_in slab ≡ 0)
   full = let f = few-free s.layout slab its in let b = sound.layout.bounds in
       let some : 1 ≤ objects_in slab = elim its.sized [ inl usual ↦ omega (arith, usual.1, b.objects) | inr least ↦ omega (arith, least.1, b.min_objects_slab) ] in
       (omega (arith, f, all), some, omega (arith, f, all), omega (arith, f, all))
@@ -139,7 +139,7 @@ module _ (s : CheckedState) (frame : ℕ) (slab : SlabState) (sound : IsSound s)
   some-there : 0 < objects_in (slab_of s frame)
   some-there = let e = ap (λ (x : SlabState). objects_in x) slab-is in omega (arith, e, full.1)
 
-  within : frame < length s.slabs
+  pub within : frame < length s.slabs
   within = omega (arith, frame-inside s frame sound some-there, sound.frames)
 
   stocked : stock (get_or s.slabs frame None) ≡ 1

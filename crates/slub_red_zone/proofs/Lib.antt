@@ -9,3 +9,5 @@ pub mod Stocks
 pub mod Given
 pub mod Taken
 pub mod Comings
+pub mod Idle
+pub mod Objects

@@ -59,7 +59,7 @@ module _ (s : CheckedState) (slot : Slot) (sound : IsSound s) (used : IsUsed s s
   pub used-some : 0 < objects_in (slab_of s slot.frame)
   used-some = omega (arith, used-object)
 
-  used-state : get_or (slab_of s slot.frame).states slot.index Aside ≡ Used
+  pub used-state : get_or (slab_of s slot.frame).states slot.index Aside ≡ Used
   used-state = get_or_from_slice_get (slab_of s slot.frame).states slot.index Used Aside used
 
   pub used-slab : IsSlab s.layout (slab_of s slot.frame)

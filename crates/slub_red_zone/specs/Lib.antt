@@ -1,4 +1,5 @@
 pub mod Zones
+pub mod Objects
 pub mod State
 pub mod Steps
 pub mod Sound

@@ -14,6 +14,7 @@ use Rattle.slub_red_zone.specs.declared.checked.CheckedGive.TheVariants.{Given, 
 use Rattle.slub_red_zone.specs.declared.checked.OutOfSlot.{OutOfSlot}
 use Rattle.slub_red_zone.specs.declared.checked.Run.{Run}
 use Rattle.slub_red_zone.specs.declared.checked.Slot.{Slot}
+use Rattle.slub_red_zone.specs.declared.no_memory.NoMemory.{NoMemory}
 use Rattle.slub_red_zone.specs.Zones.{red_inactive, red_active, damage_when_given, damage_when_taken, set_up, new_slot}
 use Rattle.slub_red_zone.specs.State.{SlabState, CheckedState, slab_of, slot_of, with_slab, with_slot, objects_in}
 
@@ -162,6 +163,15 @@ new_slab layout flags order objects = record { order = order; bytes = concat (re
 -- it stands at the head of the listed slabs
 abbrev pub with_new_slab : CheckedState → Run → ℕ → CheckedState
 with_new_slab s run objects = record (with_slab s run.frame (new_slab s.layout s.flags run.order objects)) { listed = run.frame ∷ s.listed }
+
+-- the first object of a run's slab
+abbrev pub first_of : Run → Slot
+first_of run = record { frame = run.frame; index = 0 }
+
+-- a new slab is added and its first object is given, or nothing changes (`alloc_single_from_new_slab`)
+abbrev pub GivesNew : CheckedState → Run → ℕ → Result Slot NoMemory → CheckedState → Type 0
+GivesNew s run objects (Ok slot) after = (slot ≡ first_of run) × (after ≡ with_given (with_new_slab s run objects) slot)
+GivesNew s run objects (Err _) after = after ≡ s
 
 -- all objects of the slab are free, and so many slabs are listed
 pub record IsSpare (s : CheckedState) (frame limit : ℕ) : Type 0 where

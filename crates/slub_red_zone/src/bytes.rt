@@ -1,10 +1,11 @@
 //! Single bytes and words of a checked slab.
 
-ghost use Rattle.std.specs.Prelude.{◌≡◌, ◌+◌, ◌*◌, ◌<◌, ◌≤◌, MatchOption, IfSome, pos, ◌+ℤ◌};
+ghost use Rattle.std.specs.Prelude.{◌≡◌, ◌+◌, ◌*◌, ◌<◌, ◌≤◌, ◌↔◌, MatchOption, IfSome, IsTrue, pos, ◌+ℤ◌};
 ghost use Rattle.slub_object_layout.specs.Layout.{IsWithinBounds};
 ghost use Rattle.slub_red_zone.specs.State.{IsUsed, slab_of, objects_in};
 ghost use Rattle.slub_red_zone.specs.Sound.{IsSound};
 ghost use Rattle.slub_red_zone.specs.Steps as step;
+ghost use Rattle.slub_red_zone.specs.Objects.{KeepsObjects};
 
 use crate::checked::{CheckedSlabs, OutOfSlot, Slot};
 use crate::slabs;
@@ -17,6 +18,7 @@ impl CheckedSlabs {
     pub fn poke(&mut self, slot: Slot, offset: i32, byte: u8) -> Result<(), OutOfSlot>
         requires object { slot.index < objects_in (slab_of self.old slot.frame) }
         ensures pokes { step.Pokes self.old slot offset byte result self.new }
+        ensures objects { KeepsObjects self.old self.new }
         ensures sound { IsSound self.new }
     {
         let Some(place) = place_of(&self.layout, offset) else {
@@ -25,6 +27,15 @@ impl CheckedSlabs {
         let at = slot.index as usize * self.layout.size as usize + place;
         slabs::set_byte(&mut self.slabs, slot.frame, at, byte);
         Ok(())
+    }
+
+    /// Whether a byte at this offset from an object's address lies in the object's slot: `poke` writes
+    /// there.
+    pub fn has_offset(&self, offset: i32) -> bool
+        ensures offset { IsTrue result ↔ step.IsOffset self.now.layout offset }
+        ensures sound { IsSound self.now }
+    {
+        place_of(&self.layout, offset).is_some()
     }
 
     /// Word number `word` of a used object: its eight bytes, little endian.
@@ -46,6 +57,7 @@ impl CheckedSlabs {
         requires used { IsUsed self.old slot }
         requires inside { 8 * (word + 1) ≤ self.old.layout.object_size }
         ensures written { self.new ≡ step.with_word self.old slot word value }
+        ensures objects { KeepsObjects self.old self.new }
         ensures sound { IsSound self.new }
     {
         let at = word_place(&self.layout, slot.index, word);

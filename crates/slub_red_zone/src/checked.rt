@@ -1,11 +1,12 @@
 //! The slabs of a checked cache.
 
-ghost use Rattle.std.specs.Prelude.{◌≡◌, ◌+◌, ◌*◌, ◌<◌, ◌≤◌, ◌↔◌, [], length, IsTrue, IfOk, OnErr, OnOk, None, Some, MatchOption};
+ghost use Rattle.std.specs.Prelude.{◌≡◌, ◌+◌, ◌*◌, ◌<◌, ◌≤◌, ◌↔◌, [], length, IsTrue, IfOk, OnErr, OnOk, None, Some, Ok, MatchOption};
 ghost use Rattle.slub_object_layout.specs.Layout.{is_checked};
 ghost use Rattle.slub_node_partial.specs.Promotion.{IsPromoted};
 ghost use Rattle.slub_red_zone.specs.State.{Has, IsUsed, slab_of, state_of, objects_in, aside_in, free_count, used_count, aside_count, slab_count};
 ghost use Rattle.slub_red_zone.specs.Sound.{IsSound, IsLayoutFor, IsSized};
 ghost use Rattle.slub_red_zone.specs.Steps as step;
+ghost use Rattle.slub_red_zone.specs.Objects.{GivesObject, TakesObject, KeepsObjects};
 
 use crate::NoMemory;
 use crate::slab::{ObjectState, Slab};
@@ -78,7 +79,7 @@ impl CheckedSlabs {
     /// The slabs of cache number `cache`, 0 to 31, with at least one of the flags F, Z and P: none
     /// yet. The layout is the one for a spec with these flags.
     ///
-    /// `add_slab` alone takes memory after this.
+    /// `add_slab` and `give_new` alone take memory after this.
     pub fn open(
         alloc: Global,
         layout: &Layout,
@@ -115,6 +116,7 @@ impl CheckedSlabs {
     /// where no listed slab is left.
     pub fn give(&mut self) -> CheckedGive
         ensures gives { step.Gives self.old result self.new }
+        ensures objects { GivesObject self.old result self.new }
         ensures sound { IsSound self.new }
     {
         while let Some(slot) = self.next() {
@@ -163,7 +165,7 @@ impl CheckedSlabs {
     }
 
     /// Sets the next object up as used.
-    fn give_next(&mut self, slot: Slot)
+    pub(crate) fn give_next(&mut self, slot: Slot)
         requires next { step.IsNext self.old slot }
         ensures given { self.new ≡ step.with_given self.old slot }
         ensures sound { IsSound self.new }
@@ -206,6 +208,7 @@ impl CheckedSlabs {
     pub fn take_back(&mut self, slot: Slot) -> Result<(), Damage>
         requires used { IsUsed self.old slot }
         ensures taken { step.TakesBack self.old slot result self.new }
+        ensures objects { TakesObject self.old slot result self.new }
         ensures sound { IsSound self.new }
     {
         if let Some(damage) = self.damage_of_used(slot) {
@@ -219,6 +222,7 @@ impl CheckedSlabs {
     fn put_back(&mut self, slot: Slot)
         requires used { IsUsed self.old slot }
         ensures taken { self.new ≡ step.with_taken self.old slot }
+        ensures objects { TakesObject self.old slot (Ok tt) self.new }
         ensures sound { IsSound self.new }
     {
         let free = slabs::free_in(&self.slabs, slot.frame);
@@ -239,6 +243,7 @@ impl CheckedSlabs {
     pub fn promote(&mut self)
         ensures promoted { IsPromoted self.old.listed (step.free_counts self.old) self.new.listed }
         ensures rest { self.new ≡ record self.old { listed = self.new.listed } }
+        ensures objects { KeepsObjects self.old self.new }
         ensures sound { IsSound self.new }
     {
         slabs::count_free(&self.slabs, self.listed.frames(), &mut self.counts);

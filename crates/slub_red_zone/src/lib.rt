@@ -9,12 +9,14 @@
 //! Contracts see a `CheckedSlabs` as the record `CheckedState` of `specs/State.antt`. What each call
 //! does to it says `specs/Steps.antt`; the parts of a slot, the first damaged byte and what is
 //! written when an object is set up say `specs/Zones.antt`; `IsSound` of `specs/Sound.antt` holds
-//! between any two calls. `specs/Kept.antt` has what is private: counts that are kept, and room.
+//! between any two calls. What a call leaves of the objects that nobody has, of the slabs and of the
+//! reports, whatever their bytes are, says `specs/Objects.antt`. `specs/Kept.antt` has what is
+//! private: counts that are kept, and room.
 //!
 //! `zones` has the bytes of one slot, `slab` one slab, `slabs` the table of slabs by frame, and
-//! `checked`, `bytes` and `supply` the calls. Only `open` and `add_slab` take memory, and `add_slab`
-//! takes all of it before anything changes. Giving and taking back cost the bytes of one slot; where
-//! a slab is set aside, its free objects are marked one by one, once for good.
+//! `checked`, `bytes` and `supply` the calls. Only `open`, `add_slab` and `give_new` take memory, and
+//! the last two take all of it before anything changes. Giving and taking back cost the bytes of one
+//! slot; where a slab is set aside, its free objects are marked one by one, once for good.
 #![tactic(auto)]
 
 mod bytes;

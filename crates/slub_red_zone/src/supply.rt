@@ -1,11 +1,12 @@
 //! Slabs that come and go.
 
-ghost use Rattle.std.specs.Prelude.{◌≡◌, ◌+◌, ◌^◌, ◌<◌, ◌≤◌, OnOk, OnErr, vec_capacity};
+ghost use Rattle.std.specs.Prelude.{◌≡◌, ◌+◌, ◌^◌, ◌<◌, ◌≤◌, IfOk, OnOk, OnErr, OnSome, vec_capacity};
 ghost use Rattle.slub_red_zone.specs.State.{Has};
 ghost use Rattle.slub_red_zone.specs.Sound.{IsSound, IsSized};
 ghost use Rattle.slub_red_zone.specs.Steps as step;
+ghost use Rattle.slub_red_zone.specs.Objects.{AddsSlab, AddsGivenSlab, TakesSlab};
 
-use crate::checked::{CheckedSlabs, Run};
+use crate::checked::{CheckedSlabs, Run, Slot};
 use crate::slab::Slab;
 use crate::zones::Report;
 use crate::{NoMemory, slabs};
@@ -23,6 +24,7 @@ impl CheckedSlabs {
         requires frame { (1 ≤ run.frame) × (run.frame < 4096) }
         requires sized { IsSized self.old.layout run.order objects }
         ensures added { OnOk result (self.new ≡ step.with_new_slab self.old run objects) }
+        ensures slab { OnOk result (AddsSlab self.old run objects self.new) }
         ensures kept { OnErr result (self.new ≡ self.old) }
         ensures sound { IsSound self.new }
     {
@@ -38,12 +40,33 @@ impl CheckedSlabs {
         Ok(())
     }
 
+    /// Adds a new slab as `add_slab` does, and gives its first object (`new_slab`,
+    /// `alloc_single_from_new_slab`). A new slab is whole, so the object isn't examined. After an error
+    /// nothing has changed.
+    pub fn give_new(&mut self, run: Run, objects: u32) -> Result<Slot, NoMemory>
+        requires new { ¬ Has self.old run.frame }
+        requires frame { (1 ≤ run.frame) × (run.frame < 4096) }
+        requires sized { IsSized self.old.layout run.order objects }
+        ensures gives { step.GivesNew self.old run objects result self.new }
+        ensures slab { IfOk result (λ slot. AddsGivenSlab self.old run objects slot self.new) }
+        ensures sound { IsSound self.new }
+    {
+        self.add_slab(run, objects)?;
+        let slot = Slot {
+            frame: run.frame as u16,
+            index: 0,
+        };
+        self.give_next(slot);
+        Ok(slot)
+    }
+
     /// Takes a slab out where all its objects are free and at least `limit` slabs are listed, this one
     /// counted, and answers with its run; else None, and nothing changes (the discard of
     /// `free_to_partial_list`).
     pub fn take_empty(&mut self, frame: u16, limit: u32) -> Option<Run>
         requires { Has self.old frame }
         ensures taken { step.TakesEmpty self.old frame limit result self.new }
+        ensures slab { OnSome result (TakesSlab self.old frame self.new) }
         ensures sound { IsSound self.new }
     {
         let slab = slabs::slab_of(&self.slabs, frame)?;

@@ -30,11 +30,20 @@ fn all_checks() -> Flags
 
 // Objects of 24 bytes with all checks: slots of 56 bytes, 73 in a slab of one frame.
 fn node_slabs(rt: &impl Abort, alloc: Global) -> Result<CheckedSlabs, NoMemory> {
-    let spec = Spec {
-        size: 24,
-        align: 8,
-        flags: all_checks(),
-    };
+    slabs_for(rt, alloc, 24, 8, all_checks())
+}
+
+// The slabs of a cache with F, on two CPUs.
+fn slabs_for(
+    rt: &impl Abort,
+    alloc: Global,
+    size: u32,
+    align: u32,
+    flags: Flags,
+) -> Result<CheckedSlabs, NoMemory>
+    requires checks { IsTrue flags.checks }
+{
+    let spec = Spec { size, align, flags };
     let Ok(layout) = layout_of(&spec, 2) else {
         panic!(rt; "no layout");
     };
@@ -55,6 +64,18 @@ fn add_slab(rt: &impl Abort, slabs: &mut CheckedSlabs, frame: u32) -> Result<(),
     slabs.add_slab(Run { frame, order }, objects)
 }
 
+fn give_new(rt: &impl Abort, slabs: &mut CheckedSlabs, frame: u32) -> Result<Slot, NoMemory> {
+    assert!(rt; 1 <= frame && frame < 4096 && !slabs.has(frame as u16));
+    let order = slabs.layout().order;
+    let objects = slabs.layout().objects;
+    slabs.give_new(Run { frame, order }, objects)
+}
+
+fn take_empty(rt: &impl Abort, slabs: &mut CheckedSlabs, frame: u16, limit: u32) -> Option<Run> {
+    assert!(rt; slabs.has(frame));
+    slabs.take_empty(frame, limit)
+}
+
 fn take_back(rt: &impl Abort, slabs: &mut CheckedSlabs, slot: Slot) -> Result<(), Damage> {
     match slabs.state(slot) {
         Some(ObjectState::Used) => slabs.take_back(slot),
@@ -72,6 +93,22 @@ fn poke(
     assert!(rt; slabs.has(slot.frame));
     assert!(rt; slot.index < slabs.objects_of(slot.frame));
     slabs.poke(slot, offset, byte)
+}
+
+fn word(rt: &impl Abort, slabs: &CheckedSlabs, slot: Slot, word: u32) -> u64 {
+    assert!(rt; word < slabs.layout().object_size / 8);
+    match slabs.state(slot) {
+        Some(ObjectState::Used) => slabs.word(slot, word),
+        _ => panic!(rt; "not used"),
+    }
+}
+
+fn set_word(rt: &impl Abort, slabs: &mut CheckedSlabs, slot: Slot, word: u32, value: u64) {
+    assert!(rt; word < slabs.layout().object_size / 8);
+    match slabs.state(slot) {
+        Some(ObjectState::Used) => slabs.set_word(slot, word, value),
+        _ => panic!(rt; "not used"),
+    }
 }
 
 // The numbers of used, free and set aside objects and of slabs.
@@ -192,5 +229,64 @@ fn each_byte(rt: HostRuntime) -> Result<(), Fail> {
             "offset {offset}"
         );
     }
+    Ok(())
+}
+
+// The lowest byte of a word stands first.
+#[test]
+fn words_little_endian(rt: HostRuntime) -> Result<(), Fail> {
+    let mut slabs = node_slabs(&rt, rt.alloc())?;
+    assert_eq!(rt; give_new(&rt, &mut slabs, 1), Ok(FIRST));
+    set_word(&rt, &mut slabs, FIRST, 1, 0);
+    assert_eq!(rt; poke(&rt, &mut slabs, FIRST, 8, 0x41), Ok(()));
+    assert_eq!(rt; poke(&rt, &mut slabs, FIRST, 15, 0x7f), Ok(()));
+    assert_eq!(rt; word(&rt, &slabs, FIRST, 1), 0x7f00_0000_0000_0041);
+    set_word(&rt, &mut slabs, FIRST, 2, 0x0102_0304_0506_0708);
+    assert_eq!(rt; poke(&rt, &mut slabs, FIRST, 17, 0), Ok(()));
+    assert_eq!(rt; word(&rt, &slabs, FIRST, 2), 0x0102_0304_0506_0008);
+    assert_eq!(rt; take_back(&rt, &mut slabs, FIRST), Ok(()));
+    Ok(())
+}
+
+// A shrink puts the slabs with 1 to 32 free objects in front: that with 13 before that with 73.
+#[test]
+fn fullest_slab_first(rt: HostRuntime) -> Result<(), Fail> {
+    let mut slabs = node_slabs(&rt, rt.alloc())?;
+    add_slab(&rt, &mut slabs, 1)?;
+    for _ in 0..60 {
+        slabs.give();
+    }
+    add_slab(&rt, &mut slabs, 2)?;
+    assert_eq!(rt; slabs.listed(), [2, 1].as_slice());
+    slabs.promote();
+    assert_eq!(rt; slabs.listed(), [1, 2].as_slice());
+    assert_eq!(rt; take_empty(&rt, &mut slabs, 1, 0), None);
+    assert_eq!(rt; take_empty(&rt, &mut slabs, 2, 3), None);
+    let run = Run { frame: 2, order: 0 };
+    assert_eq!(rt; take_empty(&rt, &mut slabs, 2, 2), Some(run));
+    assert_eq!(rt; numbers(&slabs), (60, 13, 0, 1));
+    Ok(())
+}
+
+// Objects of one byte with F and Z: the right zone is at 1 to 7, and a slot from -8 to 23.
+#[test]
+fn objects_of_one_byte(rt: HostRuntime) -> Result<(), Fail> {
+    let flags = Flags {
+        poison: false,
+        ..all_checks()
+    };
+    let mut slabs = slabs_for(&rt, rt.alloc(), 1, 0, flags)?;
+    let slot = give_new(&rt, &mut slabs, 5)?;
+    assert_eq!(rt; numbers(&slabs), (1, 127, 0, 1));
+    assert_eq!(rt; poke(&rt, &mut slabs, slot, 1, 0x22), Ok(()));
+    let damage = Damage {
+        zone: Zone::Right,
+        offset: 1,
+        found: 0x22,
+        wanted: 0xcc,
+    };
+    assert_eq!(rt; take_back(&rt, &mut slabs, slot), Err(damage));
+    assert!(rt; slabs.has_offset(-8) && slabs.has_offset(23));
+    assert!(rt; !slabs.has_offset(-9) && !slabs.has_offset(24));
     Ok(())
 }

@@ -1,8 +1,10 @@
-use Rattle.std.proofs.Common.{◌∙◌, length, set, Some, sym, subst, ap, arith}
+use Rattle.std.proofs.Common.{◌∙◌, ◌<◌, length, set, Some, sym, subst, ap, arith}
 use Rattle.slub_red_zone.specs.State.{SlabState, CheckedState, Has}
 use Rattle.slub_red_zone.specs.Sound.{IsSized}
 use Rattle.slub_red_zone.proofs.Comings.{objects-few, room-on-list, new-kept}
 use Rattle.slub_red_zone.proofs.Sums.{kept-small, same-state, kept-same}
+use Rattle.slub_red_zone.specs.Objects.{AddsSlab}
+use Rattle.slub_red_zone.proofs.Objects.{at_equal, adds-slab}
 use Rattle.slub_red_zone.proofs.checked.CheckedSlabs.add_slab.Goals as goal
 
 pub overflow_add-room : goal.overflow_add-room
@@ -51,3 +53,10 @@ invariant_of-self-2 c =
 
 pub returns-clause-sound : goal.returns-clause-sound
 returns-clause-sound c = (invariant_of-self-2 c).sound
+
+pub returns-clause-slab : goal.returns-clause-slab
+returns-clause-slab c =
+    let P : CheckedState → CheckedState → Type 0 = λ s after. AddsSlab s c.args.run c.args.objects after in
+    let slabs = ap (λ (slab : SlabState). set c.self.inside.slabs.items c.args.run.frame (Some slab)) c.in_ok-slab.ensures.slab in
+    let inside : c.args.run.frame < length c.self.inside.slabs.items = omega (arith, c.requires.frame.1, c.self.invariant.sound.frames) in
+    at_equal P c.self.view_is (same-state slabs c.push_head.ensures.frames c.reserve.ensures.items) (adds-slab _ c.args.run c.args.objects inside)

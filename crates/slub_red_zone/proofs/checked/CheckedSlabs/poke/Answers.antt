@@ -6,6 +6,8 @@ use Rattle.slub_red_zone.proofs.OneSlab.{slot-inside}
 use Rattle.slub_red_zone.proofs.Whole.{slab-sound}
 use Rattle.slub_red_zone.proofs.Taken.{written-kept}
 use Rattle.slub_red_zone.proofs.Sums.{same-state, kept-same}
+use Rattle.slub_red_zone.specs.Objects.{KeepsObjects}
+use Rattle.slub_red_zone.proofs.Objects.{at_equal, written-objects}
 use Rattle.slub_red_zone.proofs.checked.CheckedSlabs.poke.Goals as goal
 
 pub set_byte-requires : goal.set_byte-requires
@@ -31,3 +33,9 @@ returns-clause-pokes c =
 
 pub returns-clause-sound : goal.returns-clause-sound
 returns-clause-sound c = (invariant_of-self c).sound
+
+pub returns-clause-objects : goal.returns-clause-objects
+returns-clause-objects c =
+    let P : CheckedState → Type 0 = λ s. c.args.slot.index < objects_in (slab_of s c.args.slot.frame) in
+    let object = subst P (sym c.self.view_is) c.requires.object in
+    at_equal KeepsObjects c.self.view_is (same-state c.set_byte.ensures refl refl) (written-objects _ c.args.slot.frame c.self.invariant.sound (omega (arith, object)) _)

@@ -6,6 +6,9 @@ use Rattle.slub_red_zone.specs.State.{CheckedState, slab_at}
 use Rattle.slub_red_zone.specs.Steps.{free_counts}
 use Rattle.slub_red_zone.proofs.Comings.{promoted-kept, free-small}
 use Rattle.slub_red_zone.proofs.Sums.{kept-same}
+use Rattle.std.proofs.lemmas.List.Sorted.{length_permutation}
+use Rattle.slub_red_zone.specs.Objects.{KeepsObjects}
+use Rattle.slub_red_zone.proofs.Objects.{at_equal, moved-objects}
 use Rattle.slub_red_zone.proofs.checked.CheckedSlabs.promote.Goals as goal
 
 pub count_free-requires-clause-small : goal.count_free-requires-clause-small
@@ -29,3 +32,9 @@ returns-clause-promoted c =
 
 pub returns-clause-sound : goal.returns-clause-sound
 returns-clause-sound c = (invariant_of-self c).sound
+
+pub returns-clause-objects : goal.returns-clause-objects
+returns-clause-objects c =
+    let counts = c.deref-2.ensures.value ∙ c.count_free.ensures.counts ∙ ap (λ slabs. map (λ frame. length (slab_at slabs frame).free) c.frames.result.now) c.deref.ensures.value ∙ ap (map (λ frame. length (slab_at c.self.inside.slabs.items frame).free)) c.frames.ensures.frames in
+    let many = ap length counts ∙ length-map c.self.inside.listed.frames (λ frame. length (slab_at c.self.inside.slabs.items frame).free) in
+    at_equal KeepsObjects c.self.view_is refl (moved-objects _ c.promote.new.self.frames (length_permutation _ _ (keeps _ _ _ many c.promote.ensures.promoted)))

@@ -1,7 +1,9 @@
-use Rattle.std.proofs.Common.{◌∙◌, ◌==◌, ◌++◌, [], ◌∷◌, if◌then◌else◌, length, sym, subst, ap, arith, refl}
+use Rattle.std.proofs.Common.{◌∙◌, ◌==◌, Ok, ◌++◌, [], ◌∷◌, if◌then◌else◌, length, sym, subst, ap, arith, refl}
 use Rattle.slub_red_zone.specs.State.{CheckedState, IsUsed, slab_at}
 use Rattle.slub_red_zone.proofs.Taken.{used-inside, used-room, used-counted, taken-kept}
 use Rattle.slub_red_zone.proofs.Sums.{kept-small, same-state, kept-same}
+use Rattle.slub_red_zone.specs.Objects.{TakesObject}
+use Rattle.slub_red_zone.proofs.Objects.{at_equal, taken-object}
 use Rattle.slub_red_zone.proofs.checked.CheckedSlabs.put_back.Goals as goal
 
 pub take_back-requires-clause-inside : goal.take_back-requires-clause-inside
@@ -35,3 +37,12 @@ invariant_of-self c =
 
 pub returns-clause-sound : goal.returns-clause-sound
 returns-clause-sound c = (invariant_of-self c).sound
+
+pub returns-clause-objects : goal.returns-clause-objects
+returns-clause-objects c =
+    let P : CheckedState → Type 0 = λ s. IsUsed s c.args.slot in
+    let used = subst P (sym c.self.view_is) c.requires.used in
+    let free = c.free_in-free.ensures ∙ ap (λ slabs. length (slab_at slabs c.args.slot.frame).free) c.deref.ensures.value in
+    let listed = c.list_first.ensures.frames ∙ ap (λ n. if n == 0 then c.self.inside.listed.frames ++ c.args.slot.frame ∷ [] else c.self.inside.listed.frames) free in
+    let Q : CheckedState → CheckedState → Type 0 = λ s after. TakesObject s c.args.slot (Ok tt) after in
+    at_equal Q c.self.view_is (same-state c.take_back.ensures.slabs listed refl) (taken-object _ c.args.slot c.self.invariant.sound used)

@@ -2,6 +2,8 @@ use Rattle.std.proofs.Common.{◌+◌, ◌*◌, ◌≤◌, sym, subst, arith, re
 use Rattle.slub_red_zone.specs.State.{CheckedState, IsUsed}
 use Rattle.slub_red_zone.proofs.Taken.{written-kept, used-some, word-inside}
 use Rattle.slub_red_zone.proofs.Sums.{same-state, kept-same}
+use Rattle.slub_red_zone.specs.Objects.{KeepsObjects}
+use Rattle.slub_red_zone.proofs.Objects.{at_equal, written-objects}
 use Rattle.slub_red_zone.proofs.checked.CheckedSlabs.set_word.Goals as goal
 
 pub set_word-requires : goal.set_word-requires
@@ -20,3 +22,9 @@ invariant_of-self c =
 
 pub returns-clause-sound : goal.returns-clause-sound
 returns-clause-sound c = (invariant_of-self c).sound
+
+pub returns-clause-objects : goal.returns-clause-objects
+returns-clause-objects c =
+    let P : CheckedState → Type 0 = λ s. IsUsed s c.args.slot in
+    let used = subst P (sym c.self.view_is) c.requires.used in
+    at_equal KeepsObjects c.self.view_is (same-state c.set_word.ensures.slabs refl refl) (written-objects _ c.args.slot.frame c.self.invariant.sound (used-some _ c.args.slot c.self.invariant.sound used) _)

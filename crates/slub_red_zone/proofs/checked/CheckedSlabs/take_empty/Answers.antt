@@ -3,6 +3,8 @@ use Rattle.std.proofs.Common.{vec_capacity, set, ◌∙◌, ◌≤◌, ◌-◌, 
 use Rattle.slub_red_zone.specs.State.{SlabState, objects_in}
 use Rattle.slub_red_zone.proofs.Comings.{slab-is, all-free-there, listed-once, listed-there, taken-out, gone-kept, slabs-counted}
 use Rattle.slub_red_zone.proofs.Sums.{same-state, kept-same}
+use Rattle.slub_red_zone.specs.Sound.{IsSound}
+use Rattle.slub_red_zone.proofs.Objects.{takes-slab}
 use Rattle.slub_red_zone.proofs.checked.CheckedSlabs.take_empty.Goals as goal
 
 pub overflow_sub-self-2 : goal.overflow_sub-self-2
@@ -36,3 +38,6 @@ returns-clause-taken c =
 
 pub returns-clause-sound : goal.returns-clause-sound
 returns-clause-sound c = (invariant_of-self c).sound
+
+pub returns-clause-slab : goal.returns-clause-slab
+returns-clause-slab c = takes-slab _ c.args.frame c.args.limit _ _ (subst IsSound c.self.view_is c.self.invariant.sound) c.requires (returns-clause-taken c)

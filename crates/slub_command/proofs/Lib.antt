@@ -1,0 +1,11 @@
+pub mod Walks
+pub mod Numbers
+pub mod Replays
+pub mod Matches
+pub mod Apps
+pub mod Given
+pub mod PlaceWalks
+pub mod LayoutPlaces
+pub mod LoadPlaces
+pub mod Commands
+pub mod Unique

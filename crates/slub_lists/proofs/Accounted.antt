@@ -1,5 +1,5 @@
 -- The counted objects stay those on the board.
-use Rattle.std.proofs.Common.{◌≡◌, ℕ, ◌+◌, ◌<◌, ◌≤◌, length, get_or, set, sum_by, replicate, Option, Some, None, option_map, refl, ap, sym, ◌∙◌, arith}
+use Rattle.std.proofs.Common.{◌≡◌, ℕ, ◌+◌, ◌<◌, ◌≤◌, List, length, get_or, set, sum_by, replicate, Option, Some, None, option_map, refl, ap, sym, ◌∙◌, arith}
 use Rattle.std.proofs.lemmas.List.Sums.{sum_by-set}
 use Rattle.std.proofs.lemmas.List.Folds.{sum_by-replicate}
 use Rattle.std.proofs.lemmas.Bool.Decides.{nat_tests}
@@ -29,7 +29,7 @@ pub accounted-all_on_board : (s : State) → IsAccounted s → IsAccounted (all_
 accounted-all_on_board s accounted c =
     accounted c ∙ sym (sum_by-map (held_of c) (option_map laid_down) s.board ∙ sum_by-same (λ x. held_of c (option_map laid_down x)) (held_of c) s.board (held_of-laid_down c))
 
-pub accounted-opening : (frames cpus objects names : ℕ) → IsAccounted (opening frames cpus objects names)
+pub accounted-opening : (frames cpus objects : ℕ) (names : List (List ℕ)) → IsAccounted (opening frames cpus objects names)
 accounted-opening frames cpus objects names c =
     let none = sum_by-replicate (held_of c) (objects + 1) None in
     let zero : ◌≡◌ {A = ℕ} (get_or (replicate 32 0) c 0) 0 = get_or-replicate_any {A = ℕ} 32 c 0 in

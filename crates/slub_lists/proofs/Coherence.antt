@@ -1,26 +1,27 @@
 -- Each step keeps the machine consistent.
-use Rattle.std.proofs.Common.{◌≡◌, ℕ, ◌+◌, ◌<◌, ◌≤◌, true, List, [], ◌∷◌, length, get_or, take, drop, reverse, Option, Some, None, is_some, IsSome, MatchOption, inl, inr, refl, ap, sym, ◌∙◌, subst, arith, set-set, get_or-set_same}
+use Rattle.std.proofs.Common.{◌≡◌, ℕ, ◌+◌, ◌<◌, ◌≤◌, true, false, List, [], ◌∷◌, length, get_or, take, drop, reverse, Option, Some, None, is_some, IsSome, MatchOption, inl, inr, refl, ap, sym, ◌∙◌, subst, arith, set-set, get_or-set_same}
 use Rattle.std.proofs.lemmas.List.{get_or_past, set-get_or}
 use Rattle.std.proofs.lemmas.List.Sums.{sum_by-set}
 use Rattle.std.proofs.lemmas.Nat.{row_fits}
 use Rattle.std.proofs.lemmas.Bool.{cases_lt, cases_eq}
-use Rattle.slub_page_pool.specs.FreeFrames.{FreeFrames, IsPool}
+use Rattle.slub_page_pool.specs.FreeFrames.{IsPool}
 use Rattle.slub_page_pool.specs.FreeFrames as pool
 use Rattle.slub_lists.specs.declared.lists.Slab.{Slab}
 use Rattle.slub_lists.specs.declared.lists.CpuLists.{CpuLists}
-use Rattle.slub_lists.specs.declared.lists.Cache.{Cache}
 use Rattle.slub_lists.specs.State.{State}
-use Rattle.slub_object_layout.specs.Layout.{IsWithinBounds}
-use Rattle.slub_lists.specs.Alloc.{IsStocked, from_node, from_partial, no_lists, cpu_place, cache_of, slab_of, own_free, lists_of, node_of, with_lists, with_node, retired, taken_up}
+use Rattle.slub_cache_create.specs.Sound.{IsSound}
+use Rattle.slub_cache_create.specs.Table.{opening as no_caches}
+use Rattle.slub_lists.specs.Alloc.{IsStocked, from_node, from_partial, no_lists, cpu_place, slab_of, own_free, lists_of, node_of, with_lists, with_node, retired, taken_up}
 use Rattle.slub_page_pool.specs.History.{times}
-use Rattle.slub_lists.specs.Coherent.{IsConsistent, IsShaped, times_current, times_partial, if_current, all_on_board, with_cache, opening}
+use Rattle.slub_lists.specs.Coherent.{IsConsistent, IsShaped, times_current, times_partial, if_current, all_on_board, opening}
 use Rattle.slub_lists.specs.Steps.{IsTakable, IsRelisted, PopsNode, PopsPartial}
 use Rattle.slub_lists.proofs.Times.{times-cons, times-take-drop, times-reverse, current-same}
 use Rattle.slub_lists.proofs.Placed.{placed-retired, placed-taken_up, placed-partial, placed-all_on_board, placed-opening}
 use Rattle.slub_lists.proofs.Framed.{framed-retired, framed-taken_up, framed-opening}
-use Rattle.slub_lists.proofs.Listed.{listed-retired, listed-taken_up, listed-relisted, listed-all_on_board, listed-with_cache, listed-opening, current-counted, live-from}
+use Rattle.slub_lists.proofs.Listed.{listed-retired, listed-taken_up, listed-relisted, listed-all_on_board, listed-opening, current-counted, live-from}
 use Rattle.slub_lists.proofs.Accounted.{accounted-all_on_board, accounted-opening}
-use Rattle.slub_lists.proofs.Shaped.{shaped-retired, shaped-taken_up, shaped-partial, shaped-all_on_board, shaped-with_cache, shaped-opening}
+use Rattle.slub_lists.proofs.Shaped.{shaped-retired, shaped-taken_up, shaped-partial, shaped-all_on_board, shaped-opening}
+use Rattle.slub_lists.proofs.Unchecked.{apart-current, apart-stocked, checked-marked, checked-relisted, checked-taken_up}
 
 -- where what a CPU has of a cache stands is inside
 pub place-inside : (s : State) (cache cpu : ℕ) → IsShaped s → cache < 32 → cpu < s.cpus → cpu_place s cache cpu < length s.cpu_lists
@@ -43,8 +44,8 @@ pub relisted-from : (s after : State) (slabs : List (Option Slab)) (frees : List
 relisted-from s after slabs frees cpu_lists nodes e = record {
   frames = ap (λ (s : State). s.frames) e;
   cpus = ap (λ (s : State). s.cpus) e;
-  caches = ap (λ (s : State). s.caches) e;
-  names = ap (λ (s : State). s.names) e;
+  table = ap (λ (s : State). s.table) e;
+  checked = ap (λ (s : State). s.checked) e;
   board = ap (λ (s : State). s.board) e;
   live = ap (λ (s : State). s.live) e;
 }
@@ -53,8 +54,8 @@ pub relisted-trans : (a b c : State) → IsRelisted a b → IsRelisted b c → I
 relisted-trans a b c ab bc = record {
   frames = bc.frames ∙ ab.frames;
   cpus = bc.cpus ∙ ab.cpus;
-  caches = bc.caches ∙ ab.caches;
-  names = bc.names ∙ ab.names;
+  table = bc.table ∙ ab.table;
+  checked = bc.checked ∙ ab.checked;
   board = bc.board ∙ ab.board;
   live = bc.live ∙ ab.live;
 }
@@ -92,7 +93,9 @@ module _ (s : State) (cache cpu : ℕ) (consistent : IsConsistent s) (within : c
   retired-consistent frame current nothing =
       let slot : frame < length s.slabs = omega (arith, current-inside frame current, consistent.shaped.slabs) in
       record {
-        shaped = shaped-retired s cache cpu frame consistent.shaped;
+        shaped = shaped-retired s cache cpu frame
+            (checked-marked s cache cpu cpu_within (apart-current s cache cpu frame cpu_within current) false frame (record { current = None; free = []; partial = (lists_of s cache cpu).partial }) consistent.shaped.checked)
+            consistent.shaped;
         placed = placed-retired s cache cpu inside frame nothing consistent.placed;
         framed = framed-retired s cache cpu frame consistent.framed;
         listed = listed-retired s cache cpu cpu_within inside frame slot current consistent.listed;
@@ -107,7 +110,9 @@ module _ (s : State) (cache cpu : ℕ) (consistent : IsConsistent s) (within : c
       let slot : frame < length s.slabs = omega (arith, taken_up-inside frame takable, consistent.shaped.slabs) in
       let own : frame < length s.frees = omega (arith, taken_up-inside frame takable, consistent.shaped.frees) in
       record {
-        shaped = shaped-taken_up s cache cpu frame (lists_of s cache cpu).partial consistent.shaped;
+        shaped = shaped-taken_up s cache cpu frame (lists_of s cache cpu).partial
+            (checked-taken_up s cache cpu cpu_within (apart-stocked s cache frame takable.live takable.stocked) frame (record { current = Some frame; free = own_free s frame; partial = (lists_of s cache cpu).partial }) consistent.shaped.checked)
+            consistent.shaped;
         placed = placed-taken_up s cache cpu inside frame (lists_of s cache cpu).partial own takable.free consistent.placed;
         framed = framed-taken_up s cache cpu frame (lists_of s cache cpu).partial consistent.framed;
         listed = listed-taken_up s cache cpu cpu_within inside frame slot own takable consistent.listed;
@@ -120,7 +125,7 @@ module _ (s : State) (cache cpu : ℕ) (consistent : IsConsistent s) (within : c
 
   pub gathered-consistent : (partial frames : List ℕ) → ((f : ℕ) → times f partial + times f frames ≤ times f (lists_of s cache cpu).partial + times f (node_of s cache)) → IsConsistent (gathered partial frames)
   gathered-consistent partial frames fewer = record {
-    shaped = shaped-partial s cache cpu partial frames consistent.shaped;
+    shaped = shaped-partial s cache cpu partial frames (checked-relisted s cache cpu cpu_within partial frames fewer consistent.shaped.checked) consistent.shaped;
     placed = placed-partial s cache cpu inside partial consistent.placed;
     framed = consistent.framed;
     listed = listed-relisted s cache cpu cpu_within inside partial frames (omega (arith, consistent.shaped.nodes)) fewer consistent.listed;
@@ -269,20 +274,10 @@ all_on_board-consistent s consistent = record {
   accounted = accounted-all_on_board s consistent.accounted;
 }
 
--- a cache is made
-pub with_cache-consistent : (s : State) (place cache : ℕ) (made : Cache) → cache < length s.caches → cache_of s cache ≡ None → IsWithinBounds made.layout → IsConsistent s → IsConsistent (with_cache s place cache made)
-with_cache-consistent s place cache made within unused good consistent = record {
-  shaped = shaped-with_cache s place cache made within unused good consistent.shaped;
-  placed = consistent.placed;
-  framed = consistent.framed;
-  listed = listed-with_cache s place cache made consistent.listed;
-  accounted = consistent.accounted;
-}
-
 -- before the first item
-pub opening-consistent : (frames cpus objects names : ℕ) → 2 ≤ frames → frames ≤ 4096 → 1 ≤ cpus → cpus ≤ 16 → objects ≤ 1048576 → IsPool (pool.opening frames) → IsConsistent (opening frames cpus objects names)
-opening-consistent frames cpus objects names least most one sixteen numbers good = record {
-  shaped = shaped-opening frames cpus objects names least most one sixteen numbers good;
+pub opening-consistent : (frames cpus objects : ℕ) (names : List (List ℕ)) → 2 ≤ frames → frames ≤ 4096 → 1 ≤ cpus → cpus ≤ 16 → objects ≤ 1048576 → IsPool (pool.opening frames) → IsSound (no_caches names) → IsConsistent (opening frames cpus objects names)
+opening-consistent frames cpus objects names least most one sixteen numbers good sound = record {
+  shaped = shaped-opening frames cpus objects names least most one sixteen numbers good sound;
   placed = placed-opening frames cpus objects names;
   framed = framed-opening frames cpus objects names least;
   listed = listed-opening frames cpus objects names;

@@ -9,18 +9,20 @@ use Rattle.slub_page_pool.specs.Block.{CanPut, with_run}
 use Rattle.slub_page_pool.specs.History.{times}
 use Rattle.slub_page_pool.proofs.Times.{times-append}
 use Rattle.slub_lists.specs.declared.lists.Slab.{Slab}
-use Rattle.slub_lists.specs.declared.lists.Cache.{Cache}
+use Rattle.slub_cache_create.specs.declared.caches.Cache.{Cache}
 use Rattle.slub_lists.specs.declared.lists.Held.{Held}
 use Rattle.slub_lists.specs.State.{State}
 use Rattle.slub_lists.specs.Alloc.{cache_of, held_here, own_free, slab_of}
-use Rattle.slub_lists.specs.Coherent.{IsConsistent, IsFramed, IsListed, IsPlaced, IsShaped, IsSlabOf, IsTuned, covers, covered_from, has_object, held_under, on_cpu, places, times_current, times_partial}
+use Rattle.slub_lists.specs.Coherent.{IsConsistent, IsFramed, IsListed, IsPlaced, IsShaped, IsSlabOf, covers, covered_from, has_object, held_under, idle_in, on_cpu, places, times_current, times_partial}
 use Rattle.slub_lists.specs.Free.{discarded, inuse_of, order_of}
 use Rattle.slub_lists.proofs.Writes.{at_written, at_written_else}
 use Rattle.slub_lists.proofs.Times.{times-range, element-counted}
 use Rattle.slub_lists.proofs.Counting.{IsOnce, once-all}
 use Rattle.slub_lists.proofs.Framed.{covered-set, framed-most, times-contained, times-filter-yes, times-filter-no}
 use Rattle.slub_lists.proofs.Listed.{IsOf, IsFrozenBy}
-use Rattle.slub_lists.proofs.Shaped.{IsAligned, IsLiveOf, IsOfItsCache}
+use Rattle.slub_lists.specs.Steps.{IsLive}
+use Rattle.slub_lists.proofs.Shaped.{IsAligned, IsLiveOf, IsOfItsCache, layouts-live}
+use Rattle.slub_lists.proofs.Unchecked.{IsApart, IsUnfree, checked-discarded}
 use Rattle.slub_lists.proofs.Coherence.{live-inside}
 use Rattle.slub_lists.proofs.Kept.{emptied}
 
@@ -30,18 +32,18 @@ the-slab None some = cc
 the-slab (Some slab) some = (slab, refl)
 
 -- a slab's order and number of objects are bounded by its cache's layout
-by-layout : (x : Option Cache) (slab : Slab) → MatchOption x ⊥ (λ live. IsSlabOf live.layout slab) → IfSome x (λ live. IsTuned live.layout) → (slab.order ≤ 3) × (slab.objects ≤ 512)
+by-layout : (x : Option Cache) (slab : Slab) → MatchOption x ⊥ (λ live. IsSlabOf live.layout slab) → IfSome x (λ live. IsLive live.layout) → (slab.order ≤ 3) × (slab.objects ≤ 512) × (1 ≤ slab.objects)
 by-layout None slab fits tuned = absurd fits
 by-layout (Some live) slab fits tuned =
     elim fits [
-      | inl wide ↦ (omega (arith, wide.0, tuned.made.order), omega (arith, wide.1, tuned.made.objects.1))
-      | inr least ↦ (omega (arith, least.0, tuned.made.min_order, tuned.made.order), omega (arith, least.1, tuned.made.min_objects_slab.1, tuned.made.objects.1))
+      | inl wide ↦ (omega (arith, wide.0, tuned.1.made.order), omega (arith, wide.1, tuned.1.made.objects.1), omega (arith, wide.1, tuned.1.made.objects.0))
+      | inr least ↦ (omega (arith, least.0, tuned.1.made.min_order, tuned.1.made.order), omega (arith, least.1, tuned.1.made.min_objects_slab.1, tuned.1.made.objects.1), omega (arith, least.1, tuned.1.made.min_objects_slab.0))
     ]
 
 -- and so by the bounds of every layout
-pub slab-bounds : (s : State) (frame : ℕ) (slab : Slab) → IsShaped s → slab_of s frame ≡ Some slab → (slab.order ≤ 3) × (slab.objects ≤ 512)
+pub slab-bounds : (s : State) (frame : ℕ) (slab : Slab) → IsShaped s → slab_of s frame ≡ Some slab → (slab.order ≤ 3) × (slab.objects ≤ 512) × (1 ≤ slab.objects)
 slab-bounds s frame slab shaped is =
-    by-layout (cache_of s slab.cache) slab (subst (λ (x : Option Slab). IfSome x (λ slab. MatchOption (cache_of s slab.cache) ⊥ (λ live. IsSlabOf live.layout slab))) is (shaped.slab frame)) (shaped.layouts slab.cache)
+    by-layout (cache_of s slab.cache) slab (subst (λ (x : Option Slab). IfSome x (λ slab. MatchOption (cache_of s slab.cache) ⊥ (λ live. IsSlabOf live.layout slab))) is (shaped.slab frame)) (layouts-live s slab.cache shaped)
 
 -- each object of a slab is on its own freelist once at most
 pub own-once : (s : State) (frame : ℕ) (slab : Slab) → IsPlaced s → slab_of s frame ≡ Some slab → IsOnce slab.objects (own_free s frame)
@@ -109,7 +111,7 @@ module _ (s : State) (frame : ℕ) (slab : Slab) (consistent : IsConsistent s) (
         once-all slab.objects (own_free s frame) (own-once s frame slab consistent.placed is) (omega (arith, objects, unused)) i
 
     -- so nobody has one
-    elsewhere : (i : ℕ) → sum_by (held_here frame i) s.board + sum_by (on_cpu frame i) s.cpu_lists ≡ 0
+    elsewhere : (i : ℕ) → sum_by (held_here frame i) s.board + sum_by (on_cpu frame i) s.cpu_lists + sum_by (idle_in frame i) s.checked ≡ 0
     elsewhere i =
         let object : has_object i (slab_of s frame) ≡ has_object i (Some slab) = ap (has_object i) is in
         omega (arith, consistent.placed frame i, object, all-own i)
@@ -190,6 +192,16 @@ module _ (s : State) (frame : ℕ) (slab : Slab) (consistent : IsConsistent s) (
         absurd (omega (arith, elsewhere held.index, element-counted (held_here frame held.index) s.board object None refl, ap (held_here frame held.index) here, one)))
         (λ ne. old)
 
+    -- a slab of a checked cache has no freelist here, but this one has its objects there
+    own-live : MatchOption (slab_of s frame) ⊥ (λ other. other.cache ≡ slab.cache)
+    own-live = subst (λ (x : Option Slab). MatchOption x ⊥ (λ other. other.cache ≡ slab.cache)) (sym is) refl
+
+    own-apart : IsApart s slab.cache
+    own-apart other slabs checked of e =
+        let objects : inuse_of s frame ≡ slab.objects - length (own_free s frame) = ap (λ (x : Option Slab). option_map_or (λ (slab : Slab). slab.objects) x 0 - length (own_free s frame)) is in
+        let unfree : slab.cache ≡ other → own_free s frame ≡ [] = subst (λ (x : Option Slab). IsUnfree other x (own_free s frame)) is (of.unfree frame) in
+        omega (arith, objects, unused, ap length (unfree (sym e)), (slab-bounds s frame slab consistent.shaped is).2)
+
     -- the numbers of things stay
     pub discarded-shaped : IsPool (record s.pool { free = with_run s.pool.free frame (order_of s frame) }) → IsShaped (discarded s frame)
     discarded-shaped good =
@@ -201,15 +213,14 @@ module _ (s : State) (frame : ℕ) (slab : Slab) (consistent : IsConsistent s) (
           pool_frames = shaped.pool_frames;
           slabs = length-set s.slabs frame None ∙ shaped.slabs;
           frees = length-set s.frees frame [] ∙ shaped.frees;
-          caches = shaped.caches;
+          table = shaped.table;
+          checked = checked-discarded s (record s.pool { free = with_run s.pool.free frame (order_of s frame) }) slab.cache frame own-live own-apart shaped.checked;
           cpu_lists = shaped.cpu_lists;
           nodes = shaped.nodes;
+          memory = shaped.memory;
           live = shaped.live;
           board = shaped.board;
-          ages = shaped.ages;
-          aged = shaped.aged;
-          names = shaped.names;
-          layouts = shaped.layouts;
+          gone = shaped.gone;
           slab = λ f. at_written (IsOfItsCache s) s.slabs frame f None None (λ e. tt) (shaped.slab f);
           aligned = λ f. at_written (IsAligned f) s.slabs frame f None None (λ e. tt) (shaped.aligned f);
           held = λ object. held-elsewhere object (held_under s object) refl (shaped.held object);

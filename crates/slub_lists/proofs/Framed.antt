@@ -115,7 +115,7 @@ covered-none f k zero = refl
 covered-none f k (suc n) = omega (arith, covered-none f (k + 1) n)
 
 -- before the first item every frame but 0 is free
-pub framed-opening : (frames cpus objects names : ℕ) → 2 ≤ frames → IsFramed (opening frames cpus objects names)
+pub framed-opening : (frames cpus objects : ℕ) (names : List (List ℕ)) → 2 ≤ frames → IsFramed (opening frames cpus objects names)
 framed-opening frames cpus objects names least f =
     let free = times-range f 1 (frames - 1) in
     let none = covered-none f 0 frames in

@@ -4,20 +4,21 @@ use Rattle.std.proofs.lemmas.Bool.Decides.{nat_tests}
 use Rattle.slub_page_pool.specs.History.{times}
 use Rattle.slub_lists.specs.declared.lists.Slab.{Slab}
 use Rattle.slub_object_layout.specs.declared.layout.Layout.{Layout}
-use Rattle.slub_lists.specs.declared.lists.Cache.{Cache}
+use Rattle.slub_cache_create.specs.declared.caches.Cache.{Cache}
 use Rattle.slub_lists.specs.declared.lists.CpuLists.{CpuLists}
 use Rattle.slub_lists.specs.declared.lists.Held.{Held}
 use Rattle.slub_lists.specs.State.{State}
-use Rattle.slub_lists.specs.Alloc.{cache_of, cpu_place, held_here, lists_of, no_lists, own_free, slab_of, with_lists}
-use Rattle.slub_lists.specs.Coherent.{IsConsistent, IsListed, IsPlaced, IsShaped, IsSlabOf, IsTuned, has_object, held_under, if_current, on_cpu, times_current, times_partial}
+use Rattle.slub_lists.specs.Alloc.{cache_of, checked_of, cpu_place, held_here, lists_of, no_lists, own_free, slab_of, with_lists}
+use Rattle.slub_lists.specs.Coherent.{IsConsistent, IsListed, IsPlaced, IsShaped, IsSlabOf, has_object, held_under, if_current, on_cpu, times_current, times_partial}
 use Rattle.slub_lists.specs.Free.{freed_here, with_freed, with_taken}
-use Rattle.slub_lists.specs.Steps.{HasLayout}
+use Rattle.slub_lists.specs.Steps.{HasLayout, IsLive}
 use Rattle.slub_lists.proofs.Writes.{at_written, at_written_else}
 use Rattle.slub_lists.proofs.Times.{times-cons, current-same, element-counted}
 use Rattle.slub_lists.proofs.Counting.{IsOnce, once-room}
 use Rattle.slub_lists.proofs.Placed.{on_cpu-written}
 use Rattle.slub_lists.proofs.Listed.{IsOf, IsFrozenBy-same, current-written, partial-written, of-written}
-use Rattle.slub_lists.proofs.Shaped.{IsLiveOf, bare-written, shaped-relisted}
+use Rattle.slub_lists.proofs.Shaped.{IsLiveOf, bare-written, layouts-live, shaped-relisted}
+use Rattle.slub_lists.proofs.Unchecked.{apart-current, apart-unchecked, checked-lists, checked-with_own}
 use Rattle.slub_lists.proofs.Coherence.{live-inside, place-inside}
 use Rattle.slub_lists.proofs.Discarding.{the-slab, slab-bounds}
 use Rattle.slub_lists.proofs.Taking.{slab-live, cache-within, held-once, board-taken, taken-shaped, taken-listed, taken-accounted}
@@ -66,13 +67,13 @@ listed-with_freed s frame index listed = record {
 }
 
 -- a slab of a cache has as many objects as the layout at most
-objects-of : (x : Option Cache) (layout : Layout) (slab : Slab) → MatchOption x ⊥ (λ live. live.layout ≡ layout) → MatchOption x ⊥ (λ live. IsSlabOf live.layout slab) → IfSome x (λ live. IsTuned live.layout) → slab.objects ≤ layout.objects
+objects-of : (x : Option Cache) (layout : Layout) (slab : Slab) → MatchOption x ⊥ (λ live. live.layout ≡ layout) → MatchOption x ⊥ (λ live. IsSlabOf live.layout slab) → IfSome x (λ live. IsLive live.layout) → slab.objects ≤ layout.objects
 objects-of None layout slab has fits tuned = absurd has
 objects-of (Some live) layout slab has fits tuned =
     let same = ap (λ (l : Layout). l.objects) has in
     elim fits [
       | inl wide ↦ omega (arith, wide.1, same)
-      | inr least ↦ omega (arith, least.1, tuned.made.min_objects_slab.1, same)
+      | inr least ↦ omega (arith, least.1, tuned.1.made.min_objects_slab.1, same)
     ]
 
 module _ (s : State) (object : ℕ) (held : Held) (consistent : IsConsistent s) (here : held_under s object ≡ Some held) where
@@ -105,7 +106,7 @@ module _ (s : State) (object : ℕ) (held : Held) (consistent : IsConsistent s) 
       let slab = slab-here.0 in
       let own : slab.cache ≡ held.cache = subst (λ (x : Option Slab). IsLiveOf held.cache x) slab-here.1 (slab-live s object held consistent here) in
       let fits = subst (λ (x : Option Slab). IfSome x (λ slab. MatchOption (cache_of s slab.cache) ⊥ (λ live. IsSlabOf live.layout slab))) slab-here.1 (consistent.shaped.slab held.frame) in
-      omega (arith, index-below, objects-of (cache_of s held.cache) layout slab has (subst (λ n. MatchOption (cache_of s n) ⊥ (λ live. IsSlabOf live.layout slab)) own fits) (consistent.shaped.layouts held.cache))
+      omega (arith, index-below, objects-of (cache_of s held.cache) layout slab has (subst (λ n. MatchOption (cache_of s n) ⊥ (λ live. IsSlabOf live.layout slab)) own fits) (layouts-live s held.cache consistent.shaped))
 
   -- a freelist of its slab that lacks it has room
   pub freelist-room : (free : List ℕ) → ((i : ℕ) → times i free + sum_by (held_here held.frame i) s.board ≤ has_object i (slab_of s held.frame)) → length free < 512
@@ -132,12 +133,14 @@ module _ (s : State) (object : ℕ) (held : Held) (consistent : IsConsistent s) 
       omega (arith, consistent.placed f i, board, free)
 
   -- the whole, where the object has come to its slab's own freelist
-  pub own-consistent : IsConsistent (with_freed (with_taken s object held.cache) held.frame held.index)
-  own-consistent =
+  pub own-consistent : checked_of s held.cache ≡ None → IsConsistent (with_freed (with_taken s object held.cache) held.frame held.index)
+  own-consistent unchecked =
       let t : State = with_taken s object held.cache in
       record {
         shaped = shaped-relisted t t.slabs (set s.frees held.frame (held.index ∷ own_free s held.frame)) t.cpu_lists t.nodes refl (length-set s.frees held.frame (held.index ∷ own_free s held.frame)) refl refl
-            (λ P f closed h. h) consistent.shaped.bare (taken-shaped s object held consistent here);
+            (λ P f closed h. h) consistent.shaped.bare
+            (checked-with_own t held.cache held.frame (held.index ∷ own_free s held.frame) (slab-live s object held consistent here) (apart-unchecked t held.cache unchecked) (taken-shaped s object held consistent here).checked)
+            (taken-shaped s object held consistent here);
         placed = own-placed;
         framed = consistent.framed;
         listed = listed-with_freed t held.frame held.index (taken-listed s object held consistent here);
@@ -180,7 +183,8 @@ module _ (s : State) (object : ℕ) (held : Held) (consistent : IsConsistent s) 
         let shaped : IsShaped t = taken-shaped s object held consistent here in
         record {
           shaped = shaped-relisted t t.slabs t.frees (set s.cpu_lists (cpu_place s held.cache cpu) v) t.nodes refl refl (length-set s.cpu_lists (cpu_place s held.cache cpu) v) refl
-              (λ P f closed h. h) (bare-written t held.cache cpu v (λ none. let e = sym current ∙ none in cc) shaped) shaped;
+              (λ P f closed h. h) (bare-written t held.cache cpu v (λ none. let e = sym current ∙ none in cc) shaped)
+              (checked-lists t held.cache cpu within (apart-current t held.cache cpu held.frame within current) v t.board t.live shaped.checked) shaped;
           placed = here-placed;
           framed = consistent.framed;
           listed = listed-same t held.cache cpu within inside v refl refl (taken-listed s object held consistent here);

@@ -1,26 +1,28 @@
 -- A new slab, and an object that is given.
-use Rattle.std.proofs.Common.{◌≡◌, ℕ, ◌^◌, ◌<◌, ◌≤◌, true, false, List, ◌∷◌, length, get_or, sum_by, Option, Some, None, Result, Ok, Err, MatchResult, IsSome, IfSome, MatchOption, inl, inr, refl, sym, ap, ◌∙◌, subst, arith, get_or-set_same}
+use Rattle.std.proofs.Common.{◌≡◌, ℕ, ◌+◌, ◌^◌, ◌<◌, ◌≤◌, true, false, List, ◌∷◌, length, get_or, set, sum_by, Option, Some, None, Result, Ok, Err, MatchResult, IsSome, IfSome, MatchOption, inl, inr, refl, sym, ap, ◌∙◌, subst, arith, get_or-set_same}
 use Rattle.std.specs.List.{range_with_len}
 use Rattle.std.proofs.lemmas.Bool.Decides.{nat_tests}
 use Rattle.std.proofs.lemmas.List.FromFn.{length-range_with_len}
 use Rattle.slub_page_pool.specs.FreeFrames.{FreeFrames, IsPool}
 use Rattle.slub_object_layout.specs.declared.layout.Layout.{Layout}
+use Rattle.slub_cache_create.specs.Table.{Table, cache_of as live_cache}
 use Rattle.slub_lists.specs.declared.lists.Slab.{Slab}
 use Rattle.slub_lists.specs.declared.lists.CpuLists.{CpuLists}
-use Rattle.slub_lists.specs.declared.lists.Cache.{Cache}
+use Rattle.slub_cache_create.specs.declared.caches.Cache.{Cache}
 use Rattle.slub_lists.specs.declared.lists.Held.{Held}
 use Rattle.slub_lists.specs.declared.lists.Run.{Run}
 use Rattle.slub_lists.specs.State.{State}
-use Rattle.slub_lists.specs.Alloc.{FindsRun, IsStocked, held_here, no_lists, cpu_place, cache_of, slab_of, lists_of, with_new_slab, with_given}
+use Rattle.slub_lists.specs.Alloc.{FindsRun, IsStocked, held_here, no_lists, cpu_place, cache_of, checked_of, slab_of, lists_of, with_new_slab, with_given}
 use Rattle.slub_page_pool.specs.History.{times}
-use Rattle.slub_lists.specs.Coherent.{IsConsistent, IsSlabOf, IsTuned, has_object, if_current, on_cpu}
-use Rattle.slub_lists.specs.Steps.{HasLayout, IsRelisted}
+use Rattle.slub_lists.specs.Coherent.{IsConsistent, IsSlabOf, has_object, if_current, on_cpu}
+use Rattle.slub_lists.specs.Steps.{HasLayout, IsLive, IsRelisted}
 use Rattle.slub_lists.proofs.Times.{times-cons, current-same, element-counted}
 use Rattle.slub_lists.proofs.Placed.{placed-with_new_slab, placed-with_given}
 use Rattle.slub_lists.proofs.Framed.{framed-with_new_slab, run-inside, run-unused}
 use Rattle.slub_lists.proofs.Listed.{listed-with_new_slab, listed-with_given, listed-with_pool}
 use Rattle.slub_lists.proofs.Accounted.{accounted-with_given, accounted-most}
-use Rattle.slub_lists.proofs.Shaped.{shaped-with_new_slab, shaped-with_given, shaped-with_pool}
+use Rattle.slub_lists.proofs.Shaped.{layouts-live, shaped-with_new_slab, shaped-with_given, shaped-with_pool}
+use Rattle.slub_lists.proofs.Unchecked.{apart-current, apart-unchecked, checked-lists, checked-with_new_slab}
 use Rattle.slub_lists.proofs.Runs.{run-for, none-frames, none-free}
 use Rattle.slub_lists.proofs.Coherence.{place-inside, live-inside, current-inside, current-live}
 
@@ -38,36 +40,36 @@ pub layout-of : (x : Option Cache) (layout : Layout) (P : Layout → Type 0) →
 layout-of None layout P h here = tt
 layout-of (Some live) layout P h here = subst P (sym h) here
 
-layout-match : (x : Option Cache) (layout : Layout) (P : Layout → Type 0) → MatchOption x ⊥ (λ live. live.layout ≡ layout) → P layout → MatchOption x ⊥ (λ live. P live.layout)
+pub layout-match : (x : Option Cache) (layout : Layout) (P : Layout → Type 0) → MatchOption x ⊥ (λ live. live.layout ≡ layout) → P layout → MatchOption x ⊥ (λ live. P live.layout)
 layout-match None layout P h here = h
 layout-match (Some live) layout P h here = subst P (sym h) here
 
 pub HasLayout-same : (s after : State) (cache : ℕ) (layout : Layout) → IsRelisted s after → HasLayout s cache layout → HasLayout after cache layout
-HasLayout-same s after cache layout same has = subst (λ (xs : List (Option Cache)). MatchOption (get_or xs cache None) ⊥ (λ live. live.layout ≡ layout)) (sym same.caches) has
+HasLayout-same s after cache layout same has = subst (λ (t : Table). MatchOption (live_cache t cache) ⊥ (λ live. live.layout ≡ layout)) (sym same.table) has
 
 module _ (s : State) (cache : ℕ) (layout : Layout) (consistent : IsConsistent s) (has : HasLayout s cache layout) where
   -- its number is below 32
   pub cache-within : cache < 32
-  cache-within = omega (arith, live-inside s.caches cache (layout-live (cache_of s cache) layout has), consistent.shaped.caches)
+  cache-within = omega (arith, live-inside s.table.caches cache (layout-live (cache_of s cache) layout has), consistent.shaped.table.numbers)
 
   -- its layout is a good one
-  pub layout-good : IsTuned layout
-  layout-good = layout-at (cache_of s cache) layout IsTuned has (consistent.shaped.layouts cache)
+  pub layout-good : IsLive layout
+  layout-good = layout-at (cache_of s cache) layout IsLive has (layouts-live s cache consistent.shaped)
 
   -- the objects of a run for it
   pub run-objects : (run : Run) (pool : FreeFrames) → FindsRun s.pool layout (Some run) pool → (1 ≤ run.objects) × (run.objects ≤ 512)
   run-objects run pool found =
       let good = layout-good in
       elim (run-for s.pool layout run pool found).fits [
-        | inl wide ↦ (omega (arith, wide.1, good.made.objects.0), omega (arith, wide.1, good.made.objects.1))
-        | inr least ↦ (omega (arith, least.1, good.made.min_objects_slab.0), omega (arith, least.1, good.made.min_objects_slab.1, good.made.objects.1))
+        | inl wide ↦ (omega (arith, wide.1, good.1.made.objects.0), omega (arith, wide.1, good.1.made.objects.1))
+        | inr least ↦ (omega (arith, least.1, good.1.made.min_objects_slab.0), omega (arith, least.1, good.1.made.min_objects_slab.1, good.1.made.objects.1))
       ]
 
   pub run-slot : (run : Run) (pool : FreeFrames) → FindsRun s.pool layout (Some run) pool → run.frame < s.frames
   run-slot run pool found = run-inside s 0 0 pool run (run-for s.pool layout run pool found).all_free consistent.framed
 
-  pub with_new_slab-consistent : (cpu : ℕ) (run : Run) (pool : FreeFrames) → cpu < s.cpus → (lists_of s cache cpu).current ≡ None → IsPool pool → FindsRun s.pool layout (Some run) pool → IsConsistent (with_new_slab s cache cpu pool run)
-  with_new_slab-consistent cpu run pool cpu_within bare good found =
+  pub with_new_slab-consistent : (cpu : ℕ) (run : Run) (pool : FreeFrames) → checked_of s cache ≡ None → cpu < s.cpus → (lists_of s cache cpu).current ≡ None → IsPool pool → FindsRun s.pool layout (Some run) pool → IsConsistent (with_new_slab s cache cpu pool run)
+  with_new_slab-consistent cpu run pool unchecked cpu_within bare good found =
       let inside = place-inside s cache cpu consistent.shaped cache-within cpu_within in
       let is_run = run-for s.pool layout run pool found in
       let slot : run.frame < length s.slabs = omega (arith, run-slot run pool found, consistent.shaped.slabs) in
@@ -75,7 +77,10 @@ module _ (s : State) (cache : ℕ) (layout : Layout) (consistent : IsConsistent 
       let fits : IsSlabOf layout (record { cache = cache; order = run.order; objects = run.objects; frozen = true }) = is_run.fits in
       record {
         shaped = shaped-with_new_slab s cache cpu pool run slot unused good is_run.frames is_run.aligned
-            (layout-match (cache_of s cache) layout (λ l. IsSlabOf l (record { cache = cache; order = run.order; objects = run.objects; frozen = true })) has fits) consistent.shaped;
+            (layout-match (cache_of s cache) layout (λ l. IsSlabOf l (record { cache = cache; order = run.order; objects = run.objects; frozen = true })) has fits)
+            (checked-with_new_slab s cache cpu cpu_within (apart-unchecked s cache unchecked) pool run.frame (record { cache = cache; order = run.order; objects = run.objects; frozen = true })
+            (record { current = Some run.frame; free = range_with_len 0 run.objects; partial = (lists_of s cache cpu).partial }) slot refl unused consistent.shaped.checked)
+            consistent.shaped;
         placed = placed-with_new_slab s cache cpu inside pool run slot unused bare consistent.placed;
         framed = framed-with_new_slab s cache cpu pool run is_run.all_free slot is_run.less consistent.framed;
         listed = listed-with_new_slab s cache cpu cpu_within inside pool run slot unused bare consistent.listed;
@@ -118,7 +123,7 @@ module _ (s : State) (cache : ℕ) (layout : Layout) (consistent : IsConsistent 
         let of = layout-at (cache_of s cache) layout (λ l. IsSlabOf l slab) has (weaker (λ live. IsSlabOf live.layout slab) (cache_of s cache) (subst (λ n. MatchOption (cache_of s n) ⊥ (λ live. IsSlabOf live.layout slab)) own fits)) in
         elim of [
           | inl wide ↦ omega (arith, here, wide.1)
-          | inr least ↦ omega (arith, here, least.1, layout-good.made.min_objects_slab.1)
+          | inr least ↦ omega (arith, here, least.1, layout-good.1.made.min_objects_slab.1)
         ]
       where
         weaker : (P : Cache → Type 0) (x : Option Cache) → MatchOption x ⊥ P → IfSome x P
@@ -138,7 +143,9 @@ module _ (s : State) (cache : ℕ) (layout : Layout) (consistent : IsConsistent 
         let v : CpuLists = record { current = Some frame; free = rest; partial = (lists_of s cache cpu).partial } in
         let inside = place-inside s cache cpu consistent.shaped cache-within cpu_within in
         record {
-          shaped = shaped-with_given s cache cpu object frame index worker rest (current-live s cache cpu consistent cache-within cpu_within frame current) consistent.shaped;
+          shaped = shaped-with_given s cache cpu object frame index worker rest (current-live s cache cpu consistent cache-within cpu_within frame current)
+              (checked-lists s cache cpu cpu_within (apart-current s cache cpu frame cpu_within current) v (set s.board object (Some held)) (set s.live cache (get_or s.live cache 0 + 1)) consistent.shaped.checked)
+              consistent.shaped;
           placed = placed-with_given s cache cpu inside object frame index worker rest slot unused current first consistent.placed;
           framed = consistent.framed;
           listed = listed-with_given s cache cpu cpu_within inside object frame rest held current consistent.listed;
@@ -164,6 +171,20 @@ MatchResult-stocked (Err bare) mid P Q h given = cc
 pub MatchResult-bare : (r : Result State State) (mid : State) (P Q : State → Type 0) → IsStocked r false mid → Q mid → MatchResult r P Q
 MatchResult-bare (Ok stocked) mid P Q h given = cc
 MatchResult-bare (Err bare) mid P Q h given = subst Q h.1 given
+
+-- what is said of the slabs of a checked cache, and where there are none
+pub from-checked : {X : Type 0} (x : Option X) (P : Type 0) (Q : X → Type 0) → MatchOption x ⊥ Q → MatchOption x P Q
+from-checked None P Q h = absurd h
+from-checked (Some y) P Q h = h
+
+pub from-unchecked : {X : Type 0} (x : Option X) (P : Type 0) (Q : X → Type 0) → x ≡ None → P → MatchOption x P Q
+from-unchecked None P Q none h = h
+from-unchecked (Some y) P Q none h = cc
+
+-- what is said of a live cache, where there is one
+pub live-match : {X : Type 0} (x : Option X) (P : X → Type 0) → IsSome x → IfSome x P → MatchOption x ⊥ P
+live-match None P some h = cc
+live-match (Some y) P some h = h
 
 -- what is read of a CPU's lists under another name
 pub current-of : (l m : CpuLists) (frame : ℕ) → l ≡ m → l.current ≡ Some frame → m.current ≡ Some frame

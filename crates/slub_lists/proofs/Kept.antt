@@ -7,13 +7,18 @@ use Rattle.slub_page_pool.specs.FreeFrames.{FreeFrames}
 use Rattle.slub_page_pool.specs.History.{times}
 use Rattle.slub_object_layout.specs.declared.layout.Layout.{Layout}
 use Rattle.slub_lists.specs.declared.lists.CpuLists.{CpuLists}
-use Rattle.slub_lists.specs.declared.lists.Cache.{Cache}
+use Rattle.slub_cache_create.specs.declared.caches.Cache.{Cache}
 use Rattle.slub_lists.specs.declared.lists.Held.{Held}
 use Rattle.slub_lists.specs.declared.lists.Run.{Run}
 use Rattle.slub_lists.specs.declared.reply.Reply.{Reply}
 use Rattle.slub_lists.specs.declared.reply.Reply.TheVariants.{NoSuchCache}
 use Rattle.slub_lists.specs.State.{State}
-use Rattle.slub_lists.specs.Alloc.{Allocates, AllocatesNamed, AllocatesNew, Gives, batch_of, cache_of, cpu_place, from_current, from_free, from_node, from_partial, from_slabs, lists_of, named, no_lists, node_of, own_free, retired, stocked, taken_up, with_given, with_new_slab, with_node}
+use Rattle.slub_lists.specs.Alloc.{Allocates, AllocatesNew, Gives, batch_of, cache_of, checked_of, cpu_place, from_current, from_free, from_node, from_partial, from_slabs, lists_of, named, no_lists, node_of, own_free, retired, stocked, taken_up, with_given, with_new_slab, with_node}
+use Rattle.slub_lists.specs.Checked.{AllocatesChecked, AllocatesNewChecked, GivesOrMakes, with_checked}
+use Rattle.slub_lists.specs.Named.{AllocatesFrom, AllocatesNamed}
+use Rattle.slub_red_zone.specs.State.{CheckedState}
+use Rattle.slub_red_zone.specs.declared.checked.CheckedGive.{CheckedGive}
+use Rattle.slub_red_zone.specs.declared.checked.CheckedGive.TheVariants as give
 use Rattle.slub_lists.specs.Coherent.{IsCoherent, IsConsistent, IsKept, IsShaped, if_current, opening, times_current, times_partial}
 use Rattle.slub_lists.proofs.Times.{times-cons, times-take-drop, times-reverse, current-other, get_or-replicate_any}
 use Rattle.slub_lists.proofs.Listed.{current-written, partial-written}
@@ -40,7 +45,7 @@ coherent-of s consistent kept = record {
 }
 
 -- before the first item no slab is there
-pub kept-opening : (frames cpus objects names : ℕ) → IsKept (opening frames cpus objects names)
+pub kept-opening : (frames cpus objects : ℕ) (names : List (List ℕ)) → IsKept (opening frames cpus objects names)
 kept-opening frames cpus objects names f some =
     let none : ◌≡◌ {A = ℕ} (length (own_free (opening frames cpus objects names) f)) 0 = ap length (get_or-replicate_any frames f []) in
     absurd (omega (arith, some, none))
@@ -211,19 +216,37 @@ kept_result : (r : Result State State) (layout : Layout) (cache cpu worker objec
 kept_result (Ok t) layout cache cpu worker object reply after ready gives = kept_gives t layout cache cpu worker object reply after ready gives
 kept_result (Err t) layout cache cpu worker object reply after ready new = kept_new t layout cache cpu worker object reply after ready new
 
-kept_cache : (s : State) (live : Option Cache) (cache cpu worker object : ℕ) (reply : Reply) (after : State) → (MatchOption live ⊥ (λ c. Allocates s c.layout cache cpu worker object reply after) → IsReady cache cpu s)
-    → MatchOption live ⊥ (λ c. Allocates s c.layout cache cpu worker object reply after) → IsKept after
+-- a checked cache has nothing to do with it
+kept_made : (t : State) (layout : Layout) (cache : ℕ) (slabs : CheckedState) (worker object : ℕ) (reply : Reply) (after : State) → IsKept t → AllocatesNewChecked t layout cache slabs worker object reply after → IsKept after
+kept_made t layout cache slabs worker object reply after kept (None, free, found, none) = subst IsKept (sym none.1) kept
+kept_made t layout cache slabs worker object reply after kept (Some run, free, found, inl none) = subst IsKept (sym none.1) kept
+kept_made t layout cache slabs worker object reply after kept (Some run, free, found, inr gives) = subst IsKept (sym gives.given) kept
+
+kept_answer : (t : State) (layout : Layout) (cache : ℕ) (slabs : CheckedState) (worker object : ℕ) (answer : CheckedGive) (reply : Reply) (after : State) → IsKept t
+    → GivesOrMakes t layout cache slabs worker object answer reply after → IsKept after
+kept_answer t layout cache slabs worker object (give.Given slot) reply after kept gives = subst IsKept (sym gives.given) kept
+kept_answer t layout cache slabs worker object give.Empty reply after kept made = kept_made t layout cache slabs worker object reply after kept made
+
+-- with one or with none
+kept_from : (s : State) (x : Option CheckedState) (layout : Layout) (cache cpu worker object : ℕ) (reply : Reply) (after : State) → IsReady cache cpu s
+    → MatchOption x (Allocates s layout cache cpu worker object reply after) (λ slabs. AllocatesChecked s layout cache slabs worker object reply after) → IsKept after
+kept_from s None layout cache cpu worker object reply after ready done =
+    kept_result (stocked s layout cache cpu) layout cache cpu worker object reply after (kept_free s cache cpu (batch_of layout) (lists_of s cache cpu).free ready) done
+kept_from s (Some slabs) layout cache cpu worker object reply after ready done =
+    kept_answer (with_checked s cache done.1) layout cache done.1 worker object done.0 reply after ready.kept done.3
+
+kept_cache : (s : State) (live : Option Cache) (cache cpu worker object : ℕ) (reply : Reply) (after : State) → (MatchOption live ⊥ (λ c. AllocatesFrom s c.layout cache cpu worker object reply after) → IsReady cache cpu s)
+    → MatchOption live ⊥ (λ c. AllocatesFrom s c.layout cache cpu worker object reply after) → IsKept after
 kept_cache s None cache cpu worker object reply after ready none = absurd none
-kept_cache s (Some live) cache cpu worker object reply after ready done =
-    kept_result (stocked s live.layout cache cpu) live.layout cache cpu worker object reply after (kept_free s cache cpu (batch_of live.layout) (lists_of s cache cpu).free (ready done)) done
+kept_cache s (Some live) cache cpu worker object reply after ready done = kept_from s (checked_of s cache) live.layout cache cpu worker object reply after (ready done) done
 
 kept_name : (s : State) (name : Option ℕ) (cpu worker object : ℕ) (reply : Reply) (after : State) → IsShaped s → cpu < s.cpus → IsKept s
-    → MatchOption name ((reply ≡ NoSuchCache) × (after ≡ s)) (λ cache. MatchOption (cache_of s cache) ⊥ (λ c. Allocates s c.layout cache cpu worker object reply after)) → IsKept after
+    → MatchOption name ((reply ≡ NoSuchCache) × (after ≡ s)) (λ cache. MatchOption (cache_of s cache) ⊥ (λ c. AllocatesFrom s c.layout cache cpu worker object reply after)) → IsKept after
 kept_name s None cpu worker object reply after shaped within kept none = subst IsKept (sym none.1) kept
 kept_name s (Some cache) cpu worker object reply after shaped within kept done =
     kept_cache s (cache_of s cache) cache cpu worker object reply after
     (λ live.
-    let slot : cache < 32 = omega (arith, live-inside s.caches cache (IsSome-live (cache_of s cache) (λ (c : Cache). Allocates s c.layout cache cpu worker object reply after) live), shaped.caches) in
+    let slot : cache < 32 = omega (arith, live-inside s.table.caches cache (IsSome-live (cache_of s cache) (λ (c : Cache). AllocatesFrom s c.layout cache cpu worker object reply after) live), shaped.table.numbers) in
     record {
       kept = kept;
       within = within;

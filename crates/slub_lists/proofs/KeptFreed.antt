@@ -1,5 +1,5 @@
 -- No slab that has an object on its own freelist is lost by a free.
-use Rattle.std.proofs.Common.{◌≡◌, ℕ, ◌+◌, ◌*◌, ◌<◌, ◌++◌, ◌&&◌, Bool, true, false, eqb, List, [], ◌∷◌, length, get_or, filter, Option, Some, None, MatchOption, inl, inr, refl, ap, sym, subst, arith, get_or-set_other, nat_le, nat_lt}
+use Rattle.std.proofs.Common.{◌≡◌, ℕ, ◌+◌, ◌*◌, ◌<◌, ◌++◌, ◌&&◌, Bool, true, false, eqb, List, [], ◌∷◌, length, get_or, filter, Option, Some, None, Result, Ok, Err, MatchOption, inl, inr, refl, ap, sym, subst, arith, get_or-set_other, nat_le, nat_lt}
 use Rattle.std.specs.Prelude.{MatchBool, not}
 use Rattle.std.proofs.lemmas.List.Sums.{sum_by-set}
 use Rattle.std.proofs.lemmas.Bool.{cases_eq, cond_both}
@@ -8,14 +8,18 @@ use Rattle.slub_page_pool.specs.History.{times}
 use Rattle.slub_page_pool.proofs.Times.{times-append}
 use Rattle.slub_object_layout.specs.declared.layout.Layout.{Layout}
 use Rattle.slub_lists.specs.declared.lists.CpuLists.{CpuLists}
-use Rattle.slub_lists.specs.declared.lists.Cache.{Cache}
+use Rattle.slub_cache_create.specs.declared.caches.Cache.{Cache}
 use Rattle.slub_lists.specs.declared.lists.Held.{Held}
 use Rattle.slub_lists.specs.declared.reply.Reply.{Reply}
 use Rattle.slub_lists.specs.declared.reply.Reply.TheVariants.{NotHeld}
 use Rattle.slub_lists.specs.State.{State}
-use Rattle.slub_lists.specs.Alloc.{cache_of, cpu_place, lists_of, node_of, own_free, with_node}
+use Rattle.slub_lists.specs.Alloc.{cache_of, checked_of, cpu_place, lists_of, node_of, own_free, with_node}
 use Rattle.slub_lists.specs.Coherent.{IsCoherent, IsKept, IsListed, IsShaped, times_current, times_partial}
-use Rattle.slub_lists.specs.Free.{Frees, FreesHeld, discarded, drained, freed, freed_here, freed_there, is_current, is_freeable, is_frozen, is_spare, moved, moved_all, put_partial, settled, trimmed, with_freed, with_partial, with_taken, without_slab}
+use Rattle.slub_lists.specs.Free.{FreesUnchecked, discarded, drained, freed, freed_here, freed_there, is_current, is_freeable, is_frozen, is_spare, moved, moved_all, put_partial, settled, trimmed, with_freed, with_partial, with_taken, without_slab}
+use Rattle.slub_lists.specs.Freeing.{Frees, FreesHeld}
+use Rattle.slub_lists.specs.Checked.{FreesChecked, IsFreedOrKept}
+use Rattle.slub_red_zone.specs.State.{CheckedState}
+use Rattle.slub_red_zone.specs.declared.zones.Damage.{Damage}
 use Rattle.slub_lists.proofs.Times.{times-cons, current-same, current-other}
 use Rattle.slub_lists.proofs.Framed.{times-filter-yes}
 use Rattle.slub_lists.proofs.Listed.{current-written, partial-written}
@@ -134,27 +138,41 @@ module _ (s : State) (layout : Layout) (cache cpu frame index : ℕ) (within : c
       pick (is_current frame (lists_of s cache cpu).current) (freed_here s cache cpu index) (freed_there s layout cache cpu frame index) IsKept
       (kept-here s cache cpu within inside slot index kept) (kept-settled (own_free s frame) refl)
 
-module _ (s : State) (cpu object : ℕ) (shaped : IsShaped s) (listed : IsListed s) (kept : IsKept s) (within : cpu < s.cpus) where
-  -- the cases of what a free answers, from the innermost on
-  held-kept : (after : State) (x : Option Cache) (held : Held) (P : Cache → Type 0) → (MatchOption x ⊥ (λ live. P live × (after ≡ freed (with_taken s object held.cache) live.layout held.cache cpu held.frame held.index)) → held.cache < 32)
-      → MatchOption x ⊥ (λ live. P live × (after ≡ freed (with_taken s object held.cache) live.layout held.cache cpu held.frame held.index)) → IsKept after
-  held-kept after None held P live done = absurd done
-  held-kept after (Some cache) held P live done =
-      let slot : held.cache < length s.nodes = omega (arith, live done, shaped.nodes) in
-      subst IsKept (sym done.1)
-      (kept-freed (with_taken s object held.cache) cache.layout held.cache cpu held.frame held.index within (place-inside s held.cache cpu shaped (live done) within) slot (listed-with_taken s object held.cache listed) kept)
+-- a slab of a checked cache has no freelist here
+kept-checked : (s after : State) (layout : Layout) (rest : CheckedState) (worker object : ℕ) (held : Held) (answer : Result (Unit {0}) Damage) (reply : Reply) → IsKept s
+    → IsFreedOrKept s layout rest worker object held answer reply after → IsKept after
+kept-checked s after layout rest worker object held (Err damage) reply kept done = subst IsKept (sym done.1) kept
+kept-checked s after layout rest worker object held (Ok x) reply kept (said, None, last, empty, is) = subst IsKept (sym is) kept
+kept-checked s after layout rest worker object held (Ok x) reply kept (said, Some run, last, empty, is) =
+    subst IsKept (sym is) (λ f. at_emptied s.frees held.frame f (times_current s f + times_partial s f) (λ ne some. kept f some))
 
-  able-kept : (after : State) (b : Bool) (held : Held) (reply : Reply) → MatchBool b (FreesHeld s cpu object held reply after) ((reply ≡ NotHeld) × (after ≡ s)) → IsKept after
+module _ (s : State) (cpu worker object : ℕ) (shaped : IsShaped s) (listed : IsListed s) (kept : IsKept s) (within : cpu < s.cpus) where
+  -- the cases of what a free answers, from the innermost on
+  from-kept : (after : State) (x : Option CheckedState) (layout : Layout) (held : Held) (reply : Reply) → held.cache < 32
+      → MatchOption x (FreesUnchecked s layout cpu worker object held reply after) (λ slabs. FreesChecked s layout slabs worker object held reply after) → IsKept after
+  from-kept after None layout held reply live done =
+      let slot : held.cache < length s.nodes = omega (arith, live, shaped.nodes) in
+      subst IsKept (sym done.1)
+      (kept-freed (with_taken s object held.cache) layout held.cache cpu held.frame held.index within (place-inside s held.cache cpu shaped live within) slot (listed-with_taken s object held.cache listed) kept)
+  from-kept after (Some slabs) layout held reply live done = kept-checked s after layout done.1 worker object held done.0 reply kept done.3
+
+  held-kept : (after : State) (x : Option Cache) (held : Held) (reply : Reply)
+      → (MatchOption x ⊥ (λ live. MatchOption (checked_of s held.cache) (FreesUnchecked s live.layout cpu worker object held reply after) (λ slabs. FreesChecked s live.layout slabs worker object held reply after)) → held.cache < 32)
+      → MatchOption x ⊥ (λ live. MatchOption (checked_of s held.cache) (FreesUnchecked s live.layout cpu worker object held reply after) (λ slabs. FreesChecked s live.layout slabs worker object held reply after)) → IsKept after
+  held-kept after None held reply live done = absurd done
+  held-kept after (Some cache) held reply live done = from-kept after (checked_of s held.cache) cache.layout held reply (live done) done
+
+  able-kept : (after : State) (b : Bool) (held : Held) (reply : Reply) → MatchBool b (FreesHeld s cpu worker object held reply after) ((reply ≡ NotHeld) × (after ≡ s)) → IsKept after
   able-kept after true held reply done =
-      held-kept after (cache_of s held.cache) held _ (λ live. omega (arith, live-inside s.caches held.cache (IsSome-live (cache_of s held.cache) _ live), shaped.caches)) done
+      held-kept after (cache_of s held.cache) held reply (λ live. omega (arith, live-inside s.table.caches held.cache (IsSome-live (cache_of s held.cache) _ live), shaped.table.numbers)) done
   able-kept after false held reply done = subst IsKept (sym done.1) kept
 
-  number-kept : (after : State) (x : Option Held) (worker : ℕ) (reply : Reply)
-      → MatchOption x ((reply ≡ NotHeld) × (after ≡ s)) (λ held. MatchBool (is_freeable worker held.worker) (FreesHeld s cpu object held reply after) ((reply ≡ NotHeld) × (after ≡ s))) → IsKept after
-  number-kept after None worker reply done = subst IsKept (sym done.1) kept
-  number-kept after (Some held) worker reply done = able-kept after (is_freeable worker held.worker) held reply done
+  number-kept : (after : State) (x : Option Held) (reply : Reply)
+      → MatchOption x ((reply ≡ NotHeld) × (after ≡ s)) (λ held. MatchBool (is_freeable worker held.worker) (FreesHeld s cpu worker object held reply after) ((reply ≡ NotHeld) × (after ≡ s))) → IsKept after
+  number-kept after None reply done = subst IsKept (sym done.1) kept
+  number-kept after (Some held) reply done = able-kept after (is_freeable worker held.worker) held reply done
 
 -- a free loses no slab
 pub frees-kept : (s after : State) (cpu worker object : ℕ) (reply : Reply) → IsCoherent s → cpu < s.cpus → Frees s cpu worker object reply after → IsKept after
 frees-kept s after cpu worker object reply coherent within done =
-    number-kept s cpu object coherent.shaped coherent.listed coherent.kept within after (get_or s.board object None) worker reply done
+    number-kept s cpu worker object coherent.shaped coherent.listed coherent.kept within after (get_or s.board object None) reply done

@@ -28,5 +28,5 @@ pub laid-all : (items first : List (Option Held)) (i : ℕ) → length items ≡
 laid-all items first i as_long past down = sym (take_all i items (omega arith)) ∙ down ∙ ap (map (option_map laid_down)) (take_all i first past)
 
 -- a machine with that board
-pub with_board : (s : State) (board : List (Option Held)) → board ≡ map (option_map laid_down) s.board → record s { board = board } ≡ all_on_board s
-with_board s board e = ap (λ (b : List (Option Held)). record s { board = b }) e
+pub with_board : (s : State) (board gone : List (Option Held)) → board ≡ map (option_map laid_down) s.board → gone ≡ map (λ freed. None) s.gone → record s { board = board; gone = gone } ≡ all_on_board s
+with_board s board gone e none = ap (λ (b : List (Option Held)). record s { board = b; gone = gone }) e ∙ ap (λ (g : List (Option Held)). record s { board = map (option_map laid_down) s.board; gone = g }) none

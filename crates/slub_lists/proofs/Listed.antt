@@ -10,11 +10,10 @@ use Rattle.slub_lists.specs.declared.lists.Slab.{Slab}
 use Rattle.slub_lists.specs.declared.lists.CpuLists.{CpuLists}
 use Rattle.slub_lists.specs.declared.lists.Held.{Held}
 use Rattle.slub_lists.specs.declared.lists.Run.{Run}
-use Rattle.slub_lists.specs.declared.lists.Cache.{Cache}
 use Rattle.slub_lists.specs.State.{State}
 use Rattle.slub_lists.specs.Alloc.{marked, no_lists, cpu_place, lists_of, node_of, slab_of, own_free, retired, taken_up, with_new_slab, with_given, with_lists, with_node}
 use Rattle.slub_page_pool.specs.History.{times}
-use Rattle.slub_lists.specs.Coherent.{IsListed, times_current, times_partial, if_current, all_on_board, opening, with_cache}
+use Rattle.slub_lists.specs.Coherent.{IsListed, times_current, times_partial, if_current, all_on_board, opening}
 use Rattle.slub_lists.specs.Steps.{IsTakable}
 use Rattle.slub_lists.proofs.Writes.{at_written, at_written_else, at_marked}
 use Rattle.slub_lists.proofs.Times.{current-same, current-other, element-counted, get_or-replicate_any}
@@ -64,7 +63,7 @@ live-from cache None some h = cc
 live-from cache (Some slab) some h = h
 
 -- a place belongs to one cache
-same-cache : (cpus cache cpu other other_cpu : ℕ) → cpu < cpus → other_cpu < cpus → other * cpus + other_cpu ≡ cache * cpus + cpu → cache ≡ other
+pub same-cache : (cpus cache cpu other other_cpu : ℕ) → cpu < cpus → other_cpu < cpus → other * cpus + other_cpu ≡ cache * cpus + cpu → cache ≡ other
 same-cache cpus cache cpu other other_cpu within other_within e =
     sym (div-mul-add cache cpus cpu within) ∙ sym (ap (λ n. n / cpus) e) ∙ div-mul-add other cpus other_cpu other_within
 
@@ -265,18 +264,6 @@ listed-all_on_board s listed = record {
   frozen = listed.frozen;
 }
 
--- nor has a new cache
-pub listed-with_cache : (s : State) (place cache : ℕ) (made : Cache) → IsListed s → IsListed (with_cache s place cache made)
-listed-with_cache s place cache made listed = record {
-  once = listed.once;
-  live = listed.live;
-  stocked = listed.stocked;
-  of_current = listed.of_current;
-  of_partial = listed.of_partial;
-  of_node = listed.of_node;
-  frozen = listed.frozen;
-}
-
 -- nor have the counts of the pool
 pub listed-with_pool : (s : State) (pool : FreeFrames) → IsListed s → IsListed (record s { pool = pool })
 listed-with_pool s pool listed = record {
@@ -290,7 +277,7 @@ listed-with_pool s pool listed = record {
 }
 
 -- before the first item no slab is on a list
-pub listed-opening : (frames cpus objects names : ℕ) → IsListed (opening frames cpus objects names)
+pub listed-opening : (frames cpus objects : ℕ) (names : List (List ℕ)) → IsListed (opening frames cpus objects names)
 listed-opening frames cpus objects names =
     let s : State = opening frames cpus objects names in
     let current : (f : ℕ) → times_current s f ≡ 0 = λ f. let e = sum_by-replicate (λ (lists : CpuLists). if_current f 1 lists.current) (32 * cpus) no_lists in omega (arith, e) in

@@ -21,6 +21,8 @@ use Rattle.slub_lists.proofs.Framed.{times-filter-yes, times-filter-no}
 use Rattle.slub_lists.proofs.Placed.{placed-partial}
 use Rattle.slub_lists.proofs.Listed.{IsOf, IsOf-live, IsFrozenBy-same, current-written, partial-written, of-written, node-counted, partial-counted, live-from}
 use Rattle.slub_lists.proofs.Shaped.{shaped-partial}
+use Rattle.slub_lists.proofs.Removing.{filter-absent}
+use Rattle.slub_lists.proofs.Unchecked.{apart-stocked, checked-with_node}
 use Rattle.slub_lists.proofs.Coherence.{gathered, gathered-consistent, gathered-node, place-inside, IsSome-live}
 use Rattle.slub_lists.proofs.Discarding.{the-slab, first-frame}
 
@@ -94,7 +96,10 @@ module _ (s : State) (cache cpu : ℕ) (consistent : IsConsistent s) (within : c
     -- the whole
     added-consistent : IsConsistent after
     added-consistent = record {
-      shaped = shaped-partial s cache cpu partial frames consistent.shaped;
+      shaped = shaped-partial s cache cpu partial frames
+          (let lists : CpuLists = lists_of s cache cpu in
+          checked-with_node s cache cpu cpu_within (record lists { partial = partial }) frames (apart-stocked s cache frame listable.live listable.stocked) consistent.shaped.checked)
+          consistent.shaped;
       placed = placed-partial s cache cpu inside partial consistent.placed;
       framed = consistent.framed;
       listed = added-listed;
@@ -167,18 +172,6 @@ times-filter x p xs =
     elim (cases_Bool (p x)) [
       | inl passes ↦ omega (arith, times-filter-yes x p xs passes)
       | inr fails ↦ omega (arith, times-filter-no x p xs fails)
-    ]
-
--- where the number doesn't stand there, nothing goes
-filter-absent : (x : ℕ) (xs : List ℕ) → times x xs ≡ 0 → filter (λ y. not (eqb y x)) xs ≡ xs
-filter-absent x [] absent = refl
-filter-absent x (y ∷ ys) absent =
-    let e = times-cons x y ys in
-    elim (cases_eq x y) [
-      | inl same ↦ absurd (omega (arith, absent, e, current-same x y 1 same))
-      | inr other ↦
-          let passes : not (eqb y x) ≡ true = grind (arith, nat_tests, other) in
-          rw passes (ap (λ l. y ∷ l) (filter-absent x ys (omega (arith, absent, e))))
     ]
 
 module _ (s : State) (cache : ℕ) (consistent : IsConsistent s) (within : cache < 32) (frame : ℕ) where

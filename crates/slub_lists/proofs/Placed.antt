@@ -12,7 +12,7 @@ use Rattle.slub_lists.specs.declared.lists.Run.{Run}
 use Rattle.slub_lists.specs.State.{State}
 use Rattle.slub_lists.specs.Alloc.{marked, no_lists, cpu_place, lists_of, slab_of, own_free, retired, taken_up, with_new_slab, with_given, with_lists, held_here}
 use Rattle.slub_page_pool.specs.History.{times}
-use Rattle.slub_lists.specs.Coherent.{IsPlaced, places, has_object, on_cpu, if_current, laid_down, all_on_board, opening}
+use Rattle.slub_lists.specs.Coherent.{IsPlaced, places, has_object, idle_in, on_cpu, if_current, laid_down, all_on_board, opening}
 use Rattle.slub_lists.proofs.Writes.{at_written_else, at_marked}
 use Rattle.slub_lists.proofs.Times.{times-cons, times-range, current-same, current-other, get_or-replicate_any, sum_by-same, sum_by-map}
 
@@ -126,10 +126,11 @@ placed-all_on_board s placed f i =
     omega (arith, placed f i, same)
 
 -- before the first item nothing is anywhere
-pub placed-opening : (frames cpus objects names : ℕ) → IsPlaced (opening frames cpus objects names)
+pub placed-opening : (frames cpus objects : ℕ) (names : List (List ℕ)) → IsPlaced (opening frames cpus objects names)
 placed-opening frames cpus objects names f i =
     let board = sum_by-replicate (held_here f i) (objects + 1) None in
     let lists = sum_by-replicate (on_cpu f i) (32 * cpus) no_lists in
     let own : times i (get_or (replicate frames []) f []) ≡ 0 = ap (times i) (get_or-replicate_any frames f []) in
     let slab : has_object i (get_or (replicate frames None) f None) ≡ 0 = ap (has_object i) (get_or-replicate_any frames f None) in
-    omega (arith, board, lists, own, slab)
+    let checked : sum_by (idle_in f i) (replicate 32 None) ≡ 0 = sum_by-replicate (idle_in f i) 32 None in
+    omega (arith, board, lists, own, slab, checked)

@@ -1,17 +1,18 @@
 -- A number is taken off the board: its object is nowhere, and all else holds as before.
-use Rattle.std.proofs.Common.{◌≡◌, ℕ, ◌+◌, ◌-◌, ◌<◌, length, get_or, set, sum_by, Option, Some, None, is_some, IsSome, IfSome, MatchOption, refl, ap, ◌∙◌, subst, arith, length-set}
+use Rattle.std.proofs.Common.{◌≡◌, ℕ, ◌+◌, ◌-◌, ◌<◌, List, length, get_or, set, sum_by, Option, Some, None, is_some, IsSome, IfSome, MatchOption, refl, ap, ◌∙◌, subst, arith, length-set}
 use Rattle.std.proofs.lemmas.List.Sums.{sum_by-set}
 use Rattle.std.proofs.lemmas.Bool.Decides.{nat_tests}
 use Rattle.slub_lists.specs.declared.lists.Slab.{Slab}
-use Rattle.slub_lists.specs.declared.lists.Cache.{Cache}
+use Rattle.slub_cache_create.specs.declared.caches.Cache.{Cache}
 use Rattle.slub_lists.specs.declared.lists.Held.{Held}
 use Rattle.slub_lists.specs.State.{State}
 use Rattle.slub_lists.specs.Alloc.{cache_of, held_here, slab_of}
 use Rattle.slub_lists.specs.Coherent.{IsAccounted, IsConsistent, IsListed, IsShaped, IsSlabOf, held_of, held_under}
-use Rattle.slub_lists.specs.Free.{with_taken}
+use Rattle.slub_lists.specs.Free.{with_gone, with_taken}
 use Rattle.slub_lists.proofs.Writes.{at_written, at_written_else}
 use Rattle.slub_lists.proofs.Times.{element-counted}
 use Rattle.slub_lists.proofs.Shaped.{IsLiveOf}
+use Rattle.slub_lists.proofs.Unchecked.{checked-rest}
 use Rattle.slub_lists.proofs.Coherence.{live-inside}
 
 -- the numbers of things stay, and what is still held has its slab
@@ -23,20 +24,59 @@ shaped-with_taken s object cache shaped = record {
   pool_frames = shaped.pool_frames;
   slabs = shaped.slabs;
   frees = shaped.frees;
-  caches = shaped.caches;
+  table = shaped.table;
+  checked = checked-rest s s.pool s.memory (set s.board object None) s.gone (set s.live cache (get_or s.live cache 0 - 1)) shaped.checked;
   cpu_lists = shaped.cpu_lists;
   nodes = shaped.nodes;
+  memory = shaped.memory;
   live = length-set s.live cache (get_or s.live cache 0 - 1) ∙ shaped.live;
   board = omega (arith, shaped.board, length-set s.board object None);
-  ages = shaped.ages;
-  aged = shaped.aged;
-  names = shaped.names;
-  layouts = shaped.layouts;
+  gone = omega (arith, shaped.gone, length-set s.board object None);
   slab = shaped.slab;
   aligned = shaped.aligned;
   held = λ number. at_written (λ x. IfSome x (λ h. IsLiveOf h.cache (slab_of s h.frame))) s.board object number None None (λ e. tt) (shaped.held number);
   bare = shaped.bare;
 }
+
+-- who freed a number says nothing of slabs and lists
+pub with_gone-consistent : (s : State) (object worker : ℕ) (held : Held) → IsConsistent s → IsConsistent (with_gone s object worker held)
+with_gone-consistent s object worker held consistent =
+    let shaped = consistent.shaped in
+    let gone : List (Option Held) = set s.gone object (Some (record held { worker = Some worker })) in
+    record {
+      shaped = record {
+        frames = shaped.frames;
+        cpus = shaped.cpus;
+        pool = shaped.pool;
+        pool_frames = shaped.pool_frames;
+        slabs = shaped.slabs;
+        frees = shaped.frees;
+        table = shaped.table;
+        checked = checked-rest s s.pool s.memory s.board gone s.live shaped.checked;
+        cpu_lists = shaped.cpu_lists;
+        nodes = shaped.nodes;
+        memory = shaped.memory;
+        live = shaped.live;
+        board = shaped.board;
+        gone = length-set s.gone object (Some (record held { worker = Some worker })) ∙ shaped.gone;
+        slab = shaped.slab;
+        aligned = shaped.aligned;
+        held = shaped.held;
+        bare = shaped.bare;
+      };
+      placed = consistent.placed;
+      framed = consistent.framed;
+      listed = record {
+        once = consistent.listed.once;
+        live = consistent.listed.live;
+        stocked = consistent.listed.stocked;
+        of_current = consistent.listed.of_current;
+        of_partial = consistent.listed.of_partial;
+        of_node = consistent.listed.of_node;
+        frozen = consistent.listed.frozen;
+      };
+      accounted = consistent.accounted;
+    }
 
 -- the board has no slab
 pub listed-with_taken : (s : State) (object cache : ℕ) → IsListed s → IsListed (with_taken s object cache)
@@ -69,7 +109,7 @@ module _ (s : State) (object : ℕ) (held : Held) (consistent : IsConsistent s) 
   slab-live = subst (λ (x : Option Held). IfSome x (λ h. IsLiveOf h.cache (slab_of s h.frame))) here (consistent.shaped.held object)
 
   pub cache-within : held.cache < 32
-  cache-within = omega (arith, live-inside s.caches held.cache (of-its-cache s held.cache (slab_of s held.frame) slab-live (consistent.shaped.slab held.frame)), consistent.shaped.caches)
+  cache-within = omega (arith, live-inside s.table.caches held.cache (of-its-cache s held.cache (slab_of s held.frame) slab-live (consistent.shaped.slab held.frame)), consistent.shaped.table.numbers)
 
   -- it is counted
   pub counted : 0 < get_or s.live held.cache 0

@@ -6,13 +6,15 @@ use Rattle.slub_page_pool.specs.FreeFrames.{FreeFrames}
 use Rattle.slub_page_pool.specs.Block.{Takes, TakesOrNotes}
 use Rattle.slub_object_layout.specs.declared.layout.Layout.{Layout}
 use Rattle.slub_object_layout.specs.Layout.{address_of}
+use Rattle.slub_cache_create.specs.declared.caches.Cache.{Cache}
+use Rattle.slub_cache_create.specs.Table.{name_at, number_of, cache_of as live_cache}
+use Rattle.slub_red_zone.specs.State.{CheckedState}
 use Rattle.slub_lists.specs.declared.lists.Slab.{Slab}
 use Rattle.slub_lists.specs.declared.lists.CpuLists.{CpuLists}
-use Rattle.slub_lists.specs.declared.lists.Cache.{Cache}
 use Rattle.slub_lists.specs.declared.lists.Held.{Held}
 use Rattle.slub_lists.specs.declared.lists.Run.{Run}
 use Rattle.slub_lists.specs.declared.reply.Reply.{Reply}
-use Rattle.slub_lists.specs.declared.reply.Reply.TheVariants.{Given, NoFrames, NoSuchCache}
+use Rattle.slub_lists.specs.declared.reply.Reply.TheVariants.{Given, NoFrames}
 use Rattle.slub_lists.specs.State.{State}
 
 -- ---- what the machine has
@@ -43,11 +45,15 @@ node_of s cache = slice_index_or s.nodes cache []
 
 -- the live cache of a number
 abbrev pub cache_of : State → ℕ → Option Cache
-cache_of s cache = slice_index_or s.caches cache None
+cache_of s cache = live_cache s.table cache
 
--- the live cache that a place of the trace's names names
+-- the number of the live cache that the name at a place of the trace's names names
 abbrev pub named : State → ℕ → Option ℕ
-named s place = slice_index_or s.names place None
+named s place = number_of s.table (name_at s.table place)
+
+-- the slabs of a live checked cache
+abbrev pub checked_of : State → ℕ → Option CheckedState
+checked_of s cache = slice_index_or s.checked cache None
 
 -- ---- changes
 
@@ -169,8 +175,3 @@ AllocatesNew s layout cache cpu worker object reply after =
 abbrev pub Allocates : State → Layout → ℕ → ℕ → ℕ → ℕ → Reply → State → Type 0
 Allocates s layout cache cpu worker object reply after =
     MatchResult (stocked s layout cache cpu) (λ stocked. Gives stocked layout cache cpu worker object reply after) (λ bare. AllocatesNew bare layout cache cpu worker object reply after)
-
--- the same of the cache that a name names
-abbrev pub AllocatesNamed : State → ℕ → ℕ → ℕ → ℕ → Reply → State → Type 0
-AllocatesNamed s place cpu worker object reply after =
-    MatchOption (named s place) ((reply ≡ NoSuchCache) × (after ≡ s)) (λ cache. MatchOption (cache_of s cache) ⊥ (λ live. Allocates s live.layout cache cpu worker object reply after))

@@ -1,16 +1,20 @@
 -- What holds of the machine between any two operations, and between their steps.
-use Rattle.std.specs.Prelude.{◌≡◌, ◌≢◌, ℕ, ◌+◌, ◌*◌, ◌%◌, ◌^◌, ◌<◌, ◌≤◌, ◌↔◌, ◌&&◌, ◌==◌, nat_lt, nat_le, if◌then◌else◌, List, [], ◌∷◌, length, map, sum_by, count_by, replicate, Option, Some, None, IsSome, IfSome, IsTrue, All, MatchOption, is_some, ◌⊎◌, slice_index_or, slice_set}
-use Rattle.std.specs.Option.{option_map}
+use Rattle.std.specs.Prelude.{◌≡◌, ◌≢◌, ℕ, ◌+◌, ◌*◌, ◌%◌, ◌^◌, ◌<◌, ◌≤◌, ◌↔◌, ◌&&◌, ◌==◌, nat_lt, nat_le, if◌then◌else◌, List, [], ◌∷◌, length, map, sum_by, replicate, Option, Some, None, IsSome, IfSome, IsTrue, ⊤, MatchOption, is_some, ◌⊎◌, slice_index_or}
+use Rattle.std.specs.Option.{option_map, option_map_or}
 use Rattle.slub_page_pool.specs.FreeFrames as pool
 use Rattle.slub_page_pool.specs.History.{times}
 use Rattle.slub_object_layout.specs.declared.layout.Layout.{Layout}
-use Rattle.slub_object_layout.specs.Layout.{IsWithinBounds}
+use Rattle.slub_object_layout.specs.Layout.{is_checked}
+use Rattle.slub_cache_create.specs.Sound.{IsSound as IsSoundTable}
+use Rattle.slub_cache_create.specs.Table.{opening as no_caches}
+use Rattle.slub_red_zone.specs.Objects.{AddsReports, findable, idle, shape_at}
+use Rattle.slub_red_zone.specs.Sound.{IsSound as IsSoundChecked}
+use Rattle.slub_red_zone.specs.State.{CheckedState}
 use Rattle.slub_lists.specs.declared.lists.Slab.{Slab}
 use Rattle.slub_lists.specs.declared.lists.CpuLists.{CpuLists}
-use Rattle.slub_lists.specs.declared.lists.Cache.{Cache}
 use Rattle.slub_lists.specs.declared.lists.Held.{Held}
 use Rattle.slub_lists.specs.State.{State}
-use Rattle.slub_lists.specs.Alloc.{held_here, slab_of, own_free, cache_of, named, lists_of, node_of, no_lists}
+use Rattle.slub_lists.specs.Alloc.{held_here, slab_of, own_free, cache_of, checked_of, lists_of, node_of, no_lists}
 
 -- a number where the frame is the current one, else 0
 abbrev pub if_current : ℕ → ℕ → Option ℕ → ℕ
@@ -23,10 +27,14 @@ if_current frame n (Some current) = if current == frame then n else 0
 abbrev pub on_cpu : ℕ → ℕ → CpuLists → ℕ
 on_cpu frame index lists = if_current frame (times index lists.free) lists.current
 
--- how many places an object has: with a worker or on the board, on a CPU freelist, on its slab's own freelist
+-- 1 where the object is one of a checked cache, and free or set aside there
+abbrev pub idle_in : ℕ → ℕ → Option CheckedState → ℕ
+idle_in frame index slabs = option_map_or (λ slabs. idle slabs frame index) slabs 0
+
+-- how many places an object has: with a worker or on the board, on a CPU freelist, on its slab's own freelist, free or set aside in a checked slab
 abbrev pub places : State → ℕ → ℕ → ℕ
 places s frame index =
-    sum_by (held_here frame index) s.board + sum_by (on_cpu frame index) s.cpu_lists + times index (own_free s frame)
+    sum_by (held_here frame index) s.board + sum_by (on_cpu frame index) s.cpu_lists + times index (own_free s frame) + sum_by (idle_in frame index) s.checked
 
 -- 1 where a slab has an object of this index
 abbrev pub has_object : ℕ → Option Slab → ℕ
@@ -95,17 +103,37 @@ abbrev pub IsSlabOf : Layout → Slab → Type 0
 IsSlabOf layout slab =
     ((slab.order ≡ layout.order) × (slab.objects ≡ layout.objects)) ⊎ ((slab.order ≡ layout.min_order) × (slab.objects ≡ layout.min_objects_slab))
 
--- a layout that `layout_of` gives, but for the two numbers that `tune` sets
-pub record IsTuned (layout : Layout) : Type 0 where
-  pub made : IsWithinBounds (record layout { min_partial = 5; cpu_partial_slabs = 0 })
-  pub min_partial : layout.min_partial ≤ 4096
-  pub cpu_partial_slabs : layout.cpu_partial_slabs ≤ 8192
-
 -- what an object number names
 abbrev pub held_under : State → ℕ → Option Held
 held_under s object = slice_index_or s.board object None
 
--- the numbers of things
+-- ---- checked caches
+
+-- a slab and what a checked cache has at its frame: a slab of this cache is there, of the same order and number of objects, or neither is
+abbrev pub Agrees : ℕ → Option Slab → Option (ℕ × ℕ) → Type 0
+Agrees cache None None = ⊤
+Agrees cache None (Some shape) = ⊥
+Agrees cache (Some slab) None = slab.cache ≢ cache
+Agrees cache (Some slab) (Some shape) = (slab.cache ≡ cache) × (slab.order ≡ shape.0) × (slab.objects ≡ shape.1)
+
+-- these are the slabs of the live checked cache of this number; none of them is current or on a list, or has a freelist here
+pub record IsCheckedOf (s : State) (cache : ℕ) (slabs : CheckedState) : Type 0 where
+  pub sound : IsSoundChecked slabs
+  pub number : slabs.cache ≡ cache
+  pub live : MatchOption (cache_of s cache) ⊥ (λ live. (live.layout ≡ slabs.layout) × (live.flags ≡ slabs.flags))
+  pub agrees : (frame : ℕ) → Agrees cache (slab_of s frame) (shape_at slabs frame)
+  pub unlisted : (cpu : ℕ) → cpu < s.cpus → lists_of s cache cpu ≡ no_lists
+  pub off_node : node_of s cache ≡ []
+  pub unfree : (frame : ℕ) → MatchOption (slab_of s frame) ⊤ (λ slab. slab.cache ≡ cache → own_free s frame ≡ [])
+
+-- each live cache with F, Z or P has its slabs there, and no other
+pub record AreChecked (s : State) : Type 0 where
+  pub numbers : length s.checked ≡ 32
+  pub those : (cache : ℕ) → IfSome (checked_of s cache) (IsCheckedOf s cache)
+  pub all : (cache : ℕ) → IfSome (cache_of s cache) (λ live. is_checked live.flags ≡ is_some (checked_of s cache))
+
+-- ---- the numbers of things
+
 pub record IsShaped (s : State) : Type 0 where
   pub frames : (2 ≤ s.frames) × (s.frames ≤ 4096)
   pub cpus : (1 ≤ s.cpus) × (s.cpus ≤ 16)
@@ -113,16 +141,14 @@ pub record IsShaped (s : State) : Type 0 where
   pub pool_frames : s.pool.frames ≡ s.frames
   pub slabs : length s.slabs ≡ s.frames
   pub frees : length s.frees ≡ s.frames
-  pub caches : length s.caches ≡ 32
+  pub table : IsSoundTable s.table
+  pub checked : AreChecked s
   pub cpu_lists : length s.cpu_lists ≡ 32 * s.cpus
   pub nodes : length s.nodes ≡ 32
+  pub memory : length s.memory ≡ 512 * s.frames
   pub live : length s.live ≡ 32
-  pub board : length s.board ≤ 2 ^ 32
-  -- the ages are the live caches, each once, and each name is one of a live cache
-  pub ages : length s.ages ≡ count_by is_some s.caches
-  pub aged : (cache : ℕ) → times cache s.ages ≡ (if is_some (cache_of s cache) then 1 else 0)
-  pub names : (place : ℕ) → IfSome (named s place) (λ cache. IsSome (cache_of s cache))
-  pub layouts : (cache : ℕ) → IfSome (cache_of s cache) (λ live. IsTuned live.layout)
+  pub board : length s.board < 2 ^ 32
+  pub gone : length s.gone ≡ length s.board
   -- a slab is one of its cache, and its run begins at a multiple of its length
   pub slab : (frame : ℕ) → IfSome (slab_of s frame) (λ slab. MatchOption (cache_of s slab.cache) ⊥ (λ live. IsSlabOf live.layout slab))
   pub aligned : (frame : ℕ) → IfSome (slab_of s frame) (λ slab. frame % 2 ^ slab.order ≡ 0)
@@ -154,57 +180,60 @@ pub record IsCoherent (s : State) : Type 0 where
 
 -- ---- the opening
 
--- the machine before the first item: free frames 1 to F - 1, no cache, an empty board
-abbrev pub opening : ℕ → ℕ → ℕ → ℕ → State
+-- the machine before the first item: free frames 1 to F - 1, no cache, an empty board; the names are the trace's
+abbrev pub opening : ℕ → ℕ → ℕ → List (List ℕ) → State
 opening frames cpus objects names = record {
   frames = frames;
   cpus = cpus;
   pool = pool.opening frames;
   slabs = replicate frames None;
   frees = replicate frames [];
-  caches = replicate 32 None;
-  ages = [];
-  names = replicate names None;
+  table = no_caches names;
   cpu_lists = replicate (32 * cpus) no_lists;
   nodes = replicate 32 [];
+  checked = replicate 32 None;
+  memory = replicate (512 * frames) 0;
   board = replicate (objects + 1) None;
+  gone = replicate (objects + 1) None;
   live = replicate 32 0;
 }
 
--- ---- a cache that is made, and a round that ends
-
--- no number is left for a cache
-abbrev pub AreAllUsed : State → Type 0
-AreAllUsed s = All IsSome s.caches
-
--- the least number that no live cache has
-pub record IsLeastUnused (s : State) (cache : ℕ) : Type 0 where
-  pub within : cache < length s.caches
-  pub unused : cache_of s cache ≡ None
-  pub least : (other : ℕ) → other < cache → IsSome (cache_of s other)
-
--- a new cache of this number and name, the newest
-abbrev pub with_cache : State → ℕ → ℕ → Cache → State
-with_cache s place cache made = record s { caches = slice_set s.caches cache (Some made); ages = cache ∷ s.ages; names = slice_set s.names place (Some cache) }
-
--- a cache is made under the least unused number, which is the answer
-abbrev pub Creates : State → ℕ → Cache → Option ℕ → State → Type 0
-Creates s place made None after = AreAllUsed s × (after ≡ s)
-Creates s place made (Some cache) after = IsLeastUnused s cache × (after ≡ with_cache s place cache made)
+-- ---- a round that ends
 
 abbrev pub laid_down : Held → Held
 laid_down held = record held { worker = None }
 
--- every held object is put on the board
+-- every held object is put on the board, and nobody knows a freed one any more
 abbrev pub all_on_board : State → State
-all_on_board s = record s { board = map (option_map laid_down) s.board }
+all_on_board s = record s { board = map (option_map laid_down) s.board; gone = map (λ freed. None) s.gone }
 
--- what an allocation or a free under a number leaves as it was
+-- ---- what one event leaves
+
+-- the reports of a checked cache grow, and there is no other cache than before
+abbrev pub AddsReportsOf : Option CheckedState → Option CheckedState → Type 0
+AddsReportsOf None None = ⊤
+AddsReportsOf None (Some new) = ⊥
+AddsReportsOf (Some old) None = ⊥
+AddsReportsOf (Some old) (Some new) = AddsReports old new
+
+-- the reports and the listed slabs of all checked caches
+abbrev pub findable_in : State → ℕ
+findable_in s = sum_by (λ slabs. option_map_or findable slabs 0) s.checked
+
+-- what an event under a number leaves as it was
 pub record KeepsOthers (s : State) (object : ℕ) (after : State) : Type 0 where
   pub frames : after.frames ≡ s.frames
   pub cpus : after.cpus ≡ s.cpus
-  pub caches : after.caches ≡ s.caches
-  pub ages : after.ages ≡ s.ages
-  pub names : after.names ≡ s.names
+  pub table : after.table ≡ s.table
   pub board_length : length after.board ≡ length s.board
   pub board : (other : ℕ) → other ≢ object → slice_index_or after.board other None ≡ slice_index_or s.board other None
+  -- reports are added and none goes, and an event lists at most one slab more that may be reported
+  pub reports : (cache : ℕ) → AddsReportsOf (checked_of s cache) (checked_of after cache)
+  pub findable : findable_in after ≤ findable_in s + 1
+
+-- what an item leaves as it was: the sizes of the machine and the trace's names
+pub record KeepsMachine (s after : State) : Type 0 where
+  pub frames : after.frames ≡ s.frames
+  pub cpus : after.cpus ≡ s.cpus
+  pub kept : after.table.kept ≡ s.table.kept
+  pub gone : after.gone ≡ s.gone

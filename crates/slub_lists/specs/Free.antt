@@ -1,5 +1,5 @@
 -- Freeing on plain lists, after `do_slab_free`, `__slab_free`, `put_cpu_partial` and `__unfreeze_partials` of Linux 6.1.
-use Rattle.std.specs.Prelude.{◌≡◌, ℕ, ◌-◌, ◌&&◌, ◌==◌, not, nat_lt, nat_le, if◌then◌else◌, Bool, true, false, List, [], ◌∷◌, ◌++◌, length, filter, fold, Option, Some, None, MatchBool, MatchOption, slice_set, slice_index_or}
+use Rattle.std.specs.Prelude.{◌≡◌, ℕ, ◌-◌, ◌&&◌, ◌==◌, not, nat_lt, nat_le, if◌then◌else◌, Bool, true, false, List, [], ◌∷◌, ◌++◌, length, filter, fold, Option, Some, None, slice_set, slice_index_or}
 use Rattle.std.specs.Option.{option_map_or}
 use Rattle.slub_page_pool.specs.Block.{with_run}
 use Rattle.slub_page_pool.specs.History.{times}
@@ -7,9 +7,9 @@ use Rattle.slub_object_layout.specs.declared.layout.Layout.{Layout}
 use Rattle.slub_object_layout.specs.Layout.{address_of}
 use Rattle.slub_lists.specs.declared.lists.Held.{Held}
 use Rattle.slub_lists.specs.declared.reply.Reply.{Reply}
-use Rattle.slub_lists.specs.declared.reply.Reply.TheVariants.{Freed, NotHeld}
+use Rattle.slub_lists.specs.declared.reply.Reply.TheVariants.{Freed}
 use Rattle.slub_lists.specs.State.{State}
-use Rattle.slub_lists.specs.Alloc.{cache_of, lists_of, node_of, own_free, slab_of, with_lists, with_node}
+use Rattle.slub_lists.specs.Alloc.{lists_of, node_of, own_free, slab_of, with_lists, with_node}
 
 -- ---- what a slab has
 
@@ -112,13 +112,12 @@ is_freeable worker (Some holder) = holder == worker
 abbrev pub with_taken : State → ℕ → ℕ → State
 with_taken s object cache = record s { board = slice_set s.board object None; live = slice_set s.live cache (slice_index_or s.live cache 0 - 1) }
 
--- the object under a number is freed on a CPU
-abbrev pub FreesHeld : State → ℕ → ℕ → Held → Reply → State → Type 0
-FreesHeld s cpu object held reply after =
-    MatchOption (cache_of s held.cache) ⊥ (λ live. (reply ≡ Freed (address_of held.frame held.index live.layout)) × (after ≡ freed (with_taken s object held.cache) live.layout held.cache cpu held.frame held.index))
+-- the number is one that this worker freed in this round
+abbrev pub with_gone : State → ℕ → ℕ → Held → State
+with_gone s object worker held = record s { gone = slice_set s.gone object (Some (record held { worker = Some worker })) }
 
--- a free answers that the number isn't held, exactly where it names nothing that the worker holds or that is on the board
-abbrev pub Frees : State → ℕ → ℕ → ℕ → Reply → State → Type 0
-Frees s cpu worker object reply after =
-    MatchOption (slice_index_or s.board object None) ((reply ≡ NotHeld) × (after ≡ s)) (λ held.
-    MatchBool (is_freeable worker held.worker) (FreesHeld s cpu object held reply after) ((reply ≡ NotHeld) × (after ≡ s)))
+-- the object of a cache that is not checked is freed on a CPU
+abbrev pub FreesUnchecked : State → Layout → ℕ → ℕ → ℕ → Held → Reply → State → Type 0
+FreesUnchecked s layout cpu worker object held reply after =
+    (reply ≡ Freed (address_of held.frame held.index layout))
+    × (after ≡ with_gone (freed (with_taken s object held.cache) layout held.cache cpu held.frame held.index) object worker held)

@@ -1,5 +1,16 @@
 pub mod State
 pub mod Alloc
+pub mod Free
+pub mod Checked
+pub mod Named
+pub mod Freeing
+pub mod Words
+pub mod Create
+pub mod Shrink
+pub mod Shrinking
+pub mod Destroy
 pub mod Coherent
 pub mod Steps
-pub mod Free
+pub mod CheckedSteps
+pub mod WordSteps
+pub mod Laws

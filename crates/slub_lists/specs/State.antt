@@ -1,9 +1,10 @@
 -- What contracts see of the machine on plain lists.
 use Rattle.std.specs.Prelude.{ℕ, List, Option}
 use Rattle.slub_page_pool.specs.FreeFrames.{FreeFrames}
+use Rattle.slub_cache_create.specs.Table.{Table}
+use Rattle.slub_red_zone.specs.State.{CheckedState}
 use Rattle.slub_lists.specs.declared.lists.Slab.{Slab}
 use Rattle.slub_lists.specs.declared.lists.CpuLists.{CpuLists}
-use Rattle.slub_lists.specs.declared.lists.Cache.{Cache}
 use Rattle.slub_lists.specs.declared.lists.Held.{Held}
 
 -- the machine between two steps
@@ -12,19 +13,22 @@ pub record State : Type 0 where
   pub frames : ℕ
   pub cpus : ℕ
   pub pool : FreeFrames
-  -- by frame: the live slab whose run begins there, and its own freelist
+  -- by frame: the live slab whose run begins there, and its own freelist, which a checked slab has not
   pub slabs : List (Option Slab)
   pub frees : List (List ℕ)
-  -- by number: the live caches; then their numbers, newest first
-  pub caches : List (Option Cache)
-  pub ages : List ℕ
-  -- by place among the trace's names: the number of the live cache that is named so
-  pub names : List (Option ℕ)
+  -- the live names and caches
+  pub table : Table
   -- by cache number and CPU
   pub cpu_lists : List CpuLists
   -- by cache number: the node's partial list, head first
   pub nodes : List (List ℕ)
+  -- by cache number: of a live checked cache, the bytes of its slabs and what each object is
+  pub checked : List (Option CheckedState)
+  -- the words of the frames, as the holders of objects that are not checked wrote them
+  pub memory : List ℕ
   -- by object number: the objects that were given and not freed
   pub board : List (Option Held)
-  -- by cache number: how many of its objects those are
+  -- by object number: the objects that were freed in this round, each with the worker that freed it
+  pub gone : List (Option Held)
+  -- by cache number: how many of its objects are given and not freed
   pub live : List ℕ

@@ -1,14 +1,20 @@
 -- What the steps of an operation hand to one another.
-use Rattle.std.specs.Prelude.{◌≡◌, ℕ, ◌+◌, ◌<◌, Bool, true, false, length, List, [], ◌∷◌, take, drop, reverse, Some, None, MatchOption, ◌⊎◌}
+use Rattle.std.specs.Prelude.{◌≡◌, ℕ, ◌+◌, ◌<◌, ◌≤◌, Bool, true, false, length, List, [], ◌∷◌, take, drop, reverse, Some, None, MatchOption, ◌⊎◌}
+use Rattle.slub_object_layout.specs.declared.layout.Flags.{Flags}
 use Rattle.slub_object_layout.specs.declared.layout.Layout.{Layout}
+use Rattle.slub_cache_create.specs.Sound.{IsLiveLayout}
 use Rattle.slub_lists.specs.State.{State}
-use Rattle.slub_lists.specs.Alloc.{cache_of, lists_of, node_of, own_free, slab_of, with_lists, with_node}
+use Rattle.slub_lists.specs.Alloc.{cache_of, checked_of, lists_of, node_of, own_free, slab_of, with_lists, with_node}
 use Rattle.slub_lists.specs.Free.{moved, with_partial}
-use Rattle.slub_lists.specs.Coherent.{times_current, times_partial, if_current}
+use Rattle.slub_lists.specs.Coherent.{AddsReportsOf, findable_in, times_current, times_partial, if_current}
 
 -- the cache is live, and has this layout
 abbrev pub HasLayout : State → ℕ → Layout → Type 0
 HasLayout s cache layout = MatchOption (cache_of s cache) ⊥ (λ live. live.layout ≡ layout)
+
+-- the layout of a live cache
+abbrev pub IsLive : Layout → Type 0
+IsLive layout = (flags : Flags) × IsLiveLayout flags layout
 
 -- a slab with a free object that can be made current on a CPU whose freelist is empty: it is current there already, or the CPU has no slab and it is on no list
 pub record IsTakable (s : State) (cache cpu frame : ℕ) : Type 0 where
@@ -25,14 +31,19 @@ pub record IsListable (s : State) (cache frame : ℕ) : Type 0 where
   pub stocked : 0 < length (own_free s frame)
   pub unlisted : times_current s frame + times_partial s frame ≡ 0
 
--- the caches, the names, the board and the counts are as before, and so are the numbers of frames and CPUs
+-- the caches, the board and the counts are as before, and so are the numbers of frames and CPUs
 pub record IsRelisted (old new : State) : Type 0 where
   pub frames : new.frames ≡ old.frames
   pub cpus : new.cpus ≡ old.cpus
-  pub caches : new.caches ≡ old.caches
-  pub names : new.names ≡ old.names
+  pub table : new.table ≡ old.table
+  pub checked : new.checked ≡ old.checked
   pub board : new.board ≡ old.board
   pub live : new.live ≡ old.live
+
+-- what an operation leaves of the reports of the checked caches: none goes, and at most one slab more is listed that may be reported
+pub record KeepsFound (s after : State) : Type 0 where
+  pub reports : (cache : ℕ) → AddsReportsOf (checked_of s cache) (checked_of after cache)
+  pub findable : findable_in after ≤ findable_in s + 1
 
 -- the front of the CPU's partial list is taken off, and can be taken up
 pub record PopsPartial (old : State) (cache cpu frame : ℕ) (new : State) : Type 0 where

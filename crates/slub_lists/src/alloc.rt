@@ -3,9 +3,10 @@
 ghost use Rattle.std.specs.Prelude.{◌≡◌, ◌<◌, ◌≤◌, length, None, IsSome, IfSome, slice_index_or};
 ghost use Rattle.std.specs.Bool.{OnTrue};
 ghost use Rattle.slub_page_pool.specs.FreeFrames.{IsPool};
-ghost use Rattle.slub_lists.specs.Alloc.{Allocates, AllocatesNamed, AllocatesNew, FindsRun, Gives, MakesSlab, cache_of, lists_of};
-ghost use Rattle.slub_lists.specs.Coherent.{IsCoherent, IsConsistent, IsTuned, KeepsOthers};
-ghost use Rattle.slub_lists.specs.Steps.{HasLayout, IsRelisted};
+ghost use Rattle.slub_lists.specs.Alloc.{Allocates, AllocatesNew, FindsRun, Gives, MakesSlab, cache_of, checked_of, lists_of};
+ghost use Rattle.slub_lists.specs.Named.{AllocatesFrom, AllocatesNamed};
+ghost use Rattle.slub_lists.specs.Coherent.{IsCoherent, IsConsistent, KeepsOthers};
+ghost use Rattle.slub_lists.specs.Steps.{HasLayout, IsLive, IsRelisted, KeepsFound};
 
 use crate::lists::{Held, Lists, Run, Slab};
 use crate::reply::Reply;
@@ -14,9 +15,9 @@ use slub_page_pool::Pool;
 
 /// A run for a new slab: of the layout's order, or where none is there of its least order
 /// (`allocate_slab`). Where none is there either, the want of the least order is noted.
-fn find_run(pool: &mut Pool, layout: &Layout) -> Option<Run>
+pub(crate) fn find_run(pool: &mut Pool, layout: &Layout) -> Option<Run>
     requires pool { IsPool pool.old }
-    requires layout { IsTuned layout.now }
+    requires layout { IsLive layout.now }
     ensures found { FindsRun pool.old layout.now result pool.new }
     ensures pool { IsPool pool.new }
 {
@@ -50,7 +51,7 @@ impl Lists {
     /// The number is one that no object on the board has.
     pub fn alloc_named(&mut self, place: u32, cpu: u32, worker: u32, object: u32) -> Reply
         requires coherent { IsCoherent self.old }
-        requires place { place < length self.old.names }
+        requires place { place < length self.old.table.kept }
         requires cpu { cpu < self.old.cpus }
         requires object { object < length self.old.board }
         requires unused { slice_index_or self.old.board object None ≡ None }
@@ -64,49 +65,63 @@ impl Lists {
     /// Allocates an object of the cache that a name names.
     fn alloc_by_name(&mut self, place: u32, cpu: u32, worker: u32, object: u32) -> Reply
         requires consistent { IsConsistent self.old }
-        requires place { place < length self.old.names }
+        requires place { place < length self.old.table.kept }
         requires cpu { cpu < self.old.cpus }
         requires object { object < length self.old.board }
         requires unused { slice_index_or self.old.board object None ≡ None }
         ensures allocates { AllocatesNamed self.old place cpu worker object result self.new }
+        ensures found { KeepsFound self.old self.new }
         ensures consistent { IsConsistent self.new }
     {
-        match self.names[place as usize] {
-            Some(cache) => self.alloc(cache, cpu, worker, object),
+        match self.table.at(place) {
+            Some(cache) => self.alloc_from(cache, cpu, worker, object),
             None => Reply::NoSuchCache,
         }
     }
 
-    /// Allocates an object of a live cache.
-    fn alloc(&mut self, cache: u32, cpu: u32, worker: u32, object: u32) -> Reply
+    /// Allocates an object of a live cache, checked or not.
+    fn alloc_from(&mut self, cache: u8, cpu: u32, worker: u32, object: u32) -> Reply
         requires consistent { IsConsistent self.old }
         requires live { IsSome (cache_of self.old cache) }
         requires cpu { cpu < self.old.cpus }
         requires object { object < length self.old.board }
         requires unused { slice_index_or self.old.board object None ≡ None }
-        ensures allocates { IfSome (cache_of self.old cache) (λ live. Allocates self.old live.layout cache cpu worker object result self.new) }
+        ensures allocates { IfSome (cache_of self.old cache) (λ live. AllocatesFrom self.old live.layout cache cpu worker object result self.new) }
+        ensures found { KeepsFound self.old self.new }
         ensures consistent { IsConsistent self.new }
     {
         let layout = self.layout(cache);
+        if self.checked[cache as usize].is_some() {
+            self.alloc_checked(cache, worker, object, &layout)
+        } else {
+            self.alloc(cache, cpu, worker, object, &layout)
+        }
+    }
+
+    /// Allocates an object of a live cache that is not checked.
+    fn alloc(&mut self, cache: u8, cpu: u32, worker: u32, object: u32, layout: &Layout) -> Reply
+        requires consistent { IsConsistent self.old }
+        requires live { HasLayout self.old cache layout.now }
+        requires unchecked { checked_of self.old cache ≡ None }
+        requires cpu { cpu < self.old.cpus }
+        requires object { object < length self.old.board }
+        requires unused { slice_index_or self.old.board object None ≡ None }
+        ensures allocates { Allocates self.old layout.now cache cpu worker object result self.new }
+        ensures consistent { IsConsistent self.new }
+    {
         let batch = layout.cpu_partial_slabs as usize / 2 + 1;
         if self.stock(cache, cpu, batch) {
-            Reply::Given(self.give(cache, cpu, worker, object, &layout))
+            Reply::Given(self.give(cache, cpu, worker, object, layout))
         } else {
-            self.alloc_new(cache, cpu, worker, object, &layout)
+            self.alloc_new(cache, cpu, worker, object, layout)
         }
     }
 
     /// Allocates the first object of a new slab.
-    fn alloc_new(
-        &mut self,
-        cache: u32,
-        cpu: u32,
-        worker: u32,
-        object: u32,
-        layout: &Layout,
-    ) -> Reply
+    fn alloc_new(&mut self, cache: u8, cpu: u32, worker: u32, object: u32, layout: &Layout) -> Reply
         requires consistent { IsConsistent self.old }
         requires live { HasLayout self.old cache layout.now }
+        requires unchecked { checked_of self.old cache ≡ None }
         requires cpu { cpu < self.old.cpus }
         requires current { (lists_of self.old cache cpu).current ≡ None }
         requires object { object < length self.old.board }
@@ -122,21 +137,19 @@ impl Lists {
     }
 
     /// The layout of a live cache.
-    pub(crate) fn layout(&self, cache: u32) -> Layout
+    pub(crate) fn layout(&self, cache: u8) -> Layout
         requires live { IsSome (cache_of self.now cache) }
         ensures { HasLayout self.now cache result }
     {
-        match &self.caches[cache as usize] {
-            Some(live) => live.layout,
-            None => unreachable!(),
-        }
+        *self.table.layout(cache)
     }
 
     /// Makes a slab that is frozen and current on a CPU, whose objects in rising order are the CPU
     /// freelist (`new_slab`). False where no run of frames is there.
-    fn new_slab(&mut self, cache: u32, cpu: u32, layout: &Layout) -> bool
+    fn new_slab(&mut self, cache: u8, cpu: u32, layout: &Layout) -> bool
         requires consistent { IsConsistent self.old }
         requires live { HasLayout self.old cache layout.now }
+        requires unchecked { checked_of self.old cache ≡ None }
         requires cpu { cpu < self.old.cpus }
         requires current { (lists_of self.old cache cpu).current ≡ None }
         ensures made { MakesSlab self.old layout.now cache cpu result self.new }
@@ -161,9 +174,10 @@ impl Lists {
     }
 
     /// Gives the first object of the CPU freelist, and says its address.
-    fn give(&mut self, cache: u32, cpu: u32, worker: u32, object: u32, layout: &Layout) -> u32
+    fn give(&mut self, cache: u8, cpu: u32, worker: u32, object: u32, layout: &Layout) -> u32
         requires consistent { IsConsistent self.old }
         requires live { HasLayout self.old cache layout.now }
+        requires unchecked { checked_of self.old cache ≡ None }
         requires cpu { cpu < self.old.cpus }
         requires free { 0 < length (lists_of self.old cache cpu).free }
         requires object { object < length self.old.board }

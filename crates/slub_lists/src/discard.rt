@@ -9,7 +9,7 @@ use crate::lists::Lists;
 
 impl Lists {
     /// Nothing of the slab is in use, and the cache's node list has `min_partial` slabs or more.
-    pub(crate) fn is_spare(&self, cache: u32, frame: u16, min_partial: u32) -> bool
+    pub(crate) fn is_spare(&self, cache: u8, frame: u16, min_partial: u32) -> bool
         requires slabs { frame < length self.now.slabs }
         requires frees { frame < length self.now.frees }
         requires nodes { cache < length self.now.nodes }
@@ -19,7 +19,7 @@ impl Lists {
     }
 
     /// All objects of the slab are on its own freelist.
-    fn is_unused(&self, frame: u16) -> bool
+    pub(crate) fn is_unused(&self, frame: u16) -> bool
         requires slabs { frame < length self.now.slabs }
         requires frees { frame < length self.now.frees }
         ensures { result ≡ (inuse_of self.now frame == 0) }

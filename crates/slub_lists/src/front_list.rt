@@ -85,25 +85,29 @@ impl<const ROOM: usize> FrontList<ROOM> {
         self.items.len() < before
     }
 
+    /// Puts those of another list before these, in their order, and leaves that list empty.
+    pub fn take_before(&mut self, front: &mut FrontList<ROOM>)
+        requires { length front.old + length self.old ≤ ROOM }
+        ensures joined { self.new ≡ front.old ++ self.old }
+        ensures emptied { front.new ≡ [] }
+    {
+        while let Some(last) = front.pop_back() {
+            self.push(last);
+        }
+    }
+
+    /// Takes the last off, if there is one.
+    fn pop_back(&mut self) -> Option<u16>
+        ensures { MatchOption result ((self.old ≡ []) × (self.new ≡ [])) (λ item. self.old ≡ self.new ++ item ∷ []) }
+    {
+        self.items.pop_back()
+    }
+
     /// Takes all out.
     pub fn clear(&mut self)
         ensures { self.new ≡ [] }
     {
         self.items.clear();
-    }
-
-    /// Takes up to `most` off the front of another list, and puts each before the others here.
-    pub fn gather(&mut self, from: &mut FrontList<ROOM>, most: usize)
-        requires { length self.old + length from.old ≤ ROOM }
-        ensures here { self.new ≡ reverse (take most from.old) ++ self.old }
-        ensures there { from.new ≡ drop most from.old }
-    {
-        for _ in 0..most {
-            let Some(front) = from.pop() else {
-                return;
-            };
-            self.push(front);
-        }
     }
 
     /// Puts 0 to `count` - 1 in, in rising order.

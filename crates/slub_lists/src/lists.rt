@@ -1,15 +1,16 @@
 //! The whole machine on plain lists.
 
-ghost use Rattle.std.specs.Prelude.{◌≡◌, ◌<◌, ◌≤◌, [], length, replicate, IfOk, MatchOption};
-ghost use Rattle.slub_object_layout.specs.Layout.{IsWithinBounds};
+ghost use Rattle.std.specs.Prelude.{◌≡◌, ◌≤◌, [], length, replicate, IfOk, None};
 ghost use Rattle.slub_page_pool.specs.FreeFrames as pool;
 ghost use Rattle.slub_lists.specs.Alloc.{no_lists};
-ghost use Rattle.slub_lists.specs.Coherent.{AreAllUsed, Creates, IsCoherent, IsLeastUnused, all_on_board, opening};
+ghost use Rattle.slub_lists.specs.Coherent.{IsCoherent, all_on_board, opening};
 
 use crate::front_list::FrontList;
-use slub_object_layout::layout::{Flags, Layout};
+use crate::node::Node;
+use slub_cache_create::caches::{self, Caches};
 use slub_object_layout::name::Name;
 use slub_page_pool::Pool;
+use slub_red_zone::checked::CheckedSlabs;
 use std::alloc::{AllocError, AllocFailed, Global};
 use std::marker::Model;
 
@@ -21,6 +22,9 @@ pub const MACHINE_SLABS: usize = 4095;
 
 /// The most live caches of a machine.
 pub const MACHINE_CACHES: usize = 32;
+
+/// The words, of eight bytes, of a frame.
+const FRAME_WORDS: usize = 512;
 
 /// Objects of one slab, as indexes, front first.
 pub type FreeList = FrontList<512>;
@@ -50,15 +54,34 @@ impl From<slub_page_pool::NoMemory> for NoMemory {
     }
 }
 
+impl From<slub_node_partial::NoMemory> for NoMemory {
+    fn from(_want: slub_node_partial::NoMemory) -> NoMemory {
+        NoMemory
+    }
+}
+
+impl From<slub_red_zone::NoMemory> for NoMemory {
+    fn from(_want: slub_red_zone::NoMemory) -> NoMemory {
+        NoMemory
+    }
+}
+
+impl From<caches::NoMemory> for NoMemory {
+    fn from(_want: caches::NoMemory) -> NoMemory {
+        NoMemory
+    }
+}
+
 /// A live slab: a run of 2^order frames that is cut into objects (`struct slab`).
 #[derive(Clone, Copy, Debug, PartialEq, Eq)]
 pub struct Slab {
-    /// The number of its cache.
-    pub cache: u32,
+    /// The number of its cache, 0 to 31.
+    pub cache: u8,
     pub order: u32,
     /// How many objects it has, given and free.
     pub objects: u32,
-    /// It belongs to one CPU: other CPUs put objects on its freelist, and take none.
+    /// It belongs to one CPU: other CPUs put objects on its freelist, and take none. A slab of a
+    /// checked cache never does.
     pub frozen: bool,
 }
 
@@ -81,22 +104,13 @@ pub struct CpuLists {
     pub partial: FrameList,
 }
 
-/// A live cache (`struct kmem_cache`).
-#[derive(Debug, Drop)]
-pub struct Cache {
-    /// The name that it was made with.
-    pub title: Name,
-    pub flags: Flags,
-    pub layout: Layout,
-}
-
 /// An object that was given and not freed.
 #[derive(Clone, Copy, Debug, PartialEq, Eq)]
 pub struct Held {
     pub frame: u16,
     pub index: u16,
-    /// The number of its cache.
-    pub cache: u32,
+    /// The number of its cache, 0 to 31.
+    pub cache: u8,
     /// The worker that holds it, or none where it is on the board between rounds.
     pub worker: Option<u32>,
 }
@@ -109,12 +123,13 @@ pub struct Lists {
     pub(crate) pool: Pool,
     pub(crate) slabs: Vec<Option<Slab>>,
     pub(crate) frees: Vec<FreeList>,
-    pub(crate) caches: Vec<Option<Cache>>,
-    pub(crate) ages: FrontList<32>,
-    pub(crate) names: Vec<Option<u32>>,
+    pub(crate) table: Caches,
     pub(crate) cpu_lists: Vec<CpuLists>,
-    pub(crate) nodes: Vec<FrameList>,
+    pub(crate) nodes: Vec<Node>,
+    pub(crate) checked: Vec<Option<CheckedSlabs>>,
+    pub(crate) memory: Vec<u64>,
     pub(crate) board: Vec<Option<Held>>,
+    pub(crate) gone: Vec<Option<Held>>,
     pub(crate) live: Vec<u64>,
 }
 
@@ -129,83 +144,70 @@ impl Model for Lists {
       pool = l.pool;
       slabs = l.slabs.items;
       frees = l.frees.items;
-      caches = l.caches.items;
-      ages = l.ages;
-      names = l.names.items;
+      table = l.table;
       cpu_lists = l.cpu_lists.items;
       nodes = l.nodes.items;
+      checked = l.checked.items;
+      memory = l.memory.items;
       board = l.board.items;
+      gone = l.gone.items;
       live = l.live.items;
     } };
 }
 
 impl Lists {
-    /// A machine of 2 to 4096 frames and 1 to 16 CPUs, with object numbers up to `objects` and
-    /// `names` names: all frames but frame 0 are free, there is no cache, and the board is empty.
+    /// A machine of 2 to 4096 frames and 1 to 16 CPUs, with object numbers up to `objects` and these
+    /// names: all frames but frame 0 are free, there is no cache, and the board is empty.
     ///
-    /// All memory that the machine will ever need is taken here.
+    /// All memory that the machine will ever need is taken here, but for what a checked cache takes
+    /// when it is created and when it gets a slab.
     pub fn open(
         alloc: Global,
         frames: u32,
         cpus: u32,
         objects: u32,
-        names: u32,
+        names: &[Name],
     ) -> Result<Lists, NoMemory>
         requires frames { (2 ≤ frames) × (frames ≤ 4096) }
         requires cpus { (1 ≤ cpus) × (cpus ≤ 16) }
         requires objects { objects ≤ 1048576 }
-        ensures opened { IfOk result (λ lists. lists ≡ opening frames cpus objects names) }
-        ensures coherent { IsCoherent (opening frames cpus objects names) }
+        ensures opened { IfOk result (λ lists. lists ≡ opening frames cpus objects names.now) }
+        ensures coherent { IsCoherent (opening frames cpus objects names.now) }
     {
         Lists::take_memory(alloc, frames, cpus, objects, names)
     }
 
-    /// The machine before its first item, with all of its memory.
+    /// The machine before its first item, with its memory.
     fn take_memory(
         alloc: Global,
         frames: u32,
         cpus: u32,
         objects: u32,
-        names: u32,
+        names: &[Name],
     ) -> Result<Lists, NoMemory>
         requires frames { (2 ≤ frames) × (frames ≤ 4096) }
         requires cpus { (1 ≤ cpus) × (cpus ≤ 16) }
         requires objects { objects ≤ 1048576 }
-        ensures { IfOk result (λ lists. lists ≡ opening frames cpus objects names) }
+        ensures { IfOk result (λ lists. lists ≡ opening frames cpus objects names.now) }
     {
         Ok(Lists {
             frames,
             cpus,
             pool: Pool::open(alloc, frames)?,
-            slabs: vec![in alloc; None; frames as usize]?,
+            slabs: open_slabs(alloc, frames as usize)?,
             frees: open_front_lists(alloc, frames as usize)?,
-            caches: open_caches(alloc)?,
-            ages: FrontList::open(alloc)?,
-            names: vec![in alloc; None; names as usize]?,
+            table: Caches::open(alloc, names)?,
             cpu_lists: open_cpu_lists(alloc, MACHINE_CACHES * cpus as usize)?,
-            nodes: open_front_lists(alloc, MACHINE_CACHES)?,
-            board: vec![in alloc; None; objects as usize + 1]?,
-            live: vec![in alloc; 0; MACHINE_CACHES]?,
+            nodes: open_nodes(alloc)?,
+            checked: open_checked(alloc)?,
+            memory: zeros(alloc, FRAME_WORDS * frames as usize)?,
+            board: open_board(alloc, objects as usize + 1)?,
+            gone: open_board(alloc, objects as usize + 1)?,
+            live: zeros(alloc, MACHINE_CACHES)?,
         })
     }
 
-    /// Makes a cache of the least number that no live cache has, named by the name at this place.
-    /// None where all 32 numbers are in use.
-    pub fn create(&mut self, place: u32, cache: Cache) -> Option<u32>
-        requires coherent { IsCoherent self.old }
-        requires place { place < length self.old.names }
-        requires layout { IsWithinBounds cache.layout }
-        ensures created { Creates self.old place cache result self.new }
-        ensures coherent { IsCoherent self.new }
-    {
-        let number = self.unused_number()?;
-        self.caches[number as usize] = Some(cache);
-        self.ages.push(number as u16);
-        self.names[place as usize] = Some(number);
-        Some(number)
-    }
-
-    /// Puts every held object on the board: the round is over.
+    /// Puts every held object on the board, and forgets what was freed: the round is over.
     pub fn end_round(&mut self)
         requires coherent { IsCoherent self.old }
         ensures on_board { self.new ≡ all_on_board self.old }
@@ -216,6 +218,7 @@ impl Lists {
                 held.worker = None;
             }
         }
+        self.gone.fill(None);
     }
 
     /// How many frames the machine has, frame 0 counted.
@@ -252,25 +255,18 @@ impl Lists {
         self.frees.as_slice()
     }
 
-    /// By number: the live caches.
-    pub fn caches(&self) -> &[Option<Cache>]
-        ensures { result.now ≡ self.now.caches }
+    /// The live names and caches.
+    pub fn caches(&self) -> &Caches
+        ensures { result.now ≡ self.now.table }
     {
-        self.caches.as_slice()
+        &self.table
     }
 
-    /// The numbers of the live caches, newest first.
-    pub fn newest_first(&self) -> &FrontList<32>
-        ensures { result.now ≡ self.now.ages }
+    /// By cache number: the slabs of a live checked cache.
+    pub fn checked(&self) -> &[Option<CheckedSlabs>]
+        ensures { result.now ≡ self.now.checked }
     {
-        &self.ages
-    }
-
-    /// By place of a name: the number of the live cache that it names.
-    pub fn names(&self) -> &[Option<u32>]
-        ensures { result.now ≡ self.now.names }
-    {
-        self.names.as_slice()
+        self.checked.as_slice()
     }
 
     /// By cache number and CPU, the CPUs of one cache side by side: what the CPU has of the cache.
@@ -281,7 +277,7 @@ impl Lists {
     }
 
     /// By cache number: the node's partial list, head first.
-    pub fn nodes(&self) -> &[FrameList]
+    pub fn nodes(&self) -> &[Node]
         ensures { result.now ≡ self.now.nodes }
     {
         self.nodes.as_slice()
@@ -300,15 +296,6 @@ impl Lists {
     {
         self.live.as_slice()
     }
-
-    /// The least number that no live cache has.
-    fn unused_number(&self) -> Option<u32>
-        requires caches { length self.now.caches ≡ 32 }
-        ensures { MatchOption result (AreAllUsed self.now) (IsLeastUnused self.now) }
-    {
-        let number = self.caches.iter().position(|cache| cache.is_none())?;
-        Some(number as u32)
-    }
 }
 
 /// So many empty lists.
@@ -326,15 +313,50 @@ fn open_front_lists<const ROOM: usize>(
     Ok(lists)
 }
 
-/// No live cache.
-fn open_caches(alloc: Global) -> Result<Vec<Option<Cache>>, NoMemory>
-    ensures { IfOk result (λ caches. caches.items ≡ replicate 32 None) }
+/// So many frames where no slab begins.
+fn open_slabs(alloc: Global, count: usize) -> Result<Vec<Option<Slab>>, NoMemory>
+    requires { count ≤ 4096 }
+    ensures { IfOk result (λ slabs. slabs.items ≡ replicate count None) }
 {
-    let mut caches = Vec::with_capacity(alloc, MACHINE_CACHES)?;
+    Ok(vec![in alloc; None; count]?)
+}
+
+/// So many numbers that name nothing.
+fn open_board(alloc: Global, count: usize) -> Result<Vec<Option<Held>>, NoMemory>
+    requires { count ≤ 1048577 }
+    ensures { IfOk result (λ board. board.items ≡ replicate count None) }
+{
+    Ok(vec![in alloc; None; count]?)
+}
+
+/// So many words that are 0.
+fn zeros(alloc: Global, count: usize) -> Result<Vec<u64>, NoMemory>
+    requires { count ≤ 2097152 }
+    ensures { IfOk result (λ words. words.items ≡ replicate count 0) }
+{
+    Ok(vec![in alloc; 0; count]?)
+}
+
+/// Empty node lists, one for each cache number.
+fn open_nodes(alloc: Global) -> Result<Vec<Node>, NoMemory>
+    ensures { IfOk result (λ nodes. nodes.items ≡ replicate 32 []) }
+{
+    let mut nodes = Vec::with_capacity(alloc, MACHINE_CACHES)?;
     for _ in 0..MACHINE_CACHES {
-        caches.push(None)?;
+        nodes.push(Node::open(alloc)?)?;
     }
-    Ok(caches)
+    Ok(nodes)
+}
+
+/// No checked cache.
+fn open_checked(alloc: Global) -> Result<Vec<Option<CheckedSlabs>>, NoMemory>
+    ensures { IfOk result (λ checked. checked.items ≡ replicate 32 None) }
+{
+    let mut checked = Vec::with_capacity(alloc, MACHINE_CACHES)?;
+    for _ in 0..MACHINE_CACHES {
+        checked.push(None)?;
+    }
+    Ok(checked)
 }
 
 /// So many CPUs that have nothing of a cache.

@@ -14,7 +14,7 @@ impl Lists {
     /// Puts a slab that was full at the front of the CPU's partial list; where that list has its
     /// `cpu_partial_slabs` slabs, or more, those are moved to the node list first
     /// (`put_cpu_partial`).
-    pub(crate) fn put_partial(&mut self, cache: u32, cpu: u32, frame: u16, layout: &Layout)
+    pub(crate) fn put_partial(&mut self, cache: u8, cpu: u32, frame: u16, layout: &Layout)
         requires consistent { IsConsistent self.old }
         requires cache { cache < 32 }
         requires cpu { cpu < self.old.cpus }
@@ -27,7 +27,7 @@ impl Lists {
     }
 
     /// Moves the CPU's partial list where it is full.
-    fn drain(&mut self, cache: u32, cpu: u32, layout: &Layout)
+    fn drain(&mut self, cache: u8, cpu: u32, layout: &Layout)
         requires consistent { IsConsistent self.old }
         requires cache { cache < 32 }
         requires cpu { cpu < self.old.cpus }
@@ -41,7 +41,7 @@ impl Lists {
     }
 
     /// Moves the CPU's partial list as a set, from its front on (`__unfreeze_partials`).
-    fn move_all(&mut self, cache: u32, cpu: u32, min_partial: u32)
+    pub(crate) fn move_all(&mut self, cache: u8, cpu: u32, min_partial: u32)
         requires consistent { IsConsistent self.old }
         requires cache { cache < 32 }
         requires cpu { cpu < self.old.cpus }
@@ -52,7 +52,7 @@ impl Lists {
     }
 
     /// Moves the front of the CPU's partial list. False where that list is empty.
-    fn move_front(&mut self, cache: u32, cpu: u32, min_partial: u32) -> bool
+    fn move_front(&mut self, cache: u8, cpu: u32, min_partial: u32) -> bool
         requires consistent { IsConsistent self.old }
         requires cache { cache < 32 }
         requires cpu { cpu < self.old.cpus }
@@ -69,7 +69,7 @@ impl Lists {
 
     /// Discards a slab that nothing of is in use, where the node list has enough slabs; puts any
     /// other at the tail of the node list.
-    fn move_one(&mut self, cache: u32, frame: u16, min_partial: u32)
+    fn move_one(&mut self, cache: u8, frame: u16, min_partial: u32)
         requires consistent { IsConsistent self.old }
         requires cache { cache < 32 }
         requires listable { IsListable self.old cache frame }
@@ -85,7 +85,7 @@ impl Lists {
 
     /// Takes a slab off the node list and discards it, where it stands there, nothing of it is in
     /// use and the list has enough slabs.
-    pub(crate) fn trim(&mut self, cache: u32, frame: u16, min_partial: u32)
+    pub(crate) fn trim(&mut self, cache: u8, frame: u16, min_partial: u32)
         requires consistent { IsConsistent self.old }
         requires cache { cache < 32 }
         requires live { MatchOption (slab_of self.old frame) ⊥ (λ slab. slab.cache ≡ cache) }
@@ -98,7 +98,7 @@ impl Lists {
         }
     }
 
-    fn remove_from_node(&mut self, cache: u32, frame: u16) -> bool
+    pub(crate) fn remove_from_node(&mut self, cache: u8, frame: u16) -> bool
         requires consistent { IsConsistent self.old }
         requires cache { cache < 32 }
         ensures found { result ≡ nat_lt 0 (times frame (node_of self.old cache)) }
@@ -109,7 +109,7 @@ impl Lists {
     }
 
     /// A slab comes to the front of the CPU's partial list.
-    fn push_partial(&mut self, cache: u32, cpu: u32, frame: u16)
+    fn push_partial(&mut self, cache: u8, cpu: u32, frame: u16)
         requires consistent { IsConsistent self.old }
         requires cache { cache < 32 }
         requires cpu { cpu < self.old.cpus }
@@ -122,13 +122,13 @@ impl Lists {
     }
 
     /// A slab comes to the tail of the node list.
-    fn push_node(&mut self, cache: u32, frame: u16)
+    pub(crate) fn push_node(&mut self, cache: u8, frame: u16)
         requires consistent { IsConsistent self.old }
         requires cache { cache < 32 }
         requires listable { IsListable self.old cache frame }
         ensures pushed { self.new ≡ with_node self.old cache (node_of self.old cache ++ frame ∷ []) }
         ensures consistent { IsConsistent self.new }
     {
-        self.nodes[cache as usize].push_back(frame);
+        self.nodes[cache as usize].push_tail(frame);
     }
 }

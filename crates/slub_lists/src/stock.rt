@@ -1,16 +1,17 @@
 //! A slab with an object to give: the current one, or one of the partial lists.
 
-ghost use Rattle.std.specs.Prelude.{◌≡◌, ◌<◌, [], None, Some, length, MatchBool, MatchOption};
+ghost use Rattle.std.specs.Prelude.{◌≡◌, ◌+◌, ◌<◌, ◌≤◌, ◌++◌, [], drop, reverse, take, None, Some, length, MatchBool, MatchOption};
 ghost use Rattle.slub_lists.specs.Alloc.{IsStocked, cpu_place, from_current, from_free, from_node, from_partial, lists_of, node_of, own_free, retired, taken_up, with_frozen};
 ghost use Rattle.slub_lists.specs.Coherent.{IsConsistent, IsShaped};
 ghost use Rattle.slub_lists.specs.Steps.{IsRelisted, IsTakable, PopsNode, PopsPartial};
 
-use crate::lists::Lists;
+use crate::lists::{FrameList, Lists};
+use crate::node::Node;
 use std::mem;
 
 impl Lists {
     /// Where what a CPU has of a cache stands.
-    pub(crate) fn place(&self, cache: u32, cpu: u32) -> usize
+    pub(crate) fn place(&self, cache: u8, cpu: u32) -> usize
         requires shaped { IsShaped self.now }
         requires cache { cache < 32 }
         requires cpu { cpu < self.now.cpus }
@@ -20,7 +21,7 @@ impl Lists {
         cache as usize * self.cpus as usize + cpu as usize
     }
 
-    fn set_frozen(&mut self, frame: u16, frozen: bool)
+    pub(crate) fn set_frozen(&mut self, frame: u16, frozen: bool)
         requires { frame < length self.old.slabs }
         ensures { self.new ≡ with_frozen self.old frame frozen }
     {
@@ -31,7 +32,7 @@ impl Lists {
     }
 
     /// The current slab is unfrozen, stands on no list and is current no more.
-    fn retire(&mut self, cache: u32, cpu: u32, frame: u16)
+    fn retire(&mut self, cache: u8, cpu: u32, frame: u16)
         requires consistent { IsConsistent self.old }
         requires cache { cache < 32 }
         requires cpu { cpu < self.old.cpus }
@@ -46,7 +47,7 @@ impl Lists {
     }
 
     /// A slab is frozen and current, and its whole freelist is the CPU freelist (`get_freelist`).
-    fn take_up(&mut self, cache: u32, cpu: u32, frame: u16)
+    fn take_up(&mut self, cache: u8, cpu: u32, frame: u16)
         requires consistent { IsConsistent self.old }
         requires cache { cache < 32 }
         requires cpu { cpu < self.old.cpus }
@@ -65,7 +66,7 @@ impl Lists {
     /// Sees to it that the CPU freelist isn't empty: by the current slab, the CPU's partial list
     /// or the node list. False where none of these has a slab with a free object, and then there is
     /// no current slab.
-    pub(crate) fn stock(&mut self, cache: u32, cpu: u32, batch: usize) -> bool
+    pub(crate) fn stock(&mut self, cache: u8, cpu: u32, batch: usize) -> bool
         requires consistent { IsConsistent self.old }
         requires cache { cache < 32 }
         requires cpu { cpu < self.old.cpus }
@@ -85,7 +86,7 @@ impl Lists {
     }
 
     /// By the current slab's own freelist, or else by the lists.
-    fn stock_from_current(&mut self, cache: u32, cpu: u32, batch: usize, frame: u16) -> bool
+    fn stock_from_current(&mut self, cache: u8, cpu: u32, batch: usize, frame: u16) -> bool
         requires consistent { IsConsistent self.old }
         requires cache { cache < 32 }
         requires cpu { cpu < self.old.cpus }
@@ -105,7 +106,7 @@ impl Lists {
     }
 
     /// By the CPU's partial list, or else by the node list.
-    fn stock_from_partial(&mut self, cache: u32, cpu: u32, batch: usize) -> bool
+    fn stock_from_partial(&mut self, cache: u8, cpu: u32, batch: usize) -> bool
         requires consistent { IsConsistent self.old }
         requires cache { cache < 32 }
         requires cpu { cpu < self.old.cpus }
@@ -123,7 +124,7 @@ impl Lists {
     }
 
     /// By the node list.
-    fn stock_from_node(&mut self, cache: u32, cpu: u32, batch: usize) -> bool
+    fn stock_from_node(&mut self, cache: u8, cpu: u32, batch: usize) -> bool
         requires consistent { IsConsistent self.old }
         requires cache { cache < 32 }
         requires cpu { cpu < self.old.cpus }
@@ -142,7 +143,7 @@ impl Lists {
     }
 
     /// Takes the front off the CPU's partial list.
-    fn pop_partial(&mut self, cache: u32, cpu: u32) -> Option<u16>
+    fn pop_partial(&mut self, cache: u8, cpu: u32) -> Option<u16>
         requires consistent { IsConsistent self.old }
         requires cache { cache < 32 }
         requires cpu { cpu < self.old.cpus }
@@ -156,7 +157,7 @@ impl Lists {
 
     /// Takes the head off the node list, and after it `batch` slabs to the CPU's partial list, which
     /// is empty (`get_partial_node`).
-    fn pop_node(&mut self, cache: u32, cpu: u32, batch: usize) -> Option<u16>
+    fn pop_node(&mut self, cache: u8, cpu: u32, batch: usize) -> Option<u16>
         requires consistent { IsConsistent self.old }
         requires cache { cache < 32 }
         requires cpu { cpu < self.old.cpus }
@@ -168,7 +169,22 @@ impl Lists {
         let at = self.place(cache, cpu);
         let node = &mut self.nodes[cache as usize];
         let frame = node.pop()?;
-        self.cpu_lists[at].partial.gather(node, batch);
+        gather(&mut self.cpu_lists[at].partial, node, batch);
         Some(frame)
+    }
+}
+
+/// Takes up to `most` slabs off the head of a node list, and puts each at the front of a CPU's partial
+/// list.
+fn gather(partial: &mut FrameList, node: &mut Node, most: usize)
+    requires { length partial.old + length node.old ≤ 4095 }
+    ensures here { partial.new ≡ reverse (take most node.old) ++ partial.old }
+    ensures there { node.new ≡ drop most node.old }
+{
+    for _ in 0..most {
+        let Some(frame) = node.pop() else {
+            return;
+        };
+        partial.push(frame);
     }
 }

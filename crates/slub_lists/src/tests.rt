@@ -1,14 +1,16 @@
 //! Addresses and states of worked traces, and the happy path of each call.
 
-ghost use Rattle.std.specs.Prelude.{IfOk};
-ghost use Rattle.slub_object_layout.specs.Layout.{IsWithinBounds};
+ghost use Rattle.std.specs.Prelude.{IfOk, ◌≤◌};
 ghost use Rattle.slub_lists.specs.Coherent.{IsCoherent};
 
 use crate::front_list::FrontList;
-use crate::lists::{Cache, FrameList, Held, Lists, MACHINE_CACHES, Slab};
+use crate::lists::{FrameList, Held, Lists, MACHINE_CACHES, Slab};
+use crate::node::Node;
 use crate::reply::Reply;
-use slub_object_layout::layout::{Flags, Spec, layout_of};
+use slub_cache_create::caches::{CreateRefusal, Created};
+use slub_object_layout::layout::{Flags, Spec};
 use slub_object_layout::name::Name;
+use std::alloc::Global;
 use std::process::Abort;
 use std::test::Fail;
 
@@ -23,38 +25,50 @@ const PLAIN: Flags = Flags {
     fail: false,
 };
 
+const POISON: Flags = Flags {
+    poison: true,
+    ..PLAIN
+};
+
 // The objects of a slab of 192 bytes each that begins at frame 1.
 const DENTRIES: [u32; 21] = [
     4096, 4288, 4480, 4672, 4864, 5056, 5248, 5440, 5632, 5824, 6016, 6208, 6400, 6592, 6784, 6976,
     7168, 7360, 7552, 7744, 7936,
 ];
 
-// A cache of objects of this size, aligned to 8, on a machine of two CPUs.
-fn cache_of_size(title: &str, size: u32) -> Result<Cache, Fail>
-    ensures { IfOk result (λ cache. IsWithinBounds cache.layout) }
+fn named(rt: &impl Abort, text: &str) -> Name {
+    Name::read(text).expect(rt, "a name")
+}
+
+// A cache of objects of this size, aligned to 8, is created.
+fn create(lists: &mut Lists, name: &Name, size: u32, flags: Flags) -> Result<Created, CreateRefusal>
+    requires { IsCoherent lists.old }
+    ensures { IsCoherent lists.new }
 {
     let spec = Spec {
         size,
         align: 8,
-        flags: PLAIN,
+        flags,
     };
-    let layout = layout_of(&spec, 2)?;
-    let title = Name::read(title).ok_or("the title")?;
-    Ok(Cache {
-        title,
-        flags: PLAIN,
-        layout,
-    })
+    lists.create(name, &spec)
 }
 
-// A cache is made under the name at a place.
-fn create(rt: &impl Abort, lists: &mut Lists, place: u32, cache: Cache) -> Option<u32>
-    requires coherent { IsCoherent lists.old }
-    requires layout { IsWithinBounds cache.layout }
-    ensures { IsCoherent lists.new }
+// A machine of two CPUs, with one cache.
+fn machine(
+    rt: &impl Abort,
+    alloc: Global,
+    frames: u32,
+    objects: u32,
+    size: u32,
+) -> Result<Lists, Fail>
+    requires frames { (2 ≤ frames) × (frames ≤ 4096) }
+    requires objects { objects ≤ 1048576 }
+    ensures { IfOk result IsCoherent }
 {
-    assert!(rt; (place as usize) < lists.names().len());
-    lists.create(place, cache)
+    let name = named(rt, "cache");
+    let mut lists = Lists::open(alloc, frames, 2, objects, &[name])?;
+    assert_eq!(rt; create(&mut lists, &name, size, PLAIN), Ok(Created::New(0)));
+    Ok(lists)
 }
 
 // Worker 0 allocates an object of the cache that the first name names.
@@ -62,11 +76,19 @@ fn alloc(rt: &impl Abort, lists: &mut Lists, cpu: u32, object: u32) -> Reply
     requires { IsCoherent lists.old }
     ensures { IsCoherent lists.new }
 {
-    assert!(rt; !lists.names().is_empty());
+    alloc_at(rt, lists, 0, cpu, object)
+}
+
+// Worker 0 allocates an object of the cache that the name at a place names.
+fn alloc_at(rt: &impl Abort, lists: &mut Lists, place: u32, cpu: u32, object: u32) -> Reply
+    requires { IsCoherent lists.old }
+    ensures { IsCoherent lists.new }
+{
+    assert!(rt; (place as usize) < lists.caches().kept());
     assert!(rt; cpu < lists.cpus());
     assert!(rt; (object as usize) < lists.board().len());
     assert!(rt; lists.board()[object as usize].is_none());
-    lists.alloc_named(0, cpu, 0, object)
+    lists.alloc_named(place, cpu, 0, object)
 }
 
 // Worker 0 allocates objects from this number on, on CPU 0, and they lie at these addresses.
@@ -105,20 +127,17 @@ fn page_address(object: u32) -> u32 {
     object.saturating_add(7).saturating_mul(4096)
 }
 
-// That cache is made, and CPU 0 allocates objects 1 to `last`.
-fn fill_pages(rt: &impl Abort, lists: &mut Lists, last: u32) -> Result<(), Fail>
+// On that machine CPU 0 allocates objects 1 to `last`.
+fn fill_pages(rt: &impl Abort, lists: &mut Lists, last: u32)
     requires { IsCoherent lists.old }
     ensures { IsCoherent lists.new }
 {
-    let page = cache_of_size("page", 4096)?;
-    assert_eq!(rt; create(rt, lists, 0, page), Some(0));
     for object in 1..=last {
         assert_eq!(rt;
             alloc(rt, lists, 0, object),
             Reply::Given(page_address(object))
         );
     }
-    Ok(())
 }
 
 // CPU 1 frees these objects of that machine.
@@ -147,7 +166,7 @@ fn has_slabs(list: &FrameList, slabs: &[u16]) -> bool {
 // The node list of cache 0 has these slabs.
 fn node_has(lists: &Lists, slabs: &[u16]) -> bool {
     match lists.nodes().get(0) {
-        Some(list) => has_slabs(list, slabs),
+        Some(node) => node.frames() == slabs,
         None => false,
     }
 }
@@ -160,18 +179,6 @@ fn partial_has(lists: &Lists, slabs: &[u16]) -> bool {
     }
 }
 
-// Caches of all numbers are made, each under the first name.
-fn create_all(rt: &impl Abort, lists: &mut Lists) -> Result<(), Fail>
-    requires { IsCoherent lists.old }
-    ensures { IsCoherent lists.new }
-{
-    for number in 0..MACHINE_CACHES as u32 {
-        let cache = cache_of_size("again", 64)?;
-        assert_eq!(rt; create(rt, lists, 0, cache), Some(number));
-    }
-    Ok(())
-}
-
 // What CPU `cpu` has of cache 0: the current slab, and how many objects are on the CPU freelist.
 fn current_of(lists: &Lists, cpu: usize) -> Option<(Option<u16>, usize)> {
     let of_cpu = lists.cpu_lists().get(cpu)?;
@@ -180,13 +187,11 @@ fn current_of(lists: &Lists, cpu: usize) -> Option<(Option<u16>, usize)> {
 
 #[test]
 fn one_object(rt: HostRuntime) -> Result<(), Fail> {
-    let mut lists = Lists::open(rt.alloc(), 16, 2, 22, 1)?;
+    let mut lists = machine(&rt, rt.alloc(), 16, 22, 192)?;
     assert_eq!(rt;
         (lists.frames(), lists.cpus(), lists.free_frames()),
         (16, 2, 15)
     );
-    let dentry = cache_of_size("dentry", 192)?;
-    assert_eq!(rt; create(&rt, &mut lists, 0, dentry), Some(0));
     assert_eq!(rt; alloc(&rt, &mut lists, 0, 1), Reply::Given(4096));
     assert_eq!(rt; lists.free_frames(), 14);
     assert_eq!(rt; current_of(&lists, 0), Some((Some(1), 20)));
@@ -217,9 +222,7 @@ fn one_object(rt: HostRuntime) -> Result<(), Fail> {
 
 #[test]
 fn a_second_slab(rt: HostRuntime) -> Result<(), Fail> {
-    let mut lists = Lists::open(rt.alloc(), 16, 2, 22, 1)?;
-    let dentry = cache_of_size("dentry", 192)?;
-    assert_eq!(rt; create(&rt, &mut lists, 0, dentry), Some(0));
+    let mut lists = machine(&rt, rt.alloc(), 16, 22, 192)?;
     alloc_row(&rt, &mut lists, 1, &DENTRIES);
     assert_eq!(rt; alloc(&rt, &mut lists, 0, 22), Reply::Given(8192));
     assert_eq!(rt; lists.free_frames(), 13);
@@ -236,9 +239,7 @@ fn a_second_slab(rt: HostRuntime) -> Result<(), Fail> {
 
 #[test]
 fn two_cpus(rt: HostRuntime) -> Result<(), Fail> {
-    let mut lists = Lists::open(rt.alloc(), 16, 2, 2, 1)?;
-    let dentry = cache_of_size("dentry", 192)?;
-    assert_eq!(rt; create(&rt, &mut lists, 0, dentry), Some(0));
+    let mut lists = machine(&rt, rt.alloc(), 16, 2, 192)?;
     assert_eq!(rt; alloc(&rt, &mut lists, 0, 1), Reply::Given(4096));
     assert_eq!(rt; alloc(&rt, &mut lists, 1, 2), Reply::Given(8192));
     assert_eq!(rt; current_of(&lists, 0), Some((Some(1), 20)));
@@ -248,9 +249,7 @@ fn two_cpus(rt: HostRuntime) -> Result<(), Fail> {
 
 #[test]
 fn least_order_until_no_frames(rt: HostRuntime) -> Result<(), Fail> {
-    let mut lists = Lists::open(rt.alloc(), 3, 2, 9, 1)?;
-    let big = cache_of_size("big", 1024)?;
-    assert_eq!(rt; create(&rt, &mut lists, 0, big), Some(0));
+    let mut lists = machine(&rt, rt.alloc(), 3, 9, 1024)?;
     assert_eq!(rt; alloc(&rt, &mut lists, 0, 1), Reply::Given(4096));
     assert_eq!(rt; lists.free_frames(), 1);
     alloc_row(
@@ -268,9 +267,7 @@ fn least_order_until_no_frames(rt: HostRuntime) -> Result<(), Fail> {
 
 #[test]
 fn last_freed_first_given(rt: HostRuntime) -> Result<(), Fail> {
-    let mut lists = Lists::open(rt.alloc(), 16, 2, 5, 1)?;
-    let dentry = cache_of_size("dentry", 192)?;
-    assert_eq!(rt; create(&rt, &mut lists, 0, dentry), Some(0));
+    let mut lists = machine(&rt, rt.alloc(), 16, 5, 192)?;
     alloc_row(&rt, &mut lists, 1, &[4096, 4288, 4480]);
     assert_eq!(rt; free(&rt, &mut lists, 0, 2), Reply::Freed(4288));
     assert_eq!(rt; free(&rt, &mut lists, 0, 1), Reply::Freed(4096));
@@ -283,9 +280,7 @@ fn last_freed_first_given(rt: HostRuntime) -> Result<(), Fail> {
 
 #[test]
 fn only_what_is_held_is_freed(rt: HostRuntime) -> Result<(), Fail> {
-    let mut lists = Lists::open(rt.alloc(), 16, 2, 2, 1)?;
-    let dentry = cache_of_size("dentry", 192)?;
-    assert_eq!(rt; create(&rt, &mut lists, 0, dentry), Some(0));
+    let mut lists = machine(&rt, rt.alloc(), 16, 2, 192)?;
     assert_eq!(rt; alloc(&rt, &mut lists, 0, 1), Reply::Given(4096));
     assert_eq!(rt; free_by(&rt, &mut lists, 0, 1, 1), Reply::NotHeld);
     assert_eq!(rt; free(&rt, &mut lists, 0, 2), Reply::NotHeld);
@@ -298,9 +293,7 @@ fn only_what_is_held_is_freed(rt: HostRuntime) -> Result<(), Fail> {
 
 #[test]
 fn full_slab_goes_to_the_freeing_cpu(rt: HostRuntime) -> Result<(), Fail> {
-    let mut lists = Lists::open(rt.alloc(), 16, 2, 23, 1)?;
-    let dentry = cache_of_size("dentry", 192)?;
-    assert_eq!(rt; create(&rt, &mut lists, 0, dentry), Some(0));
+    let mut lists = machine(&rt, rt.alloc(), 16, 23, 192)?;
     alloc_row(&rt, &mut lists, 1, &DENTRIES);
     assert_eq!(rt; alloc(&rt, &mut lists, 0, 22), Reply::Given(8192));
     assert_eq!(rt; free(&rt, &mut lists, 1, 1), Reply::Freed(4096));
@@ -313,8 +306,8 @@ fn full_slab_goes_to_the_freeing_cpu(rt: HostRuntime) -> Result<(), Fail> {
 
 #[test]
 fn full_list_is_moved_as_a_set(rt: HostRuntime) -> Result<(), Fail> {
-    let mut lists = Lists::open(rt.alloc(), 128, 2, 80, 1)?;
-    fill_pages(&rt, &mut lists, 25)?;
+    let mut lists = machine(&rt, rt.alloc(), 128, 80, 4096)?;
+    fill_pages(&rt, &mut lists, 25);
     free_pages(&rt, &mut lists, &[1, 9]);
     assert!(rt; partial_has(&lists, &[16, 8]));
     free_pages(&rt, &mut lists, &[17]);
@@ -329,8 +322,8 @@ fn full_list_is_moved_as_a_set(rt: HostRuntime) -> Result<(), Fail> {
 
 #[test]
 fn spare_slab_of_the_node_list_goes(rt: HostRuntime) -> Result<(), Fail> {
-    let mut lists = Lists::open(rt.alloc(), 128, 2, 80, 1)?;
-    fill_pages(&rt, &mut lists, 72)?;
+    let mut lists = machine(&rt, rt.alloc(), 128, 80, 4096)?;
+    fill_pages(&rt, &mut lists, 72);
     free_pages(&rt, &mut lists, &[1, 9, 17, 25, 33, 41, 49, 57]);
     assert!(rt; node_has(&lists, &[16, 8, 32, 24, 48, 40]));
     free_pages(&rt, &mut lists, &[2, 3, 4, 5, 6, 7]);
@@ -346,8 +339,8 @@ fn spare_slab_of_the_node_list_goes(rt: HostRuntime) -> Result<(), Fail> {
 
 #[test]
 fn spare_slab_of_a_set_goes(rt: HostRuntime) -> Result<(), Fail> {
-    let mut lists = Lists::open(rt.alloc(), 128, 2, 80, 1)?;
-    fill_pages(&rt, &mut lists, 73)?;
+    let mut lists = machine(&rt, rt.alloc(), 128, 80, 4096)?;
+    fill_pages(&rt, &mut lists, 73);
     free_pages(&rt, &mut lists, &[1, 9, 17, 25, 33, 41, 49, 57]);
     free_pages(&rt, &mut lists, &[58, 59, 60, 61, 62, 63, 64]);
     assert!(rt; partial_has(&lists, &[64, 56]));
@@ -360,67 +353,93 @@ fn spare_slab_of_a_set_goes(rt: HostRuntime) -> Result<(), Fail> {
 }
 
 #[test]
-fn caches_by_name_and_age(rt: HostRuntime) -> Result<(), Fail> {
-    let mut lists = Lists::open(rt.alloc(), 16, 2, 1, 2)?;
-    let first = cache_of_size("first", 64)?;
-    let second = cache_of_size("second", 64)?;
-    assert_eq!(rt; create(&rt, &mut lists, 1, first), Some(0));
+fn name_of_no_cache(rt: HostRuntime) -> Result<(), Fail> {
+    let a = named(&rt, "a");
+    let b = named(&rt, "b");
+    let mut lists = Lists::open(rt.alloc(), 16, 2, 1, &[a, b])?;
+    assert_eq!(rt; create(&mut lists, &b, 64, PLAIN), Ok(Created::New(0)));
     assert_eq!(rt; alloc(&rt, &mut lists, 0, 1), Reply::NoSuchCache);
-    assert_eq!(rt; create(&rt, &mut lists, 0, second), Some(1));
-    let names = lists.names();
-    assert_eq!(rt;
-        (names.get(0).copied(), names.get(1).copied()),
-        (Some(Some(1)), Some(Some(0)))
-    );
-    let newest = lists.newest_first();
-    assert_eq!(rt;
-        (newest.get(0), newest.get(1), newest.get(2)),
-        (Some(1), Some(0), None)
-    );
-    let live = lists
-        .caches()
+    let refused = create(&mut lists, &b, 128, PLAIN);
+    assert_eq!(rt; refused, Err(CreateRefusal::NameTaken));
+    Ok(())
+}
+
+#[test]
+fn caches_by_name_and_age(rt: HostRuntime) -> Result<(), Fail> {
+    let a = named(&rt, "a");
+    let b = named(&rt, "b");
+    let mut lists = Lists::open(rt.alloc(), 16, 2, 1, &[a, b])?;
+    assert_eq!(rt; create(&mut lists, &b, 64, PLAIN), Ok(Created::New(0)));
+    assert_eq!(rt; create(&mut lists, &a, 128, PLAIN), Ok(Created::New(1)));
+    assert_eq!(rt; lists.caches().find(&a), Some(1));
+    assert_eq!(rt; lists.caches().in_order(), [0, 1].as_slice());
+    assert_eq!(rt; lists.frees().len(), 16);
+    assert_eq!(rt; lists.nodes().len(), MACHINE_CACHES);
+    Ok(())
+}
+
+#[test]
+fn merged_names_share_slabs(rt: HostRuntime) -> Result<(), Fail> {
+    let a = named(&rt, "a");
+    let b = named(&rt, "b");
+    let mut lists = Lists::open(rt.alloc(), 16, 2, 2, &[a, b])?;
+    assert_eq!(rt; create(&mut lists, &a, 192, PLAIN), Ok(Created::New(0)));
+    assert_eq!(rt; alloc(&rt, &mut lists, 0, 1), Reply::Given(4096));
+    assert_eq!(rt; create(&mut lists, &b, 188, PLAIN), Ok(Created::Merged(0)));
+    assert_eq!(rt; alloc_at(&rt, &mut lists, 1, 0, 2), Reply::Given(4288));
+    assert_eq!(rt; lists.live().get(0).copied(), Some(2));
+    Ok(())
+}
+
+#[test]
+fn checked_cache_has_its_slabs(rt: HostRuntime) -> Result<(), Fail> {
+    let a = named(&rt, "a");
+    let b = named(&rt, "b");
+    let mut lists = Lists::open(rt.alloc(), 16, 2, 2, &[a, b])?;
+    assert_eq!(rt; create(&mut lists, &a, 192, PLAIN), Ok(Created::New(0)));
+    assert_eq!(rt; create(&mut lists, &b, 192, POISON), Ok(Created::New(1)));
+    let checked = lists
+        .checked()
         .iter()
-        .filter(|cache| cache.is_some())
+        .filter(|slabs| slabs.is_some())
         .count();
-    assert_eq!(rt; live, 2);
-    assert_eq!(rt;
-        (lists.frees().len(), lists.nodes().len()),
-        (16, MACHINE_CACHES)
-    );
+    assert_eq!(rt; checked, 1);
     Ok(())
 }
 
 #[test]
-fn no_more_than_all_numbers(rt: HostRuntime) -> Result<(), Fail> {
-    let mut lists = Lists::open(rt.alloc(), 16, 2, 1, 1)?;
-    create_all(&rt, &mut lists)?;
-    let cache = cache_of_size("again", 64)?;
-    assert_eq!(rt; create(&rt, &mut lists, 0, cache), None);
+fn front_and_back_of_a_list(rt: HostRuntime) -> Result<(), Fail> {
+    let mut list: FrontList<8> = FrontList::open(rt.alloc())?;
+    list.fill_rising(2);
+    list.push(9);
+    list.push_back(7);
+    assert_eq!(rt; list.pop(), Some(9));
+    assert_eq!(rt; list.get(0), Some(0));
+    assert_eq!(rt; list.get(2), Some(7));
+    assert_eq!(rt; list.get(3), None);
     Ok(())
 }
 
 #[test]
-fn lists_at_the_front(rt: HostRuntime) -> Result<(), Fail> {
-    let mut from: FrontList<8> = FrontList::open(rt.alloc())?;
-    let mut to: FrontList<8> = FrontList::open(rt.alloc())?;
-    from.fill_rising(4);
-    to.push(9);
-    to.gather(&mut from, 3);
-    assert_eq!(rt;
-        (to.get(0), to.get(1), to.get(2), to.get(3)),
-        (Some(2), Some(1), Some(0), Some(9))
-    );
-    assert_eq!(rt;
-        (from.len(), from.pop(), from.pop(), from.is_empty()),
-        (1, Some(3), None, true)
-    );
-    to.push_back(7);
-    assert_eq!(rt; (to.remove(1), to.remove(1)), (true, false));
-    assert_eq!(rt;
-        (to.get(0), to.get(1), to.get(2), to.get(3), to.get(4)),
-        (Some(2), Some(0), Some(9), Some(7), None)
-    );
-    to.clear();
-    assert_eq!(rt; to.is_empty(), true);
+fn one_taken_out_of_a_list(rt: HostRuntime) -> Result<(), Fail> {
+    let mut list: FrontList<8> = FrontList::open(rt.alloc())?;
+    list.fill_rising(3);
+    assert!(rt; list.remove(1));
+    assert!(rt; !list.remove(1));
+    assert_eq!(rt; list.len(), 2);
+    list.clear();
+    assert!(rt; list.is_empty());
+    Ok(())
+}
+
+#[test]
+fn slabs_of_a_node(rt: HostRuntime) -> Result<(), Fail> {
+    let mut node = Node::open(rt.alloc())?;
+    node.push_tail(5);
+    node.push_tail(6);
+    node.push_head(4);
+    assert_eq!(rt; node.frames(), [4, 5, 6].as_slice());
+    assert_eq!(rt; (node.remove(5), node.remove(5)), (true, false));
+    assert_eq!(rt; (node.pop(), node.len()), (Some(4), 1));
     Ok(())
 }

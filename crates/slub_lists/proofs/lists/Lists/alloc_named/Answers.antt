@@ -7,7 +7,7 @@ alloc_by_name-requires-clause-consistent c = consistent-of c.args.self.now c.req
 
 pub returns-clause-others : goal.returns-clause-others
 returns-clause-others c =
-    named_keeps c.args.self.now c.args.place c.args.cpu c.args.worker c.args.object c.alloc_by_name.result _ c.alloc_by_name.ensures.allocates
+    named_keeps c.args.self.now c.args.place c.args.cpu c.args.worker c.args.object c.alloc_by_name.result _ c.alloc_by_name.ensures.allocates c.alloc_by_name.ensures.found
 
 pub returns-clause-coherent : goal.returns-clause-coherent
 returns-clause-coherent c =

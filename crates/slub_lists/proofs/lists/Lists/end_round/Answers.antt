@@ -1,4 +1,6 @@
-use Rattle.std.proofs.Common.{◌≡◌, length, map, set, take, drop, ◌+◌, ◌<◌, Some, None, option_map, refl, sym, ◌∙◌, ap, subst, arith}
+use Rattle.std.proofs.Common.{◌≡◌, ℕ, List, [], ◌∷◌, Option, replicate, length, map, set, take, drop, ◌+◌, ◌<◌, Some, None, option_map, refl, sym, ◌∙◌, ap, subst, arith}
+use Rattle.std.proofs.lemmas.Grind.{common_steps}
+use Rattle.slub_lists.specs.declared.lists.Held.{Held}
 use Rattle.std.specs.Vec.{with_items}
 use Rattle.std.proofs.lemmas.List.{with_items_is}
 use Rattle.slub_lists.specs.Coherent.{IsCoherent, laid_down, all_on_board}
@@ -29,11 +31,18 @@ loop-held-preserved c =
           }
     ]
 
+-- nobody knows a freed number
+cleared : (xs : List (Option Held)) (n : ℕ) → length xs ≡ n → replicate {A = Option Held} n None ≡ map (λ (freed : Option Held). None) xs
+cleared [] n e = rw (← e) refl
+cleared (x ∷ xs) n e = rw (← e) (ap (λ (l : List (Option Held)). None ∷ l) (cleared xs (length xs) refl))
+
 pub returns-clause-on_board : goal.returns-clause-on_board
 returns-clause-on_board c =
     let laid = laid-all c.loop-held.held-items c.deref_mut-held-items.result.now c.loop-held.held-index c.loop-held.auto.held-items c.loop-held-test.false c.loop-held.invariant.down in
     let items : (with_items c.self.inside.board c.loop-held.held-items).items ≡ c.loop-held.held-items = with_items_is c.self.inside.board c.loop-held.held-items (omega arith) in
-    with_board (the_view c.self.inside) (with_items c.self.inside.board c.loop-held.held-items).items (items ∙ laid ∙ ap (map (option_map laid_down)) c.deref_mut-held-items.ensures.value) ∙ ap all_on_board c.self.view_is
+    let none : c.fill.new.self.items ≡ replicate c.self.inside.gone.len None = grind (arith, common_steps) in
+    with_board (the_view c.self.inside) (with_items c.self.inside.board c.loop-held.held-items).items c.fill.new.self.items (items ∙ laid ∙ ap (map (option_map laid_down)) c.deref_mut-held-items.ensures.value)
+    (none ∙ cleared c.self.inside.gone.items c.self.inside.gone.len (sym c.self.inside.gone.ok.0)) ∙ ap all_on_board c.self.view_is
 
 pub returns-clause-coherent : goal.returns-clause-coherent
 returns-clause-coherent c =

@@ -43,4 +43,4 @@ returns-clause-consistent c =
     let s = c.args.self.now in
     let found = subst (λ (p : FreeFrames). FindsRun p c.args.layout.now (Some c.in-Some.run') c.find_run.new.pool) (ap (λ (s : State). s.pool) c.self.view_is) c.in-Some.ensures.found in
     consistent-at (with_new_slab s c.args.cache c.args.cpu c.find_run.new.pool c.in-Some.run') _ (returns-clause-made c).3
-    (with_new_slab-consistent s c.args.cache c.args.layout.now c.requires.consistent c.requires.live c.args.cpu c.in-Some.run' c.find_run.new.pool c.requires.cpu c.requires.current c.in-Some.ensures.pool found)
+    (with_new_slab-consistent s c.args.cache c.args.layout.now c.requires.consistent c.requires.live c.args.cpu c.in-Some.run' c.find_run.new.pool c.requires.unchecked c.requires.cpu c.requires.current c.in-Some.ensures.pool found)

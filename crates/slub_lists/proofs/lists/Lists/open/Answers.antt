@@ -1,3 +1,4 @@
+use Rattle.slub_cache_create.proofs.Sound.{opening-sound}
 use Rattle.slub_lists.specs.Coherent.{opening}
 use Rattle.slub_lists.proofs.Coherence.{opening-consistent}
 use Rattle.slub_lists.proofs.Keeps.{opening_pool}
@@ -6,7 +7,7 @@ use Rattle.slub_lists.proofs.lists.Lists.open.Goals as goal
 
 pub returns-clause-coherent : goal.returns-clause-coherent
 returns-clause-coherent c =
-    coherent-of (opening c.args.frames c.args.cpus c.args.objects c.args.names)
-    (opening-consistent c.args.frames c.args.cpus c.args.objects c.args.names c.requires.frames.0 c.requires.frames.1 c.requires.cpus.0 c.requires.cpus.1 c.requires.objects
-    (opening_pool c.args.frames c.requires.frames.0 c.requires.frames.1))
-    (kept-opening c.args.frames c.args.cpus c.args.objects c.args.names)
+    coherent-of (opening c.args.frames c.args.cpus c.args.objects c.args.names.now)
+    (opening-consistent c.args.frames c.args.cpus c.args.objects c.args.names.now c.requires.frames.0 c.requires.frames.1 c.requires.cpus.0 c.requires.cpus.1 c.requires.objects
+    (opening_pool c.args.frames c.requires.frames.0 c.requires.frames.1) (opening-sound c.args.names.now))
+    (kept-opening c.args.frames c.args.cpus c.args.objects c.args.names.now)

@@ -12,7 +12,7 @@ first c =
     now ∙ c.in_ok-frame.ensures.popped
 
 -- the list that slabs are put before is the CPU's, which is empty
-here : (c : goal.After-self-3-1) → c.gather.new.self ≡ reverse (take c.args.batch c.pop.new.self)
+here : (c : goal.After-self-3-1) → c.gather.new.partial ≡ reverse (take c.args.batch c.pop.new.self)
 here c =
     let now : c.index_mut.result.now ≡ lists_of c.args.self.now c.args.cache c.args.cpu = grind (arith, common_steps) in
     let none = ap (λ (l : CpuLists). l.partial) now ∙ c.requires.partial in
@@ -20,10 +20,10 @@ here c =
 
 pub returns-clause-popped : goal.returns-clause-popped
 returns-clause-popped c =
-    (popped-node c.args.self.now _ c.args.cache c.args.cpu c.requires.consistent c.requires.cache c.requires.cpu c.requires.current c.in_ok-frame.frame c.args.batch c.pop.new.self c.gather.new.self c.gather.new.from c.requires.partial
+    (popped-node c.args.self.now _ c.args.cache c.args.cpu c.requires.consistent c.requires.cache c.requires.cpu c.requires.current c.in_ok-frame.frame c.args.batch c.pop.new.self c.gather.new.partial c.gather.new.node c.requires.partial
     (first c) (here c) c.gather.ensures.there (grind (arith, common_steps))).0
 
 pub returns-clause-consistent : goal.returns-clause-consistent
 returns-clause-consistent c =
-    (popped-node c.args.self.now _ c.args.cache c.args.cpu c.requires.consistent c.requires.cache c.requires.cpu c.requires.current c.in_ok-frame.frame c.args.batch c.pop.new.self c.gather.new.self c.gather.new.from c.requires.partial
+    (popped-node c.args.self.now _ c.args.cache c.args.cpu c.requires.consistent c.requires.cache c.requires.cpu c.requires.current c.in_ok-frame.frame c.args.batch c.pop.new.self c.gather.new.partial c.gather.new.node c.requires.partial
     (first c) (here c) c.gather.ensures.there (grind (arith, common_steps))).1

@@ -1,4 +1,4 @@
-use Rattle.std.proofs.Common.{◌≡◌, length, ap, sym, subst, arith, lit<}
+use Rattle.std.proofs.Common.{◌≡◌, length, ap, sym, subst, arith}
 use Rattle.std.proofs.lemmas.Grind.{common_steps}
 use Rattle.slub_lists.specs.Alloc.{node_of}
 use Rattle.slub_lists.specs.Coherent.{IsConsistent}
@@ -6,11 +6,11 @@ use Rattle.slub_lists.proofs.Moving.{node-room, pushed-node}
 use Rattle.slub_lists.proofs.lists.Lists.push_node.Goals as goal
 
 -- the slab isn't on the list, so there is room for it
-pub push_back-requires : goal.push_back-requires
-push_back-requires c =
+pub push_tail-requires : goal.push_tail-requires
+push_tail-requires c =
     let now : c.index_mut.result.now ≡ node_of c.args.self.now c.args.cache = grind (arith, common_steps) in
     let room = node-room c.args.self.now c.args.cache 0 c.requires.consistent c.requires.cache (omega (arith, c.requires.consistent.shaped.cpus.0)) c.args.frame c.requires.listable in
-    (lit< tt, omega (arith, ap length now, room))
+    omega (arith, ap length now, room)
 
 pub returns-clause-pushed : goal.returns-clause-pushed
 returns-clause-pushed c = grind (arith, common_steps)

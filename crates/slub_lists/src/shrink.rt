@@ -1,0 +1,139 @@
+//! Shrinking caches, after `__kmem_cache_do_shrink`.
+
+ghost use Rattle.std.specs.Prelude.{◌≡◌, ℕ, ◌<◌, ◌==◌, false, length, None, IsSome, MatchOption, ◌≤◌, slice_index};
+ghost use Rattle.slub_page_pool.specs.History.{times};
+ghost use Rattle.slub_lists.specs.Alloc.{cache_of, checked_of, lists_of, no_lists, node_of};
+ghost use Rattle.slub_lists.specs.Coherent.{IsCoherent, IsConsistent, KeepsMachine};
+ghost use Rattle.slub_lists.specs.Destroy.{busy_of};
+ghost use Rattle.slub_lists.specs.Free.{inuse_of};
+ghost use Rattle.slub_lists.specs.Shrink.{Promotes, Shrinks, ShrinksCache, ShrinksUnchecked, has_slab, is_slab_of, swept, swept_slab};
+ghost use Rattle.slub_lists.specs.Shrinking.{IsSwept, KeepsChecked, KeepsHeld};
+
+use crate::lists::{Lists, Slab};
+use slub_cache_create::caches::NoSuchCache;
+use slub_object_layout::name::Name;
+
+impl Lists {
+    /// Shrinks a cache: takes what its CPUs have to the node list, gives the pages of its unused slabs
+    /// back and puts the others in order. The answer is whether the cache still has a slab.
+    ///
+    /// It stands between rounds: no worker holds an object, and none knows a freed one.
+    pub fn shrink(&mut self, name: &Name) -> Result<bool, NoSuchCache>
+        requires coherent { IsCoherent self.old }
+        ensures shrinks { Shrinks self.old name.now result self.new }
+        ensures board { self.new.board ≡ self.old.board }
+        ensures kept { KeepsMachine self.old self.new }
+        ensures coherent { IsCoherent self.new }
+    {
+        let Some(cache) = self.table.find(name) else {
+            return Err(NoSuchCache);
+        };
+        self.shrink_cache(cache);
+        Ok(self.has_slab(cache))
+    }
+
+    /// Shrinks a live cache, checked or not. Where nothing of it is held or set aside, no slab is left.
+    pub(crate) fn shrink_cache(&mut self, cache: u8)
+        requires coherent { IsCoherent self.old }
+        requires live { IsSome (cache_of self.old cache) }
+        ensures shrinks { ShrinksCache self.old cache self.new }
+        ensures emptied { busy_of self.old cache ≡ 0 → has_slab self.new cache ≡ false }
+        ensures kept { KeepsHeld self.old self.new }
+        ensures coherent { IsCoherent self.new }
+    {
+        if self.checked[cache as usize].is_some() {
+            self.shrink_checked(cache);
+        } else {
+            let min_partial = self.table.layout(cache).min_partial;
+            self.shrink_unchecked(cache, min_partial);
+        }
+    }
+
+    /// Whether a cache has a slab.
+    pub(crate) fn has_slab(&self, cache: u8) -> bool
+        ensures { result ≡ has_slab self.now cache }
+    {
+        let slabs = self.slabs.iter();
+        slabs.filter(|slab| is_slab_of(slab, cache)).count() > 0
+    }
+
+    /// Flushes the CPUs, sweeps the node list and puts it in order.
+    fn shrink_unchecked(&mut self, cache: u8, min_partial: u32)
+        requires coherent { IsCoherent self.old }
+        requires cache { cache < 32 }
+        requires unchecked { checked_of self.old cache ≡ None }
+        ensures shrinks { ShrinksUnchecked self.old min_partial cache self.new }
+        ensures emptied { busy_of self.old cache ≡ 0 → has_slab self.new cache ≡ false }
+        ensures rest { KeepsChecked self.old self.new }
+        ensures coherent { IsCoherent self.new }
+    {
+        self.flush_all(cache, min_partial);
+        self.sweep(cache);
+        self.promote(cache);
+    }
+
+    /// Discards the slabs of the node list of which nothing is in use.
+    fn sweep(&mut self, cache: u8)
+        requires coherent { IsCoherent self.old }
+        requires cache { cache < 32 }
+        ensures swept { self.new ≡ swept self.old cache }
+        ensures used { (frame : ℕ) → 0 < times frame (node_of self.new cache) → 0 < inuse_of self.new frame }
+        ensures lists { self.new.cpu_lists ≡ self.old.cpu_lists }
+        ensures rest { KeepsChecked self.old self.new }
+        ensures coherent { IsCoherent self.new }
+    {
+        let mut place = 0;
+        while let Some(frame) = self.node_at(cache, place) {
+            if !self.sweep_slab(cache, frame) {
+                place += 1;
+            }
+        }
+    }
+
+    /// The slab at a place of the node list, if there is one.
+    fn node_at(&self, cache: u8, place: usize) -> Option<u16>
+        requires { cache < length self.now.nodes }
+        ensures slab { MatchOption result (length (node_of self.now cache) ≤ place) (λ frame. (place < length (node_of self.now cache)) × (slice_index (node_of self.now cache) place ≡ frame)) }
+        ensures room { length (node_of self.now cache) ≤ 4095 }
+    {
+        let frames = self.nodes[cache as usize].frames();
+        frames.get(place).copied()
+    }
+
+    /// Discards a slab of the node list where nothing of it is in use, and says whether it did.
+    fn sweep_slab(&mut self, cache: u8, frame: u16) -> bool
+        requires coherent { IsCoherent self.old }
+        requires cache { cache < 32 }
+        requires there { 0 < times frame (node_of self.old cache) }
+        ensures gone { result ≡ (inuse_of self.old frame == 0) }
+        ensures swept { self.new ≡ swept_slab cache self.old frame }
+        ensures coherent { IsCoherent self.new }
+    {
+        if !self.is_unused(frame) {
+            return false;
+        }
+        self.remove_from_node(cache, frame);
+        self.discard(frame);
+        true
+    }
+
+    /// Puts the node list in order.
+    fn promote(&mut self, cache: u8)
+        requires coherent { IsCoherent self.old }
+        requires cache { cache < 32 }
+        ensures promotes { Promotes self.old cache self.new }
+        ensures coherent { IsCoherent self.new }
+    {
+        self.nodes[cache as usize].promote(self.frees.as_slice());
+    }
+}
+
+/// A live slab of the cache.
+fn is_slab_of(slab: &Option<Slab>, cache: u8) -> bool
+    ensures { result ≡ is_slab_of cache slab.now }
+{
+    match slab {
+        Some(slab) => slab.cache == cache,
+        None => false,
+    }
+}

@@ -1,3 +1,5 @@
+pub mod Adding
 pub mod Lines
-pub mod Machine
+pub mod Places
 pub mod Sums
+pub mod Whole

@@ -4,10 +4,6 @@ use Rattle.std.specs.Prelude.{codes}
 use Rattle.std.specs.Fmt.{digits}
 use Rattle.slub_slabinfo_text.specs.Texts.{column}
 
--- an answer of words alone
-pub answered : (number words : List ℕ) → codes "alloc " ++ (number ++ (codes ": " ++ (words ++ 10 ∷ []))) ≡ codes "alloc " ++ number ++ codes ": " ++ words ++ 10 ∷ []
-answered number words = simp append_assoc
-
 -- what stands between the columns is constant
 pub tunables : codes " : tunables    0    0    0 : slabdata" ≡ codes " : tunables" ++ column 4 0 ++ column 4 0 ++ column 4 0 ++ codes " : slabdata"
 unfolding digits

@@ -1,8 +1,15 @@
 -- The texts to the byte. Every line ends with a line feed.
-use Rattle.std.specs.Prelude.{ℕ, ◌-◌, List, [], ◌∷◌, ◌++◌, length, flat_map, replicate, codes}
-use Rattle.std.specs.Fmt.{decimal}
+use Rattle.std.specs.Prelude.{ℕ, ◌-◌, ◌/◌, ◌%◌, Bool, true, false, List, [], ◌∷◌, ◌++◌, length, flat_map, replicate, codes, Result, Ok, Err}
+use Rattle.std.specs.Fmt.{decimal, digit_glyph, signed_decimal}
 use Rattle.slub_object_layout.specs.declared.event.Act.{Act}
 use Rattle.slub_object_layout.specs.declared.event.Act.TheVariants.{Alloc, Free, Write, Read, Poke, Trim, Flush}
+use Rattle.slub_object_layout.specs.declared.layout.Layout.{Layout}
+use Rattle.slub_object_layout.specs.declared.layout.LayoutRefusal.{LayoutRefusal}
+use Rattle.slub_object_layout.specs.declared.layout.LayoutRefusal.TheVariants as refusal
+use Rattle.slub_red_zone.specs.declared.zones.Damage.{Damage}
+use Rattle.slub_red_zone.specs.declared.zones.Report.{Report}
+use Rattle.slub_red_zone.specs.declared.zones.Zone.{Zone}
+use Rattle.slub_red_zone.specs.declared.zones.Zone.TheVariants as zone
 use Rattle.slub_lists.specs.declared.reply.Reply.{Reply}
 use Rattle.slub_lists.specs.declared.reply.Reply.TheVariants as reply
 use Rattle.slub_slabinfo_text.specs.declared.counts.Counts.{Counts}
@@ -12,34 +19,88 @@ use Rattle.slub_slabinfo_text.specs.declared.text.ItemWord.TheVariants as word
 use Rattle.slub_slabinfo_text.specs.declared.text.ItemAnswer.{ItemAnswer}
 use Rattle.slub_slabinfo_text.specs.declared.text.ItemAnswer.TheVariants as answer
 
+-- ---- damage
+
+-- a byte as two hexadecimal digits in lower case
+abbrev pub hex_digit : ℕ → ℕ
+hex_digit n = digit_glyph false n
+
+abbrev pub hex_byte : ℕ → List ℕ
+hex_byte byte = hex_digit (byte / 16) ∷ hex_digit (byte % 16) ∷ []
+
+abbrev pub zone_text : Zone → List ℕ
+zone_text zone.Left = codes "left"
+zone_text zone.Right = codes "right"
+zone_text zone.Poison = codes "poison"
+zone_text zone.End = codes "end"
+zone_text zone.Padding = codes "padding"
+
+-- `ZONE offset K found XX wanted YY`
+abbrev pub damage_words : Damage → List ℕ
+damage_words damage =
+    zone_text damage.zone ++ codes " offset " ++ signed_decimal damage.offset ++ codes " found " ++ hex_byte damage.found ++ codes " wanted " ++ hex_byte damage.wanted
+
+-- `damage TITLE ADDRESS: `, and what was found
+abbrev pub damage_line : List ℕ → Report → List ℕ
+damage_line title report =
+    codes "damage " ++ title ++ 32 ∷ decimal report.address ++ codes ": " ++ damage_words report.damage ++ 10 ∷ []
+
 -- ---- replies
 
 abbrev pub reply_answer : Reply → List ℕ
 reply_answer (reply.Given address) = codes "given " ++ decimal address
 reply_answer reply.NoFrames = codes "no frames"
 reply_answer reply.NoSuchCache = codes "no such cache"
+reply_answer reply.NoMemory = codes "no memory"
 reply_answer (reply.Freed address) = codes "freed " ++ decimal address
 reply_answer reply.NotHeld = codes "not held"
+reply_answer (reply.Corrupt damage) = codes "corrupt " ++ damage_words damage
+reply_answer reply.Wrote = codes "wrote"
+reply_answer (reply.Value value) = codes "value " ++ decimal value
+reply_answer reply.OutOfObject = codes "out of object"
+reply_answer reply.Poked = codes "poked"
+reply_answer reply.OutOfSlot = codes "out of slot"
+reply_answer reply.NotChecked = codes "not checked"
 
--- the act of an event that is answered so today: an allocation or a free
+-- the act of an event that is answered today: no trim and no flush
 abbrev pub IsAnswered : Act → Type 0
 IsAnswered (Alloc cache object) = Unit {0}
 IsAnswered (Free object) = Unit {0}
-IsAnswered (Write object word value) = ⊥
-IsAnswered (Read object word) = ⊥
-IsAnswered (Poke object offset byte) = ⊥
+IsAnswered (Write object word value) = Unit {0}
+IsAnswered (Read object word) = Unit {0}
+IsAnswered (Poke object offset byte) = Unit {0}
 IsAnswered (Trim cache) = ⊥
 IsAnswered Flush = ⊥
 
--- `alloc O: ` or `free O: `, and the answer
+-- what the line of an event says before the answer
+abbrev pub event_words : Act → List ℕ
+event_words (Alloc cache object) = codes "alloc " ++ decimal object
+event_words (Free object) = codes "free " ++ decimal object
+event_words (Write object word value) = codes "write " ++ decimal object ++ 32 ∷ decimal word
+event_words (Read object word) = codes "read " ++ decimal object ++ 32 ∷ decimal word
+event_words (Poke object offset byte) = codes "poke " ++ decimal object ++ 32 ∷ signed_decimal offset
+event_words (Trim cache) = []
+event_words Flush = []
+
+-- `alloc O: `, `write O WORD: ` or the like, and the answer
 abbrev pub reply_text : Act → Reply → List ℕ
-reply_text (Alloc cache object) reply = codes "alloc " ++ decimal object ++ codes ": " ++ reply_answer reply ++ 10 ∷ []
-reply_text (Free object) reply = codes "free " ++ decimal object ++ codes ": " ++ reply_answer reply ++ 10 ∷ []
-reply_text (Write object word value) reply = []
-reply_text (Read object word) reply = []
-reply_text (Poke object offset byte) reply = []
-reply_text (Trim cache) reply = []
-reply_text Flush reply = []
+reply_text act reply = event_words act ++ codes ": " ++ reply_answer reply ++ 10 ∷ []
+
+-- a reply that is Ok: its line is written with `--replies` alone
+abbrev pub is_ok_reply : Reply → Bool
+is_ok_reply (reply.Given address) = true
+is_ok_reply reply.NoFrames = false
+is_ok_reply reply.NoSuchCache = false
+is_ok_reply reply.NoMemory = false
+is_ok_reply (reply.Freed address) = true
+is_ok_reply reply.NotHeld = false
+is_ok_reply (reply.Corrupt damage) = false
+is_ok_reply reply.Wrote = true
+is_ok_reply (reply.Value value) = true
+is_ok_reply reply.OutOfObject = false
+is_ok_reply reply.Poked = true
+is_ok_reply reply.OutOfSlot = false
+is_ok_reply reply.NotChecked = false
 
 -- ---- items
 
@@ -65,6 +126,24 @@ answer_text (answer.Busy objects) = codes "busy " ++ decimal objects
 answer_text answer.NoSuchCache = codes "no such cache"
 answer_text answer.Set = codes "set"
 answer_text answer.Checked = codes "checked"
+
+-- an answer that is no refusal: its line is written with `--replies` alone
+abbrev pub is_ok_answer : ItemAnswer → Bool
+is_ok_answer answer.Fresh = true
+is_ok_answer (answer.MergedWith title) = true
+is_ok_answer answer.NameTaken = false
+is_ok_answer answer.TooMany = false
+is_ok_answer answer.BadSize = false
+is_ok_answer answer.BadAlign = false
+is_ok_answer answer.BadFlags = false
+is_ok_answer answer.SlabsRemain = true
+is_ok_answer answer.NoSlabs = true
+is_ok_answer answer.Destroyed = true
+is_ok_answer answer.NameDropped = true
+is_ok_answer (answer.Busy objects) = false
+is_ok_answer answer.NoSuchCache = false
+is_ok_answer answer.Set = true
+is_ok_answer answer.Checked = false
 
 -- `cache N: ` or the like, and the answer
 abbrev pub item_line : ItemWord → List ℕ → ItemAnswer → List ℕ
@@ -116,3 +195,20 @@ abbrev pub total_line : ℕ → ℕ → ℕ → ℕ → ℕ → ℕ → ℕ → 
 total_line given freed live free aside frozen slabs frames =
     codes "total given " ++ decimal given ++ codes " freed " ++ decimal freed ++ codes " live " ++ decimal live ++ codes " free " ++ decimal free
     ++ codes " aside " ++ decimal aside ++ codes " frozen " ++ decimal frozen ++ codes " slabs " ++ decimal slabs ++ codes " frames " ++ decimal frames ++ 10 ∷ []
+
+-- ---- the layout
+
+-- a line of a name and a number
+abbrev pub number_line : List ℕ → ℕ → List ℕ
+number_line name n = name ++ 32 ∷ decimal n ++ 10 ∷ []
+
+-- the twelve lines of a layout, and the line of a refusal
+unfoldable pub layout_lines : Result Layout LayoutRefusal → List ℕ
+layout_lines (Ok layout) =
+    number_line (codes "object_size") layout.object_size ++ number_line (codes "inuse") layout.inuse ++ number_line (codes "offset") layout.offset
+    ++ number_line (codes "left_pad") layout.left_pad ++ number_line (codes "size") layout.size ++ number_line (codes "align") layout.align
+    ++ number_line (codes "order") layout.order ++ number_line (codes "objects") layout.objects ++ number_line (codes "min_order") layout.min_order
+    ++ number_line (codes "min_objects") layout.min_objects_slab ++ number_line (codes "min_partial") layout.min_partial ++ number_line (codes "cpu_partial_slabs") layout.cpu_partial_slabs
+layout_lines (Err refusal.BadSize) = codes "layout: bad size" ++ 10 ∷ []
+layout_lines (Err refusal.BadAlign) = codes "layout: bad alignment" ++ 10 ∷ []
+layout_lines (Err refusal.BadFlags) = codes "layout: bad flags" ++ 10 ∷ []

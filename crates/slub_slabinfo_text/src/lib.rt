@@ -6,6 +6,7 @@
 #![tactic(auto)]
 
 pub mod counts;
+pub mod laws;
 pub mod no_memory;
 #[cfg(test)]
 mod tests;

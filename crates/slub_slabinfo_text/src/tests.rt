@@ -1,15 +1,24 @@
 //! Texts against worked traces, and rows of a machine.
 
+ghost use Rattle.std.specs.Prelude.{IfOk};
 ghost use Rattle.slub_lists.specs.Coherent.{IsCoherent};
+ghost use Rattle.slub_slabinfo_text.specs.Texts.{IsAnswered};
 
 use crate::counts::{Counts, InfoRow, cache_counts, info_rows};
-use crate::text::{ItemAnswer, ItemWord, item_line, reply_line, slabinfo_text, total_text};
-use slub_lists::lists::{Cache, Lists};
+use crate::no_memory::NoMemory;
+use crate::text::{
+    ItemAnswer, ItemWord, damage_text, is_ok_answer, is_ok_reply, item_line, layout_text,
+    reply_line, slabinfo_text, total_text,
+};
+use slub_cache_create::caches::Created;
+use slub_lists::lists::Lists;
 use slub_lists::reply::Reply;
 use slub_object_layout::event::Act;
-use slub_object_layout::layout::{Flags, Spec, layout_of};
+use slub_object_layout::layout::{Flags, Layout, LayoutRefusal, Spec};
 use slub_object_layout::name::Name;
+use slub_red_zone::zones::{Damage, Report, Zone};
 use std::alloc::Global;
+use std::process::Abort;
 use std::test::Fail;
 
 const HEADER: &str =
@@ -29,13 +38,21 @@ const EMPTY: Counts = Counts {
     frozen: 0,
 };
 
+/// The line of an event that got this reply.
+fn says(rt: &impl Abort, alloc: Global, act: Act, reply: Reply, want: &[u8]) -> Result<(), NoMemory>
+    requires { IsAnswered act }
+{
+    assert_eq!(rt; reply_line(alloc, &act, &reply)?.as_slice(), want);
+    Ok(())
+}
+
 #[test]
-fn replies(rt: HostRuntime) -> Result<(), Fail> {
-    let alloc = rt.alloc();
-    let cases: [(u32, Reply, &[u8]); 4] = [
+fn allocations(rt: HostRuntime) -> Result<(), Fail> {
+    let cases: [(u32, Reply, &[u8]); 5] = [
         (1, Reply::Given(4096), b"alloc 1: given 4096\n"),
         (9, Reply::NoFrames, b"alloc 9: no frames\n"),
         (3, Reply::NoSuchCache, b"alloc 3: no such cache\n"),
+        (2, Reply::NoMemory, b"alloc 2: no memory\n"),
         (
             1048576,
             Reply::Given(4294967295),
@@ -43,13 +60,167 @@ fn replies(rt: HostRuntime) -> Result<(), Fail> {
         ),
     ];
     for (object, reply, want) in cases {
-        let act = Act::Alloc { cache: 0, object };
-        assert_eq!(rt; reply_line(alloc, &act, &reply)?.as_slice(), want);
+        says(
+            &rt,
+            rt.alloc(),
+            Act::Alloc { cache: 0, object },
+            reply,
+            want,
+        )?;
     }
-    let freed = reply_line(alloc, &Act::Free { object: 1 }, &Reply::Freed(4096))?;
-    assert_eq!(rt; freed.as_slice(), b"free 1: freed 4096\n".as_slice());
-    let not_held = reply_line(alloc, &Act::Free { object: 7 }, &Reply::NotHeld)?;
-    assert_eq!(rt; not_held.as_slice(), b"free 7: not held\n".as_slice());
+    Ok(())
+}
+
+/// A byte of the right red zone that was written.
+const RIGHT: Damage = Damage {
+    zone: Zone::Right,
+    offset: 24,
+    found: 0,
+    wanted: 0xcc,
+};
+
+/// A byte of the left red zone that was written.
+const LEFT: Damage = Damage {
+    zone: Zone::Left,
+    offset: -1,
+    found: 0,
+    wanted: 0xcc,
+};
+
+#[test]
+fn frees(rt: HostRuntime) -> Result<(), Fail> {
+    let cases: [(Reply, &[u8]); 4] = [
+        (Reply::Freed(4104), b"free 1: freed 4104\n"),
+        (Reply::NotHeld, b"free 1: not held\n"),
+        (
+            Reply::Corrupt(RIGHT),
+            b"free 1: corrupt right offset 24 found 00 wanted cc\n",
+        ),
+        (
+            Reply::Corrupt(LEFT),
+            b"free 1: corrupt left offset -1 found 00 wanted cc\n",
+        ),
+    ];
+    for (reply, want) in cases {
+        says(&rt, rt.alloc(), Act::Free { object: 1 }, reply, want)?;
+    }
+    Ok(())
+}
+
+#[test]
+fn words(rt: HostRuntime) -> Result<(), Fail> {
+    let cases: [(u32, Reply, &[u8]); 3] = [
+        (23, Reply::Wrote, b"write 1 23: wrote\n"),
+        (24, Reply::OutOfObject, b"write 1 24: out of object\n"),
+        (0, Reply::NotHeld, b"write 1 0: not held\n"),
+    ];
+    for (word, reply, want) in cases {
+        let act = Act::Write {
+            object: 1,
+            word,
+            value: 5,
+        };
+        says(&rt, rt.alloc(), act, reply, want)?;
+    }
+    let read = Act::Read {
+        object: 1,
+        word: 23,
+    };
+    says(
+        &rt,
+        rt.alloc(),
+        read,
+        Reply::Value(5),
+        b"read 1 23: value 5\n",
+    )?;
+    Ok(())
+}
+
+#[test]
+fn pokes(rt: HostRuntime) -> Result<(), Fail> {
+    let cases: [(i32, Reply, &[u8]); 4] = [
+        (24, Reply::Poked, b"poke 1 24: poked\n"),
+        (-9, Reply::OutOfSlot, b"poke 1 -9: out of slot\n"),
+        (48, Reply::OutOfSlot, b"poke 1 48: out of slot\n"),
+        (0, Reply::NotChecked, b"poke 1 0: not checked\n"),
+    ];
+    for (offset, reply, want) in cases {
+        let act = Act::Poke {
+            object: 1,
+            offset,
+            byte: 0,
+        };
+        says(&rt, rt.alloc(), act, reply, want)?;
+    }
+    Ok(())
+}
+
+#[test]
+fn ok_ones(rt: HostRuntime) {
+    assert!(rt; is_ok_reply(&Reply::Poked));
+    assert!(rt; !is_ok_reply(&Reply::Corrupt(RIGHT)));
+    assert!(rt; is_ok_answer(&ItemAnswer::SlabsRemain));
+    assert!(rt; !is_ok_answer(&ItemAnswer::Busy(74)));
+}
+
+#[test]
+fn damages(rt: HostRuntime) -> Result<(), Fail> {
+    let title = Name::read("node").ok_or("a name")?;
+    let report = Report {
+        cache: 0,
+        address: 4104,
+        damage: Damage {
+            zone: Zone::Poison,
+            offset: 0,
+            found: 0x41,
+            wanted: 0x6b,
+        },
+    };
+    let want = b"damage node 4104: poison offset 0 found 41 wanted 6b\n";
+    assert_eq!(rt;
+        damage_text(rt.alloc(), &title, &report)?.as_slice(),
+        want.as_slice()
+    );
+    Ok(())
+}
+
+/// The layout of objects of 24 bytes with F, Z and P.
+const NODE: Layout = Layout {
+    object_size: 24,
+    inuse: 32,
+    offset: 32,
+    left_pad: 8,
+    size: 56,
+    align: 8,
+    order: 0,
+    objects: 73,
+    min_order: 0,
+    min_objects_slab: 73,
+    min_partial: 5,
+    cpu_partial_slabs: 0,
+};
+
+#[test]
+fn layouts(rt: HostRuntime) -> Result<(), Fail> {
+    let want =
+        b"object_size 24\ninuse 32\noffset 32\nleft_pad 8\nsize 56\nalign 8\norder 0\nobjects 73\nmin_order 0\nmin_objects 73\nmin_partial 5\ncpu_partial_slabs 0\n";
+    assert_eq!(rt;
+        layout_text(rt.alloc(), &Ok(NODE))?.as_slice(),
+        want.as_slice()
+    );
+    Ok(())
+}
+
+#[test]
+fn refusals(rt: HostRuntime) -> Result<(), Fail> {
+    let cases: [(LayoutRefusal, &[u8]); 3] = [
+        (LayoutRefusal::BadSize, b"layout: bad size\n"),
+        (LayoutRefusal::BadAlign, b"layout: bad alignment\n"),
+        (LayoutRefusal::BadFlags, b"layout: bad flags\n"),
+    ];
+    for (refusal, want) in cases {
+        assert_eq!(rt; layout_text(rt.alloc(), &Err(refusal))?.as_slice(), want);
+    }
     Ok(())
 }
 
@@ -146,74 +317,91 @@ const PLAIN: Flags = Flags {
     fail: false,
 };
 
-/// Makes a cache under the name at this place.
-fn make(lists: &mut Lists, place: u32, title: Name, size: u32) -> Result<Option<u32>, Fail>
+const CHECKED: Flags = Flags {
+    checks: true,
+    zones: true,
+    poison: true,
+    ..PLAIN
+};
+
+/// Makes a cache of objects of this size, aligned to 8.
+fn make(rt: &impl Abort, lists: &mut Lists, name: &Name, size: u32, flags: Flags)
     requires { IsCoherent lists.old }
     ensures { IsCoherent lists.new }
 {
     let spec = Spec {
         size,
         align: 8,
-        flags: PLAIN,
+        flags,
     };
-    let layout = layout_of(&spec, 2)?;
-    if place as usize >= lists.names().len() {
-        return Ok(None);
-    }
-    let cache = Cache {
-        title,
-        flags: PLAIN,
-        layout,
-    };
-    Ok(lists.create(place, cache))
+    assert!(rt; matches!(lists.create(name, &spec), Ok(Created::New(_))));
 }
 
-/// Gives the object under this number to worker 0, of the cache that the name at place 0 names.
-fn give(lists: &mut Lists, object: u32) -> Option<Reply>
+/// Gives worker 0 the object under this number, of the cache that the name at a place names; it
+/// stands at this address.
+fn give(rt: &impl Abort, lists: &mut Lists, place: u32, object: u32, address: u32)
     requires { IsCoherent lists.old }
     ensures { IsCoherent lists.new }
 {
-    let unused = matches!(lists.board().get(object as usize), Some(None));
-    if !unused || lists.names().is_empty() || lists.cpus() == 0 {
-        return None;
-    }
-    Some(lists.alloc_named(0, 0, 0, object))
+    assert!(rt; (place as usize) < lists.caches().kept());
+    assert!(rt; 0 < lists.cpus());
+    assert!(rt; matches!(lists.board().get(object as usize), Some(None)));
+    let given = lists.alloc_named(place, 0, 0, object);
+    assert_eq!(rt; given, Reply::Given(address));
 }
 
-/// The counts of cache 0, if it is live.
-fn counts_of_first(lists: &Lists) -> Option<Counts>
+/// A machine of two caches, the second checked, with an object of each.
+fn filled(rt: &impl Abort, alloc: Global) -> Result<Lists, Fail>
+    ensures { IfOk result IsCoherent }
+{
+    let dentry = Name::read("dentry").ok_or("a name")?;
+    let node = Name::read("node").ok_or("a name")?;
+    let mut lists = Lists::open(alloc, 16, 2, 2, &[dentry, node])?;
+    make(rt, &mut lists, &dentry, 192, PLAIN);
+    make(rt, &mut lists, &node, 24, CHECKED);
+    give(rt, &mut lists, 0, 1, 4096);
+    give(rt, &mut lists, 1, 2, 8200);
+    Ok(lists)
+}
+
+/// Slabinfo of the machine.
+fn info(alloc: Global, lists: &Lists) -> Result<Vec<u8>, NoMemory>
     requires { IsCoherent lists.now }
 {
-    match lists.caches().first() {
-        Some(Some(_)) => Some(cache_counts(lists, 0)),
-        _ => None,
+    slabinfo_text(alloc, &info_rows(alloc, lists)?)
+}
+
+/// What is counted of the cache at this place of the ages: live, free and aside objects, frozen slabs.
+fn numbers(lists: &Lists, age: usize) -> Option<(u64, u64, u64, u64)>
+    requires { IsCoherent lists.now }
+{
+    let ages = lists.caches().in_order();
+    if age >= ages.len() {
+        return None;
     }
+    let counts = cache_counts(lists, ages[age]);
+    Some((counts.live, counts.free, counts.aside, counts.frozen))
 }
 
 #[test]
+fn counts_of_a_machine(rt: HostRuntime) -> Result<(), Fail> {
+    let lists = filled(&rt, rt.alloc())?;
+    assert_eq!(rt; numbers(&lists, 0), Some((1, 20, 0, 1)));
+    assert_eq!(rt; numbers(&lists, 1), Some((1, 72, 0, 0)));
+    Ok(())
+}
+
+const DENTRY_ROW: &str =
+    "dentry                21     21    192   21    1 : tunables    0    0    0 : slabdata      1      1      0\n";
+
+const NODE_ROW: &str =
+    "node                   1     73     56   73    1 : tunables    0    0    0 : slabdata      1      1      0\n";
+
+#[test]
 fn rows_of_a_machine(rt: HostRuntime) -> Result<(), Fail> {
-    let alloc = rt.alloc();
-    let mut lists = Lists::open(alloc, 16, 2, 1, 2)?;
-    assert_eq!(rt; info_rows(alloc, &lists)?.len(), 0);
-
-    let dentry = Name::read("dentry").ok_or("a name")?;
-    let c = Name::read("c").ok_or("a name")?;
-    assert_eq!(rt; make(&mut lists, 0, dentry, 192)?, Some(0));
-    assert_eq!(rt; make(&mut lists, 1, c, 184)?, Some(1));
-    assert_eq!(rt; give(&mut lists, 1), Some(Reply::Given(4096)));
-
-    let text = slabinfo_text(alloc, &info_rows(alloc, &lists)?)?;
-    let want = format!(in alloc;
-        "{HEADER}{}{}",
-        "c                      0      0    184   22    1 : tunables    0    0    0 : slabdata      0      0      0\n",
-        "dentry                21     21    192   21    1 : tunables    0    0    0 : slabdata      1      1      0\n"
-    )?;
+    let lists = filled(&rt, rt.alloc())?;
+    let text = info(rt.alloc(), &lists)?;
+    let want = format!(in rt.alloc(); "{HEADER}{NODE_ROW}{DENTRY_ROW}")?;
     assert_eq!(rt; text.as_slice(), want.as_bytes());
-
-    let counts = counts_of_first(&lists).ok_or("a live cache")?;
-    assert_eq!(rt;
-        (counts.live, counts.free, counts.aside, counts.frozen),
-        (1, 20, 0, 1)
-    );
     Ok(())
 }

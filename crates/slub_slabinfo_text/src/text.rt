@@ -1,14 +1,16 @@
 //! Replies, items, slabinfo and the total as lines.
 
-ghost use Rattle.std.specs.Prelude.{◌≡◌, ◌∷◌, [], ◌++◌, IfOk, OnOk, codes, replicate, slice_index};
-ghost use Rattle.std.specs.Fmt.{decimal};
-ghost use Rattle.slub_slabinfo_text.specs.Texts.{IsAnswered, answer_text, column, header_text, info_text, item_line, left, reply_answer, reply_text, row_numbers, row_objects, row_slabs, row_text, total_line, word_text};
+ghost use Rattle.std.specs.Prelude.{◌≡◌, ◌∷◌, ◌++◌, Err, IfOk, OnOk, codes, replicate, slice_index};
+ghost use Rattle.std.specs.Fmt.{decimal, signed_decimal};
+ghost use Rattle.slub_slabinfo_text.specs.Texts.{IsAnswered, answer_text, column, damage_line, damage_words, event_words, header_text, hex_byte, info_text, is_ok_answer, is_ok_reply, item_line, layout_lines, left, number_line, reply_answer, reply_text, row_numbers, row_objects, row_slabs, row_text, total_line, word_text, zone_text};
 
 use crate::counts::{Counts, InfoRow};
 use crate::no_memory::NoMemory;
 use slub_lists::reply::Reply;
 use slub_object_layout::event::Act;
+use slub_object_layout::layout::{Layout, LayoutRefusal};
 use slub_object_layout::name::Name;
+use slub_red_zone::zones::{Damage, Report, Zone};
 use std::alloc::Global;
 
 /// What an item was that is answered by one line.
@@ -43,28 +45,38 @@ pub enum ItemAnswer {
     Checked,
 }
 
-/// The line that answers an event, with its line feed. An allocation and a free alone are answered.
+/// The line that answers an event, with its line feed. A trim and a flush aren't answered.
 pub fn reply_line(alloc: Global, act: &Act, reply: &Reply) -> Result<Vec<u8>, NoMemory>
     requires { IsAnswered act.now }
     ensures { IfOk result (λ text. text.items ≡ reply_text act.now reply.now) }
 {
-    match act {
-        Act::Alloc { cache: _, object } => event_line(alloc, b"alloc ", *object, reply),
-        Act::Free { object } => event_line(alloc, b"free ", *object, reply),
-        _ => Ok(Vec::new(alloc)),
-    }
+    let mut text = event_text(alloc, act)?;
+    push_words(&mut text, b": ")?;
+    push_reply(alloc, &mut text, reply)?;
+    push_words(&mut text, b"\n")?;
+    Ok(text)
 }
 
-/// The line of an event: its word, the number of its object, and the answer.
-fn event_line(alloc: Global, word: &[u8], object: u32, reply: &Reply) -> Result<Vec<u8>, NoMemory>
-    ensures { IfOk result (λ text. text.items ≡ word.now ++ decimal object ++ codes ": " ++ reply_answer reply.now ++ 10 ∷ []) }
+/// What the line of an event says before the answer: nothing of a trim and of a flush.
+fn event_text(alloc: Global, act: &Act) -> Result<Vec<u8>, NoMemory>
+    ensures { IfOk result (λ text. text.items ≡ event_words act.now) }
 {
-    let mut text = Vec::from_slice(alloc, word)?;
-    text.extend_from_slice(format!(in alloc; "{object}")?.as_bytes())?;
-    text.extend_from_slice(b": ")?;
-    push_reply(alloc, &mut text, reply)?;
-    text.push(b'\n')?;
-    Ok(text)
+    match act {
+        Act::Alloc { cache: _, object } => Ok(format!(in alloc; "alloc {object}")?.into_bytes()),
+        Act::Free { object } => Ok(format!(in alloc; "free {object}")?.into_bytes()),
+        Act::Write {
+            object,
+            word,
+            value: _,
+        } => Ok(format!(in alloc; "write {object} {word}")?.into_bytes()),
+        Act::Read { object, word } => Ok(format!(in alloc; "read {object} {word}")?.into_bytes()),
+        Act::Poke {
+            object,
+            offset,
+            byte: _,
+        } => Ok(format!(in alloc; "poke {object} {offset}")?.into_bytes()),
+        Act::Trim { cache: _ } | Act::Flush => Ok(Vec::new(alloc)),
+    }
 }
 
 fn push_reply(alloc: Global, text: &mut Vec<u8>, reply: &Reply) -> Result<(), NoMemory>
@@ -74,8 +86,182 @@ fn push_reply(alloc: Global, text: &mut Vec<u8>, reply: &Reply) -> Result<(), No
         Reply::Given(address) => push_words(text, format!(in alloc; "given {address}")?.as_bytes()),
         Reply::NoFrames => push_words(text, b"no frames"),
         Reply::NoSuchCache => push_words(text, b"no such cache"),
+        Reply::NoMemory => push_words(text, b"no memory"),
         Reply::Freed(address) => push_words(text, format!(in alloc; "freed {address}")?.as_bytes()),
         Reply::NotHeld => push_words(text, b"not held"),
+        Reply::Corrupt(damage) => push_corrupt(alloc, text, damage),
+        Reply::Wrote => push_words(text, b"wrote"),
+        Reply::Value(value) => push_words(text, format!(in alloc; "value {value}")?.as_bytes()),
+        Reply::OutOfObject => push_words(text, b"out of object"),
+        Reply::Poked => push_words(text, b"poked"),
+        Reply::OutOfSlot => push_words(text, b"out of slot"),
+        Reply::NotChecked => push_words(text, b"not checked"),
+    }
+}
+
+fn push_corrupt(alloc: Global, text: &mut Vec<u8>, damage: &Damage) -> Result<(), NoMemory>
+    ensures { OnOk result (text.new.items ≡ text.old.items ++ reply_answer (Reply.Corrupt damage.now)) }
+{
+    push_words(text, b"corrupt ")?;
+    push_damage(alloc, text, damage)
+}
+
+/// Whether a reply is Ok: its line is written with `--replies` alone.
+pub fn is_ok_reply(reply: &Reply) -> bool
+    ensures { result ≡ is_ok_reply reply.now }
+{
+    matches!(
+        reply,
+        Reply::Given(_) | Reply::Freed(_) | Reply::Wrote | Reply::Value(_) | Reply::Poked
+    )
+}
+
+/// Whether an answer is no refusal: its line is written with `--replies` alone.
+pub fn is_ok_answer(answer: &ItemAnswer) -> bool
+    ensures { result ≡ is_ok_answer answer.now }
+{
+    matches!(
+        answer,
+        ItemAnswer::Fresh
+            | ItemAnswer::MergedWith(_)
+            | ItemAnswer::SlabsRemain
+            | ItemAnswer::NoSlabs
+            | ItemAnswer::Destroyed
+            | ItemAnswer::NameDropped
+            | ItemAnswer::Set
+    )
+}
+
+/// The line of a damage, with the title of its cache.
+pub fn damage_text(alloc: Global, title: &Name, report: &Report) -> Result<Vec<u8>, NoMemory>
+    ensures { IfOk result (λ text. text.items ≡ damage_line title.now report.now) }
+{
+    let mut text = Vec::from_slice(alloc, b"damage ")?;
+    push_words(&mut text, title.as_bytes())?;
+    push_address(alloc, &mut text, report.address)?;
+    push_damage(alloc, &mut text, &report.damage)?;
+    push_words(&mut text, b"\n")?;
+    Ok(text)
+}
+
+/// The address of a damaged object, between the title and what was found.
+fn push_address(alloc: Global, text: &mut Vec<u8>, address: u32) -> Result<(), NoMemory>
+    ensures { OnOk result (text.new.items ≡ text.old.items ++ 32 ∷ decimal address ++ codes ": ") }
+{
+    push_words(text, format!(in alloc; " {address}: ")?.as_bytes())
+}
+
+/// What was found: the zone, where the byte is from the object's address, the byte and the wanted one.
+fn push_damage(alloc: Global, text: &mut Vec<u8>, damage: &Damage) -> Result<(), NoMemory>
+    ensures { OnOk result (text.new.items ≡ text.old.items ++ damage_words damage.now) }
+{
+    push_words(text, zone_bytes(damage.zone))?;
+    push_bytes(alloc, text, damage.offset, damage.found, damage.wanted)
+}
+
+fn zone_bytes(zone: Zone) -> &'static [u8]
+    ensures { result.now ≡ zone_text zone }
+{
+    match zone {
+        Zone::Left => b"left",
+        Zone::Right => b"right",
+        Zone::Poison => b"poison",
+        Zone::End => b"end",
+        Zone::Padding => b"padding",
+    }
+}
+
+/// The offset in decimal with its sign, and the two bytes.
+fn push_bytes(
+    alloc: Global,
+    text: &mut Vec<u8>,
+    offset: i32,
+    found: u8,
+    wanted: u8,
+) -> Result<(), NoMemory>
+    ensures { OnOk result (text.new.items ≡ text.old.items ++ codes " offset " ++ signed_decimal offset ++ codes " found " ++ hex_byte found ++ codes " wanted " ++ hex_byte wanted) }
+{
+    push_offset(alloc, text, offset)?;
+    push_hex(alloc, text, found)?;
+    push_words(text, b" wanted ")?;
+    push_hex(alloc, text, wanted)
+}
+
+fn push_offset(alloc: Global, text: &mut Vec<u8>, offset: i32) -> Result<(), NoMemory>
+    ensures { OnOk result (text.new.items ≡ text.old.items ++ codes " offset " ++ signed_decimal offset ++ codes " found ") }
+{
+    push_words(text, b" offset ")?;
+    push_words(text, format!(in alloc; "{offset}")?.as_bytes())?;
+    push_words(text, b" found ")
+}
+
+/// A byte as two hexadecimal digits in lower case.
+#[tactic(auto, using(std::proofs::lemmas::Fmt::hex_byte))]
+fn push_hex(alloc: Global, text: &mut Vec<u8>, byte: u8) -> Result<(), NoMemory>
+    ensures { OnOk result (text.new.items ≡ text.old.items ++ hex_byte byte) }
+{
+    push_words(text, format!(in alloc; "{byte:02x}")?.as_bytes())
+}
+
+/// The twelve lines of a layout, or the line of its refusal.
+#[tactic(auto, unfolding(crate::specs::Texts::layout_lines))]
+pub fn layout_text(
+    alloc: Global,
+    answer: &Result<Layout, LayoutRefusal>,
+) -> Result<Vec<u8>, NoMemory>
+    ensures { IfOk result (λ text. text.items ≡ layout_lines answer.now) }
+{
+    let mut text = Vec::new(alloc);
+    match answer {
+        Ok(layout) => {
+            push_slot(alloc, &mut text, layout)?;
+            push_slab(alloc, &mut text, layout)?;
+        }
+        Err(refusal) => push_words(&mut text, refusal_bytes(*refusal))?,
+    }
+    Ok(text)
+}
+
+/// The lines on a slot.
+fn push_slot(alloc: Global, text: &mut Vec<u8>, layout: &Layout) -> Result<(), NoMemory>
+    ensures { OnOk result (text.new.items ≡ text.old.items ++ number_line (codes "object_size") layout.now.object_size ++ number_line (codes "inuse") layout.now.inuse ++ number_line (codes "offset") layout.now.offset ++ number_line (codes "left_pad") layout.now.left_pad ++ number_line (codes "size") layout.now.size ++ number_line (codes "align") layout.now.align) }
+{
+    push_number(alloc, text, b"object_size", layout.object_size)?;
+    push_number(alloc, text, b"inuse", layout.inuse)?;
+    push_number(alloc, text, b"offset", layout.offset)?;
+    push_number(alloc, text, b"left_pad", layout.left_pad)?;
+    push_number(alloc, text, b"size", layout.size)?;
+    push_number(alloc, text, b"align", layout.align)
+}
+
+/// The lines on slabs.
+fn push_slab(alloc: Global, text: &mut Vec<u8>, layout: &Layout) -> Result<(), NoMemory>
+    ensures { OnOk result (text.new.items ≡ text.old.items ++ number_line (codes "order") layout.now.order ++ number_line (codes "objects") layout.now.objects ++ number_line (codes "min_order") layout.now.min_order ++ number_line (codes "min_objects") layout.now.min_objects_slab ++ number_line (codes "min_partial") layout.now.min_partial ++ number_line (codes "cpu_partial_slabs") layout.now.cpu_partial_slabs) }
+{
+    push_number(alloc, text, b"order", layout.order)?;
+    push_number(alloc, text, b"objects", layout.objects)?;
+    push_number(alloc, text, b"min_order", layout.min_order)?;
+    push_number(alloc, text, b"min_objects", layout.min_objects_slab)?;
+    push_number(alloc, text, b"min_partial", layout.min_partial)?;
+    push_number(alloc, text, b"cpu_partial_slabs", layout.cpu_partial_slabs)
+}
+
+/// A line of a name and a number.
+fn push_number(alloc: Global, text: &mut Vec<u8>, name: &[u8], n: u32) -> Result<(), NoMemory>
+    ensures { OnOk result (text.new.items ≡ text.old.items ++ number_line name.now n) }
+{
+    push_words(text, name)?;
+    push_words(text, format!(in alloc; " {n}\n")?.as_bytes())
+}
+
+#[tactic(auto, unfolding(crate::specs::Texts::layout_lines))]
+fn refusal_bytes(refusal: LayoutRefusal) -> &'static [u8]
+    ensures { result.now ≡ layout_lines (Err refusal) }
+{
+    match refusal {
+        LayoutRefusal::BadSize => b"layout: bad size\n",
+        LayoutRefusal::BadAlign => b"layout: bad alignment\n",
+        LayoutRefusal::BadFlags => b"layout: bad flags\n",
     }
 }
 

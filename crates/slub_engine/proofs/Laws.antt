@@ -1,9 +1,8 @@
 -- What the crates above stand on: the machine that is opened for a trace is ready, and a run of items grows by one.
-use Rattle.std.proofs.Common.{◌≡◌, ℕ, zero, suc, ◌+◌, ◌<◌, List, [], ◌∷◌, length, replicate, get_or, refl, sym, subst, arith, All, None, Option, MatchOption, ◌++◌, take}
-use Rattle.std.proofs.lemmas.List.{get_or-replicate, length-replicate, take_more}
+use Rattle.std.proofs.Common.{◌≡◌, ℕ, zero, suc, ◌+◌, ◌<◌, List, [], ◌∷◌, length, replicate, get_or, refl, sym, subst, None, Option, MatchOption, ◌++◌, take}
+use Rattle.std.proofs.lemmas.List.{length-replicate, take_more}
 use Rattle.std.proofs.lemmas.Option.{slice_get-get_or}
 use Rattle.slub_lists.specs.declared.lists.Held.{Held}
-use Rattle.slub_lists.specs.declared.lists.Cache.{Cache}
 use Rattle.slub_lists.specs.State.{State}
 use Rattle.slub_lists.specs.Coherent.{IsCoherent}
 use Rattle.slub_trace_reader.specs.declared.trace.Item.{Item}
@@ -13,9 +12,6 @@ use Rattle.slub_engine.specs.declared.journal.Done.{Done}
 use Rattle.slub_engine.specs.Lawful.{Does, DoesAt, IsReady, RunsItems, coming, opening_of}
 
 -- ---- the machine that is opened
-
-all_same : {A : Type 0} (n : ℕ) (x : A) → All (λ y. y ≡ x) (replicate n x)
-all_same n x i d within = get_or-replicate n i x d (omega (arith, length-replicate n x))
 
 abbrev no_held : Option Held
 no_held = None
@@ -29,14 +25,11 @@ bare_unheld (suc n) (suc object) = bare_unheld n object
 -- the machine that is opened for a trace stands before its first item
 pub opened_ready : (trace : Trace) → IsCoherent (opening_of trace) → IsReady (opening_of trace) trace 0
 opened_ready trace coherent =
-    let no_number : Option ℕ = None in
-    let no_cache : Option Cache = None in
     record {
       coherent = coherent;
       cpus = refl;
-      names = length-replicate (length trace.names) no_number;
+      names = refl;
       board = length-replicate (trace.objects + 1) no_held;
-      opened = λ first. all_same 32 no_cache;
       unheld = λ k d within. bare_unheld (trace.objects + 1) (get_or (coming trace 0) k d);
     }
 

@@ -1,28 +1,19 @@
 -- Where a machine stands before and after an item.
-use Rattle.std.proofs.Common.{◌≡◌, ℕ, ◌+◌, ◌<◌, List, ◌∷◌, ◌++◌, length, take, drop, get_or, flat_map, refl, sym, ◌∙◌, ap, subst, arith, All, nat_eq, None, IsSome, Option}
+use Rattle.std.proofs.Common.{◌≡◌, ℕ, ◌+◌, ◌<◌, List, ◌∷◌, ◌++◌, length, take, drop, get_or, flat_map, refl, sym, ◌∙◌, ap, subst, All, nat_eq}
 use Rattle.std.specs.List.{IsDistinct}
 use Rattle.std.proofs.lemmas.List.{drop_more, take-append-drop}
 use Rattle.std.proofs.lemmas.List.Concat.{flat_map-append}
 use Rattle.slub_object_layout.specs.declared.event.Round.{Round}
-use Rattle.slub_lists.specs.declared.lists.Cache.{Cache}
 use Rattle.slub_lists.specs.State.{State}
-use Rattle.slub_lists.specs.Coherent.{AreAllUsed, IsCoherent}
+use Rattle.slub_lists.specs.Coherent.{IsCoherent, KeepsMachine}
 use Rattle.slub_trace_reader.specs.declared.trace.Item.{Item}
 use Rattle.slub_trace_reader.specs.declared.trace.Item.TheVariants as item
 use Rattle.slub_trace_reader.specs.declared.trace.Trace.{Trace}
 use Rattle.slub_trace_reader.specs.Sound.{IsSound, objects_in, objects_of}
-use Rattle.slub_engine.specs.Lawful.{HasNoCache, IsReady, IsUnheld, coming}
+use Rattle.slub_engine.specs.Lawful.{IsReady, IsUnheld, coming}
 use Rattle.slub_engine.specs.Steps.{KeepsSizes, KeepsUnheld}
 use Rattle.slub_engine.proofs.Parts.{All-back, All-front, distinct_back, distinct_front}
-use Rattle.slub_engine.proofs.Unheld.{still_unheld}
-
--- with no cache there is room for one
-pub has_room_for_cache : (s : State) → IsCoherent s → HasNoCache s → AreAllUsed s → ⊥
-has_room_for_cache s coherent none all =
-    let within : 0 < length s.caches = omega (arith, coherent.shaped.caches) in
-    let some : IsSome {T = Cache} None = subst (λ (cache : Option Cache). IsSome cache) (none 0 None within) (all 0 None within) in
-    let never : ⊥ = cc in
-    never
+use Rattle.slub_engine.proofs.Unheld.{board_keeps, still_unheld}
 
 -- ---- the numbers that are to come
 
@@ -51,9 +42,8 @@ pub ready_next : (s after : State) (trace : Trace) (number : ℕ) (it : Item) �
 ready_next s after trace number it sound ready within is coherent sizes keeps = record {
   coherent = coherent;
   cpus = sizes.cpus ∙ ready.cpus;
-  names = sizes.names ∙ ready.names;
+  names = sizes.kept ∙ ready.names;
   board = sizes.board ∙ ready.board;
-  opened = λ first. absurd (let never : ⊥ = omega arith in never);
   unheld = still_unheld s after (objects_in it) (coming trace (number + 1)) keeps (coming_distinct trace number it sound within is)
       (All-back (IsUnheld s) (objects_in it) (coming trace (number + 1)) (coming_unheld s trace number it ready within is));
 }
@@ -64,10 +54,20 @@ pub ready_round : (s after : State) (trace : Trace) (number : ℕ) (it : Item) (
 ready_round s after trace number it round sound ready within at is coherent sizes keeps =
     ready_next s after trace number it sound ready within at coherent sizes (subst (λ (objects : List ℕ). KeepsUnheld s objects after) (sym (ap objects_in is)) keeps)
 
+-- after a shrink and a destruction
+pub kept_sizes : (s after : State) → KeepsMachine s after → after.board ≡ s.board → KeepsSizes s after
+kept_sizes s after keeps board = record { cpus = keeps.cpus; kept = keeps.kept; board = ap (λ board. length board) board }
+
+-- after an item that allocates nothing
+pub ready_kept : (s after : State) (trace : Trace) (number : ℕ) (it : Item) → IsSound trace → IsReady s trace number → number < length trace.items → it ≡ get_or trace.items number it
+    → IsCoherent after → KeepsSizes s after → after.board ≡ s.board → IsReady after trace (number + 1)
+ready_kept s after trace number it sound ready within at coherent sizes board =
+    ready_next s after trace number it sound ready within at coherent sizes (board_keeps s after (objects_in it) board)
+
 -- after an item that leaves the machine as it was
 pub ready_same : (s : State) (trace : Trace) (number : ℕ) (it : Item) → IsSound trace → IsReady s trace number → number < length trace.items → it ≡ get_or trace.items number it → IsReady s trace (number + 1)
 ready_same s trace number it sound ready within at =
-    ready_next s s trace number it sound ready within at ready.coherent (record { cpus = refl; names = refl; board = refl }) (λ object unheld out. unheld)
+    ready_next s s trace number it sound ready within at ready.coherent (record { cpus = refl; kept = refl; board = refl }) (λ object unheld out. unheld)
 
 -- ---- before a round
 

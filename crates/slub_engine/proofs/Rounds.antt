@@ -10,15 +10,18 @@ use Rattle.std.proofs.lemmas.Slice.Zip.{length-zip}
 use Rattle.slub_object_layout.specs.declared.event.Act.{Act}
 use Rattle.slub_object_layout.specs.declared.event.Act.TheVariants.{Alloc, Free, Write, Read, Poke, Trim, Flush}
 use Rattle.slub_object_layout.specs.declared.event.Event.{Event}
+use Rattle.slub_cache_create.specs.Table.{Table}
 use Rattle.slub_lists.specs.declared.reply.Reply.{Reply}
-use Rattle.slub_lists.specs.declared.reply.Reply.TheVariants.{Given, NoFrames, NoSuchCache, Freed, NotHeld}
+use Rattle.slub_lists.specs.declared.reply.Reply.TheVariants as reply
 use Rattle.slub_lists.specs.State.{State}
-use Rattle.slub_lists.specs.Coherent.{IsCoherent, KeepsOthers}
+use Rattle.slub_lists.specs.Alloc.{checked_of}
+use Rattle.slub_lists.specs.Coherent.{AddsReportsOf, IsCoherent, KeepsOthers, findable_in}
 use Rattle.slub_trace_reader.specs.Sound.{allocated, objects_of}
 use Rattle.slub_engine.specs.declared.journal.Ledger.{Ledger}
 use Rattle.slub_engine.specs.Lawful.{Answers, AreLedgers, IsLedger, IsUnheld, RunsEvents, is_by, is_freed, is_given, is_order, lacks, least_order_of}
 use Rattle.slub_engine.specs.Steps.{IsBelow, IsBlank, IsKnown, IsKnownAct, KeepsCaches, KeepsUnheld, Notes, NotesOwn, object_of}
 use Rattle.slub_engine.proofs.Parts.{All-back, All-front}
+use Rattle.slub_engine.proofs.Reports.{adds_none, adds_then}
 use Rattle.slub_engine.proofs.Unheld.{keeps_then, still_unheld}
 use Rattle.slub_engine.proofs.Zips.{length-snoc, zip-snoc}
 
@@ -27,6 +30,8 @@ pub record HasRun (s : State) (workers : ℕ) (events : List Event) (done : ℕ)
   pub coherent : IsCoherent now
   pub runs : RunsEvents s (take done events) replies now
   pub caches : KeepsCaches s now
+  pub reports : (cache : ℕ) → AddsReportsOf (checked_of s cache) (checked_of now cache)
+  pub findable : findable_in now ≤ findable_in s + done
   pub counted : AreLedgers s (zip (take done events) replies) workers ledgers
   pub answered : length replies ≡ done
   pub unheld : KeepsUnheld s (objects_of (take done events)) now
@@ -42,23 +47,31 @@ runs_more s (first ∷ events) [] mid after event reply runs answers coherent = 
 runs_more s (first ∷ events) (answer ∷ replies) mid after event reply runs answers coherent =
     (runs.0, runs.1, runs.2, runs_more runs.0 events replies mid after event reply runs.3 answers coherent)
 
--- the names and the caches decide which least order an act asks for
-least_order_kept : (s now : State) (act : Act) → now.names ≡ s.names → now.caches ≡ s.caches → least_order_of now act ≡ least_order_of s act
-least_order_kept s now (Alloc place object) names caches = rw (names, caches) refl
-least_order_kept s now (Free object) names caches = refl
-least_order_kept s now (Write object word value) names caches = refl
-least_order_kept s now (Read object word) names caches = refl
-least_order_kept s now (Poke object offset byte) names caches = refl
-least_order_kept s now (Trim place) names caches = refl
-least_order_kept s now Flush names caches = refl
+-- the table of names and caches decides which least order an act asks for
+least_order_kept : (s now : State) (act : Act) → now.table ≡ s.table → least_order_of now act ≡ least_order_of s act
+least_order_kept s now (Alloc place object) table = rw table refl
+least_order_kept s now (Free object) table = refl
+least_order_kept s now (Write object word value) table = refl
+least_order_kept s now (Read object word) table = refl
+least_order_kept s now (Poke object offset byte) table = refl
+least_order_kept s now (Trim place) table = refl
+least_order_kept s now Flush table = refl
 
-lacks_kept : (s now : State) (order : ℕ) (event : Event) (reply : Reply) → now.names ≡ s.names → now.caches ≡ s.caches
+lacks_kept : (s now : State) (order : ℕ) (event : Event) (reply : Reply) → now.table ≡ s.table
     → lacks now order (event, reply) ≡ lacks s order (event, reply)
-lacks_kept s now order event (Given address) names caches = refl
-lacks_kept s now order event NoFrames names caches = ap (is_order order) (least_order_kept s now event.act names caches)
-lacks_kept s now order event NoSuchCache names caches = refl
-lacks_kept s now order event (Freed address) names caches = refl
-lacks_kept s now order event NotHeld names caches = refl
+lacks_kept s now order event (reply.Given address) table = refl
+lacks_kept s now order event reply.NoFrames table = ap (is_order order) (least_order_kept s now event.act table)
+lacks_kept s now order event reply.NoSuchCache table = refl
+lacks_kept s now order event reply.NoMemory table = refl
+lacks_kept s now order event (reply.Freed address) table = refl
+lacks_kept s now order event reply.NotHeld table = refl
+lacks_kept s now order event (reply.Corrupt damage) table = refl
+lacks_kept s now order event reply.Wrote table = refl
+lacks_kept s now order event (reply.Value value) table = refl
+lacks_kept s now order event reply.OutOfObject table = refl
+lacks_kept s now order event reply.Poked table = refl
+lacks_kept s now order event reply.OutOfSlot table = refl
+lacks_kept s now order event reply.NotChecked table = refl
 
 -- ---- ledgers
 
@@ -82,14 +95,14 @@ count_other p answers event reply worker differ =
 
 -- the ledger of the event's worker
 ledger_own : (s now : State) (answers : List (Event × Reply)) (event : Event) (reply : Reply) (before after : Ledger)
-    → now.names ≡ s.names → now.caches ≡ s.caches → IsLedger s answers event.worker before → Notes now event reply before after
+    → now.table ≡ s.table → IsLedger s answers event.worker before → Notes now event reply before after
     → IsLedger s (answers ++ (event, reply) ∷ []) event.worker after
-ledger_own s now answers event reply before after names caches counted noted = record {
+ledger_own s now answers event reply before after table counted noted = record {
   given = noted.given ∙ rw counted.given (sym (count_own (λ one. is_given one.1) answers event reply));
   freed = noted.freed ∙ rw counted.freed (sym (count_own (λ one. is_freed one.1) answers event reply));
   no_frames = λ order within.
       noted.no_frames order within
-      ∙ rw (counted.no_frames order within, lacks_kept s now order event reply names caches) (sym (count_own (lacks s order) answers event reply));
+      ∙ rw (counted.no_frames order within, lacks_kept s now order event reply table) (sym (count_own (lacks s order) answers event reply));
 }
 
 -- the ledger of another worker
@@ -102,9 +115,9 @@ ledger_other s answers event reply worker ledger differ counted = record {
 }
 
 ledgers_more : (s now : State) (answers : List (Event × Reply)) (workers : ℕ) (event : Event) (reply : Reply) (before after : List Ledger)
-    → now.names ≡ s.names → now.caches ≡ s.caches → event.worker < workers → AreLedgers s answers workers before → NotesOwn now event reply before after
+    → now.table ≡ s.table → event.worker < workers → AreLedgers s answers workers before → NotesOwn now event reply before after
     → AreLedgers s (answers ++ (event, reply) ∷ []) workers after
-ledgers_more s now answers workers event reply before after names caches mine counted noted = record {
+ledgers_more s now answers workers event reply before after table mine counted noted = record {
   each = ap length noted.after_is ∙ length-set before event.worker noted.ledger ∙ counted.each;
   counts = λ worker other within. rw noted.after_is (elim (cases_eq worker event.worker) [ inl same ↦ at_own worker other same | inr differ ↦ at_other worker other within differ ]);
 }
@@ -112,7 +125,7 @@ ledgers_more s now answers workers event reply before after names caches mine co
     at_own : (worker : ℕ) (other : Ledger) → worker ≡ event.worker → IsLedger s (answers ++ (event, reply) ∷ []) worker (get_or (set before event.worker noted.ledger) worker other)
     at_own worker other same =
         let here : get_or (set before event.worker noted.ledger) event.worker other ≡ noted.ledger = get_or-set_same before event.worker noted.ledger other (omega (arith, counted.each)) in
-        let own = ledger_own s now answers event reply (get_or before event.worker noted.ledger) noted.ledger names caches (counted.counts event.worker noted.ledger mine) noted.noted in
+        let own = ledger_own s now answers event reply (get_or before event.worker noted.ledger) noted.ledger table (counted.counts event.worker noted.ledger mine) noted.noted in
         rw (same, here) own
 
     at_other : (worker : ℕ) (other : Ledger) → worker < workers → worker ≢ event.worker → IsLedger s (answers ++ (event, reply) ∷ []) worker (get_or (set before event.worker noted.ledger) worker other)
@@ -143,12 +156,12 @@ blank_ledgers s ledgers blank = record {
 -- ---- the loop
 
 -- what an act names is still there
-pub known_kept : (s now : State) (act : Act) → length now.names ≡ length s.names → length now.board ≡ length s.board → IsKnownAct s act → IsKnownAct now act
+pub known_kept : (s now : State) (act : Act) → length now.table.kept ≡ length s.table.kept → length now.board ≡ length s.board → IsKnownAct s act → IsKnownAct now act
 known_kept s now (Alloc place object) names board known = (omega (arith, known.0), omega (arith, known.1))
 known_kept s now (Free object) names board known = omega (arith, known)
-known_kept s now (Write object word value) names board known = known
-known_kept s now (Read object word) names board known = known
-known_kept s now (Poke object offset byte) names board known = known
+known_kept s now (Write object word value) names board known = (omega (arith, known.0), known.1)
+known_kept s now (Read object word) names board known = (omega (arith, known.0), known.1)
+known_kept s now (Poke object offset byte) names board known = omega (arith, known)
 known_kept s now (Trim place) names board known = known
 known_kept s now Flush names board known = known
 
@@ -158,7 +171,9 @@ pub has_run_none : (s : State) (events : List Event) (replies : List Reply) (led
 has_run_none s events replies ledgers coherent none blank = rw none (record {
   coherent = coherent;
   runs = refl;
-  caches = record { cpus = refl; names = refl; caches = refl; board = refl };
+  caches = record { cpus = refl; table = refl; board = refl };
+  reports = λ cache. adds_none (checked_of s cache);
+  findable = omega arith;
   counted = blank_ledgers s ledgers blank;
   answered = refl;
   unheld = λ object unheld out. unheld;
@@ -177,7 +192,7 @@ pub next_is_here : (s : State) (workers : ℕ) (events : List Event) (done : ℕ
     → (event.worker < length ledgers) × (event.cpu < now.cpus) × IsKnownAct now event.act
 next_is_here s workers events done replies ledgers now event has_run known within is =
     let here = next_is s workers events done event known within is in
-    (omega (arith, here.worker, has_run.counted.each), omega (arith, has_run.caches.cpus, here.cpu), known_kept s now event.act (ap length has_run.caches.names) has_run.caches.board here.act)
+    (omega (arith, here.worker, has_run.counted.each), omega (arith, has_run.caches.cpus, here.cpu), known_kept s now event.act (ap (λ (table : Table). length table.kept) has_run.caches.table) has_run.caches.board here.act)
 
 -- the events are those that were answered, the next, and the others
 objects_split : (events : List Event) (done : ℕ) (event : Event) → done < length events → event ≡ get_or events done event
@@ -215,15 +230,16 @@ pub has_run_more : (s : State) (workers : ℕ) (events : List Event) (done : ℕ
 has_run_more s workers events done replies before now event reply after ledgers has_run known within is answers coherent others unheld noted =
     let more : take (done + 1) events ≡ take done events ++ event ∷ [] = take_more events done event within ∙ ap (λ (e : Event). take done events ++ e ∷ []) (sym is) in
     let even : length (take done events) ≡ length replies = length-take-le done events (omega arith) ∙ sym has_run.answered in
-    let names : after.names ≡ s.names = others.names ∙ has_run.caches.names in
-    let caches : after.caches ≡ s.caches = others.caches ∙ has_run.caches.caches in
+    let table : after.table ≡ s.table = others.table ∙ has_run.caches.table in
     let worker = (next_is s workers events done event known within is).worker in
     let objects : objects_of (take done events ++ event ∷ []) ≡ objects_of (take done events) ++ objects_of (event ∷ []) = filter_map-append (λ event. allocated event.act) (take done events) (event ∷ []) in
     record {
       coherent = coherent;
       runs = rw more (runs_more s (take done events) replies now after event reply has_run.runs answers coherent);
-      caches = record { cpus = others.cpus ∙ has_run.caches.cpus; names = names; caches = caches; board = others.board_length ∙ has_run.caches.board };
-      counted = rw (more, zip-snoc (take done events) replies event reply even) (ledgers_more s after (zip (take done events) replies) workers event reply before ledgers names caches worker has_run.counted noted);
+      caches = record { cpus = others.cpus ∙ has_run.caches.cpus; table = table; board = others.board_length ∙ has_run.caches.board };
+      reports = λ cache. adds_then (checked_of s cache) (checked_of now cache) (checked_of after cache) (has_run.reports cache) (others.reports cache);
+      findable = omega (arith, others.findable, has_run.findable);
+      counted = rw (more, zip-snoc (take done events) replies event reply even) (ledgers_more s after (zip (take done events) replies) workers event reply before ledgers table worker has_run.counted noted);
       answered = length-snoc replies reply ∙ ap (λ n. n + 1) has_run.answered;
       unheld = subst (λ (objects : List ℕ). KeepsUnheld s objects after) (sym (ap (λ (events : List Event). objects_of events) more ∙ objects)) (keeps_then s now after _ _ has_run.unheld unheld);
     }
@@ -235,3 +251,8 @@ pub has_run_all : (s : State) (workers : ℕ) (events : List Event) (done : ℕ)
 has_run_all s workers events done replies ledgers now has_run all =
     let whole : take done events ≡ events = take_all done events all in
     (rw whole at has_run.runs, rw whole at has_run.counted, rw whole at has_run.unheld)
+
+-- the same ledgers of the same events
+pub same_ledgers : (s : State) (events others : List Event) (replies answers : List Reply) (workers number : ℕ) (ledgers after : List Ledger)
+    → events ≡ others → answers ≡ replies → workers ≡ number → after ≡ ledgers → AreLedgers s (zip events replies) workers ledgers → AreLedgers s (zip others answers) number after
+same_ledgers s events others replies answers workers number ledgers after one two three four counted = rw (← one, two, ← three, four) counted

@@ -4,17 +4,16 @@ use Rattle.std.specs.List.{IsDistinct}
 use Rattle.std.specs.Option.{option_map}
 use Rattle.std.proofs.lemmas.Bool.{cases_eq}
 use Rattle.std.proofs.lemmas.List.Elements.{Contains-append_left, Contains-append_right, Contains-get_or}
-use Rattle.slub_object_layout.specs.declared.event.Act.{Act}
-use Rattle.slub_object_layout.specs.declared.event.Act.TheVariants.{Alloc, Free, Write, Read, Poke, Trim, Flush}
+use Rattle.slub_object_layout.specs.declared.event.Act.TheVariants.{Alloc}
 use Rattle.slub_object_layout.specs.declared.event.Event.{Event}
 use Rattle.slub_lists.specs.declared.lists.Held.{Held}
 use Rattle.slub_lists.specs.declared.reply.Reply.{Reply}
-use Rattle.slub_lists.specs.Free.{Frees}
+use Rattle.slub_lists.specs.Freeing.{Frees}
 use Rattle.slub_lists.specs.State.{State}
 use Rattle.slub_lists.specs.Coherent.{KeepsOthers, all_on_board, laid_down}
 use Rattle.slub_trace_reader.specs.Sound.{objects_of}
-use Rattle.slub_engine.specs.Lawful.{Answers, IsUnheld}
-use Rattle.slub_engine.specs.Steps.{IsKnownAct, KeepsUnheld, object_of}
+use Rattle.slub_engine.specs.Lawful.{IsUnheld}
+use Rattle.slub_engine.specs.Steps.{KeepsUnheld}
 use Rattle.slub_engine.proofs.Parts.{apart}
 
 pub keeps_then : (s mid after : State) (xs ys : List ℕ) → KeepsUnheld s xs mid → KeepsUnheld mid ys after → KeepsUnheld s (xs ++ ys) after
@@ -42,23 +41,26 @@ alloc_unheld s event place object is unheld =
     subst (All (IsUnheld s)) mine unheld 0 object (omega arith)
 
 -- a free of a number that no object has changes nothing
-free_keeps : (s after : State) (cpu worker object : ℕ) (reply : Reply) (other : ℕ) → other ≡ object → Frees s cpu worker object reply after → IsUnheld s other → IsUnheld after other
-free_keeps s after cpu worker object reply other same frees unheld =
+free_same : (s after : State) (cpu worker object : ℕ) (reply : Reply) (other : ℕ) → other ≡ object → Frees s cpu worker object reply after → IsUnheld s other → IsUnheld after other
+free_same s after cpu worker object reply other same frees unheld =
     let bare : slice_index_or s.board object None ≡ None = rw same at unheld in
     let kept : after ≡ s = (rw bare at frees).1 in
     rw kept unheld
 
--- an event changes its own number alone, and a free none that no object has
-pub act_keeps : (s after : State) (event : Event) (act : Act) (reply : Reply) → event.act ≡ act → IsKnownAct s act → Answers s event act reply after → KeepsOthers s (object_of act) after
+-- an allocation changes its own number alone
+pub alloc_keeps : (s after : State) (event : Event) (place object : ℕ) → event.act ≡ Alloc place object → KeepsOthers s object after
     → KeepsUnheld s (objects_of (event ∷ [])) after
-act_keeps s after event (Alloc place object) reply is known answers others other unheld out =
+alloc_keeps s after event place object is others other unheld out =
     others.board other (λ same. out (rw is (0, (omega arith), sym same))) ∙ unheld
-act_keeps s after event (Free object) reply is known answers others other unheld out = elim (cases_eq other object) [
-  | inl same ↦ free_keeps s after event.cpu event.worker object reply other same answers unheld
+
+-- a free none that no object has
+pub free_keeps : (s after : State) (event : Event) (object : ℕ) (reply : Reply) → Frees s event.cpu event.worker object reply after → KeepsOthers s object after
+    → KeepsUnheld s (objects_of (event ∷ [])) after
+free_keeps s after event object reply frees others other unheld out = elim (cases_eq other object) [
+  | inl same ↦ free_same s after event.cpu event.worker object reply other same frees unheld
   | inr differ ↦ others.board other differ ∙ unheld
 ]
-act_keeps s after event (Write object word value) reply is known answers others other unheld out = absurd known
-act_keeps s after event (Read object word) reply is known answers others other unheld out = absurd known
-act_keeps s after event (Poke object offset byte) reply is known answers others other unheld out = absurd known
-act_keeps s after event (Trim place) reply is known answers others other unheld out = absurd known
-act_keeps s after event Flush reply is known answers others other unheld out = absurd known
+
+-- with the same board each number is as it was
+pub board_keeps : (s after : State) (objects : List ℕ) → after.board ≡ s.board → KeepsUnheld s objects after
+board_keeps s after objects same object unheld out = rw same unheld

@@ -40,16 +40,30 @@ unfolding Does
 item_few s trace (item.Round round) (done.Round outcome) after sound does =
     let does : DoesRound s round outcome after = does in
     round_few s round outcome after sound.workers.1 does
-item_few s trace (item.Round round) (done.Created answer) after sound does = absurd does
-item_few s trace (item.Round round) (done.Slabinfo rows) after sound does = absurd does
 item_few s trace (item.Cache place spec) (done.Created answer) after sound does = (omega arith, omega arith)
 item_few s trace (item.Cache place spec) (done.Round outcome) after sound does = absurd does
+item_few s trace (item.Cache place spec) (done.Shrunk answer) after sound does = absurd does
+item_few s trace (item.Cache place spec) (done.Destroyed answer) after sound does = absurd does
 item_few s trace (item.Cache place spec) (done.Slabinfo rows) after sound does = absurd does
-item_few s trace item.Slabinfo (done.Slabinfo rows) after sound does = (omega arith, omega arith)
+item_few s trace (item.Round round) (done.Created answer) after sound does = absurd does
+item_few s trace (item.Round round) (done.Shrunk answer) after sound does = absurd does
+item_few s trace (item.Round round) (done.Destroyed answer) after sound does = absurd does
+item_few s trace (item.Round round) (done.Slabinfo rows) after sound does = absurd does
+item_few s trace (item.Shrink place) (done.Created answer) after sound does = absurd does
+item_few s trace (item.Shrink place) (done.Round outcome) after sound does = absurd does
+item_few s trace (item.Shrink place) (done.Shrunk answer) after sound does = (omega arith, omega arith)
+item_few s trace (item.Shrink place) (done.Destroyed answer) after sound does = absurd does
+item_few s trace (item.Shrink place) (done.Slabinfo rows) after sound does = absurd does
+item_few s trace (item.Destroy place) (done.Created answer) after sound does = absurd does
+item_few s trace (item.Destroy place) (done.Round outcome) after sound does = absurd does
+item_few s trace (item.Destroy place) (done.Shrunk answer) after sound does = absurd does
+item_few s trace (item.Destroy place) (done.Destroyed answer) after sound does = (omega arith, omega arith)
+item_few s trace (item.Destroy place) (done.Slabinfo rows) after sound does = absurd does
 item_few s trace item.Slabinfo (done.Created answer) after sound does = absurd does
 item_few s trace item.Slabinfo (done.Round outcome) after sound does = absurd does
-item_few s trace (item.Shrink place) dn after sound does = absurd does
-item_few s trace (item.Destroy place) dn after sound does = absurd does
+item_few s trace item.Slabinfo (done.Shrunk answer) after sound does = absurd does
+item_few s trace item.Slabinfo (done.Destroyed answer) after sound does = absurd does
+item_few s trace item.Slabinfo (done.Slabinfo rows) after sound does = (omega arith, omega arith)
 item_few s trace (item.Tune place setting) dn after sound does = absurd does
 item_few s trace (item.Client client) dn after sound does = absurd does
 

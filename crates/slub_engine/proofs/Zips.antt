@@ -32,3 +32,7 @@ pub pieces_whole : {A B C : Type 0} (f : A × B → List C) (xs : List A) (ys : 
 pieces_whole f xs ys i text whole so_far =
     let all : take i (zip xs ys) ≡ zip xs ys = take_all i (zip xs ys) (omega (arith, length-zip xs ys)) in
     so_far ∙ ap (flat_map f) all
+
+-- the front of two lists
+pub front_taken : {A : Type 0} (xs ys : List A) (n : ℕ) → n ≡ length xs → take n (xs ++ ys) ≡ xs
+front_taken xs ys n long = rw long (grind (arith, common_steps))

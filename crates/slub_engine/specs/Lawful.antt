@@ -1,21 +1,30 @@
 -- Which journals are lawful for a trace.
-use Rattle.std.specs.Prelude.{◌≡◌, ℕ, ◌+◌, ◌<◌, ◌≤◌, ◌&&◌, Bool, true, false, ◌==◌, List, [], ◌∷◌, length, take, drop, sum_by, count_by, flat_map, Option, Some, None, MatchOption, ⊤, Result, Ok, Err, slice_index, slice_index_or, slice_get, All}
-use Rattle.std.specs.List.{zip}
-use Rattle.std.specs.Option.{option_map, option_and_then}
-use Rattle.slub_object_layout.specs.declared.layout.Layout.{Layout}
+use Rattle.std.specs.Prelude.{◌≡◌, ℕ, ◌+◌, ◌<◌, ◌≤◌, ◌&&◌, Bool, true, false, ◌==◌, List, [], ◌∷◌, length, map, take, drop, sum_by, count_by, flat_map, Option, Some, None, MatchOption, ⊤, Result, Ok, Err, slice_index, slice_index_or, slice_get, All}
+use Rattle.std.specs.List.{range_with_len, zip}
+use Rattle.std.specs.Option.{option_map, option_map_or, option_and_then}
+use Rattle.slub_object_layout.specs.declared.layout.LayoutRefusal.TheVariants as refused
 use Rattle.slub_object_layout.specs.declared.layout.Spec.{Spec}
 use Rattle.slub_object_layout.specs.declared.event.Act.{Act}
 use Rattle.slub_object_layout.specs.declared.event.Act.TheVariants.{Alloc, Free, Write, Read, Poke, Trim, Flush}
 use Rattle.slub_object_layout.specs.declared.event.Event.{Event}
 use Rattle.slub_object_layout.specs.declared.event.Round.{Round}
-use Rattle.slub_object_layout.specs.Layout.{IsAccepted, IsLayout, is_checked}
-use Rattle.slub_lists.specs.declared.lists.Cache.{Cache}
+use Rattle.slub_object_layout.specs.Layout.{IsAccepted, IsAlign, IsSize, IsSupported}
+use Rattle.slub_cache_create.specs.Create.{IsOpenTo}
+use Rattle.slub_cache_create.specs.Table.{HasTitle, IsTaken}
+use Rattle.slub_cache_create.specs.declared.caches.Cache.{Cache}
+use Rattle.slub_cache_create.specs.declared.caches.Created.TheVariants as made
+use Rattle.slub_red_zone.specs.declared.zones.Report.{Report}
 use Rattle.slub_lists.specs.declared.reply.Reply.{Reply}
-use Rattle.slub_lists.specs.declared.reply.Reply.TheVariants.{Given, NoFrames, NoSuchCache, Freed, NotHeld}
+use Rattle.slub_lists.specs.declared.reply.Reply.TheVariants as reply
 use Rattle.slub_lists.specs.State.{State}
-use Rattle.slub_lists.specs.Alloc.{AllocatesNamed, cache_of, named}
-use Rattle.slub_lists.specs.Free.{Frees}
-use Rattle.slub_lists.specs.Coherent.{Creates, IsCoherent, all_on_board, opening}
+use Rattle.slub_lists.specs.Alloc.{cache_of, checked_of, named}
+use Rattle.slub_lists.specs.Named.{AllocatesNamed}
+use Rattle.slub_lists.specs.Freeing.{Frees}
+use Rattle.slub_lists.specs.Words.{Pokes, Reads, Writes}
+use Rattle.slub_lists.specs.Create.{CreatesCache}
+use Rattle.slub_lists.specs.Shrink.{Shrinks}
+use Rattle.slub_lists.specs.Destroy.{Destroys}
+use Rattle.slub_lists.specs.Coherent.{IsCoherent, all_on_board, opening}
 use Rattle.slub_slabinfo_text.specs.declared.counts.Counts.{Counts}
 use Rattle.slub_slabinfo_text.specs.Counts.{rows_of}
 use Rattle.slub_trace_reader.specs.declared.trace.Item.{Item}
@@ -23,9 +32,10 @@ use Rattle.slub_trace_reader.specs.declared.trace.Item.TheVariants as item
 use Rattle.slub_trace_reader.specs.declared.trace.Trace.{Trace}
 use Rattle.slub_trace_reader.specs.Sound.{objects_in}
 use Rattle.slub_engine.specs.declared.journal.Created.{Created}
-use Rattle.slub_engine.specs.declared.journal.Created.TheVariants.{New}
+use Rattle.slub_engine.specs.declared.journal.Created.TheVariants.{New, Merged}
 use Rattle.slub_engine.specs.declared.journal.CreateRefusal.{CreateRefusal}
 use Rattle.slub_engine.specs.declared.journal.CreateRefusal.TheVariants as refusal
+use Rattle.slub_engine.specs.declared.journal.Found.{Found}
 use Rattle.slub_engine.specs.declared.journal.Ledger.{Ledger}
 use Rattle.slub_engine.specs.declared.journal.RoundResult.{RoundResult}
 use Rattle.slub_engine.specs.declared.journal.Done.{Done}
@@ -33,33 +43,33 @@ use Rattle.slub_engine.specs.declared.journal.Done.TheVariants as done
 use Rattle.slub_engine.specs.declared.journal.Total.{Total}
 use Rattle.slub_engine.specs.declared.journal.Journal.{Journal}
 
+-- the name at a place of the trace's names
+abbrev pub name_at : Trace → ℕ → List ℕ
+name_at trace place = slice_index_or trace.names place []
+
 -- ---- creation (`kmem_cache_create`)
 
--- no cache is live, so that no name is taken and none is there to merge with
-abbrev pub HasNoCache : State → Type 0
-HasNoCache s = All (λ cache. cache ≡ None) s.caches
-
--- the cache of the name at a place, of this layout
-abbrev pub cache_with : Trace → ℕ → Spec → Layout → Cache
-cache_with trace place spec layout = record { title = slice_index_or trace.names place []; flags = spec.flags; layout = layout }
-
--- a cache is created of the name at a place: today the first of a machine, and no checked one
-abbrev pub CreatesCache : State → Trace → ℕ → Spec → Result Created CreateRefusal → State → Type 0
-CreatesCache s trace place spec (Ok (New number)) after =
-    HasNoCache s × (is_checked spec.flags ≡ false) × (layout : Layout) × IsLayout spec s.cpus layout × Creates s place (cache_with trace place spec layout) (Some number) after
-CreatesCache s trace place spec (Err refusal.NameTaken) after = ⊥
-CreatesCache s trace place spec (Err refusal.TooMany) after = ⊥
-CreatesCache s trace place spec (Err (refusal.Layout why)) after = ⊥
+-- a name is created: it is that of a new cache, or one more of a live one; or it is refused for the first cause, and nothing changes
+abbrev pub CreatesName : State → List ℕ → Spec → Result Created CreateRefusal → State → Type 0
+CreatesName s name spec (Ok (New cache)) after = IsOpenTo s.table name × IsAccepted spec × CreatesCache s name spec (made.New cache) after
+CreatesName s name spec (Ok (Merged cache title)) after =
+    IsOpenTo s.table name × IsAccepted spec × CreatesCache s name spec (made.Merged cache) after × HasTitle s.table cache title
+CreatesName s name spec (Err refusal.NameTaken) after = IsTaken s.table name × (after ≡ s)
+CreatesName s name spec (Err refusal.TooMany) after = (¬ IsTaken s.table name) × (length s.table.live ≡ 32) × (after ≡ s)
+CreatesName s name spec (Err (refusal.Layout refused.BadSize)) after = IsOpenTo s.table name × (¬ IsSize spec.size) × (after ≡ s)
+CreatesName s name spec (Err (refusal.Layout refused.BadAlign)) after = IsOpenTo s.table name × IsSize spec.size × (¬ IsAlign spec.align) × (after ≡ s)
+CreatesName s name spec (Err (refusal.Layout refused.BadFlags)) after =
+    IsOpenTo s.table name × IsSize spec.size × IsAlign spec.align × (¬ IsSupported spec.flags) × (after ≡ s)
 
 -- ---- events
 
--- an event is answered: today an allocation or a free
+-- an event is answered; a trim and a flush aren't today
 abbrev pub Answers : State → Event → Act → Reply → State → Type 0
 Answers s event (Alloc place object) reply after = AllocatesNamed s place event.cpu event.worker object reply after
 Answers s event (Free object) reply after = Frees s event.cpu event.worker object reply after
-Answers s event (Write object word value) reply after = ⊥
-Answers s event (Read object word) reply after = ⊥
-Answers s event (Poke object offset byte) reply after = ⊥
+Answers s event (Write object word value) reply after = Writes s event.worker object word value reply after
+Answers s event (Read object word) reply after = Reads s event.worker object word reply × (after ≡ s)
+Answers s event (Poke object offset byte) reply after = Pokes s event.worker object offset byte reply after
 Answers s event (Trim place) reply after = ⊥
 Answers s event Flush reply after = ⊥
 
@@ -75,19 +85,35 @@ RunsEvents s (event ∷ events) [] after = ⊥
 
 -- an object was given
 abbrev pub is_given : Reply → Bool
-is_given (Given address) = true
-is_given NoFrames = false
-is_given NoSuchCache = false
-is_given (Freed address) = false
-is_given NotHeld = false
+is_given (reply.Given address) = true
+is_given reply.NoFrames = false
+is_given reply.NoSuchCache = false
+is_given reply.NoMemory = false
+is_given (reply.Freed address) = false
+is_given reply.NotHeld = false
+is_given (reply.Corrupt damage) = false
+is_given reply.Wrote = false
+is_given (reply.Value value) = false
+is_given reply.OutOfObject = false
+is_given reply.Poked = false
+is_given reply.OutOfSlot = false
+is_given reply.NotChecked = false
 
 -- an object was freed
 abbrev pub is_freed : Reply → Bool
-is_freed (Given address) = false
-is_freed NoFrames = false
-is_freed NoSuchCache = false
-is_freed (Freed address) = true
-is_freed NotHeld = false
+is_freed (reply.Given address) = false
+is_freed reply.NoFrames = false
+is_freed reply.NoSuchCache = false
+is_freed reply.NoMemory = false
+is_freed (reply.Freed address) = true
+is_freed reply.NotHeld = false
+is_freed (reply.Corrupt damage) = false
+is_freed reply.Wrote = false
+is_freed (reply.Value value) = false
+is_freed reply.OutOfObject = false
+is_freed reply.Poked = false
+is_freed reply.OutOfSlot = false
+is_freed reply.NotChecked = false
 
 -- the least order of a cache
 abbrev pub min_order_of : Cache → ℕ
@@ -109,11 +135,19 @@ is_order order (Some other) = other == order
 
 -- no run of this least order was there
 abbrev pub lacks : State → ℕ → Event × Reply → Bool
-lacks s order (event, NoFrames) = is_order order (least_order_of s event.act)
-lacks s order (event, Given address) = false
-lacks s order (event, NoSuchCache) = false
-lacks s order (event, Freed address) = false
-lacks s order (event, NotHeld) = false
+lacks s order (event, reply.Given address) = false
+lacks s order (event, reply.NoFrames) = is_order order (least_order_of s event.act)
+lacks s order (event, reply.NoSuchCache) = false
+lacks s order (event, reply.NoMemory) = false
+lacks s order (event, reply.Freed address) = false
+lacks s order (event, reply.NotHeld) = false
+lacks s order (event, reply.Corrupt damage) = false
+lacks s order (event, reply.Wrote) = false
+lacks s order (event, reply.Value value) = false
+lacks s order (event, reply.OutOfObject) = false
+lacks s order (event, reply.Poked) = false
+lacks s order (event, reply.OutOfSlot) = false
+lacks s order (event, reply.NotChecked) = false
 
 -- the event is one of this worker
 abbrev pub is_by : ℕ → Event × Reply → Bool
@@ -130,6 +164,29 @@ pub record AreLedgers (s : State) (answers : List (Event × Reply)) (workers : �
   pub each : length ledgers ≡ workers
   pub counts : (worker : ℕ) (other : Ledger) → worker < workers → IsLedger s answers worker (slice_index_or ledgers worker other)
 
+-- ---- damages
+
+-- what was found of a cache, oldest first
+abbrev pub reports_of : State → ℕ → List Report
+reports_of s cache = option_map_or (λ slabs. slabs.reports) (checked_of s cache) []
+
+-- the name that a live cache was made under
+abbrev pub title_of : State → ℕ → List ℕ
+title_of s cache = option_map_or (λ live. live.title) (cache_of s cache) []
+
+-- what was found of a cache since the state before
+abbrev pub found_of : State → State → ℕ → List Found
+found_of before after cache =
+    map (λ report. record { title = title_of after cache; report = report }) (drop (length (reports_of before cache)) (reports_of after cache))
+
+-- the numbers of caches, 0 to 31
+unfoldable pub cache_numbers : List ℕ
+cache_numbers = range_with_len 0 32
+
+-- what was found since the state before, by cache number
+abbrev pub found_in : State → State → List Found
+found_in before after = flat_map (found_of before after) cache_numbers
+
 -- ---- a round
 
 -- its events are answered in their order, and then what the workers hold is put on the board
@@ -137,23 +194,38 @@ pub record DoesRound (s : State) (round : Round) (result : RoundResult) (after :
   pub last : State
   pub runs : RunsEvents s round.events result.replies last
   pub after_is : after ≡ all_on_board last
+  pub damages : result.damages ≡ found_in s last
   pub ledgers : AreLedgers s (zip round.events result.replies) round.workers result.ledgers
 
 -- ---- items
 
--- an item is done, by an answer of its kind; the other items aren't done today
+-- an item is done, by an answer of its kind; a tune and a client's line aren't done today
 unfoldable pub Does : State → Trace → Item → Done → State → Type 0
-Does s trace (item.Cache place spec) (done.Created answer) after = CreatesCache s trace place spec answer after
+Does s trace (item.Cache place spec) (done.Created answer) after = CreatesName s (name_at trace place) spec answer after
 Does s trace (item.Cache place spec) (done.Round result) after = ⊥
+Does s trace (item.Cache place spec) (done.Shrunk answer) after = ⊥
+Does s trace (item.Cache place spec) (done.Destroyed answer) after = ⊥
 Does s trace (item.Cache place spec) (done.Slabinfo rows) after = ⊥
 Does s trace (item.Round round) (done.Created answer) after = ⊥
 Does s trace (item.Round round) (done.Round result) after = DoesRound s round result after
+Does s trace (item.Round round) (done.Shrunk answer) after = ⊥
+Does s trace (item.Round round) (done.Destroyed answer) after = ⊥
 Does s trace (item.Round round) (done.Slabinfo rows) after = ⊥
+Does s trace (item.Shrink place) (done.Created answer) after = ⊥
+Does s trace (item.Shrink place) (done.Round result) after = ⊥
+Does s trace (item.Shrink place) (done.Shrunk answer) after = Shrinks s (name_at trace place) answer after
+Does s trace (item.Shrink place) (done.Destroyed answer) after = ⊥
+Does s trace (item.Shrink place) (done.Slabinfo rows) after = ⊥
+Does s trace (item.Destroy place) (done.Created answer) after = ⊥
+Does s trace (item.Destroy place) (done.Round result) after = ⊥
+Does s trace (item.Destroy place) (done.Shrunk answer) after = ⊥
+Does s trace (item.Destroy place) (done.Destroyed answer) after = Destroys s (name_at trace place) answer after
+Does s trace (item.Destroy place) (done.Slabinfo rows) after = ⊥
 Does s trace item.Slabinfo (done.Created answer) after = ⊥
 Does s trace item.Slabinfo (done.Round result) after = ⊥
+Does s trace item.Slabinfo (done.Shrunk answer) after = ⊥
+Does s trace item.Slabinfo (done.Destroyed answer) after = ⊥
 Does s trace item.Slabinfo (done.Slabinfo rows) after = (rows ≡ rows_of s) × (after ≡ s)
-Does s trace (item.Shrink place) done after = ⊥
-Does s trace (item.Destroy place) done after = ⊥
 Does s trace (item.Tune place setting) done after = ⊥
 Does s trace (item.Client client) done after = ⊥
 
@@ -181,6 +253,8 @@ freed_in ledgers = sum_by (λ ledger. ledger.freed) ledgers
 abbrev pub ledgers_of : Done → List Ledger
 ledgers_of (done.Created answer) = []
 ledgers_of (done.Round result) = result.ledgers
+ledgers_of (done.Shrunk answer) = []
+ledgers_of (done.Destroyed answer) = []
 ledgers_of (done.Slabinfo rows) = []
 
 -- a sum over the live caches
@@ -202,7 +276,7 @@ pub record IsTotal (s : State) (dones : List Done) (total : Total) : Type 0 wher
 
 -- the machine before the first item of a trace
 abbrev pub opening_of : Trace → State
-opening_of trace = opening trace.frames trace.cpus trace.objects (length trace.names)
+opening_of trace = opening trace.frames trace.cpus trace.objects trace.names
 
 -- the journal's items answer the trace's first items, one each in their order, from the opening machine on;
 -- each state on the way is coherent; a total is there where all is done, with the sums of the state
@@ -218,42 +292,9 @@ pub record IsLawful (trace : Trace) (journal : Journal) : Type 0 where
 
 -- ---- what is built
 
--- an act that is answered today: an allocation or a free
-abbrev pub IsBuiltAct : Act → Type 0
-IsBuiltAct (Alloc place object) = ⊤
-IsBuiltAct (Free object) = ⊤
-IsBuiltAct (Write object word value) = ⊥
-IsBuiltAct (Read object word) = ⊥
-IsBuiltAct (Poke object offset byte) = ⊥
-IsBuiltAct (Trim place) = ⊥
-IsBuiltAct Flush = ⊥
-
--- a round of such acts
-abbrev pub IsBuiltRound : Round → Type 0
-IsBuiltRound round = All (λ event. IsBuiltAct event.act) round.events
-
--- there is a layout for the spec, and the cache is not checked
-abbrev pub IsBuiltSpec : Spec → Type 0
-IsBuiltSpec spec = IsAccepted spec × (is_checked spec.flags ≡ false)
-
--- the item of this number: a cache as the first item, a round, or a slabinfo
-abbrev pub IsBuiltItem : ℕ → Item → Type 0
-IsBuiltItem number (item.Cache place spec) = (number ≡ 0) × IsBuiltSpec spec
-IsBuiltItem number (item.Round round) = IsBuiltRound round
-IsBuiltItem number (item.Shrink place) = ⊥
-IsBuiltItem number (item.Destroy place) = ⊥
-IsBuiltItem number item.Slabinfo = ⊤
-IsBuiltItem number (item.Tune place setting) = ⊥
-IsBuiltItem number (item.Client client) = ⊥
-
--- each of the items is one that is replayed today
-abbrev pub AreBuilt : List Item → Type 0
-AreBuilt items = (number : ℕ) (other : Item) → number < length items → IsBuiltItem number (slice_index_or items number other)
-
--- the trace is one that is replayed today: no transaction id to start at, at most one creation, which comes first, and then rounds and slabinfos
-pub record IsBuilt (trace : Trace) : Type 0 where
-  pub tid : trace.tid ≡ 0
-  pub items : AreBuilt trace.items
+-- the trace is one that is replayed today: no transaction id to start at. What is read is of version 1, so it has no tune, trim, flush or client's line
+abbrev pub IsBuilt : Trace → Type 0
+IsBuilt trace = trace.tid ≡ 0
 
 -- ---- where the machine stands
 
@@ -265,11 +306,10 @@ IsUnheld s object = slice_index_or s.board object None ≡ None
 abbrev pub coming : Trace → ℕ → List ℕ
 coming trace number = flat_map objects_in (drop number trace.items)
 
--- the machine stands before the item of this number: it has the trace's sizes, no cache before the first item, and no object with a number that is still to be allocated
+-- the machine stands before the item of this number: it has the trace's sizes and names, and no object with a number that is still to be allocated
 pub record IsReady (s : State) (trace : Trace) (number : ℕ) : Type 0 where
   pub coherent : IsCoherent s
   pub cpus : s.cpus ≡ trace.cpus
-  pub names : length s.names ≡ length trace.names
+  pub names : s.table.kept ≡ trace.names
   pub board : length s.board ≡ trace.objects + 1
-  pub opened : number ≡ 0 → HasNoCache s
   pub unheld : All (IsUnheld s) (coming trace number)

@@ -1,21 +1,24 @@
 -- The steps of a round.
-use Rattle.std.specs.Prelude.{◌≡◌, ℕ, ◌+◌, ◌<◌, List, length, if◌then◌else◌, slice_index, slice_index_or, slice_set}
+use Rattle.std.specs.Prelude.{◌≡◌, ℕ, ◌+◌, ◌<◌, ◌≤◌, List, length, drop, flat_map, map, sum_by, if◌then◌else◌, slice_index, slice_index_or, slice_set}
 use Rattle.std.specs.List.{Contains}
+use Rattle.std.specs.Option.{option_map_or}
 use Rattle.slub_object_layout.specs.declared.event.Act.{Act}
 use Rattle.slub_object_layout.specs.declared.event.Act.TheVariants.{Alloc, Free, Write, Read, Poke, Trim, Flush}
 use Rattle.slub_object_layout.specs.declared.event.Event.{Event}
+use Rattle.slub_red_zone.specs.declared.zones.Report.{Report}
 use Rattle.slub_lists.specs.declared.reply.Reply.{Reply}
 use Rattle.slub_lists.specs.State.{State}
+use Rattle.slub_engine.specs.declared.journal.Found.{Found}
 use Rattle.slub_engine.specs.declared.journal.Ledger.{Ledger}
-use Rattle.slub_engine.specs.Lawful.{IsUnheld, is_freed, is_given, lacks}
+use Rattle.slub_engine.specs.Lawful.{IsUnheld, cache_numbers, is_freed, is_given, lacks, reports_of, title_of}
 
--- an allocation of a name of the machine, or a free, under a number that it has
+-- an act under a number that the machine has, an allocation of a name of it; no trim and no flush
 abbrev pub IsKnownAct : State → Act → Type 0
-IsKnownAct s (Alloc place object) = (place < length s.names) × (object < length s.board)
+IsKnownAct s (Alloc place object) = (place < length s.table.kept) × (object < length s.board)
 IsKnownAct s (Free object) = object < length s.board
-IsKnownAct s (Write object word value) = ⊥
-IsKnownAct s (Read object word) = ⊥
-IsKnownAct s (Poke object offset byte) = ⊥
+IsKnownAct s (Write object word value) = (object < length s.board) × (word ≤ 4095)
+IsKnownAct s (Read object word) = (object < length s.board) × (word ≤ 4095)
+IsKnownAct s (Poke object offset byte) = object < length s.board
 IsKnownAct s (Trim place) = ⊥
 IsKnownAct s Flush = ⊥
 
@@ -29,23 +32,22 @@ pub record IsKnown (s : State) (workers : ℕ) (event : Event) : Type 0 where
 abbrev pub object_of : Act → ℕ
 object_of (Alloc place object) = object
 object_of (Free object) = object
-object_of (Write object word value) = 0
-object_of (Read object word) = 0
-object_of (Poke object offset byte) = 0
+object_of (Write object word value) = object
+object_of (Read object word) = object
+object_of (Poke object offset byte) = object
 object_of (Trim place) = 0
 object_of Flush = 0
 
 -- what an item leaves of the machine: its CPUs, names and numbers
 pub record KeepsSizes (s after : State) : Type 0 where
   pub cpus : after.cpus ≡ s.cpus
-  pub names : length after.names ≡ length s.names
+  pub kept : after.table.kept ≡ s.table.kept
   pub board : length after.board ≡ length s.board
 
 -- what a round leaves as it was
 pub record KeepsCaches (s after : State) : Type 0 where
   pub cpus : after.cpus ≡ s.cpus
-  pub names : after.names ≡ s.names
-  pub caches : after.caches ≡ s.caches
+  pub table : after.table ≡ s.table
   pub board : length after.board ≡ length s.board
 
 -- a number that no object has stays so, but for these
@@ -75,3 +77,25 @@ pub record IsBelow (limit : ℕ) (ledger : Ledger) : Type 0 where
   pub given : ledger.given < limit
   pub freed : ledger.freed < limit
   pub no_frames : (order : ℕ) → order < 11 → slice_index ledger.no_frames order < limit
+
+-- ---- damages
+
+-- how much was found of each cache so far, by cache number
+abbrev pub told_in : State → List ℕ
+told_in s = map (λ slabs. option_map_or (λ slabs. length slabs.reports) slabs 0) s.checked
+
+-- how many slabs of checked caches are listed
+abbrev pub listed_in : State → ℕ
+listed_in s = sum_by (λ slabs. option_map_or (λ slabs. length slabs.listed) slabs 0) s.checked
+
+-- a report of the cache with this title
+abbrev pub found_with : List ℕ → Report → Found
+found_with title report = record { title = title; report = report }
+
+-- what was found of a cache after the first so many
+abbrev pub found_past : ℕ → State → ℕ → List Found
+found_past told s cache = map (found_with (title_of s cache)) (drop told (reports_of s cache))
+
+-- what was found of each cache after so many, by cache number
+abbrev pub found_since : List ℕ → State → List Found
+found_since told s = flat_map (λ cache. found_past (slice_index_or told cache 0) s cache) cache_numbers

@@ -1,20 +1,24 @@
 //! Doing an item.
 
-ghost use Rattle.std.specs.Prelude.{false, ◌≡◌, ◌+◌, ◌-◌, ◌^◌, ◌<◌, ◌≤◌, [], ◌∷◌, length, All, IfOk, IfSome, OnOk, OnErr, nat_eq, vec_capacity};
+ghost use Rattle.std.specs.Prelude.{◌≡◌, ℕ, ◌+◌, ◌-◌, ◌^◌, ◌<◌, ◌≤◌, [], ◌∷◌, length, All, IfOk, IfSome, OnOk, OnErr, nat_eq, vec_capacity};
 ghost use Rattle.std.specs.List.{IsDistinct, zip};
-ghost use Rattle.slub_lists.specs.Coherent.{IsCoherent, KeepsOthers};
-ghost use Rattle.slub_object_layout.specs.Layout.{IsAccepted, is_checked};
+ghost use Rattle.slub_lists.specs.Coherent.{AddsReportsOf, IsCoherent, KeepsOthers, findable_in};
+ghost use Rattle.slub_lists.specs.Alloc.{checked_of};
 ghost use Rattle.slub_trace_reader.specs.Sound.{IsSound, objects_of};
-ghost use Rattle.slub_engine.specs.Lawful.{Answers, AreLedgers, CreatesCache, DoesAt, DoesRound, HasNoCache, IsBuilt, IsReady, IsTotal, IsUnheld, RunsEvents, RunsItems, least_order_of, opening_of};
+ghost use Rattle.slub_engine.specs.Lawful.{Answers, AreLedgers, CreatesName, DoesAt, DoesRound, IsBuilt, IsReady, IsTotal, IsUnheld, RunsEvents, RunsItems, least_order_of, opening_of};
 ghost use Rattle.slub_engine.specs.declared.item.NoMemory.{NoMemory};
 ghost use Rattle.slub_engine.specs.Steps.{IsBelow, IsBlank, IsKnown, IsKnownAct, KeepsCaches, KeepsSizes, KeepsUnheld, Notes, NotesOwn, object_of};
 
+use crate::found::{counts_told, push_found, room_to_find};
 use crate::journal::{CreateRefusal, Created, Done, Ledger, RoundResult, Total};
+use crate::names::name_of;
 use crate::sums::{self, CacheSums};
-use slub_lists::lists::{Cache, Lists};
+use slub_cache_create::caches;
+use slub_lists::lists::Lists;
 use slub_lists::reply::Reply;
 use slub_object_layout::event::{Act, Event, Round};
-use slub_object_layout::layout::{Spec, layout_of};
+use slub_object_layout::layout::Spec;
+use slub_object_layout::name::Name;
 use slub_object_layout::sequence::Sequence;
 use slub_slabinfo_text::counts::info_rows;
 use slub_trace_reader::trace::{Item, Trace};
@@ -64,49 +68,51 @@ pub fn item(
     ensures err { OnErr result (lists.new ≡ lists.old) }
 {
     match &trace.items.as_slice()[number] {
-        Item::Cache { name, spec } => Ok(Done::Created(create(lists, trace, *name, spec))),
+        Item::Cache { name, spec } => {
+            Ok(Done::Created(create(lists, name_of(trace, *name), spec)?))
+        }
         Item::Round(round) => Ok(Done::Round(serial(alloc, lists, round)?)),
+        Item::Shrink { name } => Ok(Done::Shrunk(lists.shrink(name_of(trace, *name)))),
+        Item::Destroy { name } => Ok(Done::Destroyed(lists.destroy(name_of(trace, *name)))),
         Item::Slabinfo => Ok(Done::Slabinfo(Sequence::from_vec(info_rows(alloc, lists)?))),
-        _ => unreachable!(),
+        Item::Tune {
+            name: _,
+            setting: _,
+        }
+        | Item::Client(_) => unreachable!(),
     }
 }
 
-/// Creates a cache of the name at a place of the trace's names (`kmem_cache_create`).
+/// Creates a cache, or gives a live one that it fits one more name (`kmem_cache_create`).
 fn create(
     lists: &mut Lists,
-    trace: &Trace,
-    place: u32,
+    name: &Name,
     spec: &Spec,
-) -> Result<Created, CreateRefusal>
+) -> Result<Result<Created, CreateRefusal>, NoMemory>
     requires coherent { IsCoherent lists.old }
-    requires first { HasNoCache lists.old }
-    requires accepted { IsAccepted spec.now }
-    requires unchecked { is_checked spec.now.flags ≡ false }
-    requires named { place < length trace.now.names }
-    requires known { place < length lists.old.names }
-    ensures creates { CreatesCache lists.old trace.now place spec.now result lists.new }
+    ensures creates { IfOk result (λ answer. CreatesName lists.old name.now spec.now answer lists.new) }
     ensures coherent { IsCoherent lists.new }
     ensures sizes { KeepsSizes lists.old lists.new }
     ensures board { lists.new.board ≡ lists.old.board }
+    ensures err { OnErr result (lists.new ≡ lists.old) }
 {
-    let layout = match layout_of(spec, lists.cpus()) {
-        Ok(layout) => layout,
-        Err(why) => return Err(CreateRefusal::Layout(why)),
-    };
-    let cache = Cache {
-        title: trace.names.as_slice()[place as usize],
-        flags: spec.flags,
-        layout,
-    };
-    match lists.create(place, cache) {
-        Some(number) => Ok(Created::New(number)),
-        None => Err(CreateRefusal::TooMany),
+    match lists.create(name, spec) {
+        Ok(caches::Created::New(cache)) => Ok(Ok(Created::New(cache))),
+        Ok(caches::Created::Merged(cache)) => Ok(Ok(Created::Merged {
+            cache,
+            title: *lists.caches().title(cache),
+        })),
+        Err(caches::CreateRefusal::NameTaken) => Ok(Err(CreateRefusal::NameTaken)),
+        Err(caches::CreateRefusal::TooMany) => Ok(Err(CreateRefusal::TooMany)),
+        Err(caches::CreateRefusal::Layout(why)) => Ok(Err(CreateRefusal::Layout(why))),
+        Err(caches::CreateRefusal::NoMemory) => Err(NoMemory),
     }
 }
 
 /// Does a round: each event to its end, in the order of the text.
 ///
-/// All memory is taken before the first event.
+/// All memory is taken before the first event: each event makes at most one more slab that may be
+/// reported.
 fn serial(alloc: Global, lists: &mut Lists, round: &Round) -> Result<RoundResult, NoMemory>
     requires coherent { IsCoherent lists.old }
     requires known { All (IsKnown lists.old round.now.workers) round.now.events }
@@ -121,10 +127,14 @@ fn serial(alloc: Global, lists: &mut Lists, round: &Round) -> Result<RoundResult
     let events = round.events.as_slice();
     let mut replies = Vec::with_capacity(alloc, events.len())?;
     let mut ledgers = blank_ledgers(alloc, round.workers as usize)?;
+    let told = counts_told(alloc, lists)?;
+    let mut damages = Vec::with_capacity(alloc, room_to_find(lists, events.len()))?;
     run_events(lists, events, &mut replies, &mut ledgers);
+    push_found(lists, told.as_slice(), &mut damages);
     lists.end_round();
     Ok(RoundResult {
         replies: Sequence::from_vec(replies),
+        damages: Sequence::from_vec(damages),
         ledgers: Sequence::from_vec(ledgers),
     })
 }
@@ -154,6 +164,8 @@ fn run_events(lists: &mut Lists, events: &[Event], replies: &mut Vec<Reply>, led
     ensures runs { RunsEvents lists.old events.now replies.new.items lists.new }
     ensures coherent { IsCoherent lists.new }
     ensures caches { KeepsCaches lists.old lists.new }
+    ensures reports { (cache : ℕ) → AddsReportsOf (checked_of lists.old cache) (checked_of lists.new cache) }
+    ensures findable { findable_in lists.new ≤ findable_in lists.old + length events.now }
     ensures unheld { KeepsUnheld lists.old (objects_of events.now) lists.new }
     ensures ledgers { AreLedgers lists.old (zip events.now replies.new.items) (length ledgers.old) ledgers.new }
 {
@@ -178,7 +190,18 @@ fn answer(lists: &mut Lists, event: &Event) -> Reply
     match event.act {
         Act::Alloc { cache, object } => lists.alloc_named(cache, event.cpu, event.worker, object),
         Act::Free { object } => lists.free(event.cpu, event.worker, object),
-        _ => unreachable!(),
+        Act::Write {
+            object,
+            word,
+            value,
+        } => lists.write(event.worker, object, word, value),
+        Act::Read { object, word } => lists.read(event.worker, object, word),
+        Act::Poke {
+            object,
+            offset,
+            byte,
+        } => lists.poke(event.worker, object, offset, byte),
+        Act::Trim { cache: _ } | Act::Flush => unreachable!(),
     }
 }
 
@@ -208,7 +231,16 @@ fn note(ledger: &mut Ledger, lists: &Lists, event: &Event, reply: Reply)
             }
         }
         Reply::Freed(_) => ledger.freed += 1,
-        Reply::NoSuchCache | Reply::NotHeld => {}
+        Reply::NoSuchCache
+        | Reply::NoMemory
+        | Reply::NotHeld
+        | Reply::Corrupt(_)
+        | Reply::Wrote
+        | Reply::Value(_)
+        | Reply::OutOfObject
+        | Reply::Poked
+        | Reply::OutOfSlot
+        | Reply::NotChecked => {}
     }
 }
 
@@ -223,9 +255,8 @@ fn least_order(lists: &Lists, act: &Act) -> Option<u32>
         Act::Alloc { cache, object: _ } => *cache,
         _ => return None,
     };
-    let number = lists.names()[place as usize]?;
-    let cache = lists.caches()[number as usize].as_ref()?;
-    Some(cache.layout.min_order)
+    let number = lists.caches().at(place)?;
+    Some(lists.caches().layout(number).min_order)
 }
 
 /// The sums over all that was done, and over the machine that it left.

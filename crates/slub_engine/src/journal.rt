@@ -2,24 +2,33 @@
 
 ghost use Rattle.slub_engine.specs.Journal.{IsEmpty};
 
+use slub_cache_create::caches::NoSuchCache;
+use slub_lists::destroy::{DestroyRefusal, Destroyed};
 use slub_lists::reply::Reply;
 use slub_object_layout::layout::LayoutRefusal;
+use slub_object_layout::name::Name;
 use slub_object_layout::sequence::Sequence;
+use slub_red_zone::zones::Report;
 use slub_slabinfo_text::counts::InfoRow;
 use std::alloc::Global;
 
-/// The cache that a creation made, by its number.
-#[derive(Clone, Copy, Debug, PartialEq, Eq)]
+/// What a creation did, with the number of the cache that the name names now, 0 to 31.
+#[derive(Clone, Copy, Debug)]
 pub enum Created {
-    New(u32),
+    /// It made a cache.
+    New(u8),
+    /// It gave the live cache of this title one more name.
+    Merged { cache: u8, title: Name },
 }
 
-/// Why no cache was created.
+/// Why no cache was created. The causes are tried in this order.
 #[derive(Clone, Copy, Debug, PartialEq, Eq)]
 pub enum CreateRefusal {
+    /// The name is live, or a live cache was made under it.
     NameTaken,
-    /// 32 caches are live.
+    /// 32 names are live.
     TooMany,
+    /// There is no layout for such a cache.
     Layout(LayoutRefusal),
 }
 
@@ -34,11 +43,21 @@ pub struct Ledger {
     pub no_frames: [u64; 11],
 }
 
+/// A damage that was found in a round, with the title of its cache.
+#[derive(Clone, Copy, Debug)]
+pub struct Found {
+    pub title: Name,
+    pub report: Report,
+}
+
 /// What came of a round.
 #[derive(Debug, Drop)]
 pub struct RoundResult {
     /// The answers, in the order of the events.
     pub replies: Sequence<Reply>,
+    /// What was found damaged when objects were to be given: by cache number, and then in the order in
+    /// which it was found.
+    pub damages: Sequence<Found>,
     /// By worker.
     pub ledgers: Sequence<Ledger>,
 }
@@ -48,6 +67,9 @@ pub struct RoundResult {
 pub enum Done {
     Created(Result<Created, CreateRefusal>),
     Round(RoundResult),
+    /// Whether the cache still has a slab.
+    Shrunk(Result<bool, NoSuchCache>),
+    Destroyed(Result<Destroyed, DestroyRefusal>),
     Slabinfo(Sequence<InfoRow>),
 }
 

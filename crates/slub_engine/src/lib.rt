@@ -12,9 +12,11 @@
 #![tactic(auto)]
 
 pub mod built;
+mod found;
 pub mod item;
 pub mod journal;
 pub mod lemmas;
+mod names;
 mod sums;
 #[cfg(test)]
 mod tests;

@@ -1,6 +1,6 @@
 //! The sums of the total line.
 
-ghost use Rattle.std.specs.Prelude.{◌≡◌, ◌+◌, ◌*◌, ◌^◌, ◌<◌, sum_by};
+ghost use Rattle.std.specs.Prelude.{◌≡◌, ◌+◌, ◌*◌, ◌^◌, ◌<◌, reverse, sum_by};
 ghost use Rattle.slub_lists.specs.Coherent.{IsCoherent};
 ghost use Rattle.slub_engine.specs.Lawful.{freed_in, given_in, ledgers_of};
 
@@ -24,9 +24,9 @@ impl CacheSums {
     /// The sums over the live caches. It takes no memory.
     pub(crate) fn of(lists: &Lists) -> CacheSums
         requires { IsCoherent lists.now }
-        ensures { AreSums lists.now lists.now.ages result }
+        ensures { AreSums lists.now (reverse lists.now.table.ages) result }
     {
-        let ages = lists.newest_first();
+        let ages = lists.caches().in_order();
         let mut sums = CacheSums {
             live: 0,
             free: 0,
@@ -34,10 +34,8 @@ impl CacheSums {
             frozen: 0,
             slabs: 0,
         };
-        for at in 0..ages.len() {
-            if let Some(cache) = ages.get(at) {
-                sums.add(&cache_counts(lists, u32::from(cache)));
-            }
+        for cache in ages {
+            sums.add(&cache_counts(lists, *cache));
         }
         sums
     }
@@ -90,7 +88,7 @@ fn ledgers_of(done: &Done) -> &[Ledger]
 {
     match done {
         Done::Round(outcome) => outcome.ledgers.as_slice(),
-        Done::Created(_) | Done::Slabinfo(_) => &[],
+        Done::Created(_) | Done::Shrunk(_) | Done::Destroyed(_) | Done::Slabinfo(_) => &[],
     }
 }
 

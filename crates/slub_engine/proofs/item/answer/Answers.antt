@@ -1,5 +1,6 @@
-use Rattle.slub_object_layout.specs.declared.event.Act.TheVariants.{Alloc, Free}
-use Rattle.slub_engine.proofs.Unheld.{act_keeps, alloc_unheld}
+use Rattle.std.proofs.Common.{refl}
+use Rattle.slub_engine.proofs.Reports.{same_keeps}
+use Rattle.slub_engine.proofs.Unheld.{alloc_keeps, alloc_unheld, board_keeps, free_keeps}
 use Rattle.slub_engine.proofs.item.answer.Goals as goal
 
 pub alloc_named-requires-clause-unused : goal.alloc_named-requires-clause-unused
@@ -7,8 +8,20 @@ alloc_named-requires-clause-unused c = alloc_unheld c.args.lists.now c.args.even
 
 pub returns-in-Alloc-clause-unheld : goal.returns-in-Alloc-clause-unheld
 returns-in-Alloc-clause-unheld c =
-    act_keeps c.args.lists.now c.alloc_named.new.self c.args.event.now (Alloc c.in-Alloc.cache c.in-Alloc.object) c.alloc_named.result c.in-Alloc.is (rw c.in-Alloc.is at c.requires.known) c.alloc_named.ensures.allocates c.alloc_named.ensures.others
+    alloc_keeps c.args.lists.now c.alloc_named.new.self c.args.event.now c.in-Alloc.cache c.in-Alloc.object c.in-Alloc.is c.alloc_named.ensures.others
 
 pub returns-in-Free-clause-unheld : goal.returns-in-Free-clause-unheld
 returns-in-Free-clause-unheld c =
-    act_keeps c.args.lists.now c.free.new.self c.args.event.now (Free c.in-Free.object) c.free.result c.in-Free.is (rw c.in-Free.is at c.requires.known) c.free.ensures.frees c.free.ensures.others
+    free_keeps c.args.lists.now c.free.new.self c.args.event.now c.in-Free.object c.free.result c.free.ensures.frees c.free.ensures.others
+
+pub returns-in-Write-clause-unheld : goal.returns-in-Write-clause-unheld
+returns-in-Write-clause-unheld c = board_keeps c.args.lists.now c.write.new.self _ c.write.ensures.board
+
+pub returns-in-Read-clause-others : goal.returns-in-Read-clause-others
+returns-in-Read-clause-others c = same_keeps c.args.lists.now _
+
+pub returns-in-Read-clause-unheld : goal.returns-in-Read-clause-unheld
+returns-in-Read-clause-unheld c = board_keeps c.args.lists.now c.args.lists.now _ refl
+
+pub returns-in-Poke-clause-unheld : goal.returns-in-Poke-clause-unheld
+returns-in-Poke-clause-unheld c = board_keeps c.args.lists.now c.poke.new.self _ c.poke.ensures.board

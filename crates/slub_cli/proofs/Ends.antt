@@ -1,15 +1,20 @@
 -- From the parts of a run to its clauses.
-use Rattle.std.proofs.Common.{◌≡◌, ◌≢◌, ℕ, ◌-◌, ◌<◌, ◌≤◌, List, [], ◌∷◌, ◌++◌, Bool, true, false, cond, Some, None, Ok, Err, Result, refl, sym, ap, subst, ◌∙◌, length, take, arith, length-append, append-nil, inl, inr, map, zero, suc, zero-le, get_or}
-use Rattle.std.specs.Prelude.{Option, ◌⊎◌, IsSomeAnd, codes, IsTrue, string_bytes, IsSome}
-use Rattle.std.specs.declared.string.String.{String}
-use Rattle.std.specs.declared.alloc.Global.{Global}
-use Rattle.std.specs.Str.{bytes_eq}
-use Rattle.std.proofs.lemmas.Slice.Eq.{bytes_eq-Decides}
+use Rattle.std.proofs.Common.{◌≡◌, ◌≢◌, ℕ, ◌-◌, ◌<◌, ◌≤◌, List, [], ◌∷◌, ◌++◌, Bool, true, false, cond, Some, None, Ok, Err, Result, refl, sym, subst, ◌∙◌, length, take, arith, length-append, append-nil, inl, inr, zero, suc, zero-le}
+use Rattle.std.specs.Prelude.{Option, ◌⊎◌, IsSomeAnd, IsSome}
+use Rattle.std.specs.List.{list_any}
 use Rattle.std.proofs.lemmas.Bool.{false≢true, cases_lt}
 use Rattle.std.specs.Io.KnownBytes.{Appends}
-use Rattle.std.proofs.KnownBytes.{Appends-trans}
+use Rattle.std.proofs.KnownBytes.{Appends-nil, Appends-trans}
 use Rattle.slub_edges.specs.Edges.{Rose, AppendsFront}
 use Rattle.slub_edges.proofs.Told.{AppendsFront-after, AppendsFront-then, AppendsFront-none, AppendsFront-past, AppendsFront-whole}
+use Rattle.slub_object_layout.specs.declared.layout.Layout.{Layout as SlabLayout}
+use Rattle.slub_object_layout.specs.declared.layout.LayoutRefusal.{LayoutRefusal}
+use Rattle.slub_object_layout.specs.declared.layout.Spec.{Spec}
+use Rattle.slub_command.specs.declared.command.How.TheVariants.{Serial}
+use Rattle.slub_command.specs.declared.command.Command.{Command}
+use Rattle.slub_command.specs.declared.command.Command.TheVariants.{Replay, Layout, Load}
+use Rattle.slub_command.specs.Command.{IsCommand}
+use Rattle.slub_slabinfo_text.specs.Texts.{layout_lines}
 use Rattle.slub_trace_reader.specs.declared.trace.Item.{Item}
 use Rattle.slub_trace_reader.specs.declared.trace.Trace.{Trace}
 use Rattle.slub_trace_reader.specs.declared.reading.Why.{Why}
@@ -24,42 +29,71 @@ use Rattle.slub_cli.specs.declared.stop.Stop.{Stop}
 use Rattle.slub_cli.specs.declared.stop.Stop.TheVariants as stop
 use Rattle.slub_cli.specs.declared.status.Status.{Status}
 use Rattle.slub_cli.specs.declared.status.Status.TheVariants.{Fine, Refused, BadWords, BadTrace, ReadFault, WriteFault, NoMemory}
-use Rattle.slub_cli.specs.Run.{Call, IsBadInput, IsCause, IsCommand, IsFaultLine, IsBadBytes, IsDone, IsJournalOf, IsSomeTrace, TookAll, TookFront, done_status, last_begins, last_from, last_in, text_in}
-use Rattle.slub_cli.specs.Inner.{Comes, Finishes, TookText, stop_line, stop_status}
+use Rattle.slub_cli.specs.Run.{AreBadWords, AsksReplay, Call, IsAsked, IsBadInput, IsCause, IsCauseOf, IsFaultLine, IsBadBytes, IsDone, IsJournalOf, IsLayoutAnswer, IsLayoutCause, IsLayoutText, IsReplayCause, IsSomeTrace, IsTextOf, IsWant, TookAll, TookFront, answer_status, done_status, has_refused, lacks_memory, last_begins, last_from, last_in, text_in}
+use Rattle.slub_cli.specs.Inner.{Finishes, Worked, Works, stop_line, stop_status}
 use Rattle.slub_cli.proofs.Texts.{items_text-none}
+use Rattle.slub_cli.proofs.Words.{one_layout, replay_apart}
 
 -- ---- where the last entry begins
 
 -- the first items have no more text than all
-front_shorter : (trace : Trace) (n : ℕ) (items : List Item) (dones : List Done) → length (items_text trace items (take n dones)) ≤ length (items_text trace items dones)
-front_shorter trace zero items dones = rw (items_text-none trace items) zero-le
-front_shorter trace (suc n) [] dones = zero-le
-front_shorter trace (suc n) (item ∷ items) [] = zero-le
-front_shorter trace (suc n) (item ∷ items) (d ∷ dones) =
-    omega (arith, front_shorter trace n items dones, length-append (done_text trace item d) (items_text trace items (take n dones)), length-append (done_text trace item d) (items_text trace items dones))
+front_shorter : (replies : Bool) (trace : Trace) (n : ℕ) (items : List Item) (dones : List Done) → length (items_text replies trace items (take n dones)) ≤ length (items_text replies trace items dones)
+front_shorter replies trace zero items dones = rw (items_text-none replies trace items) zero-le
+front_shorter replies trace (suc n) [] dones = zero-le
+front_shorter replies trace (suc n) (item ∷ items) [] = zero-le
+front_shorter replies trace (suc n) (item ∷ items) (d ∷ dones) =
+    omega (arith, front_shorter replies trace n items dones, length-append (done_text replies trace item d) (items_text replies trace items (take n dones)), length-append (done_text replies trace item d) (items_text replies trace items dones))
 
 -- the last entry begins within the text
-last_from-within : (trace : Trace) (total : Option Total) (dones : List Done) → last_from trace total dones ≤ length (items_text trace trace.items dones ++ end_text total)
-last_from-within trace (Some total) dones = omega (arith, length-append (items_text trace trace.items dones) (end_text (Some total)))
-last_from-within trace None dones = omega (arith, front_shorter trace (length dones - 1) trace.items dones, length-append (items_text trace trace.items dones) [])
+last_from-within : (replies : Bool) (trace : Trace) (total : Option Total) (dones : List Done) → last_from replies trace total dones ≤ length (items_text replies trace trace.items dones ++ end_text total)
+last_from-within replies trace (Some total) dones = omega (arith, length-append (items_text replies trace trace.items dones) (end_text (Some total)))
+last_from-within replies trace None dones = omega (arith, front_shorter replies trace (length dones - 1) trace.items dones, length-append (items_text replies trace trace.items dones) [])
 
 -- the same of what was read
-begins_within : (trace : Option Trace) (journal : Journal) → last_in trace journal ≤ length (text_in trace journal)
+begins_within : (replies : Bool) (trace : Option Trace) (journal : Journal) → last_in replies trace journal ≤ length (text_in replies trace journal)
 unfolding last_begins text_of
-begins_within None journal = zero-le
-begins_within (Some trace) journal = last_from-within trace journal.total journal.items
+begins_within replies None journal = zero-le
+begins_within replies (Some trace) journal = last_from-within replies trace journal.total journal.items
 
--- ---- the status of a run that did everything
+-- ---- the status of a replay that did everything
 
--- a run that did everything has no line of its own
-done_line : (c : Call) (b : Bool) → IsFaultLine c (cond b Refused Fine) []
-done_line c true = refl
-done_line c false = refl
+-- it has no line of its own
+done_line : (c : Call) (j : Journal) (lacks refused : Bool) → IsSome j.total → IsFaultLine c j (cond lacks NoMemory (cond refused Refused Fine)) []
+done_line c j true refused some = inr (some, refl)
+done_line c j false true some = refl
+done_line c j false false some = refl
 
 -- and does not end as a write fault
-done_apart : (b : Bool) → cond b Refused Fine ≡ WriteFault → ⊥
-done_apart true h = cc
-done_apart false h = cc
+done_apart : (lacks refused : Bool) → cond lacks NoMemory (cond refused Refused Fine) ≡ WriteFault → ⊥
+done_apart true refused h = cc
+done_apart false true h = cc
+done_apart false false h = cc
+
+-- and has its row
+done_cause : (c : Call) (trace : Option Trace) (j : Journal) (lacks refused : Bool) → done_status j ≡ cond lacks NoMemory (cond refused Refused Fine) → IsDone trace j → IsReplayCause c trace j (cond lacks NoMemory (cond refused Refused Fine))
+done_cause c trace j true refused is done = inr (done, is)
+done_cause c trace j false true is done = (done, is)
+done_cause c trace j false false is done = (done, is)
+
+-- ---- the status of a layout
+
+answer_text : (spec : Spec) (cpus : ℕ) (answer : Result SlabLayout LayoutRefusal) → IsLayoutAnswer spec cpus answer → IsLayoutText spec cpus (answer_status answer) (layout_lines answer)
+answer_text spec cpus (Ok layout) is = (layout, is, refl)
+answer_text spec cpus (Err why) is = (why, is, refl)
+
+answer_line : (c : Call) (j : Journal) (answer : Result SlabLayout LayoutRefusal) → IsFaultLine c j (answer_status answer) []
+answer_line c j (Ok layout) = refl
+answer_line c j (Err why) = refl
+
+answer_apart : (answer : Result SlabLayout LayoutRefusal) → answer_status answer ≡ WriteFault → ⊥
+answer_apart (Ok layout) h = cc
+answer_apart (Err why) h = cc
+
+answer_cause : (c : Call) (spec : Spec) (cpus : ℕ) (answer : Result SlabLayout LayoutRefusal) → IsLayoutAnswer spec cpus answer → IsLayoutCause c spec cpus (answer_status answer)
+answer_cause c spec cpus (Ok layout) is = (layout, is)
+answer_cause c spec cpus (Err why) is = (why, is)
+
+-- ---- counts
 
 -- a count that rose and then did not fall rose
 rose_then : (a b c : ℕ) → a ≤ b → b ≤ c → Rose a b → Rose a c
@@ -84,90 +118,161 @@ module _ (words : List (List ℕ)) (told left old mid new : Option (List ℕ)) (
   ran = record { words = words; told = told; left = left; read = read; write = (write.0, after.1) }
 
   -- the line of a stop is that of its status
-  stop_has_line : (e : Stop) → stop_status e ≢ WriteFault → Comes worked trace j (Err e) → IsFaultLine ran (stop_status e) (stop_line e)
-  stop_has_line stop.BadWords apart h = refl
-  stop_has_line (stop.BadLine text) apart h = inl (h.2, h.3, h.4, h.5)
-  stop_has_line stop.NotBuilt apart h = inr (inr (refl, h.2))
-  stop_has_line stop.TooLong apart h = inr (inl (refl, h.2))
-  stop_has_line stop.ReadFault apart h = refl
-  stop_has_line stop.WriteFault apart h = absurd (apart refl)
-  stop_has_line stop.NoMemory apart h = refl
+  stop_has_line : (asked : Option Command) (e : Stop) → stop_status e ≢ WriteFault → Works worked asked old mid trace j (Err e) → IsFaultLine ran j (stop_status e) (stop_line e)
+  stop_has_line None stop.BadWords apart h = refl
+  stop_has_line None (stop.BadLine text) apart h = absurd h.0
+  stop_has_line None stop.NotBuilt apart h = absurd h.0
+  stop_has_line None stop.TooLong apart h = absurd h.0
+  stop_has_line None stop.ReadFault apart h = absurd h.0
+  stop_has_line None stop.WriteFault apart h = absurd h.0
+  stop_has_line None stop.NoMemory apart h = inl (h.0.1, refl)
+  stop_has_line (Some (Replay how seed replies)) stop.BadWords apart h = absurd h.0
+  stop_has_line (Some (Replay how seed replies)) (stop.BadLine text) apart h = inl (h.0.1, h.0.2, h.0.3, h.0.4)
+  stop_has_line (Some (Replay how seed replies)) stop.NotBuilt apart h = inr (inr (refl, h.0.1))
+  stop_has_line (Some (Replay how seed replies)) stop.TooLong apart h = inr (inl (refl, h.0.1))
+  stop_has_line (Some (Replay how seed replies)) stop.ReadFault apart h = refl
+  stop_has_line (Some (Replay how seed replies)) stop.WriteFault apart h = absurd (apart refl)
+  stop_has_line (Some (Replay how seed replies)) stop.NoMemory apart h = inl (h.0, refl)
+  stop_has_line (Some (Layout spec cpus)) stop.BadWords apart h = absurd h.0
+  stop_has_line (Some (Layout spec cpus)) (stop.BadLine text) apart h = absurd h.0
+  stop_has_line (Some (Layout spec cpus)) stop.NotBuilt apart h = absurd h.0
+  stop_has_line (Some (Layout spec cpus)) stop.TooLong apart h = absurd h.0
+  stop_has_line (Some (Layout spec cpus)) stop.ReadFault apart h = absurd h.0
+  stop_has_line (Some (Layout spec cpus)) stop.WriteFault apart h = absurd (apart refl)
+  stop_has_line (Some (Layout spec cpus)) stop.NoMemory apart h = inl (h.2, refl)
+  stop_has_line (Some (Load m events workers)) e apart h = absurd h
 
-  stop_text : (e : Stop) → stop_status e ≢ WriteFault → TookText old mid trace j (Err e) → Appends old mid (text_in trace j)
-  stop_text stop.BadWords apart h = h
-  stop_text (stop.BadLine text) apart h = h
-  stop_text stop.NotBuilt apart h = h
-  stop_text stop.TooLong apart h = h
-  stop_text stop.ReadFault apart h = h
-  stop_text stop.WriteFault apart h = absurd (apart refl)
-  stop_text stop.NoMemory apart h = h
+  -- the text before the line of a stop was taken
+  stop_text : (asked : Option Command) (e : Stop) → stop_status e ≢ WriteFault → Works worked asked old mid trace j (Err e) → (text : List ℕ) × IsTextOf asked trace j (stop_status e) text × Appends old mid text
+  stop_text None stop.BadWords apart h = ([], (refl, h.0.1), rw h.1 (Appends-nil old))
+  stop_text None (stop.BadLine text) apart h = absurd h.0
+  stop_text None stop.NotBuilt apart h = absurd h.0
+  stop_text None stop.TooLong apart h = absurd h.0
+  stop_text None stop.ReadFault apart h = absurd h.0
+  stop_text None stop.WriteFault apart h = absurd h.0
+  stop_text None stop.NoMemory apart h = ([], (refl, h.0.0), rw h.1 (Appends-nil old))
+  stop_text (Some (Replay how seed replies)) stop.BadWords apart h = absurd h.0
+  stop_text (Some (Replay how seed replies)) (stop.BadLine text) apart h = (text_in replies trace j, refl, h.1)
+  stop_text (Some (Replay how seed replies)) stop.NotBuilt apart h = (text_in replies trace j, refl, h.1)
+  stop_text (Some (Replay how seed replies)) stop.TooLong apart h = (text_in replies trace j, refl, h.1)
+  stop_text (Some (Replay how seed replies)) stop.ReadFault apart h = (text_in replies trace j, refl, h.1)
+  stop_text (Some (Replay how seed replies)) stop.WriteFault apart h = absurd (apart refl)
+  stop_text (Some (Replay how seed replies)) stop.NoMemory apart h = (text_in replies trace j, refl, h.1)
+  stop_text (Some (Layout spec cpus)) stop.BadWords apart h = absurd h.0
+  stop_text (Some (Layout spec cpus)) (stop.BadLine text) apart h = absurd h.0
+  stop_text (Some (Layout spec cpus)) stop.NotBuilt apart h = absurd h.0
+  stop_text (Some (Layout spec cpus)) stop.TooLong apart h = absurd h.0
+  stop_text (Some (Layout spec cpus)) stop.ReadFault apart h = absurd h.0
+  stop_text (Some (Layout spec cpus)) stop.WriteFault apart h = absurd (apart refl)
+  stop_text (Some (Layout spec cpus)) stop.NoMemory apart h = ([], refl, rw h.0 (Appends-nil old))
+  stop_text (Some (Load m events workers)) e apart h = absurd h
 
-  pub run_text : (r : Result (Unit {0}) Stop) (status : Status) → TookText old mid trace j r → Comes worked trace j r → Finishes mid new after j r status → status ≢ WriteFault → TookAll ran old new trace j status
-  run_text (Ok x) status took comes ends apart = ([], rw ends.0 (done_line ran _), rw (ends.1, append-nil (text_in trace j)) took)
-  run_text (Err e) status took comes (inl (is, wrote)) apart =
-      let named : stop_status e ≢ WriteFault = λ h. apart (is ∙ h) in
-      (stop_line e, rw is (stop_has_line e named comes), Appends-trans old mid new (text_in trace j) (stop_line e) (stop_text e named took) wrote)
-  run_text (Err e) status took comes (inr (is, rose, wrote)) apart = absurd (apart is)
+  pub run_text : (r : Result Status Stop) (status : Status) → Worked worked old mid trace j r → Finishes mid new after r status → status ≢ WriteFault → TookAll ran old new trace j status
+  run_text (Ok done) status (None, is, works) ends apart = absurd works.0
+  run_text (Ok done) status (Some (Replay how seed replies), is, works) ends apart =
+      (Some (Replay how seed replies), text_in replies trace j, [], is, refl, rw (ends.0, works.0.1) (done_line ran j (list_any lacks_memory j.items) (list_any has_refused j.items) works.0.0.1), rw (ends.1, append-nil (text_in replies trace j)) works.1)
+  run_text (Ok done) status (Some (Layout spec cpus), is, works) ends apart =
+      let p = works.0 in
+      (Some (Layout spec cpus), layout_lines p.0, [], is, rw (ends.0, p.2) (answer_text spec cpus p.0 p.1), rw (ends.0, p.2) (answer_line ran j p.0), rw (ends.1, append-nil (layout_lines p.0)) p.3)
+  run_text (Ok done) status (Some (Load m events workers), is, works) ends apart = absurd works
+  run_text (Err e) status (asked, is, works) (inl (same, wrote)) apart =
+      let named : stop_status e ≢ WriteFault = λ h. apart (same ∙ h) in
+      let p = stop_text asked e named works in
+      (asked, p.0, stop_line e, is, subst (λ s. IsTextOf asked trace j s p.0) (sym same) p.1, subst (λ s. IsFaultLine ran j s (stop_line e)) (sym same) (stop_has_line asked e named works), Appends-trans old mid new p.0 (stop_line e) p.2 wrote)
+  run_text (Err e) status (asked, is, works) (inr (same, rose, wrote)) apart = absurd (apart same)
 
   -- the status that a stop means has its cause
-  stop_cause : (e : Stop) → stop_status e ≢ WriteFault → Comes worked trace j (Err e) → IsCause ran trace j (stop_status e)
-  stop_cause stop.BadWords apart h = h
-  stop_cause (stop.BadLine text) apart h = (h.0, inl (h.2, h.3, h.5), h.1)
-  stop_cause stop.NotBuilt apart h = (h.0, inr (inr h.2), h.1)
-  stop_cause stop.TooLong apart h = (h.0, inr (inl h.2), h.1)
-  stop_cause stop.ReadFault apart h = h
-  stop_cause stop.WriteFault apart h = absurd (apart refl)
-  stop_cause stop.NoMemory apart h = h
+  stop_cause : (asked : Option Command) (e : Stop) → stop_status e ≢ WriteFault → Works worked asked old mid trace j (Err e) → IsCauseOf ran asked trace j (stop_status e)
+  stop_cause None stop.BadWords apart h = h.0
+  stop_cause None (stop.BadLine text) apart h = absurd h.0
+  stop_cause None stop.NotBuilt apart h = absurd h.0
+  stop_cause None stop.TooLong apart h = absurd h.0
+  stop_cause None stop.ReadFault apart h = absurd h.0
+  stop_cause None stop.WriteFault apart h = absurd h.0
+  stop_cause None stop.NoMemory apart h = (tt, h.0.0)
+  stop_cause (Some (Replay how seed replies)) stop.BadWords apart h = absurd h.0
+  stop_cause (Some (Replay how seed replies)) (stop.BadLine text) apart h = (inl (h.0.1, h.0.2, h.0.4), h.0.0)
+  stop_cause (Some (Replay how seed replies)) stop.NotBuilt apart h = (inr (inr h.0.1), h.0.0)
+  stop_cause (Some (Replay how seed replies)) stop.TooLong apart h = (inr (inl h.0.1), h.0.0)
+  stop_cause (Some (Replay how seed replies)) stop.ReadFault apart h = (h.0.1, h.0.0)
+  stop_cause (Some (Replay how seed replies)) stop.WriteFault apart h = absurd (apart refl)
+  stop_cause (Some (Replay how seed replies)) stop.NoMemory apart h = inl h.0
+  stop_cause (Some (Layout spec cpus)) stop.BadWords apart h = absurd h.0
+  stop_cause (Some (Layout spec cpus)) (stop.BadLine text) apart h = absurd h.0
+  stop_cause (Some (Layout spec cpus)) stop.NotBuilt apart h = absurd h.0
+  stop_cause (Some (Layout spec cpus)) stop.TooLong apart h = absurd h.0
+  stop_cause (Some (Layout spec cpus)) stop.ReadFault apart h = absurd h.0
+  stop_cause (Some (Layout spec cpus)) stop.WriteFault apart h = absurd (apart refl)
+  stop_cause (Some (Layout spec cpus)) stop.NoMemory apart h = (tt, h.1)
+  stop_cause (Some (Load m events workers)) e apart h = absurd h
 
-  cut_line : (e : Stop) → stop_status e ≢ WriteFault → Comes worked trace j (Err e) → Appends old mid (text_in trace j) → AppendsFront mid new 0 (stop_line e) → TookFront ran old new trace j
-  cut_line e named comes took wrote =
-      inr (stop_status e, stop_line e, stop_cause e named comes, stop_has_line e named comes, AppendsFront-past old new (length (text_in trace j)) _ (text_in trace j ++ stop_line e) (omega arith) (AppendsFront-after old mid new 0 (text_in trace j) (stop_line e) took wrote))
+  cut_line : (asked : Option Command) (e : Stop) → stop_status e ≢ WriteFault → IsAsked words asked → Works worked asked old mid trace j (Err e) → AppendsFront mid new 0 (stop_line e) → TookFront ran old new trace j
+  cut_line asked e named is works wrote =
+      let p = stop_text asked e named works in
+      (asked, is, inr (stop_status e, p.0, stop_line e, stop_cause asked e named works, p.1, stop_has_line asked e named works, AppendsFront-past old new (length p.0) _ (p.0 ++ stop_line e) (omega arith) (AppendsFront-after old mid new 0 p.0 (stop_line e) p.2 wrote)))
 
-  cut : (e : Stop) → TookText old mid trace j (Err e) → Comes worked trace j (Err e) → AppendsFront mid new 0 (stop_line e) → TookFront ran old new trace j
-  cut stop.WriteFault took comes wrote = inl (comes.2, AppendsFront-then old mid new (last_in trace j) (text_in trace j) took (AppendsFront-none mid new wrote))
-  cut stop.BadWords took comes wrote = cut_line stop.BadWords (λ h. cc) comes took wrote
-  cut (stop.BadLine text) took comes wrote = cut_line (stop.BadLine text) (λ h. cc) comes took wrote
-  cut stop.NotBuilt took comes wrote = cut_line stop.NotBuilt (λ h. cc) comes took wrote
-  cut stop.TooLong took comes wrote = cut_line stop.TooLong (λ h. cc) comes took wrote
-  cut stop.ReadFault took comes wrote = cut_line stop.ReadFault (λ h. cc) comes took wrote
-  cut stop.NoMemory took comes wrote = cut_line stop.NoMemory (λ h. cc) comes took wrote
+  cut : (e : Stop) → Worked worked old mid trace j (Err e) → AppendsFront mid new 0 (stop_line e) → TookFront ran old new trace j
+  cut stop.WriteFault (None, is, works) wrote = absurd works.0
+  cut stop.WriteFault (Some (Replay how seed replies), is, works) wrote =
+      (Some (Replay how seed replies), is, inl (works.0.0, AppendsFront-then old mid new (last_in replies trace j) (text_in replies trace j) works.1 (AppendsFront-none mid new wrote)))
+  cut stop.WriteFault (Some (Layout spec cpus), is, works) wrote =
+      let p = works.0 in
+      (Some (Layout spec cpus), is, inl (p.0, p.1, AppendsFront-then old mid new 0 (layout_lines p.0) p.3 (AppendsFront-none mid new wrote)))
+  cut stop.WriteFault (Some (Load m events workers), is, works) wrote = absurd works
+  cut stop.BadWords (asked, is, works) wrote = cut_line asked stop.BadWords (λ h. cc) is works wrote
+  cut (stop.BadLine text) (asked, is, works) wrote = cut_line asked (stop.BadLine text) (λ h. cc) is works wrote
+  cut stop.NotBuilt (asked, is, works) wrote = cut_line asked stop.NotBuilt (λ h. cc) is works wrote
+  cut stop.TooLong (asked, is, works) wrote = cut_line asked stop.TooLong (λ h. cc) is works wrote
+  cut stop.ReadFault (asked, is, works) wrote = cut_line asked stop.ReadFault (λ h. cc) is works wrote
+  cut stop.NoMemory (asked, is, works) wrote = cut_line asked stop.NoMemory (λ h. cc) is works wrote
 
-  pub run_prefix : (r : Result (Unit {0}) Stop) (status : Status) → TookText old mid trace j r → Comes worked trace j r → Finishes mid new after j r status → status ≡ WriteFault → TookFront ran old new trace j
-  run_prefix (Ok x) status took comes ends is = absurd (done_apart _ (sym ends.0 ∙ is))
-  run_prefix (Err e) status took comes (inl (same, wrote)) is = cut e took comes (AppendsFront-whole mid new (stop_line e) wrote)
-  run_prefix (Err e) status took comes (inr (same, rose, wrote)) is = cut e took comes wrote
+  pub run_prefix : (r : Result Status Stop) (status : Status) → Worked worked old mid trace j r → Finishes mid new after r status → status ≡ WriteFault → TookFront ran old new trace j
+  run_prefix (Ok done) status (None, asked, works) ends is = absurd works.0
+  run_prefix (Ok done) status (Some (Replay how seed replies), asked, works) ends is =
+      absurd (done_apart (list_any lacks_memory j.items) (list_any has_refused j.items) (sym (ends.0 ∙ works.0.1) ∙ is))
+  run_prefix (Ok done) status (Some (Layout spec cpus), asked, works) ends is = let p = works.0 in absurd (answer_apart p.0 (sym (ends.0 ∙ p.2) ∙ is))
+  run_prefix (Ok done) status (Some (Load m events workers), asked, works) ends is = absurd works
+  run_prefix (Err e) status w (inl (same, wrote)) is = cut e w (AppendsFront-whole mid new (stop_line e) wrote)
+  run_prefix (Err e) status w (inr (same, rose, wrote)) is = cut e w wrote
 
-  -- the row of a run that did everything
-  done_cause : (b : Bool) → done_status j ≡ cond b Refused Fine → IsDone ran trace j → IsCause ran trace j (cond b Refused Fine)
-  done_cause true is done = (done, is)
-  done_cause false is done = (done, is)
+  write_cause : (asked : Option Command) (e : Stop) → write.0 ≤ write.1 → write.1 ≤ after.1 → Works worked asked old mid trace j (Err e) → IsCauseOf ran asked trace j (stop_status e)
+  write_cause None stop.WriteFault counts more h = absurd h.0
+  write_cause (Some (Replay how seed replies)) stop.WriteFault counts more h = rose_then write.0 write.1 after.1 counts more h.0.1
+  write_cause (Some (Layout spec cpus)) stop.WriteFault counts more h = let p = h.0 in (rose_then write.0 write.1 after.1 counts more p.2, h.1)
+  write_cause (Some (Load m events workers)) stop.WriteFault counts more h = absurd h
+  write_cause asked stop.BadWords counts more h = stop_cause asked stop.BadWords (λ h. cc) h
+  write_cause asked (stop.BadLine text) counts more h = stop_cause asked (stop.BadLine text) (λ h. cc) h
+  write_cause asked stop.NotBuilt counts more h = stop_cause asked stop.NotBuilt (λ h. cc) h
+  write_cause asked stop.TooLong counts more h = stop_cause asked stop.TooLong (λ h. cc) h
+  write_cause asked stop.ReadFault counts more h = stop_cause asked stop.ReadFault (λ h. cc) h
+  write_cause asked stop.NoMemory counts more h = stop_cause asked stop.NoMemory (λ h. cc) h
 
-  write_cause : (e : Stop) → write.0 ≤ write.1 → write.1 ≤ after.1 → Comes worked trace j (Err e) → IsCause ran trace j (stop_status e)
-  write_cause stop.WriteFault counts more h = (rose_then write.0 write.1 after.1 counts more h.1, inl h.0)
-  write_cause stop.BadWords counts more h = stop_cause stop.BadWords (λ h. cc) h
-  write_cause (stop.BadLine text) counts more h = stop_cause (stop.BadLine text) (λ h. cc) h
-  write_cause stop.NotBuilt counts more h = stop_cause stop.NotBuilt (λ h. cc) h
-  write_cause stop.TooLong counts more h = stop_cause stop.TooLong (λ h. cc) h
-  write_cause stop.ReadFault counts more h = stop_cause stop.ReadFault (λ h. cc) h
-  write_cause stop.NoMemory counts more h = stop_cause stop.NoMemory (λ h. cc) h
-
-  -- what a stop leaves known of the command and the trace
-  stop_known : (e : Stop) → Comes worked trace j (Err e) → IsCommand words ⊎ (trace ≡ None)
-  stop_known stop.WriteFault h = inl h.0
-  stop_known stop.BadWords h = inr h.1
-  stop_known (stop.BadLine text) h = inl h.0
-  stop_known stop.NotBuilt h = inl h.0
-  stop_known stop.TooLong h = inl h.0
-  stop_known stop.ReadFault h = inl h.0
-  stop_known stop.NoMemory h = inl h.0
+  -- a write fault after a stop has its row
+  faulted : (asked : Option Command) (e : Stop) → Rose write.0 after.1 → Works worked asked old mid trace j (Err e) → IsCauseOf ran asked trace j WriteFault
+  faulted None stop.BadWords rose h = (rose, h.0.1)
+  faulted None (stop.BadLine text) rose h = absurd h.0
+  faulted None stop.NotBuilt rose h = absurd h.0
+  faulted None stop.TooLong rose h = absurd h.0
+  faulted None stop.ReadFault rose h = absurd h.0
+  faulted None stop.WriteFault rose h = absurd h.0
+  faulted None stop.NoMemory rose h = (rose, h.0.0)
+  faulted (Some (Replay how seed replies)) e rose h = rose
+  faulted (Some (Layout spec cpus)) e rose h = (rose, h.1)
+  faulted (Some (Load m events workers)) e rose h = absurd h
 
   -- the status of a run has its row; after.0 is the count of write faults after the work
-  pub run_cause : (r : Result (Unit {0}) Stop) (status : Status) → write.0 ≤ write.1 → after.0 ≡ write.1 → after.0 ≤ after.1
-      → Comes worked trace j r → Finishes mid new after j r status → IsCause ran trace j status
-  run_cause (Ok x) status counts same more comes ends = rw ends.0 (done_cause _ refl comes)
-  run_cause (Err e) status counts same more comes (inl (is, wrote)) = rw is (write_cause e counts (omega arith) comes)
-  run_cause (Err e) status counts same more comes (inr (is, rose, wrote)) =
-      rw is (rose_from write.0 after.0 after.1 (omega arith) rose, stop_known e comes)
+  pub run_cause : (r : Result Status Stop) (status : Status) → write.0 ≤ write.1 → after.0 ≡ write.1 → after.0 ≤ after.1
+      → Worked worked old mid trace j r → Finishes mid new after r status → IsCause ran trace j status
+  run_cause (Ok done) status counts same more (None, asked, works) ends = absurd works.0
+  run_cause (Ok done) status counts same more (Some (Replay how seed replies), asked, works) ends =
+      (Some (Replay how seed replies), asked, rw (ends.0, works.0.1) (done_cause ran trace j (list_any lacks_memory j.items) (list_any has_refused j.items) refl works.0.0))
+  run_cause (Ok done) status counts same more (Some (Layout spec cpus), asked, works) ends =
+      let p = works.0 in
+      (Some (Layout spec cpus), asked, (rw (ends.0, p.2) (answer_cause ran spec cpus p.0 p.1), works.1))
+  run_cause (Ok done) status counts same more (Some (Load m events workers), asked, works) ends = absurd works
+  run_cause (Err e) status counts same more (asked, is, works) (inl (stopped, wrote)) = (asked, is, rw stopped (write_cause asked e counts (omega arith) works))
+  run_cause (Err e) status counts same more (asked, is, works) (inr (stopped, rose, wrote)) =
+      (asked, is, rw stopped (faulted asked e (rose_from write.0 after.0 after.1 (omega arith) rose) works))
 
 -- ---- corollaries of the table
 
@@ -216,60 +321,143 @@ read_bad : (c : Call) (trace : Option Trace) (j : Journal) → IsJournalOf c tra
 read_bad c None j law some bad = false≢true some
 read_bad c (Some trace) j law some bad = told_apart c.told trace bad law.1 law.2
 
--- a run whose input is bad, and neither of whose ends failed, ends so
+-- a replay whose status is that something was refused did not lack memory
+not_wanting : (trace : Option Trace) (j : Journal) → IsWant trace j → IsDone trace j → done_status j ≡ Refused → ⊥
+not_wanting trace j (inl none) done is = none_some j.total none done.1
+not_wanting trace j (inr wanting) done is = let e : Refused ≡ NoMemory = sym is ∙ wanting.1 in cc
+
+-- an answer for the layout that the words ask for
+moved : (words : List (List ℕ)) (spec want : Spec) (cpus on : ℕ) (answer : Result SlabLayout LayoutRefusal) → IsCommand words (Layout spec cpus) → IsCommand words (Layout want on) → IsLayoutAnswer spec cpus answer → IsLayoutAnswer want on answer
+moved words spec want cpus on answer asked asks is =
+    let p = one_layout words spec want cpus on asked asks in
+    subst (λ n. IsLayoutAnswer want n answer) p.1 (subst (λ s. IsLayoutAnswer s cpus answer) p.0 is)
+
+-- a replay whose input is bad, and neither of whose ends failed, ends so
 pub bad_trace : (c : Call) (trace : Option Trace) (j : Journal) (status : Status) → IsCause c trace j status → IsJournalOf c trace j
-    → IsCommand c.words → IsSomeAnd c.told IsBadBytes → (Rose c.read.0 c.read.1 → ⊥) → (Rose c.write.0 c.write.1 → ⊥) → (status ≡ BadTrace) ⊎ (status ≡ NoMemory)
-bad_trace c trace j Fine cause law command bad no_read no_write = absurd (read_bad c trace j law cause.0.1 bad)
-bad_trace c trace j Refused cause law command bad no_read no_write = absurd (read_bad c trace j law cause.0.1 bad)
-bad_trace c trace j BadWords cause law command bad no_read no_write = absurd (cause.0 command)
-bad_trace c trace j BadTrace cause law command bad no_read no_write = inl refl
-bad_trace c trace j ReadFault cause law command bad no_read no_write = absurd (no_read cause.1)
-bad_trace c trace j WriteFault cause law command bad no_read no_write = absurd (no_write cause.0)
-bad_trace c trace j NoMemory cause law command bad no_read no_write = inr refl
+    → AsksReplay c.words → IsSomeAnd c.told IsBadBytes → (Rose c.read.0 c.read.1 → ⊥) → (Rose c.write.0 c.write.1 → ⊥) → (status ≡ BadTrace) ⊎ (status ≡ NoMemory)
+bad_trace c trace j Fine (None, asked, cause) law asks bad no_read no_write = absurd cause.0
+bad_trace c trace j Refused (None, asked, cause) law asks bad no_read no_write = absurd cause.0
+bad_trace c trace j BadWords (None, asked, cause) law asks bad no_read no_write = absurd (cause.0 (Replay Serial asks.0 asks.1) (asks.2, refl))
+bad_trace c trace j BadTrace (None, asked, cause) law asks bad no_read no_write = absurd cause.0
+bad_trace c trace j ReadFault (None, asked, cause) law asks bad no_read no_write = absurd cause.0
+bad_trace c trace j WriteFault (None, asked, cause) law asks bad no_read no_write = absurd (no_write cause.0)
+bad_trace c trace j NoMemory (None, asked, cause) law asks bad no_read no_write = inr refl
+bad_trace c trace j Fine (Some (Replay how seed replies), asked, cause) law asks bad no_read no_write = absurd (read_bad c trace j law cause.0.0 bad)
+bad_trace c trace j Refused (Some (Replay how seed replies), asked, cause) law asks bad no_read no_write = absurd (read_bad c trace j law cause.0.0 bad)
+bad_trace c trace j BadWords (Some (Replay how seed replies), asked, cause) law asks bad no_read no_write = absurd cause
+bad_trace c trace j BadTrace (Some (Replay how seed replies), asked, cause) law asks bad no_read no_write = inl refl
+bad_trace c trace j ReadFault (Some (Replay how seed replies), asked, cause) law asks bad no_read no_write = absurd (no_read cause.0)
+bad_trace c trace j WriteFault (Some (Replay how seed replies), asked, cause) law asks bad no_read no_write = absurd (no_write cause)
+bad_trace c trace j NoMemory (Some (Replay how seed replies), asked, cause) law asks bad no_read no_write = inr refl
+bad_trace c trace j Fine (Some (Layout spec cpus), asked, cause) law asks bad no_read no_write = absurd (replay_apart c.words Serial asks.0 asks.1 spec cpus asks.2 asked.0)
+bad_trace c trace j Refused (Some (Layout spec cpus), asked, cause) law asks bad no_read no_write = absurd (replay_apart c.words Serial asks.0 asks.1 spec cpus asks.2 asked.0)
+bad_trace c trace j BadWords (Some (Layout spec cpus), asked, cause) law asks bad no_read no_write = absurd (replay_apart c.words Serial asks.0 asks.1 spec cpus asks.2 asked.0)
+bad_trace c trace j BadTrace (Some (Layout spec cpus), asked, cause) law asks bad no_read no_write = absurd (replay_apart c.words Serial asks.0 asks.1 spec cpus asks.2 asked.0)
+bad_trace c trace j ReadFault (Some (Layout spec cpus), asked, cause) law asks bad no_read no_write = absurd (replay_apart c.words Serial asks.0 asks.1 spec cpus asks.2 asked.0)
+bad_trace c trace j WriteFault (Some (Layout spec cpus), asked, cause) law asks bad no_read no_write = absurd (replay_apart c.words Serial asks.0 asks.1 spec cpus asks.2 asked.0)
+bad_trace c trace j NoMemory (Some (Layout spec cpus), asked, cause) law asks bad no_read no_write = absurd (replay_apart c.words Serial asks.0 asks.1 spec cpus asks.2 asked.0)
+bad_trace c trace j status (Some (Load m events workers), asked, cause) law asks bad no_read no_write = absurd cause
 
--- where everything was done, the status is that of the replies
+-- where everything of a replay was done, the status is that of what was done
 pub refused : (c : Call) (trace : Option Trace) (j : Journal) (status : Status) → IsCause c trace j status
-    → IsDone c trace j → done_status j ≡ Refused → (Rose c.write.0 c.write.1 → ⊥) → status ≡ Refused
-refused c trace j Fine cause done is no_write = sym cause.1 ∙ is
-refused c trace j Refused cause done is no_write = refl
-refused c trace j BadWords cause done is no_write = absurd (cause.0 done.0)
-refused c trace j BadTrace cause done is no_write = absurd (none_some trace cause.2 done.1)
-refused c trace j ReadFault cause done is no_write = absurd (none_some trace cause.2 done.1)
-refused c trace j WriteFault cause done is no_write = absurd (no_write cause.0)
-refused c trace j NoMemory cause done is no_write = absurd (none_some j.total cause.1 done.2)
+    → IsDone trace j → done_status j ≡ Refused → (Rose c.write.0 c.write.1 → ⊥) → status ≡ Refused
+refused c trace j Fine (None, asked, cause) done is no_write = absurd (none_some trace cause.1 done.0)
+refused c trace j Refused (None, asked, cause) done is no_write = absurd (none_some trace cause.1 done.0)
+refused c trace j BadWords (None, asked, cause) done is no_write = absurd (none_some trace cause.1 done.0)
+refused c trace j BadTrace (None, asked, cause) done is no_write = absurd (none_some trace cause.1 done.0)
+refused c trace j ReadFault (None, asked, cause) done is no_write = absurd (none_some trace cause.1 done.0)
+refused c trace j WriteFault (None, asked, cause) done is no_write = absurd (none_some trace cause.1 done.0)
+refused c trace j NoMemory (None, asked, cause) done is no_write = absurd (none_some trace cause.1 done.0)
+refused c trace j Fine (Some (Replay how seed replies), asked, cause) done is no_write = sym cause.1 ∙ is
+refused c trace j Refused (Some (Replay how seed replies), asked, cause) done is no_write = refl
+refused c trace j BadWords (Some (Replay how seed replies), asked, cause) done is no_write = absurd cause
+refused c trace j BadTrace (Some (Replay how seed replies), asked, cause) done is no_write = absurd (none_some trace cause.1 done.0)
+refused c trace j ReadFault (Some (Replay how seed replies), asked, cause) done is no_write = absurd (none_some trace cause.1 done.0)
+refused c trace j WriteFault (Some (Replay how seed replies), asked, cause) done is no_write = absurd (no_write cause)
+refused c trace j NoMemory (Some (Replay how seed replies), asked, cause) done is no_write = absurd (not_wanting trace j cause done is)
+refused c trace j Fine (Some (Layout spec cpus), asked, cause) done is no_write = absurd (none_some trace cause.1 done.0)
+refused c trace j Refused (Some (Layout spec cpus), asked, cause) done is no_write = absurd (none_some trace cause.1 done.0)
+refused c trace j BadWords (Some (Layout spec cpus), asked, cause) done is no_write = absurd (none_some trace cause.1 done.0)
+refused c trace j BadTrace (Some (Layout spec cpus), asked, cause) done is no_write = absurd (none_some trace cause.1 done.0)
+refused c trace j ReadFault (Some (Layout spec cpus), asked, cause) done is no_write = absurd (none_some trace cause.1 done.0)
+refused c trace j WriteFault (Some (Layout spec cpus), asked, cause) done is no_write = absurd (none_some trace cause.1 done.0)
+refused c trace j NoMemory (Some (Layout spec cpus), asked, cause) done is no_write = absurd (none_some trace cause.1 done.0)
+refused c trace j status (Some (Load m events workers), asked, cause) done is no_write = absurd cause
 
--- a run on a command and a trace, neither of whose ends failed, did everything or lacked memory
+-- a replay of a trace, neither of whose ends failed, did everything or lacked memory
 pub complete : (c : Call) (trace : Option Trace) (j : Journal) (status : Status) → IsCause c trace j status
-    → IsCommand c.words → IsSomeAnd c.told IsSomeTrace → (Rose c.read.0 c.read.1 → ⊥) → (Rose c.write.0 c.write.1 → ⊥) → (status ≡ done_status j) ⊎ (status ≡ NoMemory)
-complete c trace j Fine cause command good no_read no_write = inl (sym cause.1)
-complete c trace j Refused cause command good no_read no_write = inl (sym cause.1)
-complete c trace j BadWords cause command good no_read no_write = absurd (cause.0 command)
-complete c trace j BadTrace cause command good no_read no_write = absurd (good_input c good cause.1)
-complete c trace j ReadFault cause command good no_read no_write = absurd (no_read cause.1)
-complete c trace j WriteFault cause command good no_read no_write = absurd (no_write cause.0)
-complete c trace j NoMemory cause command good no_read no_write = inr refl
+    → AsksReplay c.words → IsSomeAnd c.told IsSomeTrace → (Rose c.read.0 c.read.1 → ⊥) → (Rose c.write.0 c.write.1 → ⊥) → (status ≡ done_status j) ⊎ (status ≡ NoMemory)
+complete c trace j Fine (None, asked, cause) asks good no_read no_write = absurd cause.0
+complete c trace j Refused (None, asked, cause) asks good no_read no_write = absurd cause.0
+complete c trace j BadWords (None, asked, cause) asks good no_read no_write = absurd (cause.0 (Replay Serial asks.0 asks.1) (asks.2, refl))
+complete c trace j BadTrace (None, asked, cause) asks good no_read no_write = absurd cause.0
+complete c trace j ReadFault (None, asked, cause) asks good no_read no_write = absurd cause.0
+complete c trace j WriteFault (None, asked, cause) asks good no_read no_write = absurd (no_write cause.0)
+complete c trace j NoMemory (None, asked, cause) asks good no_read no_write = inr refl
+complete c trace j Fine (Some (Replay how seed replies), asked, cause) asks good no_read no_write = inl (sym cause.1)
+complete c trace j Refused (Some (Replay how seed replies), asked, cause) asks good no_read no_write = inl (sym cause.1)
+complete c trace j BadWords (Some (Replay how seed replies), asked, cause) asks good no_read no_write = absurd cause
+complete c trace j BadTrace (Some (Replay how seed replies), asked, cause) asks good no_read no_write = absurd (good_input c good cause.0)
+complete c trace j ReadFault (Some (Replay how seed replies), asked, cause) asks good no_read no_write = absurd (no_read cause.0)
+complete c trace j WriteFault (Some (Replay how seed replies), asked, cause) asks good no_read no_write = absurd (no_write cause)
+complete c trace j NoMemory (Some (Replay how seed replies), asked, cause) asks good no_read no_write = inr refl
+complete c trace j Fine (Some (Layout spec cpus), asked, cause) asks good no_read no_write = absurd (replay_apart c.words Serial asks.0 asks.1 spec cpus asks.2 asked.0)
+complete c trace j Refused (Some (Layout spec cpus), asked, cause) asks good no_read no_write = absurd (replay_apart c.words Serial asks.0 asks.1 spec cpus asks.2 asked.0)
+complete c trace j BadWords (Some (Layout spec cpus), asked, cause) asks good no_read no_write = absurd (replay_apart c.words Serial asks.0 asks.1 spec cpus asks.2 asked.0)
+complete c trace j BadTrace (Some (Layout spec cpus), asked, cause) asks good no_read no_write = absurd (replay_apart c.words Serial asks.0 asks.1 spec cpus asks.2 asked.0)
+complete c trace j ReadFault (Some (Layout spec cpus), asked, cause) asks good no_read no_write = absurd (replay_apart c.words Serial asks.0 asks.1 spec cpus asks.2 asked.0)
+complete c trace j WriteFault (Some (Layout spec cpus), asked, cause) asks good no_read no_write = absurd (replay_apart c.words Serial asks.0 asks.1 spec cpus asks.2 asked.0)
+complete c trace j NoMemory (Some (Layout spec cpus), asked, cause) asks good no_read no_write = absurd (replay_apart c.words Serial asks.0 asks.1 spec cpus asks.2 asked.0)
+complete c trace j status (Some (Load m events workers), asked, cause) asks good no_read no_write = absurd cause
 
--- but for a write fault, a run ends as one of bad words exactly where the words are no command
+-- but for a write fault and want of memory, a run ends as one of bad words exactly where the words are no command that is run
 pub bad_words : (c : Call) (trace : Option Trace) (j : Journal) (status : Status) → IsCause c trace j status
-    → status ≢ WriteFault → (status ≡ BadWords → IsCommand c.words → ⊥) × ((IsCommand c.words → ⊥) → status ≡ BadWords)
-bad_words c trace j Fine cause apart = (λ h _. cc, λ h. absurd (h cause.0.0))
-bad_words c trace j Refused cause apart = (λ h _. cc, λ h. absurd (h cause.0.0))
-bad_words c trace j BadWords cause apart = (λ h. cause.0, λ h. refl)
-bad_words c trace j BadTrace cause apart = (λ h _. cc, λ h. absurd (h cause.0))
-bad_words c trace j ReadFault cause apart = (λ h _. cc, λ h. absurd (h cause.0))
-bad_words c trace j WriteFault cause apart = absurd (apart refl)
-bad_words c trace j NoMemory cause apart = (λ h _. cc, λ h. absurd (h cause.0))
+    → status ≢ WriteFault → status ≢ NoMemory → (status ≡ BadWords → AreBadWords c.words) × (AreBadWords c.words → status ≡ BadWords)
+bad_words c trace j Fine (None, asked, cause) apart wanting = absurd cause.0
+bad_words c trace j Refused (None, asked, cause) apart wanting = absurd cause.0
+bad_words c trace j BadWords (None, asked, cause) apart wanting = (λ h. cause.0, λ h. refl)
+bad_words c trace j BadTrace (None, asked, cause) apart wanting = absurd cause.0
+bad_words c trace j ReadFault (None, asked, cause) apart wanting = absurd cause.0
+bad_words c trace j WriteFault (None, asked, cause) apart wanting = absurd (apart refl)
+bad_words c trace j NoMemory (None, asked, cause) apart wanting = absurd (wanting refl)
+bad_words c trace j Fine (Some (Replay how seed replies), asked, cause) apart wanting = (λ h. absurd (let e : Fine ≡ BadWords = h in cc), λ h. absurd (h (Replay how seed replies) asked))
+bad_words c trace j Refused (Some (Replay how seed replies), asked, cause) apart wanting = (λ h. absurd (let e : Refused ≡ BadWords = h in cc), λ h. absurd (h (Replay how seed replies) asked))
+bad_words c trace j BadWords (Some (Replay how seed replies), asked, cause) apart wanting = absurd cause
+bad_words c trace j BadTrace (Some (Replay how seed replies), asked, cause) apart wanting = (λ h. absurd (let e : BadTrace ≡ BadWords = h in cc), λ h. absurd (h (Replay how seed replies) asked))
+bad_words c trace j ReadFault (Some (Replay how seed replies), asked, cause) apart wanting = (λ h. absurd (let e : ReadFault ≡ BadWords = h in cc), λ h. absurd (h (Replay how seed replies) asked))
+bad_words c trace j WriteFault (Some (Replay how seed replies), asked, cause) apart wanting = absurd (apart refl)
+bad_words c trace j NoMemory (Some (Replay how seed replies), asked, cause) apart wanting = absurd (wanting refl)
+bad_words c trace j Fine (Some (Layout spec cpus), asked, cause) apart wanting = (λ h. absurd (let e : Fine ≡ BadWords = h in cc), λ h. absurd (h (Layout spec cpus) asked))
+bad_words c trace j Refused (Some (Layout spec cpus), asked, cause) apart wanting = (λ h. absurd (let e : Refused ≡ BadWords = h in cc), λ h. absurd (h (Layout spec cpus) asked))
+bad_words c trace j BadWords (Some (Layout spec cpus), asked, cause) apart wanting = absurd cause.0
+bad_words c trace j BadTrace (Some (Layout spec cpus), asked, cause) apart wanting = (λ h. absurd (let e : BadTrace ≡ BadWords = h in cc), λ h. absurd (h (Layout spec cpus) asked))
+bad_words c trace j ReadFault (Some (Layout spec cpus), asked, cause) apart wanting = (λ h. absurd (let e : ReadFault ≡ BadWords = h in cc), λ h. absurd (h (Layout spec cpus) asked))
+bad_words c trace j WriteFault (Some (Layout spec cpus), asked, cause) apart wanting = absurd (apart refl)
+bad_words c trace j NoMemory (Some (Layout spec cpus), asked, cause) apart wanting = absurd (wanting refl)
+bad_words c trace j status (Some (Load m events workers), asked, cause) apart wanting = absurd cause
 
--- two words, compared with the command
-pub two_words : (words : List (String Global)) (v w : String Global) (a b : Bool) → length words ≡ 2 → v ≡ get_or words 0 v → a ≡ bytes_eq (string_bytes v) (codes "replay") → w ≡ get_or words 1 w → b ≡ bytes_eq (string_bytes w) (codes "--replies") → IsTrue a
-    → (IsTrue b → IsCommand (map string_bytes words)) × (IsCommand (map string_bytes words) → IsTrue b)
-two_words [] v w a b two first is_first second is_second named = absurd (omega arith)
-two_words (x ∷ []) v w a b two first is_first second is_second named = absurd (omega arith)
-two_words (x ∷ y ∷ z ∷ words) v w a b two first is_first second is_second named = absurd (omega arith)
-two_words (x ∷ y ∷ []) v w a b two first is_first second is_second named =
-    let decides = bytes_eq-Decides (string_bytes w) (codes "--replies") in
-    let name = bytes_eq-Decides (string_bytes v) (codes "replay") in
-    let head : string_bytes x ≡ codes "replay" = ap string_bytes (sym first) ∙ name.0 (sym is_first ∙ named) in (
-      λ h. ap (λ l. l ∷ string_bytes y ∷ []) head ∙ ap (λ l. codes "replay" ∷ l ∷ []) (ap string_bytes (sym second) ∙ decides.0 (sym is_second ∙ h)),
-      λ h. is_second ∙ decides.1 (ap string_bytes second ∙ (let e : string_bytes y ≡ codes "--replies" = cc in e)),
-    )
+-- a layout that did not fail to be written ends with the status of its answer, or lacked memory
+pub layout : (c : Call) (trace : Option Trace) (j : Journal) (status : Status) → IsCause c trace j status → (want : Spec) (on : ℕ)
+    → IsCommand c.words (Layout want on) → (Rose c.write.0 c.write.1 → ⊥) → (status ≡ NoMemory) ⊎ ((answer : Result SlabLayout LayoutRefusal) × IsLayoutAnswer want on answer × (status ≡ answer_status answer))
+layout c trace j Fine (None, asked, cause) want on asks no_write = absurd cause.0
+layout c trace j Refused (None, asked, cause) want on asks no_write = absurd cause.0
+layout c trace j BadWords (None, asked, cause) want on asks no_write = absurd (cause.0 (Layout want on) (asks, tt))
+layout c trace j BadTrace (None, asked, cause) want on asks no_write = absurd cause.0
+layout c trace j ReadFault (None, asked, cause) want on asks no_write = absurd cause.0
+layout c trace j WriteFault (None, asked, cause) want on asks no_write = absurd (no_write cause.0)
+layout c trace j NoMemory (None, asked, cause) want on asks no_write = inl refl
+layout c trace j Fine (Some (Replay how seed replies), asked, cause) want on asks no_write = absurd (replay_apart c.words how seed replies want on asked.0 asks)
+layout c trace j Refused (Some (Replay how seed replies), asked, cause) want on asks no_write = absurd (replay_apart c.words how seed replies want on asked.0 asks)
+layout c trace j BadWords (Some (Replay how seed replies), asked, cause) want on asks no_write = absurd (replay_apart c.words how seed replies want on asked.0 asks)
+layout c trace j BadTrace (Some (Replay how seed replies), asked, cause) want on asks no_write = absurd (replay_apart c.words how seed replies want on asked.0 asks)
+layout c trace j ReadFault (Some (Replay how seed replies), asked, cause) want on asks no_write = absurd (replay_apart c.words how seed replies want on asked.0 asks)
+layout c trace j WriteFault (Some (Replay how seed replies), asked, cause) want on asks no_write = absurd (replay_apart c.words how seed replies want on asked.0 asks)
+layout c trace j NoMemory (Some (Replay how seed replies), asked, cause) want on asks no_write = absurd (replay_apart c.words how seed replies want on asked.0 asks)
+layout c trace j Fine (Some (Layout spec cpus), asked, cause) want on asks no_write = inr (Ok cause.0.0, moved c.words spec want cpus on (Ok cause.0.0) asked.0 asks cause.0.1, refl)
+layout c trace j Refused (Some (Layout spec cpus), asked, cause) want on asks no_write = inr (Err cause.0.0, moved c.words spec want cpus on (Err cause.0.0) asked.0 asks cause.0.1, refl)
+layout c trace j BadWords (Some (Layout spec cpus), asked, cause) want on asks no_write = absurd cause.0
+layout c trace j BadTrace (Some (Layout spec cpus), asked, cause) want on asks no_write = absurd cause.0
+layout c trace j ReadFault (Some (Layout spec cpus), asked, cause) want on asks no_write = absurd cause.0
+layout c trace j WriteFault (Some (Layout spec cpus), asked, cause) want on asks no_write = absurd (no_write cause.0)
+layout c trace j NoMemory (Some (Layout spec cpus), asked, cause) want on asks no_write = inl refl
+layout c trace j status (Some (Load m events workers), asked, cause) want on asks no_write = absurd cause

@@ -1,3 +1,5 @@
 pub mod Texts
 pub mod Laws
+pub mod Words
+pub mod Parts
 pub mod Ends

@@ -1,6 +1,6 @@
 -- How the text of a journal grows.
 use Rattle.std.proofs.Common.{◌≡◌, ℕ, List, [], ◌∷◌, ◌++◌, Some, None, Ok, Err, Result, refl, sym, ap, ◌∙◌, length, append-nil, append_assoc, add-zero, arith, length-append}
-use Rattle.std.specs.Prelude.{Option, slice_get}
+use Rattle.std.specs.Prelude.{Bool, Option, slice_get}
 use Rattle.std.specs.Option.{option_map_or}
 use Rattle.std.specs.Io.KnownBytes.{Appends}
 use Rattle.std.proofs.KnownBytes.{Appends-nil, Appends-trans}
@@ -19,76 +19,76 @@ use Rattle.slub_cli.specs.declared.stop.Stop.{Stop}
 use Rattle.slub_cli.specs.declared.stop.Stop.TheVariants.{BadWords, BadLine, NotBuilt, TooLong, ReadFault, WriteFault, NoMemory}
 
 -- no items done have no text
-pub items_text-none : (trace : Trace) (items : List Item) → items_text trace items [] ≡ []
-items_text-none trace [] = refl
-items_text-none trace (item ∷ items) = refl
+pub items_text-none : (replies : Bool) (trace : Trace) (items : List Item) → items_text replies trace items [] ≡ []
+items_text-none replies trace [] = refl
+items_text-none replies trace (item ∷ items) = refl
 
 -- one item more has its lines after those of the others
-pub items_text-more : (trace : Trace) (items : List Item) (dones : List Done) (d : Done)
-    → items_text trace items (dones ++ d ∷ []) ≡ items_text trace items dones ++ option_map_or (λ item. done_text trace item d) (slice_get items (length dones)) []
-items_text-more trace [] dones d = refl
-items_text-more trace (item ∷ items) [] d = rw (items_text-none trace items) (append-nil _)
-items_text-more trace (item ∷ items) (e ∷ dones) d =
-    ap (λ l. done_text trace item e ++ l) (items_text-more trace items dones d) ∙ sym (append_assoc (done_text trace item e) (items_text trace items dones) _)
+pub items_text-more : (replies : Bool) (trace : Trace) (items : List Item) (dones : List Done) (d : Done)
+    → items_text replies trace items (dones ++ d ∷ []) ≡ items_text replies trace items dones ++ option_map_or (λ item. done_text replies trace item d) (slice_get items (length dones)) []
+items_text-more replies trace [] dones d = refl
+items_text-more replies trace (item ∷ items) [] d = rw (items_text-none replies trace items) (append-nil _)
+items_text-more replies trace (item ∷ items) (e ∷ dones) d =
+    ap (λ l. done_text replies trace item e ++ l) (items_text-more replies trace items dones d) ∙ sym (append_assoc (done_text replies trace item e) (items_text replies trace items dones) _)
 
 -- after has one entry more, of this text
-pub record Entry (trace : Trace) (before after : Journal) (more : List ℕ) : Type 0 where
-  pub text : text_of trace after ≡ text_of trace before ++ more
-  pub last : last_begins trace after ≡ length (text_of trace before)
+pub record Entry (replies : Bool) (trace : Trace) (before after : Journal) (more : List ℕ) : Type 0 where
+  pub text : text_of replies trace after ≡ text_of replies trace before ++ more
+  pub last : last_begins replies trace after ≡ length (text_of replies trace before)
 
 -- a whole entry was taken
-pub grows_text : (old new : Option (List ℕ)) (trace : Trace) (before after : Journal) (more written : List ℕ) → Entry trace before after more → written ≡ more → Appends old new written → GrowsText old new trace before after
-grows_text old new trace before after more written entry is took start told = rw (entry.text, ← is) (Appends-trans start old new (text_of trace before) written told took)
+pub grows_text : (replies : Bool) (old new : Option (List ℕ)) (trace : Trace) (before after : Journal) (more written : List ℕ) → Entry replies trace before after more → written ≡ more → Appends old new written → GrowsText replies old new trace before after
+grows_text replies old new trace before after more written entry is took start told = rw (entry.text, ← is) (Appends-trans start old new (text_of replies trace before) written told took)
 
 -- a front of an entry was taken
-pub grows_front : (old new : Option (List ℕ)) (trace : Trace) (before after : Journal) (more written : List ℕ) → Entry trace before after more → written ≡ more → AppendsFront old new 0 written → GrowsFront old new trace before after
-grows_front old new trace before after more written entry is took start told =
-    rw (entry.text, entry.last, ← is) (let p = AppendsFront-after start old new 0 (text_of trace before) written told took in rw add-zero at p)
+pub grows_front : (replies : Bool) (old new : Option (List ℕ)) (trace : Trace) (before after : Journal) (more written : List ℕ) → Entry replies trace before after more → written ≡ more → AppendsFront old new 0 written → GrowsFront replies old new trace before after
+grows_front replies old new trace before after more written entry is took start told =
+    rw (entry.text, entry.last, ← is) (let p = AppendsFront-after start old new 0 (text_of replies trace before) written told took in rw add-zero at p)
 
 -- nothing was put in, and nothing taken
-pub grows_none : (old : Option (List ℕ)) (trace : Trace) (before after : Journal) → IsSame before after → GrowsText old old trace before after
+pub grows_none : (replies : Bool) (old : Option (List ℕ)) (trace : Trace) (before after : Journal) → IsSame before after → GrowsText replies old old trace before after
 unfolding text_of
-grows_none old trace before after same start told = rw (same.items, same.total) told
+grows_none replies old trace before after same start told = rw (same.items, same.total) told
 
 -- an item that was put in is an entry, of its text
-pub item_entry : (trace : Trace) (before after : Journal) (d : Done) (number : ℕ) → length before.items ≡ number → before.total ≡ None → after.total ≡ before.total → after.items ≡ before.items ++ d ∷ [] → Entry trace before after (text_at trace number d)
+pub item_entry : (replies : Bool) (trace : Trace) (before after : Journal) (d : Done) (number : ℕ) → length before.items ≡ number → before.total ≡ None → after.total ≡ before.total → after.items ≡ before.items ++ d ∷ [] → Entry replies trace before after (text_at replies trace number d)
 unfolding text_of last_begins
-item_entry trace before after d number is none total items = record {
-  text = rw (total, none, items, ← is) (append-nil _ ∙ items_text-more trace trace.items before.items d ∙ ap (λ l. l ++ text_at trace (length before.items) d) (sym (append-nil _)));
-  last = rw (total, none, items) (ap (λ l. length (items_text trace trace.items l)) (take_at before.items (d ∷ []) _ (omega (arith, length-append before.items (d ∷ [])))) ∙ ap length (sym (append-nil _)));
+item_entry replies trace before after d number is none total items = record {
+  text = rw (total, none, items, ← is) (append-nil _ ∙ items_text-more replies trace trace.items before.items d ∙ ap (λ l. l ++ text_at replies trace (length before.items) d) (sym (append-nil _)));
+  last = rw (total, none, items) (ap (λ l. length (items_text replies trace trace.items l)) (take_at before.items (d ∷ []) _ (omega (arith, length-append before.items (d ∷ [])))) ∙ ap length (sym (append-nil _)));
 }
 
 -- and so is the total
-pub total_entry : (trace : Trace) (before after : Journal) (n : Total) → before.total ≡ None → after.total ≡ Some n → after.items ≡ before.items → Entry trace before after (total_text n)
+pub total_entry : (replies : Bool) (trace : Trace) (before after : Journal) (n : Total) → before.total ≡ None → after.total ≡ Some n → after.items ≡ before.items → Entry replies trace before after (total_text n)
 unfolding text_of last_begins
-total_entry trace before after n none total items = record {
+total_entry replies trace before after n none total items = record {
   text = rw (total, none, items) (ap (λ l. l ++ total_text n) (sym (append-nil _)));
   last = rw (total, none, items) (ap length (sym (append-nil _)));
 }
 
 -- a journal with nothing in it has no text
-pub empty_text : (trace : Trace) (journal : Journal) → journal.items ≡ [] → journal.total ≡ None → text_of trace journal ≡ []
+pub empty_text : (replies : Bool) (trace : Trace) (journal : Journal) → journal.items ≡ [] → journal.total ≡ None → text_of replies trace journal ≡ []
 unfolding text_of
-empty_text trace journal no_items no_total = rw (no_items, no_total, items_text-none trace trace.items) refl
+empty_text replies trace journal no_items no_total = rw (no_items, no_total, items_text-none replies trace trace.items) refl
 
 -- more was told after more was told
-pub tells_then : (old mid new : Option (List ℕ)) (trace : Trace) (before middle after : Journal) (r : Result (Unit {0}) Stop) → GrowsText old mid trace before middle → Tells mid new trace middle after r → Tells old new trace before after r
-tells_then old mid new trace before middle after (Ok x) first more = λ start h. more start (first start h)
-tells_then old mid new trace before middle after (Err BadWords) first more = λ start h. more start (first start h)
-tells_then old mid new trace before middle after (Err (BadLine line)) first more = λ start h. more start (first start h)
-tells_then old mid new trace before middle after (Err NotBuilt) first more = λ start h. more start (first start h)
-tells_then old mid new trace before middle after (Err TooLong) first more = λ start h. more start (first start h)
-tells_then old mid new trace before middle after (Err ReadFault) first more = λ start h. more start (first start h)
-tells_then old mid new trace before middle after (Err WriteFault) first more = λ start h. more start (first start h)
-tells_then old mid new trace before middle after (Err NoMemory) first more = λ start h. more start (first start h)
+pub tells_then : (replies : Bool) (old mid new : Option (List ℕ)) (trace : Trace) (before middle after : Journal) (r : Result (Unit {0}) Stop) → GrowsText replies old mid trace before middle → Tells replies mid new trace middle after r → Tells replies old new trace before after r
+tells_then replies old mid new trace before middle after (Ok x) first more = λ start h. more start (first start h)
+tells_then replies old mid new trace before middle after (Err BadWords) first more = λ start h. more start (first start h)
+tells_then replies old mid new trace before middle after (Err (BadLine line)) first more = λ start h. more start (first start h)
+tells_then replies old mid new trace before middle after (Err NotBuilt) first more = λ start h. more start (first start h)
+tells_then replies old mid new trace before middle after (Err TooLong) first more = λ start h. more start (first start h)
+tells_then replies old mid new trace before middle after (Err ReadFault) first more = λ start h. more start (first start h)
+tells_then replies old mid new trace before middle after (Err WriteFault) first more = λ start h. more start (first start h)
+tells_then replies old mid new trace before middle after (Err NoMemory) first more = λ start h. more start (first start h)
 
 -- since a journal with nothing in it, all of the text was told
-pub took_of : (old new : Option (List ℕ)) (trace : Trace) (before after : Journal) (r : Result (Unit {0}) Stop) → text_of trace before ≡ [] → Tells old new trace before after r → TookText old new (Some trace) after r
-took_of old new trace before after (Ok x) none tells = tells old (rw none (Appends-nil old))
-took_of old new trace before after (Err BadWords) none tells = tells old (rw none (Appends-nil old))
-took_of old new trace before after (Err (BadLine line)) none tells = tells old (rw none (Appends-nil old))
-took_of old new trace before after (Err NotBuilt) none tells = tells old (rw none (Appends-nil old))
-took_of old new trace before after (Err TooLong) none tells = tells old (rw none (Appends-nil old))
-took_of old new trace before after (Err ReadFault) none tells = tells old (rw none (Appends-nil old))
-took_of old new trace before after (Err WriteFault) none tells = tells old (rw none (Appends-nil old))
-took_of old new trace before after (Err NoMemory) none tells = tells old (rw none (Appends-nil old))
+pub took_of : (replies : Bool) (old new : Option (List ℕ)) (trace : Trace) (before after : Journal) (r : Result (Unit {0}) Stop) → text_of replies trace before ≡ [] → Tells replies old new trace before after r → TookText replies old new (Some trace) after r
+took_of replies old new trace before after (Ok x) none tells = tells old (rw none (Appends-nil old))
+took_of replies old new trace before after (Err BadWords) none tells = tells old (rw none (Appends-nil old))
+took_of replies old new trace before after (Err (BadLine line)) none tells = tells old (rw none (Appends-nil old))
+took_of replies old new trace before after (Err NotBuilt) none tells = tells old (rw none (Appends-nil old))
+took_of replies old new trace before after (Err TooLong) none tells = tells old (rw none (Appends-nil old))
+took_of replies old new trace before after (Err ReadFault) none tells = tells old (rw none (Appends-nil old))
+took_of replies old new trace before after (Err WriteFault) none tells = tells old (rw none (Appends-nil old))
+took_of replies old new trace before after (Err NoMemory) none tells = tells old (rw none (Appends-nil old))

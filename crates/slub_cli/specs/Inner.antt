@@ -1,59 +1,65 @@
 -- What the parts of a run promise.
-use Rattle.std.specs.Prelude.{IsSome, ◌≡◌, ℕ, ◌+◌, ◌⊎◌, List, [], ◌∷◌, ◌++◌, Option, Some, None, IfSome, Result, Ok, Err, codes}
-use Rattle.std.specs.Io.KnownBytes.{Appends}
+use Rattle.std.specs.Prelude.{IsSome, ◌≡◌, ℕ, ◌+◌, List, [], ◌∷◌, ◌++◌, Bool, Option, Some, None, IfSome, Result, Ok, Err, codes, ◌⊎◌, ⊤}
+use Rattle.std.specs.Io.KnownBytes.{Appends, IsAtEnd}
 use Rattle.slub_edges.specs.Edges.{Rose, AppendsFront}
+use Rattle.slub_object_layout.specs.declared.layout.Layout.{Layout as SlabLayout}
+use Rattle.slub_object_layout.specs.declared.layout.LayoutRefusal.{LayoutRefusal}
+use Rattle.slub_object_layout.specs.declared.layout.Spec.{Spec}
+use Rattle.slub_command.specs.declared.command.Command.{Command}
+use Rattle.slub_command.specs.declared.command.Command.TheVariants.{Replay, Layout, Load}
+use Rattle.slub_slabinfo_text.specs.Texts.{layout_lines}
 use Rattle.slub_lists.specs.State.{State}
 use Rattle.slub_trace_reader.specs.declared.trace.Trace.{Trace}
 use Rattle.slub_trace_reader.specs.declared.reading.Why.{Why}
-use Rattle.slub_trace_reader.specs.Reads.{IsTooLong}
+use Rattle.slub_trace_reader.specs.Reads.{IsBadIn, IsTooLong, Spells}
 use Rattle.slub_engine.specs.declared.journal.Done.{Done}
 use Rattle.slub_engine.specs.declared.journal.Total.{Total}
 use Rattle.slub_engine.specs.declared.journal.Journal.{Journal}
-use Rattle.slub_engine.specs.Lawful.{DoesAt, IsReady, IsTotal}
+use Rattle.slub_engine.specs.Lawful.{DoesAt, IsBuilt, IsReady, IsTotal}
 use Rattle.slub_engine.specs.Text.{text_of}
 use Rattle.slub_cli.specs.declared.stop.Stop.{Stop}
 use Rattle.slub_cli.specs.declared.stop.Stop.TheVariants.{BadWords, BadLine, NotBuilt, TooLong, ReadFault, WriteFault, NoMemory}
 use Rattle.slub_cli.specs.declared.status.Status.{Status}
 use Rattle.slub_cli.specs.declared.status.Status.TheVariants as ends
-use Rattle.slub_cli.specs.Run.{Call, IsBadLine, IsCommand, IsDone, IsUnbuilt, bad_line, done_status, fault_line, last_begins, last_in, text_in}
+use Rattle.slub_cli.specs.Run.{AreBadWords, Call, IsAsked, IsBadLine, IsDone, IsLayoutAnswer, IsUnbuilt, answer_status, bad_line, done_status, fault_line, last_begins, last_in, text_in}
 
 -- ---- what the sink tells
 
 -- if the sink told the text of the journal before, since whenever, it tells the text after
-abbrev pub GrowsText : Option (List ℕ) → Option (List ℕ) → Trace → Journal → Journal → Type 0
-GrowsText old new trace before after =
-    (start : Option (List ℕ)) → Appends start old (text_of trace before) → Appends start new (text_of trace after)
+abbrev pub GrowsText : Bool → Option (List ℕ) → Option (List ℕ) → Trace → Journal → Journal → Type 0
+GrowsText replies old new trace before after =
+    (start : Option (List ℕ)) → Appends start old (text_of replies trace before) → Appends start new (text_of replies trace after)
 
 -- the same up to a front of the last entry
-abbrev pub GrowsFront : Option (List ℕ) → Option (List ℕ) → Trace → Journal → Journal → Type 0
-GrowsFront old new trace before after =
-    (start : Option (List ℕ)) → Appends start old (text_of trace before) → AppendsFront start new (last_begins trace after) (text_of trace after)
+abbrev pub GrowsFront : Bool → Option (List ℕ) → Option (List ℕ) → Trace → Journal → Journal → Type 0
+GrowsFront replies old new trace before after =
+    (start : Option (List ℕ)) → Appends start old (text_of replies trace before) → AppendsFront start new (last_begins replies trace after) (text_of replies trace after)
 
 -- what the sink tells after doing stopped: at a write fault a front of the last entry
-abbrev pub TellsStopped : Option (List ℕ) → Option (List ℕ) → Trace → Journal → Journal → Stop → Type 0
-TellsStopped old new trace before after WriteFault = GrowsFront old new trace before after
-TellsStopped old new trace before after BadWords = GrowsText old new trace before after
-TellsStopped old new trace before after (BadLine line) = GrowsText old new trace before after
-TellsStopped old new trace before after NotBuilt = GrowsText old new trace before after
-TellsStopped old new trace before after TooLong = GrowsText old new trace before after
-TellsStopped old new trace before after ReadFault = GrowsText old new trace before after
-TellsStopped old new trace before after NoMemory = GrowsText old new trace before after
+abbrev pub TellsStopped : Bool → Option (List ℕ) → Option (List ℕ) → Trace → Journal → Journal → Stop → Type 0
+TellsStopped replies old new trace before after WriteFault = GrowsFront replies old new trace before after
+TellsStopped replies old new trace before after BadWords = GrowsText replies old new trace before after
+TellsStopped replies old new trace before after (BadLine line) = GrowsText replies old new trace before after
+TellsStopped replies old new trace before after NotBuilt = GrowsText replies old new trace before after
+TellsStopped replies old new trace before after TooLong = GrowsText replies old new trace before after
+TellsStopped replies old new trace before after ReadFault = GrowsText replies old new trace before after
+TellsStopped replies old new trace before after NoMemory = GrowsText replies old new trace before after
 
 -- what the sink tells after doing that may have stopped
-abbrev pub Tells : {A : Type 0} → Option (List ℕ) → Option (List ℕ) → Trace → Journal → Journal → Result A Stop → Type 0
-Tells old new trace before after (Ok x) = GrowsText old new trace before after
-Tells old new trace before after (Err stop) = TellsStopped old new trace before after stop
+abbrev pub Tells : {A : Type 0} → Bool → Option (List ℕ) → Option (List ℕ) → Trace → Journal → Journal → Result A Stop → Type 0
+Tells replies old new trace before after (Ok x) = GrowsText replies old new trace before after
+Tells replies old new trace before after (Err stop) = TellsStopped replies old new trace before after stop
 
 -- the text of what was done was taken, or at a write fault a front of it
-abbrev pub TookText : Option (List ℕ) → Option (List ℕ) → Option Trace → Journal → Result (Unit {0}) Stop → Type 0
-TookText old new trace journal (Ok x) = Appends old new (text_in trace journal)
-TookText old new trace journal (Err WriteFault) = AppendsFront old new (last_in trace journal) (text_in trace journal)
-TookText old new trace journal (Err BadWords) = Appends old new (text_in trace journal)
-TookText old new trace journal (Err (BadLine line)) = Appends old new (text_in trace journal)
-TookText old new trace journal (Err NotBuilt) = Appends old new (text_in trace journal)
-TookText old new trace journal (Err TooLong) = Appends old new (text_in trace journal)
-TookText old new trace journal (Err ReadFault) = Appends old new (text_in trace journal)
-TookText old new trace journal (Err NoMemory) = Appends old new (text_in trace journal)
+abbrev pub TookText : {A : Type 0} → Bool → Option (List ℕ) → Option (List ℕ) → Option Trace → Journal → Result A Stop → Type 0
+TookText replies old new trace journal (Ok x) = Appends old new (text_in replies trace journal)
+TookText replies old new trace journal (Err WriteFault) = AppendsFront old new (last_in replies trace journal) (text_in replies trace journal)
+TookText replies old new trace journal (Err BadWords) = Appends old new (text_in replies trace journal)
+TookText replies old new trace journal (Err (BadLine line)) = Appends old new (text_in replies trace journal)
+TookText replies old new trace journal (Err NotBuilt) = Appends old new (text_in replies trace journal)
+TookText replies old new trace journal (Err TooLong) = Appends old new (text_in replies trace journal)
+TookText replies old new trace journal (Err ReadFault) = Appends old new (text_in replies trace journal)
+TookText replies old new trace journal (Err NoMemory) = Appends old new (text_in replies trace journal)
 
 -- ---- what was done
 
@@ -126,17 +132,69 @@ IsItemStop old new journal NotBuilt = ⊥
 IsItemStop old new journal TooLong = ⊥
 IsItemStop old new journal ReadFault = ⊥
 
--- why the work ended
-abbrev pub Comes : Call → Option Trace → Journal → Result (Unit {0}) Stop → Type 0
-Comes c trace journal (Ok x) = IsDone c trace journal
-Comes c trace journal (Err BadWords) = (IsCommand c.words → ⊥) × (trace ≡ None)
-Comes c trace journal (Err (BadLine text)) =
-    IsCommand c.words × (trace ≡ None) × (line : ℕ) × (why : Why) × (text.items ≡ bad_line line why) × IsBadLine c line why
-Comes c trace journal (Err NotBuilt) = IsCommand c.words × (trace ≡ None) × IsUnbuilt c
-Comes c trace journal (Err TooLong) = IsCommand c.words × (trace ≡ None) × IfSome c.told IsTooLong
-Comes c trace journal (Err ReadFault) = IsCommand c.words × Rose c.read.0 c.read.1 × (trace ≡ None)
-Comes c trace journal (Err WriteFault) = IsCommand c.words × Rose c.write.0 c.write.1 × IsSome trace
-Comes c trace journal (Err NoMemory) = IsCommand c.words × (journal.total ≡ None)
+-- why no trace was read that is replayed today: what the source told before, what it tells after, and its counts of faults
+abbrev pub IsReadStop : Option (List ℕ) → Option (List ℕ) → ℕ × ℕ → Stop → Type 0
+IsReadStop told left read BadWords = ⊥
+IsReadStop told left read (BadLine text) =
+    (line : ℕ) × (why : Why) × (text.items ≡ bad_line line why) × IsAtEnd left × IsBadIn told line why
+IsReadStop told left read NotBuilt = IsAtEnd left × (trace : Trace) × Spells told trace × ¬ IsBuilt trace
+IsReadStop told left read TooLong = IfSome told IsTooLong
+IsReadStop told left read ReadFault = Rose read.0 read.1
+IsReadStop told left read WriteFault = ⊥
+IsReadStop told left read NoMemory = ⊤
+
+-- a trace was read that is replayed today, and no other is spelt; or why none was
+abbrev pub ReadsBuilt : Option (List ℕ) → Option (List ℕ) → ℕ × ℕ → Result Trace Stop → Type 0
+ReadsBuilt told left read (Ok trace) = IsAtEnd left × Spells told trace × IsBuilt trace
+ReadsBuilt told left read (Err stop) = IsReadStop told left read stop
+
+-- a layout was printed, or its refusal; at a write fault a front of it was
+abbrev pub PrintsLayout : Option (List ℕ) → Option (List ℕ) → ℕ × ℕ → Spec → ℕ → Result Status Stop → Type 0
+PrintsLayout old new write spec cpus (Ok status) =
+    (answer : Result SlabLayout LayoutRefusal) × IsLayoutAnswer spec cpus answer × (status ≡ answer_status answer) × Appends old new (layout_lines answer)
+PrintsLayout old new write spec cpus (Err WriteFault) =
+    (answer : Result SlabLayout LayoutRefusal) × IsLayoutAnswer spec cpus answer × Rose write.0 write.1 × AppendsFront old new 0 (layout_lines answer)
+PrintsLayout old new write spec cpus (Err NoMemory) = new ≡ old
+PrintsLayout old new write spec cpus (Err BadWords) = ⊥
+PrintsLayout old new write spec cpus (Err (BadLine line)) = ⊥
+PrintsLayout old new write spec cpus (Err NotBuilt) = ⊥
+PrintsLayout old new write spec cpus (Err TooLong) = ⊥
+PrintsLayout old new write spec cpus (Err ReadFault) = ⊥
+
+-- what a replay came to: everything was done, or why it ended early
+abbrev pub Replays : Call → Option Trace → Journal → Result Status Stop → Type 0
+Replays c trace journal (Ok status) = IsDone trace journal × (status ≡ done_status journal)
+Replays c trace journal (Err BadWords) = ⊥
+Replays c trace journal (Err (BadLine text)) =
+    (trace ≡ None) × (line : ℕ) × (why : Why) × (text.items ≡ bad_line line why) × IsBadLine c line why
+Replays c trace journal (Err NotBuilt) = (trace ≡ None) × IsUnbuilt c
+Replays c trace journal (Err TooLong) = (trace ≡ None) × IfSome c.told IsTooLong
+Replays c trace journal (Err ReadFault) = (trace ≡ None) × Rose c.read.0 c.read.1
+Replays c trace journal (Err WriteFault) = IsSome trace × Rose c.write.0 c.write.1
+Replays c trace journal (Err NoMemory) = journal.total ≡ None
+
+-- what it came to where no command was read
+abbrev pub Refuses : Call → Option Trace → Journal → Result Status Stop → Type 0
+Refuses c trace journal (Ok status) = ⊥
+Refuses c trace journal (Err BadWords) = AreBadWords c.words × (trace ≡ None)
+Refuses c trace journal (Err (BadLine text)) = ⊥
+Refuses c trace journal (Err NotBuilt) = ⊥
+Refuses c trace journal (Err TooLong) = ⊥
+Refuses c trace journal (Err ReadFault) = ⊥
+Refuses c trace journal (Err WriteFault) = ⊥
+Refuses c trace journal (Err NoMemory) = (trace ≡ None) × (journal.total ≡ None)
+
+-- what was asked came to this, and the sink took this of it
+abbrev pub Works : Call → Option Command → Option (List ℕ) → Option (List ℕ) → Option Trace → Journal → Result Status Stop → Type 0
+Works c None old new trace journal result = Refuses c trace journal result × (new ≡ old)
+Works c (Some (Replay how seed replies)) old new trace journal result = Replays c trace journal result × TookText replies old new trace journal result
+Works c (Some (Layout spec cpus)) old new trace journal result =
+    PrintsLayout old new c.write spec cpus result × (trace ≡ None) × (journal.total ≡ None)
+Works c (Some (Load seed events workers)) old new trace journal result = ⊥
+
+-- the same of what the words ask
+abbrev pub Worked : Call → Option (List ℕ) → Option (List ℕ) → Option Trace → Journal → Result Status Stop → Type 0
+Worked c old new trace journal result = (asked : Option Command) × IsAsked c.words asked × Works c asked old new trace journal result
 
 -- the line of a stop
 abbrev pub stop_line : Stop → List ℕ
@@ -164,6 +222,6 @@ WroteLine old new write stop status =
     ((status ≡ stop_status stop) × Appends old new (stop_line stop)) ⊎ ((status ≡ ends.WriteFault) × Rose write.0 write.1 × AppendsFront old new 0 (stop_line stop))
 
 -- how a run that came to this end finishes
-abbrev pub Finishes : Option (List ℕ) → Option (List ℕ) → ℕ × ℕ → Journal → Result (Unit {0}) Stop → Status → Type 0
-Finishes old new write journal (Ok x) status = (status ≡ done_status journal) × (new ≡ old)
-Finishes old new write journal (Err stop) status = WroteLine old new write stop status
+abbrev pub Finishes : Option (List ℕ) → Option (List ℕ) → ℕ × ℕ → Result Status Stop → Status → Type 0
+Finishes old new write (Ok done) status = (status ≡ done) × (new ≡ old)
+Finishes old new write (Err stop) status = WroteLine old new write stop status

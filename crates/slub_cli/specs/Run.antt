@@ -1,11 +1,21 @@
 -- What a run promises: the table of statuses, the text, the law.
-use Rattle.std.specs.Prelude.{◌≡◌, ℕ, ◌-◌, ◌⊎◌, List, [], ◌∷◌, ◌++◌, length, take, Bool, true, false, cond, Option, Some, None, IfSome, IsSome, Ok, Err, codes}
+use Rattle.std.specs.Prelude.{◌≡◌, ℕ, ◌-◌, ◌⊎◌, List, [], ◌∷◌, ◌++◌, length, take, Bool, true, false, ◌||◌, not, cond, Option, Some, None, IfSome, IsSome, Result, Ok, Err, codes, ⊤}
 use Rattle.std.specs.List.{list_any}
 use Rattle.std.specs.Fmt.{decimal}
 use Rattle.std.specs.Io.KnownBytes.{Appends, IsAtEnd}
 use Rattle.slub_edges.specs.Edges.{Rose, AppendsFront}
+use Rattle.slub_object_layout.specs.declared.layout.Layout.{Layout as SlabLayout}
+use Rattle.slub_object_layout.specs.declared.layout.LayoutRefusal.{LayoutRefusal}
+use Rattle.slub_object_layout.specs.declared.layout.LayoutRefusal.TheVariants as refused
+use Rattle.slub_object_layout.specs.declared.layout.Spec.{Spec}
+use Rattle.slub_object_layout.specs.Layout.{IsAccepted, IsAlign, IsLayout, IsSize, IsSupported}
+use Rattle.slub_command.specs.declared.command.Command.{Command}
+use Rattle.slub_command.specs.declared.command.Command.TheVariants.{Replay, Layout, Load}
+use Rattle.slub_command.specs.declared.command.How.TheVariants.{Serial}
+use Rattle.slub_command.specs.Command.{IsCommand}
 use Rattle.slub_lists.specs.declared.reply.Reply.{Reply}
 use Rattle.slub_lists.specs.declared.reply.Reply.TheVariants as reply
+use Rattle.slub_slabinfo_text.specs.Texts.{is_ok_reply, layout_lines}
 use Rattle.slub_trace_reader.specs.declared.trace.Trace.{Trace}
 use Rattle.slub_trace_reader.specs.Grammar.{IsTrace}
 use Rattle.slub_trace_reader.specs.declared.reading.Why.{Why}
@@ -13,6 +23,7 @@ use Rattle.slub_trace_reader.specs.Faults.{why_text}
 use Rattle.slub_trace_reader.specs.Reads.{IsBadIn, IsNoTrace, IsTooLong, Spells}
 use Rattle.slub_engine.specs.declared.journal.Done.{Done}
 use Rattle.slub_engine.specs.declared.journal.Done.TheVariants as done
+use Rattle.slub_engine.specs.declared.journal.Found.{Found}
 use Rattle.slub_engine.specs.declared.journal.Total.{Total}
 use Rattle.slub_engine.specs.declared.journal.Journal.{Journal}
 use Rattle.slub_engine.specs.Journal.{IsEmpty}
@@ -23,30 +34,75 @@ use Rattle.slub_cli.specs.declared.status.Status.TheVariants.{Fine, Refused, Bad
 
 -- ---- the words
 
--- the words are the command that is built today
-abbrev pub IsCommand : List (List ℕ) → Type 0
-IsCommand words = words ≡ codes "replay" ∷ codes "--replies" ∷ []
+-- a command that is run today: a replay in the order of the text, or a layout
+abbrev pub IsRunnable : Command → Type 0
+IsRunnable (Replay how seed replies) = how ≡ Serial
+IsRunnable (Layout spec cpus) = ⊤
+IsRunnable (Load seed events workers) = ⊥
+
+-- the words are a command that is run today
+abbrev pub IsAsking : List (List ℕ) → Command → Type 0
+IsAsking words command = IsCommand words command × IsRunnable command
+
+-- the words are no such command
+abbrev pub AreBadWords : List (List ℕ) → Type 0
+AreBadWords words = (command : Command) → ¬ IsAsking words command
+
+-- the command that was read of the words; none was read where they are none, or no memory was there to read them
+abbrev pub IsAsked : List (List ℕ) → Option Command → Type 0
+IsAsked words None = ⊤
+IsAsked words (Some command) = IsAsking words command
+
+-- the words ask for a replay, with or without `--replies`
+abbrev pub AsksReplay : List (List ℕ) → Type 0
+AsksReplay words = (seed : ℕ) × (replies : Bool) × IsCommand words (Replay Serial seed replies)
 
 -- ---- the replies
 
--- a reply that isn't Ok
-abbrev pub refuses : Reply → Bool
-refuses (reply.Given address) = false
-refuses reply.NoFrames = true
-refuses reply.NoSuchCache = true
-refuses (reply.Freed address) = false
-refuses reply.NotHeld = true
+-- no memory was there for an event
+abbrev pub is_no_memory : Reply → Bool
+is_no_memory (reply.Given address) = false
+is_no_memory reply.NoFrames = false
+is_no_memory reply.NoSuchCache = false
+is_no_memory reply.NoMemory = true
+is_no_memory (reply.Freed address) = false
+is_no_memory reply.NotHeld = false
+is_no_memory (reply.Corrupt damage) = false
+is_no_memory reply.Wrote = false
+is_no_memory (reply.Value value) = false
+is_no_memory reply.OutOfObject = false
+is_no_memory reply.Poked = false
+is_no_memory reply.OutOfSlot = false
+is_no_memory reply.NotChecked = false
 
--- a creation was refused, or a reply isn't Ok
+-- a reply of an item is that no memory was there
+abbrev pub lacks_memory : Done → Bool
+lacks_memory (done.Created answer) = false
+lacks_memory (done.Round result) = list_any is_no_memory result.replies
+lacks_memory (done.Shrunk answer) = false
+lacks_memory (done.Destroyed answer) = false
+lacks_memory (done.Slabinfo rows) = false
+
+abbrev pub is_err : {A : Type 0} → {E : Type 0} → Result A E → Bool
+is_err (Ok x) = false
+is_err (Err why) = true
+
+abbrev pub is_some_found : List Found → Bool
+is_some_found [] = false
+is_some_found (found ∷ others) = true
+
+-- a creation, a shrink or a destruction was refused, a reply isn't Ok, or an object was found damaged
 abbrev pub has_refused : Done → Bool
-has_refused (done.Created (Ok made)) = false
-has_refused (done.Created (Err why)) = true
-has_refused (done.Round result) = list_any refuses result.replies
+has_refused (done.Created answer) = is_err answer
+has_refused (done.Round result) = list_any (λ reply. not (is_ok_reply reply)) result.replies || is_some_found result.damages
+has_refused (done.Shrunk answer) = is_err answer
+has_refused (done.Destroyed answer) = is_err answer
 has_refused (done.Slabinfo rows) = false
 
--- the status of a run that did everything
+-- the status of a replay that did everything
 abbrev pub done_status : Journal → Status
-done_status journal = cond (list_any has_refused journal.items) Refused Fine
+done_status journal =
+    cond (list_any lacks_memory journal.items) NoMemory (cond (list_any has_refused journal.items) Refused Fine)
 
 -- ---- the call
 
@@ -58,26 +114,44 @@ pub record Call : Type 0 where
   pub read : ℕ × ℕ
   pub write : ℕ × ℕ
 
--- ---- the text
+-- ---- the text of a replay
 
 -- the text of the journal for the trace that was read
-abbrev pub text_in : Option Trace → Journal → List ℕ
-text_in None journal = []
-text_in (Some trace) journal = text_of trace journal
+abbrev pub text_in : Bool → Option Trace → Journal → List ℕ
+text_in replies None journal = []
+text_in replies (Some trace) journal = text_of replies trace journal
 
 -- where the text of the last entry begins: the total, where it is there, or else the last item
-abbrev pub last_from : Trace → Option Total → List Done → ℕ
-last_from trace None dones = length (items_text trace trace.items (take (length dones - 1) dones))
-last_from trace (Some total) dones = length (items_text trace trace.items dones)
+abbrev pub last_from : Bool → Trace → Option Total → List Done → ℕ
+last_from replies trace None dones = length (items_text replies trace trace.items (take (length dones - 1) dones))
+last_from replies trace (Some total) dones = length (items_text replies trace trace.items dones)
 
 -- the same of a journal
-unfoldable pub last_begins : Trace → Journal → ℕ
-last_begins trace journal = last_from trace journal.total journal.items
+unfoldable pub last_begins : Bool → Trace → Journal → ℕ
+last_begins replies trace journal = last_from replies trace journal.total journal.items
 
 -- the same where a trace was read
-abbrev pub last_in : Option Trace → Journal → ℕ
-last_in None journal = 0
-last_in (Some trace) journal = last_begins trace journal
+abbrev pub last_in : Bool → Option Trace → Journal → ℕ
+last_in replies None journal = 0
+last_in replies (Some trace) journal = last_begins replies trace journal
+
+-- ---- the layout
+
+-- why there is no layout for a spec: the first of the three causes
+abbrev pub IsRefusal : Spec → LayoutRefusal → Type 0
+IsRefusal spec refused.BadSize = ¬ IsSize spec.size
+IsRefusal spec refused.BadAlign = IsSize spec.size × ¬ IsAlign spec.align
+IsRefusal spec refused.BadFlags = IsSize spec.size × IsAlign spec.align × ¬ IsSupported spec.flags
+
+-- the layout of a spec, or why there is none
+abbrev pub IsLayoutAnswer : Spec → ℕ → Result SlabLayout LayoutRefusal → Type 0
+IsLayoutAnswer spec cpus (Ok layout) = IsAccepted spec × IsLayout spec cpus layout
+IsLayoutAnswer spec cpus (Err why) = IsRefusal spec why
+
+-- the status with which such an answer is printed
+abbrev pub answer_status : Result SlabLayout LayoutRefusal → Status
+answer_status (Ok layout) = Fine
+answer_status (Err why) = Refused
 
 -- ---- the law
 
@@ -89,9 +163,9 @@ IsJournalOf c (Some trace) journal = IsAtEnd c.left × Spells c.told trace × Is
 
 -- ---- the statuses
 
--- everything was done
-abbrev pub IsDone : Call → Option Trace → Journal → Type 0
-IsDone c trace journal = IsCommand c.words × IsSome trace × IsSome journal.total
+-- everything of a replay was done
+abbrev pub IsDone : Option Trace → Journal → Type 0
+IsDone trace journal = IsSome trace × IsSome journal.total
 
 -- the bytes were read to their end, and this is their first bad line and why it is bad
 abbrev pub IsBadLine : Call → ℕ → Why → Type 0
@@ -105,15 +179,53 @@ IsUnbuilt c = IsAtEnd c.left × (trace : Trace) × Spells c.told trace × ¬ IsB
 abbrev pub IsBadInput : Call → Type 0
 IsBadInput c = ((line : ℕ) × (why : Why) × IsBadLine c line why) ⊎ IfSome c.told IsTooLong ⊎ IsUnbuilt c
 
+-- want of memory ended the replay, or is one of its replies
+abbrev pub IsWant : Option Trace → Journal → Type 0
+IsWant trace journal = (journal.total ≡ None) ⊎ (IsDone trace journal × (done_status journal ≡ NoMemory))
+
+-- the row of each status, for a replay
+abbrev pub IsReplayCause : Call → Option Trace → Journal → Status → Type 0
+IsReplayCause c trace journal Fine = IsDone trace journal × (done_status journal ≡ Fine)
+IsReplayCause c trace journal Refused = IsDone trace journal × (done_status journal ≡ Refused)
+IsReplayCause c trace journal BadWords = ⊥
+IsReplayCause c trace journal BadTrace = IsBadInput c × (trace ≡ None)
+IsReplayCause c trace journal ReadFault = Rose c.read.0 c.read.1 × (trace ≡ None)
+IsReplayCause c trace journal WriteFault = Rose c.write.0 c.write.1
+IsReplayCause c trace journal NoMemory = IsWant trace journal
+
+-- the same for a layout
+abbrev pub IsLayoutCause : Call → Spec → ℕ → Status → Type 0
+IsLayoutCause c spec cpus Fine = (layout : SlabLayout) × IsLayoutAnswer spec cpus (Ok layout)
+IsLayoutCause c spec cpus Refused = (why : LayoutRefusal) × IsLayoutAnswer spec cpus (Err why)
+IsLayoutCause c spec cpus BadWords = ⊥
+IsLayoutCause c spec cpus BadTrace = ⊥
+IsLayoutCause c spec cpus ReadFault = ⊥
+IsLayoutCause c spec cpus WriteFault = Rose c.write.0 c.write.1
+IsLayoutCause c spec cpus NoMemory = ⊤
+
+-- the same where no command was read: the words are none, or memory was wanting to read them
+abbrev pub IsWordsCause : Call → Status → Type 0
+IsWordsCause c Fine = ⊥
+IsWordsCause c Refused = ⊥
+IsWordsCause c BadWords = AreBadWords c.words
+IsWordsCause c BadTrace = ⊥
+IsWordsCause c ReadFault = ⊥
+IsWordsCause c WriteFault = Rose c.write.0 c.write.1
+IsWordsCause c NoMemory = ⊤
+
+-- the same for what was asked
+abbrev pub IsCauseOf : Call → Option Command → Option Trace → Journal → Status → Type 0
+IsCauseOf c None trace journal status = IsWordsCause c status × (trace ≡ None)
+IsCauseOf c (Some (Replay how seed replies)) trace journal status = IsReplayCause c trace journal status
+IsCauseOf c (Some (Layout spec cpus)) trace journal status = IsLayoutCause c spec cpus status × (trace ≡ None)
+IsCauseOf c (Some (Load seed events workers)) trace journal status = ⊥
+
 -- the row of each status
 abbrev pub IsCause : Call → Option Trace → Journal → Status → Type 0
-IsCause c trace journal Fine = IsDone c trace journal × (done_status journal ≡ Fine)
-IsCause c trace journal Refused = IsDone c trace journal × (done_status journal ≡ Refused)
-IsCause c trace journal BadWords = (IsCommand c.words → ⊥) × (trace ≡ None)
-IsCause c trace journal BadTrace = IsCommand c.words × IsBadInput c × (trace ≡ None)
-IsCause c trace journal ReadFault = IsCommand c.words × Rose c.read.0 c.read.1 × (trace ≡ None)
-IsCause c trace journal WriteFault = Rose c.write.0 c.write.1 × (IsCommand c.words ⊎ (trace ≡ None))
-IsCause c trace journal NoMemory = IsCommand c.words × (journal.total ≡ None)
+IsCause c trace journal status =
+    (asked : Option Command) × IsAsked c.words asked × IsCauseOf c asked trace journal status
+
+-- ---- what is written
 
 -- a line of the program's own
 abbrev pub fault_line : List ℕ → List ℕ
@@ -123,29 +235,73 @@ fault_line why = codes "slub: " ++ why ++ 10 ∷ []
 abbrev pub bad_line : ℕ → Why → List ℕ
 bad_line line why = fault_line (codes "line " ++ decimal line ++ codes ": " ++ why_text why)
 
--- the line after the text, where a run of such input ended with this status
-abbrev pub IsFaultLine : Call → Status → List ℕ → Type 0
-IsFaultLine c Fine line = line ≡ []
-IsFaultLine c Refused line = line ≡ []
-IsFaultLine c BadWords line = line ≡ fault_line (codes "bad command")
-IsFaultLine c BadTrace line =
+-- the line after the text, where a run ended early with this status; a replay that did everything has none
+abbrev pub IsFaultLine : Call → Journal → Status → List ℕ → Type 0
+IsFaultLine c journal Fine line = line ≡ []
+IsFaultLine c journal Refused line = line ≡ []
+IsFaultLine c journal BadWords line = line ≡ fault_line (codes "bad command")
+IsFaultLine c journal BadTrace line =
     ((number : ℕ) × (why : Why) × (line ≡ bad_line number why) × IsBadLine c number why)
     ⊎ ((line ≡ fault_line (codes "input too long")) × IfSome c.told IsTooLong)
     ⊎ ((line ≡ fault_line (codes "bad trace")) × IsUnbuilt c)
-IsFaultLine c ReadFault line = line ≡ fault_line (codes "read fault")
-IsFaultLine c WriteFault line = ⊥
-IsFaultLine c NoMemory line = line ≡ fault_line (codes "out of memory")
+IsFaultLine c journal ReadFault line = line ≡ fault_line (codes "read fault")
+IsFaultLine c journal WriteFault line = ⊥
+IsFaultLine c journal NoMemory line =
+    ((journal.total ≡ None) × (line ≡ fault_line (codes "out of memory"))) ⊎ (IsSome journal.total × (line ≡ []))
+
+-- the text of a layout: none where no memory was there
+abbrev pub IsLayoutText : Spec → ℕ → Status → List ℕ → Type 0
+IsLayoutText spec cpus Fine text = (layout : SlabLayout) × IsLayoutAnswer spec cpus (Ok layout) × (text ≡ layout_lines (Ok layout))
+IsLayoutText spec cpus Refused text = (why : LayoutRefusal) × IsLayoutAnswer spec cpus (Err why) × (text ≡ layout_lines (Err why))
+IsLayoutText spec cpus BadWords text = ⊥
+IsLayoutText spec cpus BadTrace text = ⊥
+IsLayoutText spec cpus ReadFault text = ⊥
+IsLayoutText spec cpus WriteFault text = ⊥
+IsLayoutText spec cpus NoMemory text = text ≡ []
+
+-- the text where no command was read: none, and no trace was read
+abbrev pub IsWordsText : Option Trace → Status → List ℕ → Type 0
+IsWordsText trace Fine text = ⊥
+IsWordsText trace Refused text = ⊥
+IsWordsText trace BadWords text = (text ≡ []) × (trace ≡ None)
+IsWordsText trace BadTrace text = ⊥
+IsWordsText trace ReadFault text = ⊥
+IsWordsText trace WriteFault text = ⊥
+IsWordsText trace NoMemory text = (text ≡ []) × (trace ≡ None)
+
+-- the text of what was asked, where it ended with this status
+abbrev pub IsTextOf : Option Command → Option Trace → Journal → Status → List ℕ → Type 0
+IsTextOf None trace journal status text = IsWordsText trace status text
+IsTextOf (Some (Replay how seed replies)) trace journal status text = text ≡ text_in replies trace journal
+IsTextOf (Some (Layout spec cpus)) trace journal status text = IsLayoutText spec cpus status text
+IsTextOf (Some (Load seed events workers)) trace journal status text = ⊥
 
 -- the text was taken, and after it the line of the status
 abbrev pub TookAll : Call → Option (List ℕ) → Option (List ℕ) → Option Trace → Journal → Status → Type 0
 TookAll c old new trace journal status =
-    (line : List ℕ) × IsFaultLine c status line × Appends old new (text_in trace journal ++ line)
+    (asked : Option Command) × (text line : List ℕ) × IsAsked c.words asked × IsTextOf asked trace journal status text × IsFaultLine c journal status line × Appends old new (text ++ line)
 
--- a front of the text was taken, past where the last entry's text begins; or the text and a front of the line that was meant
+-- a replay's write failed: a front of the text was taken, past where the last entry's text begins
+abbrev pub TookEntry : Option Command → Option (List ℕ) → Option (List ℕ) → Option Trace → Journal → Type 0
+TookEntry None old new trace journal = ⊥
+TookEntry (Some (Replay how seed replies)) old new trace journal =
+    IsSome trace × AppendsFront old new (last_in replies trace journal) (text_in replies trace journal)
+TookEntry (Some (Layout spec cpus)) old new trace journal =
+    (answer : Result SlabLayout LayoutRefusal) × IsLayoutAnswer spec cpus answer × AppendsFront old new 0 (layout_lines answer)
+TookEntry (Some (Load seed events workers)) old new trace journal = ⊥
+
+-- the write of the line failed that was meant: the text was taken, and a front of the line
+abbrev pub TookLine : Call → Option Command → Option (List ℕ) → Option (List ℕ) → Option Trace → Journal → Type 0
+TookLine c asked old new trace journal =
+    (meant : Status) × (text line : List ℕ) × IsCauseOf c asked trace journal meant × IsTextOf asked trace journal meant text × IsFaultLine c journal meant line
+    × AppendsFront old new (length text) (text ++ line)
+
+-- a write failed: a front of the text was taken, or the text and a front of the line that was meant
 abbrev pub TookFront : Call → Option (List ℕ) → Option (List ℕ) → Option Trace → Journal → Type 0
 TookFront c old new trace journal =
-    (IsSome trace × AppendsFront old new (last_in trace journal) (text_in trace journal))
-    ⊎ ((meant : Status) × (line : List ℕ) × IsCause c trace journal meant × IsFaultLine c meant line × AppendsFront old new (length (text_in trace journal)) (text_in trace journal ++ line))
+    (asked : Option Command) × IsAsked c.words asked × (TookEntry asked old new trace journal ⊎ TookLine c asked old new trace journal)
+
+-- ---- input
 
 -- the bytes are a trace that is replayed today
 abbrev pub IsSomeTrace : List ℕ → Type 0

@@ -1,15 +1,19 @@
-//! The program's top call: from words and bytes to a journal, its text, and a status.
+//! The program's top call: from words and bytes to a text, a status, and the journal of what was done.
 //!
-//! `run` reads a trace whole, does its items in order, writes the text of each item as it is done
-//! and the total at the end, and says how it ended. Its contract is the whole promise of the
-//! program for what it accepts today: `specs/Run.antt` has the table of statuses, the text and the
-//! law that its clauses cite.
+//! `run` does what the words of a command line ask for. A replay reads a trace whole, does its items
+//! in order, writes the text of each item as it is done and the total at the end; a layout is printed
+//! without a byte of the source. Its contract is the whole promise of the program for what is
+//! run today: `specs/Run.antt` has the table of statuses, the text and the law that its clauses cite.
 #![tactic(auto)]
 
+mod layout;
 mod replay;
 pub mod run;
 pub mod status;
 pub mod stop;
 #[cfg(test)]
 mod tests;
-mod words;
+#[cfg(test)]
+mod tests_commands;
+#[cfg(test)]
+mod tests_rows;

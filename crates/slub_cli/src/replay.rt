@@ -1,6 +1,8 @@
 //! Replaying a trace: each item is done, its text made, put into the journal, and written.
+//!
+//! `replies` says whether the lines are written that `--replies` asks for.
 
-ghost use Rattle.std.specs.Prelude.{◌≡◌, ◌<◌, ◌≤◌, [], None, Some, length, IfErr, IfOk, OnOk, IsSome};
+ghost use Rattle.std.specs.Prelude.{Bool, ◌≡◌, ◌<◌, ◌≤◌, [], None, Some, length, IfErr, IfOk, OnOk, IsSome};
 ghost use Rattle.slub_lists.specs.Coherent.{IsCoherent};
 ghost use Rattle.slub_engine.specs.Journal.{IsEmpty};
 ghost use Rattle.slub_trace_reader.specs.Sound.{IsSound};
@@ -20,6 +22,7 @@ use std::alloc::Global;
 /// Does the item of a number. Its text is made before it is put into the journal, and written after.
 fn do_item<K: Sink>(
     alloc: Global,
+    replies: bool,
     trace: &Trace,
     number: usize,
     lists: &mut Lists,
@@ -33,12 +36,12 @@ fn do_item<K: Sink>(
     requires so_far { length journal.old.items ≡ number }
     requires no_total { journal.old.total ≡ None }
     ensures done { DoesItem lists.old trace.now number lists.new journal.old journal.new result }
-    ensures told { Tells (K.taken sink.old) (K.taken sink.new) trace.now journal.old journal.new result }
+    ensures told { Tells replies (K.taken sink.old) (K.taken sink.new) trace.now journal.old journal.new result }
     ensures stops { IfErr result (IsItemStop (K.faults sink.old) (K.faults sink.new) journal.new) }
     ensures counts { K.faults sink.old ≤ K.faults sink.new }
 {
     let done = item(alloc, lists, trace, number)?;
-    let text = text_of_item(alloc, trace, number, &done)?;
+    let text = text_of_item(alloc, trace, number, &done, replies)?;
     journal.items.push(done)?;
     write_lines(sink, &text)?;
     Ok(())
@@ -47,6 +50,7 @@ fn do_item<K: Sink>(
 /// Does the items in order.
 fn do_items<K: Sink>(
     alloc: Global,
+    replies: bool,
     trace: &Trace,
     lists: &mut Lists,
     sink: &mut K,
@@ -63,12 +67,12 @@ fn do_items<K: Sink>(
     ensures coherent { OnOk result (IsCoherent lists.new) }
     ensures lawful { IsLawful trace.now journal.new }
     ensures no_total { journal.new.total ≡ None }
-    ensures told { Tells (K.taken sink.old) (K.taken sink.new) trace.now journal.old journal.new result }
+    ensures told { Tells replies (K.taken sink.old) (K.taken sink.new) trace.now journal.old journal.new result }
     ensures stops { IfErr result (IsItemStop (K.faults sink.old) (K.faults sink.new) journal.new) }
     ensures counts { K.faults sink.old ≤ K.faults sink.new }
 {
     for number in 0..trace.items.len() {
-        do_item(alloc, trace, number, lists, sink, journal)?;
+        do_item(alloc, replies, trace, number, lists, sink, journal)?;
     }
     Ok(())
 }
@@ -86,7 +90,7 @@ fn do_total<K: Sink>(
     requires run { RunsItems (opening_of trace.now) trace.now trace.now.items journal.old.items lists.now }
     requires no_total { journal.old.total ≡ None }
     ensures done { Totals lists.now journal.old journal.new result }
-    ensures told { Tells (K.taken sink.old) (K.taken sink.new) trace.now journal.old journal.new result }
+    ensures told { (replies : Bool) → Tells replies (K.taken sink.old) (K.taken sink.new) trace.now journal.old journal.new result }
     ensures stops { IfErr result (IsItemStop (K.faults sink.old) (K.faults sink.new) journal.new) }
     ensures counts { K.faults sink.old ≤ K.faults sink.new }
 {
@@ -114,13 +118,19 @@ fn open(alloc: Global, trace: &Trace) -> Result<Lists, NoMemory>
     ensures opened { IfOk result (λ lists. lists ≡ opening_of trace.now) }
     ensures coherent { IsCoherent (opening_of trace.now) }
 {
-    let names = trace.names.len() as u32;
-    Lists::open(alloc, trace.frames, trace.cpus, trace.objects, names)
+    Lists::open(
+        alloc,
+        trace.frames,
+        trace.cpus,
+        trace.objects,
+        trace.names.as_slice(),
+    )
 }
 
 /// Replays a trace on a machine of its own.
 pub fn do_trace<K: Sink>(
     alloc: Global,
+    replies: bool,
     trace: &Trace,
     sink: &mut K,
     journal: &mut Journal,
@@ -130,12 +140,12 @@ pub fn do_trace<K: Sink>(
     requires empty { IsEmpty journal.old }
     ensures lawful { IsLawful trace.now journal.new }
     ensures all { OnOk result (IsSome journal.new.total) }
-    ensures told { TookText (K.taken sink.old) (K.taken sink.new) (Some trace.now) journal.new result }
+    ensures told { TookText replies (K.taken sink.old) (K.taken sink.new) (Some trace.now) journal.new result }
     ensures stops { IfErr result (IsItemStop (K.faults sink.old) (K.faults sink.new) journal.new) }
     ensures counts { K.faults sink.old ≤ K.faults sink.new }
 {
     begin(trace, journal);
     let mut lists = open(alloc, trace)?;
-    do_items(alloc, trace, &mut lists, sink, journal)?;
+    do_items(alloc, replies, trace, &mut lists, sink, journal)?;
     do_total(alloc, trace, &lists, sink, journal)
 }

@@ -1,16 +1,25 @@
 //! How a run ended, and what it leaves.
 
-use slub_engine::journal::Journal;
+ghost use Rattle.std.specs.Prelude.{◌≡◌, not};
+ghost use Rattle.std.specs.List.{list_any};
+ghost use Rattle.slub_slabinfo_text.specs.Texts.{is_ok_reply};
+ghost use Rattle.slub_cli.specs.Run.{answer_status, done_status, has_refused, is_no_memory, lacks_memory};
+
+use slub_engine::journal::{Done, Journal};
+use slub_lists::reply::Reply;
+use slub_object_layout::layout::{Layout, LayoutRefusal};
+use slub_slabinfo_text::text::is_ok_reply;
 use slub_trace_reader::trace::Trace;
 
 /// How a run ended. The program ends with the number of its place, from 0 on.
 #[derive(Clone, Copy, Debug, PartialEq, Eq)]
 pub enum Status {
-    /// Everything was done, and every reply is Ok.
+    /// Everything was done, and nothing was refused or found damaged.
     Fine,
-    /// Everything was done, and a reply isn't Ok or a creation was refused.
+    /// Everything was done, and a creation, a shrink, a destruction or a layout was refused, a reply
+    /// isn't Ok, or an object was found damaged.
     Refused,
-    /// The words are no command.
+    /// The words are no command, or one that isn't run today.
     BadWords,
     /// The bytes are no trace, or too many, or a trace that is not replayed today.
     BadTrace,
@@ -18,7 +27,7 @@ pub enum Status {
     ReadFault,
     /// A write failed.
     WriteFault,
-    /// Memory ran out.
+    /// Memory ran out, for the run or for one of its replies.
     NoMemory,
 }
 
@@ -28,5 +37,90 @@ pub struct Outcome {
     pub status: Status,
     /// None where no trace was read, or one that is not replayed today.
     pub trace: Option<Trace>,
+    /// Empty where no trace was read.
     pub journal: Journal,
+}
+
+/// Whether a reply is that no memory was there.
+fn is_no_memory(reply: &Reply) -> bool
+    ensures { result ≡ is_no_memory reply.now }
+{
+    matches!(reply, Reply::NoMemory)
+}
+
+/// Whether one of the replies is that no memory was there.
+fn has_no_memory(replies: &[Reply]) -> bool
+    ensures { result ≡ list_any is_no_memory replies.now }
+{
+    replies.iter().any(|reply| is_no_memory(reply))
+}
+
+/// Whether one of the replies of an item is that no memory was there.
+fn lacks_memory(done: &Done) -> bool
+    ensures { result ≡ lacks_memory done.now }
+{
+    match done {
+        Done::Round(result) => has_no_memory(result.replies.as_slice()),
+        Done::Created(_) | Done::Shrunk(_) | Done::Destroyed(_) | Done::Slabinfo(_) => false,
+    }
+}
+
+/// Whether one of the replies isn't Ok.
+fn has_refusal(replies: &[Reply]) -> bool
+    ensures { result ≡ list_any (λ reply. not (is_ok_reply reply)) replies.now }
+{
+    replies.iter().any(|reply| !is_ok_reply(reply))
+}
+
+/// Whether a creation, a shrink or a destruction was refused, a reply isn't Ok, or an object was found
+/// damaged.
+fn has_refused(done: &Done) -> bool
+    ensures { result ≡ has_refused done.now }
+{
+    match done {
+        Done::Created(answer) => answer.is_err(),
+        Done::Round(result) => {
+            has_refusal(result.replies.as_slice()) || !result.damages.is_empty()
+        }
+        Done::Shrunk(answer) => answer.is_err(),
+        Done::Destroyed(answer) => answer.is_err(),
+        Done::Slabinfo(_) => false,
+    }
+}
+
+/// Whether one of the items lacks memory.
+fn is_wanting(dones: &[Done]) -> bool
+    ensures { result ≡ list_any lacks_memory dones.now }
+{
+    dones.iter().any(|done| lacks_memory(done))
+}
+
+/// Whether one of the items was refused.
+fn is_refused(dones: &[Done]) -> bool
+    ensures { result ≡ list_any has_refused dones.now }
+{
+    dones.iter().any(|done| has_refused(done))
+}
+
+/// The status of a replay that did everything.
+pub(crate) fn done_status(journal: &Journal) -> Status
+    ensures { result ≡ done_status journal.now }
+{
+    if is_wanting(journal.items.as_slice()) {
+        Status::NoMemory
+    } else if is_refused(journal.items.as_slice()) {
+        Status::Refused
+    } else {
+        Status::Fine
+    }
+}
+
+/// The status with which a layout is printed, or its refusal.
+pub(crate) fn answer_status(answer: &Result<Layout, LayoutRefusal>) -> Status
+    ensures { result ≡ answer_status answer.now }
+{
+    match answer {
+        Ok(_) => Status::Fine,
+        Err(_) => Status::Refused,
+    }
 }

@@ -12,6 +12,7 @@ use std::alloc::{AllocError, AllocFailed, Global};
 /// Why a run ended early.
 #[derive(Debug, Drop)]
 pub enum Stop {
+    /// The words are no command, or one that isn't run today.
     BadWords,
     /// A line of the trace is bad: the line that tells of it.
     BadLine(Vec<u8>),
@@ -51,6 +52,14 @@ impl From<slub_engine::item::NoMemory> for Stop {
     ghost from_gives = { λ _ e. e ≡ NoMemory };
 
     fn from(_want: slub_engine::item::NoMemory) -> Stop {
+        Stop::NoMemory
+    }
+}
+
+impl From<slub_slabinfo_text::no_memory::NoMemory> for Stop {
+    ghost from_gives = { λ _ e. e ≡ NoMemory };
+
+    fn from(_want: slub_slabinfo_text::no_memory::NoMemory) -> Stop {
         Stop::NoMemory
     }
 }

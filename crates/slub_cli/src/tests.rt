@@ -4,7 +4,7 @@ use slub_edges::memory::{MemSink, MemSource};
 use std::alloc::{AllocError, Global};
 use std::test::*;
 
-const HEADER: &str =
+pub(crate) const HEADER: &str =
     "slabinfo - version: 2.1\n# name            <active_objs> <num_objs> <objsize> <objperslab> <pagesperslab> : tunables <limit> <batchcount> <sharedfactor> : slabdata <active_slabs> <num_slabs> <sharedavail>\n";
 
 /// One live object: the first allocation.
@@ -21,19 +21,19 @@ const FIRST_LINES: [&str; 4] = [
 
 /// How a run is made to fail, and how much its sink takes at a call.
 #[derive(Clone, Copy)]
-struct Ends<'a> {
+pub(crate) struct Ends<'a> {
     reads: &'a [u64],
     writes: &'a [u64],
     most: usize,
 }
 
-const SOUND: Ends<'static> = Ends {
+pub(crate) const SOUND: Ends<'static> = Ends {
     reads: &[],
     writes: &[],
     most: 4096,
 };
 
-fn text_of(alloc: Global, parts: &[&str]) -> Result<String, AllocError> {
+pub(crate) fn text_of(alloc: Global, parts: &[&str]) -> Result<String, AllocError> {
     let mut text = String::new(alloc);
     for part in parts {
         text.push_str(part)?;
@@ -67,7 +67,7 @@ fn ran(alloc: Global, words: &[&str], input: &str, ends: &Ends) -> Result<(Statu
     Ok((outcome.status, taken))
 }
 
-fn expect(
+pub(crate) fn expect(
     alloc: Global,
     words: &[&str],
     input: &str,
@@ -85,7 +85,7 @@ fn expect(
     Ok(())
 }
 
-const REPLAY: [&str; 2] = ["replay", "--replies"];
+pub(crate) const REPLAY: [&str; 2] = ["replay", "--replies"];
 
 #[test]
 fn the_first_allocation(rt: HostRuntime) -> Result<(), Fail> {
@@ -238,9 +238,13 @@ fn what_is_no_command_and_no_trace(rt: HostRuntime) -> Result<(), Fail> {
     let bad = "slub: bad command\n";
     for words in [
         &[] as &[&str],
-        &["replay"],
         &["--replies", "replay"],
         &["replay", "--replies", ""],
+        &["replay", "--how=fast"],
+        &["replay", "--how", "threads"],
+        &["replay", "--seed", "1", "--seed", "2"],
+        &["layout", "192", "8", "-"],
+        &["load", "0", "1", "1"],
     ] {
         expect(alloc, words, FIRST, &SOUND, Status::BadWords, bad)?;
     }
@@ -254,9 +258,13 @@ fn what_is_no_command_and_no_trace(rt: HostRuntime) -> Result<(), Fail> {
             "slubtrace 1\nmachine 16 2\ncache dentry 192 8 -\nround 1\nalloc 0 0 den",
             "slub: line 5: unfinished line\n",
         ),
+        (
+            "slubtrace 1\nmachine 16 2\ncache dentry 192 8 -\nround 1\nalloc 0 0 dentry 1\ndone\nslabinfo\n",
+            "slub: line 8: no end\n",
+        ),
         // a trace, which is not replayed yet
         (
-            "slubtrace 1\nmachine 16 2\ncache node 24 8 FZP\nend\n",
+            "slubtrace 1\nmachine 16 2 tid 4294967290\nend\n",
             "slub: bad trace\n",
         ),
     ] {

@@ -12,16 +12,16 @@ returns-in_err-lists-clause-lawful g c =
 pub returns-in_err-lists-clause-told : goal.returns-in_err-lists-clause-told
 returns-in_err-lists-clause-told g c =
     let p = err_from_is_err_and c.from_residual.result c.from_residual.ensures.1 in
-    rw (p.1, p.2, empty_text c.args.trace.now c.begin.new.journal (c.begin.ensures.items ∙ c.requires.empty.items) (c.begin.ensures.total ∙ c.requires.empty.total)) (Appends-nil (g.K.Sink.taken c.args.sink.now))
+    rw (p.1, p.2, empty_text c.args.replies c.args.trace.now c.begin.new.journal (c.begin.ensures.items ∙ c.requires.empty.items) (c.begin.ensures.total ∙ c.requires.empty.total)) (Appends-nil (g.K.Sink.taken c.args.sink.now))
 
 pub returns-in_err-do_items-clause-told : goal.returns-in_err-do_items-clause-told
 returns-in_err-do_items-clause-told g c =
     let p = err_from_is_err_and c.from_residual-in_err-do_items.result c.from_residual-in_err-do_items.ensures.1 in
-    rw (p.1, p.2) (took_of (g.K.Sink.taken c.args.sink.now) (g.K.Sink.taken c.do_items.new.sink) c.args.trace.now c.begin.new.journal c.do_items.new.journal (Err c.in_err-do_items.field-0.0) (empty_text c.args.trace.now c.begin.new.journal (c.begin.ensures.items ∙ c.requires.empty.items) (c.begin.ensures.total ∙ c.requires.empty.total)) c.in_err-do_items.ensures.told)
+    rw (p.1, p.2) (took_of c.args.replies (g.K.Sink.taken c.args.sink.now) (g.K.Sink.taken c.do_items.new.sink) c.args.trace.now c.begin.new.journal c.do_items.new.journal (Err c.in_err-do_items.field-0.0) (empty_text c.args.replies c.args.trace.now c.begin.new.journal (c.begin.ensures.items ∙ c.requires.empty.items) (c.begin.ensures.total ∙ c.requires.empty.total)) c.in_err-do_items.ensures.told)
 
 pub returns-clause-lawful : goal.returns-clause-lawful
 returns-clause-lawful g c = totals_lawful _ _ _ _ c.do_total.result c.in_ok-do_items.ensures.run c.do_items.ensures.lawful c.do_total.ensures.done
 
 pub returns-clause-told : goal.returns-clause-told
 returns-clause-told g c =
-    took_of (g.K.Sink.taken c.args.sink.now) (g.K.Sink.taken c.do_total.new.sink) c.args.trace.now c.begin.new.journal c.do_total.new.journal c.do_total.result (empty_text c.args.trace.now c.begin.new.journal (c.begin.ensures.items ∙ c.requires.empty.items) (c.begin.ensures.total ∙ c.requires.empty.total)) (tells_then _ (g.K.Sink.taken c.do_items.new.sink) _ c.args.trace.now _ c.do_items.new.journal _ c.do_total.result c.in_ok-do_items.ensures.told c.do_total.ensures.told)
+    took_of c.args.replies (g.K.Sink.taken c.args.sink.now) (g.K.Sink.taken c.do_total.new.sink) c.args.trace.now c.begin.new.journal c.do_total.new.journal c.do_total.result (empty_text c.args.replies c.args.trace.now c.begin.new.journal (c.begin.ensures.items ∙ c.requires.empty.items) (c.begin.ensures.total ∙ c.requires.empty.total)) (tells_then c.args.replies _ (g.K.Sink.taken c.do_items.new.sink) _ c.args.trace.now _ c.do_items.new.journal _ c.do_total.result c.in_ok-do_items.ensures.told (c.do_total.ensures.told c.args.replies))

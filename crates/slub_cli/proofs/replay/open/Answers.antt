@@ -1,5 +1,8 @@
-use Rattle.std.proofs.Common.{◌<◌, ◌^◌, rules}
+use Rattle.std.proofs.Common.{ℕ, List, subst}
+use Rattle.slub_lists.specs.Coherent.{IsCoherent, opening}
 use Rattle.slub_cli.proofs.replay.open.Goals as goal
 
-pub overflow_cast-names : goal.overflow_cast-names
-overflow_cast-names c = let few : c.len-names.result < 2 ^ 32 = rw c.len-names.ensures c.requires.few in search rules
+pub returns-clause-coherent : goal.returns-clause-coherent
+returns-clause-coherent c =
+    let trace = c.args.trace.now in
+    subst (λ (names : List (List ℕ)). IsCoherent (opening trace.frames trace.cpus trace.objects names)) c.as_slice.ensures c.open.ensures.coherent

@@ -3,13 +3,11 @@ use Rattle.slub_cli.proofs.Ends.{run_text, run_prefix, run_cause}
 use Rattle.slub_cli.proofs.run.run_all.Goals as goal
 
 pub returns-clause-text : goal.returns-clause-text
-returns-clause-text g c =
-    run_text _ _ _ _ _ _ _ _ _ _ _ c.work-end.result c.finish-status.result c.work-end.ensures.told c.work-end.ensures.comes c.finish-status.ensures.finishes
+returns-clause-text g c = run_text _ _ _ _ _ _ _ _ _ _ _ c.work-end.result c.finish-status.result c.work-end.ensures.worked c.finish-status.ensures.finishes
 
 pub returns-clause-prefix : goal.returns-clause-prefix
-returns-clause-prefix g c =
-    run_prefix _ _ _ _ _ _ _ _ _ _ _ c.work-end.result c.finish-status.result c.work-end.ensures.told c.work-end.ensures.comes c.finish-status.ensures.finishes
+returns-clause-prefix g c = run_prefix _ _ _ _ _ _ _ _ _ _ _ c.work-end.result c.finish-status.result c.work-end.ensures.worked c.finish-status.ensures.finishes
 
 pub returns-clause-cause : goal.returns-clause-cause
 returns-clause-cause g c =
-    run_cause _ _ _ (g.K.Sink.taken c.args.sink.now) (g.K.Sink.taken c.work-end.new.sink) (g.K.Sink.taken c.finish-status.new.sink) _ _ (g.K.Sink.faults c.work-end.new.sink, g.K.Sink.faults c.finish-status.new.sink) c.work-end.new.trace c.work-end.new.journal c.work-end.result c.finish-status.result c.work-end.ensures.counts refl c.finish-status.ensures.counts c.work-end.ensures.comes c.finish-status.ensures.finishes
+    run_cause _ _ _ (g.K.Sink.taken c.args.sink.now) (g.K.Sink.taken c.work-end.new.sink) (g.K.Sink.taken c.finish-status.new.sink) _ _ (g.K.Sink.faults c.work-end.new.sink, g.K.Sink.faults c.finish-status.new.sink) c.work-end.new.trace c.work-end.new.journal c.work-end.result c.finish-status.result c.work-end.ensures.counts refl c.finish-status.ensures.counts c.work-end.ensures.worked c.finish-status.ensures.finishes

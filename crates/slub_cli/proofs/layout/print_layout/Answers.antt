@@ -1,0 +1,26 @@
+use Rattle.std.proofs.Common.{◌∙◌, subst}
+use Rattle.std.proofs.lemmas.Result.{err_from_is_err_and}
+use Rattle.std.specs.Io.KnownBytes.{Appends}
+use Rattle.slub_edges.specs.Edges.{AppendsFront}
+use Rattle.slub_cli.proofs.Parts.{answered}
+use Rattle.slub_cli.proofs.layout.print_layout.Goals as goal
+
+pub returns-in_err-write_lines-clause-printed : goal.returns-in_err-write_lines-clause-printed
+returns-in_err-write_lines-clause-printed g c =
+    let p = err_from_is_err_and c.from_residual-in_err-write_lines.result c.from_residual-in_err-write_lines.ensures.1 in
+    let of = c.layout_of-answer.ensures in
+    rw (p.1, p.2) (
+      c.layout_of-answer.result,
+      answered c.args.spec.now c.args.cpus c.layout_of-answer.result of.solved of.accepted.0 of.bad_size.0 of.bad_align.0 of.bad_flags.0,
+      c.in_err-write_lines.ensures.failed,
+      subst (λ l. AppendsFront (g.K.Sink.taken c.args.sink.now) (g.K.Sink.taken c.write_lines.new.sink) 0 l) (c.deref.ensures.value ∙ c.in_ok-text.ensures) c.in_err-write_lines.ensures.err,
+    )
+
+pub returns-clause-printed : goal.returns-clause-printed
+returns-clause-printed g c =
+    let of = c.layout_of-answer.ensures in (
+      c.layout_of-answer.result,
+      answered c.args.spec.now c.args.cpus c.layout_of-answer.result of.solved of.accepted.0 of.bad_size.0 of.bad_align.0 of.bad_flags.0,
+      c.answer_status.ensures,
+      subst (λ l. Appends (g.K.Sink.taken c.args.sink.now) (g.K.Sink.taken c.write_lines.new.sink) l) (c.deref.ensures.value ∙ c.in_ok-text.ensures) c.in_ok-write_lines.ensures.ok,
+    )

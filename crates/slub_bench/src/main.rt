@@ -3,11 +3,13 @@
 //! The word after the program's name is the part: `pool` drains a page pool of 4096 frames, and
 //! prints what a take costs, by the pool and by a scan of all frames, and the ratio; `reader` reads a
 //! trace of some twelve million bytes, and prints what that costs against counting its lines and
-//! words.
+//! words; `serial` replays traces of 10,000, 100,000 and 500,000 events, and prints what an event costs
+//! in each.
 #![tactic(auto)]
 
 mod pool;
 mod reader;
+mod serial;
 
 use std::rt::{Clock, Env};
 use std::time::Instant;
@@ -24,6 +26,7 @@ fn main(rt: HostRuntime) -> io::Result<()> {
     match part {
         Some(word) if word.as_str() == "pool" => pool::measure_all(&rt),
         Some(word) if word.as_str() == "reader" => reader::measure(&rt),
-        _ => println!(rt; "slub_bench: name what is to be measured: pool or reader"),
+        Some(word) if word.as_str() == "serial" => serial::measure(&rt),
+        _ => println!(rt; "slub_bench: name what is to be measured: pool, reader or serial"),
     }
 }

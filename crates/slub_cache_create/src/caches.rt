@@ -12,37 +12,14 @@ ghost use Rattle.slub_cache_create.specs.Table.{IsTaken, IsTitle, cache_of, name
 
 use crate::merging;
 use indexmap::{IndexMap, IndexSet};
+use slub_common::no_memory::NoMemory;
 use slub_object_layout::layout::{Flags, Layout, LayoutRefusal, Spec, layout_of};
 use slub_object_layout::name::Name;
-use std::alloc::{AllocError, AllocFailed, Global};
+use std::alloc::Global;
 use std::marker::Model;
 
 /// The most live names, and so the most live caches (*profile*).
 pub const NAMES_MAX: usize = 32;
-
-/// Memory ran out.
-#[derive(Clone, Copy, Debug, PartialEq, Eq)]
-pub struct NoMemory;
-
-impl From<AllocError> for NoMemory {
-    ghost use Rattle.std.specs.Prelude.{⊤};
-
-    ghost from_gives = { λ _ _. ⊤ };
-
-    fn from(_error: AllocError) -> NoMemory {
-        NoMemory
-    }
-}
-
-impl<T: Drop> From<AllocFailed<T>> for NoMemory {
-    ghost use Rattle.std.specs.Prelude.{⊤};
-
-    ghost from_gives = { λ _ _. ⊤ };
-
-    fn from(_failed: AllocFailed<T>) -> NoMemory {
-        NoMemory
-    }
-}
 
 /// What a creation did, with the number of the cache that the name names now, 0 to 31.
 #[derive(Clone, Copy, Debug, PartialEq, Eq)]

@@ -10,12 +10,13 @@ ghost use Rattle.slub_engine.specs.Lawful.{IsBuilt, IsLawful, IsReady, RunsItems
 ghost use Rattle.slub_cli.specs.Inner.{DoesItem, IsItemStop, IsMachineOf, Tells, TookText, Totals};
 
 use crate::stop::Stop;
+use slub_common::no_memory::NoMemory;
 use slub_edges::edges::Sink;
 use slub_edges::pieces::write_lines;
 use slub_engine::item::{item, total};
 use slub_engine::journal::Journal;
 use slub_engine::text::{text_of_item, text_of_total};
-use slub_lists::lists::{Lists, NoMemory};
+use slub_lists::lists::Lists;
 use slub_trace_reader::trace::Trace;
 use std::alloc::Global;
 

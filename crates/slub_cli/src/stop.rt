@@ -40,26 +40,10 @@ impl<T: Drop> From<AllocFailed<T>> for Stop {
     }
 }
 
-impl From<slub_lists::lists::NoMemory> for Stop {
+impl From<slub_common::no_memory::NoMemory> for Stop {
     ghost from_gives = { λ _ e. e ≡ NoMemory };
 
-    fn from(_want: slub_lists::lists::NoMemory) -> Stop {
-        Stop::NoMemory
-    }
-}
-
-impl From<slub_engine::item::NoMemory> for Stop {
-    ghost from_gives = { λ _ e. e ≡ NoMemory };
-
-    fn from(_want: slub_engine::item::NoMemory) -> Stop {
-        Stop::NoMemory
-    }
-}
-
-impl From<slub_slabinfo_text::no_memory::NoMemory> for Stop {
-    ghost from_gives = { λ _ e. e ≡ NoMemory };
-
-    fn from(_want: slub_slabinfo_text::no_memory::NoMemory) -> Stop {
+    fn from(_want: slub_common::no_memory::NoMemory) -> Stop {
         Stop::NoMemory
     }
 }

@@ -6,7 +6,7 @@ ghost use Rattle.std.specs.Io.KnownBytes.{ReadConsumes};
 ghost use Rattle.slub_edges.specs.Edges.{EndsExactly};
 
 use crate::edges::{Failed, Sink, Source};
-use crate::no_memory::NoMemory;
+use slub_common::no_memory::NoMemory;
 use std::alloc::Global;
 use std::marker::Model;
 

@@ -17,7 +17,6 @@ pub mod adapters;
 pub mod edges;
 pub mod faultless;
 pub mod memory;
-pub mod no_memory;
 pub mod pieces;
 pub mod reading;
 #[cfg(test)]

@@ -8,7 +8,7 @@ ghost use Rattle.slub_edges.specs.Memory.{supply_of, store_of};
 
 use crate::edges::{Failed, Sink, Source};
 use crate::faultless::FaultlessSource;
-use crate::no_memory::NoMemory;
+use slub_common::no_memory::NoMemory;
 use std::alloc::Global;
 use std::marker::Model;
 

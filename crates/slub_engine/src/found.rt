@@ -6,8 +6,8 @@ ghost use Rattle.slub_lists.specs.Coherent.{IsCoherent};
 ghost use Rattle.slub_engine.specs.Lawful.{reports_of};
 ghost use Rattle.slub_engine.specs.Steps.{found_past, found_since, found_with, listed_in, told_in};
 
-use crate::item::NoMemory;
 use crate::journal::Found;
+use slub_common::no_memory::NoMemory;
 use slub_lists::lists::Lists;
 use slub_object_layout::name::Name;
 use slub_red_zone::checked::CheckedSlabs;

@@ -6,7 +6,6 @@ ghost use Rattle.slub_lists.specs.Coherent.{AddsReportsOf, IsCoherent, KeepsOthe
 ghost use Rattle.slub_lists.specs.Alloc.{checked_of};
 ghost use Rattle.slub_trace_reader.specs.Sound.{IsSound, objects_of};
 ghost use Rattle.slub_engine.specs.Lawful.{Answers, AreLedgers, CreatesName, DoesAt, DoesRound, IsBuilt, IsReady, IsTotal, IsUnheld, RunsEvents, RunsItems, least_order_of, opening_of};
-ghost use Rattle.slub_engine.specs.declared.item.NoMemory.{NoMemory};
 ghost use Rattle.slub_engine.specs.Steps.{IsBelow, IsBlank, IsKnown, IsKnownAct, KeepsCaches, KeepsSizes, KeepsUnheld, Notes, NotesOwn, object_of};
 
 use crate::found::{counts_told, push_found, room_to_find};
@@ -14,6 +13,7 @@ use crate::journal::{CreateRefusal, Created, Done, Ledger, RoundResult, Total};
 use crate::names::name_of;
 use crate::sums::{self, CacheSums};
 use slub_cache_create::caches;
+use slub_common::no_memory::NoMemory;
 use slub_lists::lists::Lists;
 use slub_lists::reply::Reply;
 use slub_object_layout::event::{Act, Event, Round};
@@ -22,35 +22,7 @@ use slub_object_layout::name::Name;
 use slub_object_layout::sequence::Sequence;
 use slub_slabinfo_text::counts::info_rows;
 use slub_trace_reader::trace::{Item, Trace};
-use std::alloc::{AllocError, AllocFailed, Global};
-
-/// Memory ran out.
-#[derive(Clone, Copy, Debug, PartialEq, Eq)]
-pub struct NoMemory;
-
-impl From<AllocError> for NoMemory {
-    ghost from_gives = { λ _ e. e ≡ record {} };
-
-    fn from(_error: AllocError) -> NoMemory {
-        NoMemory
-    }
-}
-
-impl<T: Drop> From<AllocFailed<T>> for NoMemory {
-    ghost from_gives = { λ _ e. e ≡ record {} };
-
-    fn from(_failed: AllocFailed<T>) -> NoMemory {
-        NoMemory
-    }
-}
-
-impl From<slub_slabinfo_text::no_memory::NoMemory> for NoMemory {
-    ghost from_gives = { λ _ e. e ≡ record {} };
-
-    fn from(_want: slub_slabinfo_text::no_memory::NoMemory) -> NoMemory {
-        NoMemory
-    }
-}
+use std::alloc::Global;
 
 /// Does the item of this number. Where it finds no memory, the machine is as it was given.
 pub fn item(

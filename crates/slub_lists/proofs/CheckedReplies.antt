@@ -6,7 +6,7 @@ use Rattle.slub_object_layout.specs.declared.layout.Layout.{Layout}
 use Rattle.slub_object_layout.specs.Layout.{address_of}
 use Rattle.slub_red_zone.specs.declared.checked.CheckedGive.TheVariants as give
 use Rattle.slub_red_zone.specs.declared.checked.Slot.{Slot}
-use Rattle.slub_red_zone.specs.declared.no_memory.NoMemory.{NoMemory}
+use Rattle.slub_common.specs.declared.no_memory.NoMemory.{NoMemory}
 use Rattle.slub_red_zone.specs.Objects.{AddsGivenSlab, AddsReports, findable}
 use Rattle.slub_red_zone.specs.Sound.{IsSized}
 use Rattle.slub_red_zone.specs.State.{CheckedState, Has}

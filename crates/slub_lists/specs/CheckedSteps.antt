@@ -9,7 +9,7 @@ use Rattle.slub_red_zone.specs.Steps.{Gives, GivesNew, TakesBack, TakesEmpty}
 use Rattle.slub_red_zone.specs.declared.checked.CheckedGive.{CheckedGive}
 use Rattle.slub_red_zone.specs.declared.checked.Run.{Run as SlabRun}
 use Rattle.slub_red_zone.specs.declared.checked.Slot.{Slot}
-use Rattle.slub_red_zone.specs.declared.no_memory.NoMemory.{NoMemory}
+use Rattle.slub_common.specs.declared.no_memory.NoMemory.{NoMemory}
 use Rattle.slub_red_zone.specs.declared.zones.Damage.{Damage}
 use Rattle.slub_lists.specs.declared.lists.Run.{Run}
 use Rattle.slub_lists.specs.declared.lists.Slab.{Slab}

@@ -16,8 +16,8 @@ ghost use Rattle.slub_lists.specs.Steps.{HasLayout, IsLive, KeepsFound};
 use crate::alloc::find_run;
 use crate::lists::{Held, Lists, Run, Slab};
 use crate::reply::Reply;
+use slub_common::no_memory::NoMemory;
 use slub_object_layout::layout::{Layout, address};
-use slub_red_zone::NoMemory;
 use slub_red_zone::checked::{self, CheckedGive, Slot};
 use slub_red_zone::zones::Damage;
 

@@ -12,9 +12,9 @@ ghost use Rattle.slub_lists.specs.Create.{CreatesCache, with_new};
 
 use crate::lists::Lists;
 use slub_cache_create::caches::{CreateRefusal, Created};
+use slub_common::no_memory::NoMemory;
 use slub_object_layout::layout::{LayoutRefusal, Spec};
 use slub_object_layout::name::Name;
-use slub_red_zone::NoMemory;
 use slub_red_zone::checked::CheckedSlabs;
 
 impl Lists {

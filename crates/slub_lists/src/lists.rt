@@ -7,11 +7,12 @@ ghost use Rattle.slub_lists.specs.Coherent.{IsCoherent, all_on_board, opening};
 
 use crate::front_list::FrontList;
 use crate::node::Node;
-use slub_cache_create::caches::{self, Caches};
+use slub_cache_create::caches::Caches;
+use slub_common::no_memory::NoMemory;
 use slub_object_layout::name::Name;
 use slub_page_pool::Pool;
 use slub_red_zone::checked::CheckedSlabs;
-use std::alloc::{AllocError, AllocFailed, Global};
+use std::alloc::Global;
 use std::marker::Model;
 
 /// The most objects of a slab.
@@ -31,46 +32,6 @@ pub type FreeList = FrontList<512>;
 
 /// Slabs, by their first frames, front first.
 pub type FrameList = FrontList<4095>;
-
-/// Memory ran out.
-#[derive(Clone, Copy, Debug, PartialEq, Eq)]
-pub struct NoMemory;
-
-impl From<AllocError> for NoMemory {
-    fn from(_error: AllocError) -> NoMemory {
-        NoMemory
-    }
-}
-
-impl<T: Drop> From<AllocFailed<T>> for NoMemory {
-    fn from(_failed: AllocFailed<T>) -> NoMemory {
-        NoMemory
-    }
-}
-
-impl From<slub_page_pool::NoMemory> for NoMemory {
-    fn from(_want: slub_page_pool::NoMemory) -> NoMemory {
-        NoMemory
-    }
-}
-
-impl From<slub_node_partial::NoMemory> for NoMemory {
-    fn from(_want: slub_node_partial::NoMemory) -> NoMemory {
-        NoMemory
-    }
-}
-
-impl From<slub_red_zone::NoMemory> for NoMemory {
-    fn from(_want: slub_red_zone::NoMemory) -> NoMemory {
-        NoMemory
-    }
-}
-
-impl From<caches::NoMemory> for NoMemory {
-    fn from(_want: caches::NoMemory) -> NoMemory {
-        NoMemory
-    }
-}
 
 /// A live slab: a run of 2^order frames that is cut into objects (`struct slab`).
 #[derive(Clone, Copy, Debug, PartialEq, Eq)]

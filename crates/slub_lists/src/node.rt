@@ -5,6 +5,7 @@ ghost use Rattle.slub_page_pool.specs.History.{times};
 ghost use Rattle.slub_node_partial.specs.Promotion.{IsPromoted};
 
 use crate::lists::FreeList;
+use slub_common::no_memory::NoMemory;
 use slub_node_partial::NodeList;
 use std::alloc::Global;
 use std::marker::Model;
@@ -35,7 +36,7 @@ impl Model for Node {
 
 impl Node {
     /// An empty list.
-    pub fn open(alloc: Global) -> Result<Node, slub_node_partial::NoMemory>
+    pub fn open(alloc: Global) -> Result<Node, NoMemory>
         ensures { IfOk result (λ list. list ≡ []) }
     {
         Ok(Node {

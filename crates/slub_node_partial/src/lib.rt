@@ -16,13 +16,12 @@ ghost use Rattle.slub_node_partial.specs.PartialList.{opening, IsWithinRoom, IsT
 ghost use Rattle.slub_node_partial.specs.Promotion.{IsPromoted};
 
 pub mod laws;
-mod no_memory;
 pub mod promotion;
 mod window;
 
 use crate::promotion::Slab;
 use crate::window::Window;
-pub use no_memory::NoMemory;
+use slub_common::no_memory::NoMemory;
 use std::alloc::Global;
 use std::marker::Model;
 

@@ -21,32 +21,9 @@ mod marks;
 mod plain;
 mod tree;
 
-use std::alloc::{AllocError, AllocFailed, Global};
+use slub_common::no_memory::NoMemory;
+use std::alloc::Global;
 use std::marker::Model;
-
-/// Memory ran out.
-#[derive(Clone, Copy, Debug, PartialEq, Eq)]
-pub struct NoMemory;
-
-impl From<AllocError> for NoMemory {
-    ghost use Rattle.std.specs.Prelude.{⊤};
-
-    ghost from_gives = { λ _ _. ⊤ };
-
-    fn from(_error: AllocError) -> NoMemory {
-        NoMemory
-    }
-}
-
-impl<T: Drop> From<AllocFailed<T>> for NoMemory {
-    ghost use Rattle.std.specs.Prelude.{⊤};
-
-    ghost from_gives = { λ _ _. ⊤ };
-
-    fn from(_failed: AllocFailed<T>) -> NoMemory {
-        NoMemory
-    }
-}
 
 /// The greatest order of a run: 2^10 frames (`MAX_ORDER - 1` in Linux 6.1).
 pub const MAX_ORDER: u32 = 10;

@@ -14,7 +14,7 @@ use Rattle.slub_red_zone.specs.declared.checked.CheckedGive.TheVariants.{Given, 
 use Rattle.slub_red_zone.specs.declared.checked.OutOfSlot.{OutOfSlot}
 use Rattle.slub_red_zone.specs.declared.checked.Run.{Run}
 use Rattle.slub_red_zone.specs.declared.checked.Slot.{Slot}
-use Rattle.slub_red_zone.specs.declared.no_memory.NoMemory.{NoMemory}
+use Rattle.slub_common.specs.declared.no_memory.NoMemory.{NoMemory}
 use Rattle.slub_red_zone.specs.Zones.{red_inactive, red_active, damage_when_given, damage_when_taken, set_up, new_slot}
 use Rattle.slub_red_zone.specs.State.{SlabState, CheckedState, slab_of, slot_of, with_slab, with_slot, objects_in}
 

@@ -8,11 +8,11 @@ ghost use Rattle.slub_red_zone.specs.Sound.{IsSound, IsLayoutFor, IsSized};
 ghost use Rattle.slub_red_zone.specs.Steps as step;
 ghost use Rattle.slub_red_zone.specs.Objects.{GivesObject, TakesObject, KeepsObjects};
 
-use crate::NoMemory;
 use crate::slab::{ObjectState, Slab};
 use crate::slabs::{self, FRAMES};
 use crate::totals::Totals;
 use crate::zones::{self, Damage, Report};
+use slub_common::no_memory::NoMemory;
 use slub_node_partial::NodeList;
 use slub_object_layout::layout::{self, Flags, Layout};
 use std::alloc::Global;

@@ -21,7 +21,6 @@
 
 mod bytes;
 pub mod checked;
-mod no_memory;
 pub mod slab;
 mod slabs;
 mod supply;
@@ -29,5 +28,3 @@ mod supply;
 mod tests;
 mod totals;
 pub mod zones;
-
-pub use no_memory::NoMemory;

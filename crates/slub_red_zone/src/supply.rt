@@ -8,8 +8,9 @@ ghost use Rattle.slub_red_zone.specs.Objects.{AddsSlab, AddsGivenSlab, TakesSlab
 
 use crate::checked::{CheckedSlabs, Run, Slot};
 use crate::slab::Slab;
+use crate::slabs;
 use crate::zones::Report;
-use crate::{NoMemory, slabs};
+use slub_common::no_memory::NoMemory;
 use std::alloc::AllocError;
 
 impl CheckedSlabs {

@@ -2,10 +2,10 @@ ghost use Rattle.std.specs.Prelude.{◌≡◌, ◌<◌, IfOk, IsTrue, ◌↔◌}
 ghost use Rattle.slub_object_layout.specs.Layout.{IsSupported};
 ghost use Rattle.slub_red_zone.specs.Sound.{IsLayoutFor};
 
-use crate::NoMemory;
 use crate::checked::{CheckedGive, CheckedSlabs, OutOfSlot, Run, Slot};
 use crate::slab::ObjectState;
 use crate::zones::{Damage, Report, Zone};
+use slub_common::no_memory::NoMemory;
 use slub_object_layout::layout::{Flags, Layout, Spec, layout_of};
 use std::alloc::Global;
 use std::process::Abort;

@@ -7,7 +7,6 @@
 
 pub mod counts;
 pub mod laws;
-pub mod no_memory;
 #[cfg(test)]
 mod tests;
 pub mod text;

@@ -5,12 +5,12 @@ ghost use Rattle.slub_lists.specs.Coherent.{IsCoherent};
 ghost use Rattle.slub_slabinfo_text.specs.Texts.{IsAnswered};
 
 use crate::counts::{Counts, InfoRow, cache_counts, info_rows};
-use crate::no_memory::NoMemory;
 use crate::text::{
     ItemAnswer, ItemWord, damage_text, is_ok_answer, is_ok_reply, item_line, layout_text,
     reply_line, slabinfo_text, total_text,
 };
 use slub_cache_create::caches::Created;
+use slub_common::no_memory::NoMemory;
 use slub_lists::lists::Lists;
 use slub_lists::reply::Reply;
 use slub_object_layout::event::Act;

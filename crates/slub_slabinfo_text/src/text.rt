@@ -5,7 +5,7 @@ ghost use Rattle.std.specs.Fmt.{decimal, signed_decimal};
 ghost use Rattle.slub_slabinfo_text.specs.Texts.{IsAnswered, answer_text, column, damage_line, damage_words, event_words, header_text, hex_byte, info_text, is_ok_answer, is_ok_reply, item_line, layout_lines, left, number_line, reply_answer, reply_text, row_numbers, row_objects, row_slabs, row_text, total_line, word_text, zone_text};
 
 use crate::counts::{Counts, InfoRow};
-use crate::no_memory::NoMemory;
+use slub_common::no_memory::NoMemory;
 use slub_lists::reply::Reply;
 use slub_object_layout::event::Act;
 use slub_object_layout::layout::{Layout, LayoutRefusal};

@@ -1,7 +1,7 @@
 //! Want of memory.
 
 ghost use Rattle.std.specs.Prelude.{◌≡◌};
-ghost use Rattle.slub_slabinfo_text.specs.declared.no_memory.NoMemory.{NoMemory};
+ghost use Rattle.slub_common.specs.declared.no_memory.NoMemory.{NoMemory};
 
 use std::alloc::{AllocError, AllocFailed};
 

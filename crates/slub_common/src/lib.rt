@@ -1,0 +1,5 @@
+//! What all crates share: want of memory, and how often a number stands in a list
+//! (`specs/Times.antt`).
+#![tactic(auto)]
+
+pub mod no_memory;

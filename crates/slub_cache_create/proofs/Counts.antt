@@ -5,10 +5,7 @@ use Rattle.std.proofs.lemmas.List.Sums.{sum_by-cons, sum_by_push, count_by-le-le
 use Rattle.std.proofs.lemmas.Bool.Decides.{nat_tests}
 use Rattle.std.specs.List.{All}
 use Rattle.std.specs.Map.{lookup, remove_entry}
-
--- how often a number stands in a list
-abbrev pub times : ℕ → List ℕ → ℕ
-times x xs = count_by (λ y. eqb y x) xs
+use Rattle.slub_common.specs.Times.{times}
 
 -- how many entries have this value
 abbrev pub having : {K : Type 0} → ℕ → List (K × ℕ) → ℕ

@@ -16,7 +16,8 @@ use Rattle.slub_cache_create.specs.Merging.{Fits, FitsAt, merged_with}
 use Rattle.slub_cache_create.specs.Create.{IsOpenTo, IsLeastUnused, with_alias, with_cache}
 use Rattle.slub_cache_create.specs.Drop.{less_named, without_alias, without_cache, without_name}
 use Rattle.slub_cache_create.specs.Sound.{IsLiveCache, IsLiveLayout, IsSound}
-use Rattle.slub_cache_create.proofs.Counts.{times, times-push, times-filter, having, having-none, having-push, having-removed, length-removed, All-removed, many-within}
+use Rattle.slub_common.specs.Times.{times}
+use Rattle.slub_cache_create.proofs.Counts.{times-push, times-filter, having, having-none, having-push, having-removed, length-removed, All-removed, many-within}
 use Rattle.slub_cache_create.proofs.Layouts.{IsLiveLayout-merged}
 use Rattle.slub_cache_create.proofs.Writes.{at_written, at_written_else, inside-some, get_or-replicate_any}
 

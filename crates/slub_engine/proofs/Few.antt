@@ -23,7 +23,7 @@ use Rattle.slub_lists.specs.declared.lists.CpuLists.{CpuLists}
 use Rattle.slub_lists.specs.declared.lists.Held.{Held}
 use Rattle.slub_lists.specs.State.{State}
 use Rattle.slub_lists.specs.Alloc.{cache_of, checked_of, no_lists, own_free, slab_of}
-use Rattle.slub_page_pool.specs.History.{times}
+use Rattle.slub_common.specs.Times.{times}
 use Rattle.slub_lists.specs.Coherent.{IsCheckedOf, IsCoherent, IsShaped, IsSlabOf, has_object, held_of, if_current, on_cpu}
 use Rattle.slub_lists.specs.Shrink.{is_slab_of}
 use Rattle.slub_slabinfo_text.specs.Counts.{aside_of, counts_of, free_in, free_of, is_frozen_of, loose_of}

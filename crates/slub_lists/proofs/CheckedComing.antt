@@ -8,7 +8,7 @@ use Rattle.std.proofs.lemmas.List.Sums.{sum_by-set}
 use Rattle.slub_page_pool.proofs.Times.{times-append}
 use Rattle.slub_page_pool.specs.Block.{CanPut, with_run}
 use Rattle.slub_page_pool.specs.FreeFrames.{FreeFrames, IsPool}
-use Rattle.slub_page_pool.specs.History.{times}
+use Rattle.slub_common.specs.Times.{times}
 use Rattle.slub_object_layout.specs.declared.layout.Layout.{Layout}
 use Rattle.slub_red_zone.specs.Objects.{AddsGivenSlab, here, idle, one_of, shape_at, shape_of}
 use Rattle.slub_red_zone.specs.Sound.{IsSized, IsSound}

@@ -12,7 +12,7 @@ use Rattle.slub_lists.specs.State.{State}
 use Rattle.slub_cache_create.specs.Sound.{IsSound}
 use Rattle.slub_cache_create.specs.Table.{opening as no_caches}
 use Rattle.slub_lists.specs.Alloc.{IsStocked, from_node, from_partial, no_lists, cpu_place, slab_of, own_free, lists_of, node_of, with_lists, with_node, retired, taken_up}
-use Rattle.slub_page_pool.specs.History.{times}
+use Rattle.slub_common.specs.Times.{times}
 use Rattle.slub_lists.specs.Coherent.{IsConsistent, IsShaped, times_current, times_partial, if_current, all_on_board, opening}
 use Rattle.slub_lists.specs.Steps.{IsTakable, IsRelisted, PopsNode, PopsPartial}
 use Rattle.slub_lists.proofs.Times.{times-cons, times-take-drop, times-reverse, current-same}

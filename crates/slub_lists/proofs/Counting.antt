@@ -5,7 +5,7 @@ use Rattle.std.proofs.lemmas.Bool.{cases_eq, cases_lt}
 use Rattle.std.proofs.lemmas.Bool.Decides.{nat_tests}
 use Rattle.std.proofs.lemmas.List.Sums.{length-filter}
 use Rattle.std.proofs.lemmas.List.Filters.{length-filter_both}
-use Rattle.slub_page_pool.specs.History.{times}
+use Rattle.slub_common.specs.Times.{times}
 use Rattle.slub_lists.proofs.Times.{times-cons, current-same, current-other}
 use Rattle.slub_lists.proofs.Framed.{times-filter-yes, times-filter-no}
 

@@ -6,7 +6,7 @@ use Rattle.std.proofs.lemmas.Bool.{cases_eq, cases_lt}
 use Rattle.std.proofs.lemmas.Bool.Decides.{nat_tests}
 use Rattle.slub_page_pool.specs.FreeFrames.{IsPool}
 use Rattle.slub_page_pool.specs.Block.{CanPut, with_run}
-use Rattle.slub_page_pool.specs.History.{times}
+use Rattle.slub_common.specs.Times.{times}
 use Rattle.slub_page_pool.proofs.Times.{times-append}
 use Rattle.slub_lists.specs.declared.lists.Slab.{Slab}
 use Rattle.slub_cache_create.specs.declared.caches.Cache.{Cache}

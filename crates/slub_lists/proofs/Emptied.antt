@@ -8,7 +8,7 @@ use Rattle.std.proofs.lemmas.List.Sums.{sum_by-cons, length-filter}
 use Rattle.std.proofs.lemmas.List.Filters.{length-filter_both}
 use Rattle.std.proofs.lemmas.Bool.{cases_eq}
 use Rattle.std.proofs.lemmas.Bool.Decides.{nat_tests}
-use Rattle.slub_page_pool.specs.History.{times}
+use Rattle.slub_common.specs.Times.{times}
 use Rattle.slub_red_zone.specs.State.{CheckedState, SlabState, no_slab}
 use Rattle.slub_red_zone.specs.Objects.{idle, is_idle, shape_at, shape_of}
 use Rattle.slub_lists.specs.declared.lists.Slab.{Slab}

@@ -9,7 +9,7 @@ use Rattle.slub_lists.specs.declared.lists.Slab.{Slab}
 use Rattle.slub_lists.specs.declared.lists.Run.{Run}
 use Rattle.slub_lists.specs.State.{State}
 use Rattle.slub_lists.specs.Alloc.{marked, slab_of, retired, taken_up, with_new_slab}
-use Rattle.slub_page_pool.specs.History.{times}
+use Rattle.slub_common.specs.Times.{times}
 use Rattle.slub_lists.specs.Coherent.{IsFramed, covers, covered_from, opening}
 use Rattle.slub_lists.proofs.Times.{times-cons, times-range, current-other}
 

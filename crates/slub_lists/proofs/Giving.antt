@@ -13,7 +13,7 @@ use Rattle.slub_lists.specs.declared.lists.Held.{Held}
 use Rattle.slub_lists.specs.declared.lists.Run.{Run}
 use Rattle.slub_lists.specs.State.{State}
 use Rattle.slub_lists.specs.Alloc.{FindsRun, IsStocked, held_here, no_lists, cpu_place, cache_of, checked_of, slab_of, lists_of, with_new_slab, with_given}
-use Rattle.slub_page_pool.specs.History.{times}
+use Rattle.slub_common.specs.Times.{times}
 use Rattle.slub_lists.specs.Coherent.{IsConsistent, IsSlabOf, has_object, if_current, on_cpu}
 use Rattle.slub_lists.specs.Steps.{HasLayout, IsLive, IsRelisted}
 use Rattle.slub_lists.proofs.Times.{times-cons, current-same, element-counted}

@@ -4,7 +4,7 @@ use Rattle.std.specs.Prelude.{MatchBool, not}
 use Rattle.std.proofs.lemmas.List.Sums.{sum_by-set}
 use Rattle.std.proofs.lemmas.Bool.{cases_eq, cond_both}
 use Rattle.std.proofs.lemmas.Bool.Decides.{nat_tests}
-use Rattle.slub_page_pool.specs.History.{times}
+use Rattle.slub_common.specs.Times.{times}
 use Rattle.slub_page_pool.proofs.Times.{times-append}
 use Rattle.slub_object_layout.specs.declared.layout.Layout.{Layout}
 use Rattle.slub_lists.specs.declared.lists.CpuLists.{CpuLists}

@@ -12,7 +12,7 @@ use Rattle.slub_lists.specs.declared.lists.Held.{Held}
 use Rattle.slub_lists.specs.declared.lists.Run.{Run}
 use Rattle.slub_lists.specs.State.{State}
 use Rattle.slub_lists.specs.Alloc.{marked, no_lists, cpu_place, lists_of, node_of, slab_of, own_free, retired, taken_up, with_new_slab, with_given, with_lists, with_node}
-use Rattle.slub_page_pool.specs.History.{times}
+use Rattle.slub_common.specs.Times.{times}
 use Rattle.slub_lists.specs.Coherent.{IsListed, times_current, times_partial, if_current, all_on_board, opening}
 use Rattle.slub_lists.specs.Steps.{IsTakable}
 use Rattle.slub_lists.proofs.Writes.{at_written, at_written_else, at_marked}

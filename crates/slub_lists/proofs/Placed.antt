@@ -11,7 +11,7 @@ use Rattle.slub_lists.specs.declared.lists.Held.{Held}
 use Rattle.slub_lists.specs.declared.lists.Run.{Run}
 use Rattle.slub_lists.specs.State.{State}
 use Rattle.slub_lists.specs.Alloc.{marked, no_lists, cpu_place, lists_of, slab_of, own_free, retired, taken_up, with_new_slab, with_given, with_lists, held_here}
-use Rattle.slub_page_pool.specs.History.{times}
+use Rattle.slub_common.specs.Times.{times}
 use Rattle.slub_lists.specs.Coherent.{IsPlaced, places, has_object, idle_in, on_cpu, if_current, laid_down, all_on_board, opening}
 use Rattle.slub_lists.proofs.Writes.{at_written_else, at_marked}
 use Rattle.slub_lists.proofs.Times.{times-cons, times-range, current-same, current-other, get_or-replicate_any, sum_by-same, sum_by-map}

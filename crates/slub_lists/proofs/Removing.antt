@@ -4,7 +4,7 @@ use Rattle.std.specs.Prelude.{not, IsTrue, IsFalse, ◌↔◌}
 use Rattle.std.proofs.lemmas.Bool.{cases_eq, cases_Bool}
 use Rattle.std.proofs.lemmas.Bool.Decides.{nat_tests}
 use Rattle.std.proofs.lemmas.List.Elements.{filter-append}
-use Rattle.slub_page_pool.specs.History.{times}
+use Rattle.slub_common.specs.Times.{times}
 use Rattle.slub_page_pool.proofs.Times.{times-append, Contains-times}
 use Rattle.slub_node_partial.specs.PartialList.{IsTakenOut}
 use Rattle.slub_lists.proofs.Times.{times-cons, current-same}

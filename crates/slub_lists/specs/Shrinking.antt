@@ -1,7 +1,7 @@
 -- What the steps of shrinking leave.
 use Rattle.std.specs.Prelude.{◌≡◌, ℕ, ◌<◌, Bool, false, List, []}
 use Rattle.std.specs.Option.{option_map_or}
-use Rattle.slub_page_pool.specs.History.{times}
+use Rattle.slub_common.specs.Times.{times}
 use Rattle.slub_lists.specs.State.{State}
 use Rattle.slub_lists.specs.Alloc.{checked_of, lists_of, no_lists, node_of}
 use Rattle.slub_lists.specs.Free.{inuse_of}

@@ -2,7 +2,7 @@
 
 ghost use Rattle.std.specs.List.{range_with_len};
 ghost use Rattle.std.specs.Prelude.{slice_get, ◌≡◌, ◌+◌, ◌<◌, ◌≤◌, ◌==◌, ◌++◌, [], ◌∷◌, length, take, drop, filter, reverse, nat_lt, not, IfOk, MatchOption};
-ghost use Rattle.slub_page_pool.specs.History.{times};
+ghost use Rattle.slub_common.specs.Times.{times};
 
 use std::alloc::{AllocError, Global};
 use std::collections::VecDeque;

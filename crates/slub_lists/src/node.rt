@@ -1,7 +1,7 @@
 //! A node's partial list as the plain list of its frames.
 
 ghost use Rattle.std.specs.Prelude.{◌≡◌, ◌<◌, ◌≤◌, ◌++◌, ◌==◌, [], ◌∷◌, length, map, filter, not, nat_lt, slice_index_or, vec_capacity, IfOk, MatchOption};
-ghost use Rattle.slub_page_pool.specs.History.{times};
+ghost use Rattle.slub_common.specs.Times.{times};
 ghost use Rattle.slub_node_partial.specs.Promotion.{IsPromoted};
 
 use crate::lists::FreeList;

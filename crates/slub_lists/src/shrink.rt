@@ -1,7 +1,7 @@
 //! Shrinking caches, after `__kmem_cache_do_shrink`.
 
 ghost use Rattle.std.specs.Prelude.{◌≡◌, ℕ, ◌<◌, ◌==◌, false, length, None, IsSome, MatchOption, ◌≤◌, slice_index};
-ghost use Rattle.slub_page_pool.specs.History.{times};
+ghost use Rattle.slub_common.specs.Times.{times};
 ghost use Rattle.slub_lists.specs.Alloc.{cache_of, checked_of, lists_of, no_lists, node_of};
 ghost use Rattle.slub_lists.specs.Coherent.{IsCoherent, IsConsistent, KeepsMachine};
 ghost use Rattle.slub_lists.specs.Destroy.{busy_of};

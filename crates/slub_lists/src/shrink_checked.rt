@@ -1,7 +1,7 @@
 //! Shrinking checked caches, whose slabs stand on no list but their own.
 
 ghost use Rattle.std.specs.Prelude.{◌≡◌, ℕ, ◌<◌, ◌≤◌, false, length, IsSome, MatchOption, slice_index};
-ghost use Rattle.slub_page_pool.specs.History.{times};
+ghost use Rattle.slub_common.specs.Times.{times};
 ghost use Rattle.slub_lists.specs.Alloc.{checked_of};
 ghost use Rattle.slub_lists.specs.Coherent.{IsCoherent};
 ghost use Rattle.slub_lists.specs.Destroy.{busy_of};

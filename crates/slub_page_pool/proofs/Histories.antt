@@ -8,7 +8,8 @@ use Rattle.std.proofs.lemmas.List.{append-nil, length-set, get_or-set_same, get_
 use Rattle.std.proofs.lemmas.List.Elements.{All-append, All-filter, All-contains, Contains-append_left, Contains-append_right, Contains-get_or}
 use Rattle.slub_page_pool.specs.FreeFrames.{FreeFrames, opening}
 use Rattle.slub_page_pool.specs.Block.{Takes, TakesOrNotes, CanPut, Puts, less_run, with_run}
-use Rattle.slub_page_pool.specs.History.{Act, took, noted, returned, Does, Reaches, out_with, out_after, frames_out, times, IsPartition, KeepsFrames, ReopensWhenAllBack, CountsDryTakes, is_dry}
+use Rattle.slub_common.specs.Times.{times}
+use Rattle.slub_page_pool.specs.History.{Act, took, noted, returned, Does, Reaches, out_with, out_after, frames_out, IsPartition, KeepsFrames, ReopensWhenAllBack, CountsDryTakes, is_dry}
 use Rattle.slub_page_pool.proofs.Lists.{from_range_with_len, Contains-range_with_len, same_members, IsStrictlyIncreasing-range_with_len}
 use Rattle.slub_page_pool.proofs.FreeRuns.{IsTaken-free, IsStrictlyIncreasing-less_run, IsStrictlyIncreasing-with_run, below, above}
 use Rattle.slub_page_pool.proofs.MarkedFrames.{same_pool}

@@ -4,7 +4,7 @@ use Rattle.std.specs.List.{filter, range_with_len}
 use Rattle.std.specs.List.Sorted.{IsStrictlyIncreasing}
 use Rattle.std.proofs.lemmas.Bool.{cases_Bool, cases_eq, eq-eqb, ne_eqb, false≢true}
 use Rattle.std.proofs.lemmas.List.Sums.{sum_by-cons, sum_by-append}
-use Rattle.slub_page_pool.specs.History.{times}
+use Rattle.slub_common.specs.Times.{times}
 use Rattle.slub_page_pool.proofs.Lists.{from_filter, Contains-head, Contains-tail, Contains-nil, Contains-cons_cases, rising_head, rising_tail, Contains-range_with_len, from_range_with_len, IsStrictlyIncreasing-range_with_len}
 
 -- one more element

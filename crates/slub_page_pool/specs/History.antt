@@ -1,6 +1,7 @@
 -- Histories of a pool: what was done to it, and which frames are out.
 use Rattle.std.specs.Prelude.{ℕ, ◌-◌, ◌^◌, ◌<◌, ◌≤◌, ◌≡◌, ◌==◌, Bool, false, List, [], ◌∷◌, ◌++◌, Option, None, Some, All, count_by, slice_index}
 use Rattle.std.specs.List.{range_with_len}
+use Rattle.slub_common.specs.Times.{times}
 use Rattle.slub_page_pool.specs.FreeFrames.{FreeFrames, opening}
 use Rattle.slub_page_pool.specs.Block.{Takes, TakesOrNotes, CanPut, Puts, less_run}
 
@@ -36,10 +37,6 @@ out_after out (returned frame order) = less_run out frame order
 abbrev pub frames_out : List ℕ → List Act → List ℕ
 frames_out out [] = out
 frames_out out (act ∷ acts) = frames_out (out_after out act) acts
-
--- how often a frame stands in a list
-abbrev pub times : ℕ → List ℕ → ℕ
-times frame frames = count_by (λ f. f == frame) frames
 
 -- each frame from 1 to frames - 1 is free or out, once, and no other frame is
 pub record IsPartition (frames : ℕ) (free out : List ℕ) : Type 0 where

@@ -8,7 +8,7 @@ use Rattle.slub_red_zone.specs.declared.slab.ObjectState.{ObjectState}
 use Rattle.slub_red_zone.specs.declared.slab.ObjectState.TheVariants.{Free, Used, Aside}
 use Rattle.slub_red_zone.specs.State.{is_free}
 use Rattle.slub_red_zone.specs.Steps.{set_aside}
-use Rattle.slub_red_zone.specs.Sound.{times}
+use Rattle.slub_common.specs.Times.{times}
 use Rattle.slub_red_zone.proofs.Times.{times-cons, times-range}
 
 -- the free objects are these, each once

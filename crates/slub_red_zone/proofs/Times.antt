@@ -5,7 +5,7 @@ use Rattle.std.proofs.lemmas.List.{drop-drop}
 use Rattle.std.proofs.lemmas.List.FromFn.{length-range_with_len}
 use Rattle.std.proofs.lemmas.List.Sums.{sum_by-cons}
 use Rattle.std.proofs.lemmas.Bool.Decides.{nat_tests}
-use Rattle.slub_red_zone.specs.Sound.{times}
+use Rattle.slub_common.specs.Times.{times}
 
 -- the head counts where it is the number
 pub times-cons : (x y : ℕ) (ys : List ℕ) → times x (y ∷ ys) ≡ (if eqb y x then 1 else 0) + times x ys

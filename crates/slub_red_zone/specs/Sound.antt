@@ -1,5 +1,6 @@
 -- What holds of a checked cache's slabs between any two calls.
-use Rattle.std.specs.Prelude.{◌≡◌, ℕ, ◌*◌, ◌<◌, ◌≤◌, ◌==◌, nat_lt, if◌then◌else◌, Bool, List, length, count_by, slice_index_or, None, IfSome, IsTrue, ◌⊎◌, Option, Some, false}
+use Rattle.std.specs.Prelude.{◌≡◌, ℕ, ◌*◌, ◌<◌, ◌≤◌, nat_lt, if◌then◌else◌, Bool, List, length, count_by, slice_index_or, None, IfSome, IsTrue, ◌⊎◌, Option, Some, false}
+use Rattle.slub_common.specs.Times.{times}
 use Rattle.slub_object_layout.specs.declared.layout.Flags.{Flags}
 use Rattle.slub_object_layout.specs.declared.layout.Layout.{Layout}
 use Rattle.slub_object_layout.specs.declared.layout.Spec.{Spec}
@@ -17,10 +18,6 @@ pub record IsLayoutFor (flags : Flags) (layout : Layout) : Type 0 where
   pub some_cpu : (1 ≤ cpus) × (cpus ≤ 16)
   pub solved : IsLayout spec cpus layout
   pub bounds : IsWithinBounds layout
-
--- how often a number stands in a list
-abbrev pub times : ℕ → List ℕ → ℕ
-times x xs = count_by (λ y. y == x) xs
 
 -- the order and the number of objects are the layout's, or its least ones
 abbrev pub IsSized : Layout → ℕ → ℕ → Type 0

@@ -4,7 +4,7 @@ use Rattle.std.proofs.lemmas.Fn.{filter_same}
 use Rattle.std.proofs.lemmas.Bool.Decides.{nat_tests}
 use Rattle.std.proofs.lemmas.List.Sums.{length-filter}
 use Rattle.std.proofs.lemmas.List.Filters.{length-filter_both}
-use Rattle.slub_page_pool.specs.History.{times}
+use Rattle.slub_common.specs.Times.{times}
 use Rattle.slub_lists.proofs.front_list.FrontList.remove.Goals as goal
 
 pub returns-clause-removed : goal.returns-clause-removed

@@ -1,5 +1,5 @@
 use Rattle.std.proofs.Common.{◌≡◌, ℕ, ◌-◌, ◌<◌, eqb, true, List, length, get_or, drop, take, fold, refl, ap, sym, ◌∙◌, subst, arith}
-use Rattle.slub_page_pool.specs.History.{times}
+use Rattle.slub_common.specs.Times.{times}
 use Rattle.slub_lists.specs.State.{State}
 use Rattle.slub_lists.specs.Alloc.{node_of}
 use Rattle.slub_lists.specs.Coherent.{IsConsistent}

@@ -11,7 +11,8 @@ pub mod Few
 pub mod Counted
 pub mod Whole
 pub mod Laws
-pub mod Counts
+pub mod Keeping
+pub mod Effects
 pub mod Balance
 pub mod Tally
 pub mod Totals

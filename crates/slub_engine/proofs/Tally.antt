@@ -1,75 +1,18 @@
 -- What was given less what was freed is held.
-use Rattle.std.proofs.Common.{◌≡◌, ℕ, zero, suc, ◌+◌, ◌<◌, ◌≤◌, ◌&&◌, Bool, true, false, cond, eqb, List, [], ◌∷◌, length, get_or, sum_by, count_by, refl, sym, ◌∙◌, ap, subst, arith, Option, Some, None, IsSome, IfSome, MatchOption}
+use Rattle.std.proofs.Common.{◌≡◌, ℕ, zero, suc, ◌+◌, ◌<◌, ◌≤◌, ◌&&◌, Bool, true, false, cond, eqb, List, [], ◌∷◌, sum_by, count_by, refl, sym, ◌∙◌, arith}
 use Rattle.std.specs.Prelude.{⊤}
 use Rattle.std.specs.List.{range_with_len, zip}
 use Rattle.std.proofs.lemmas.Bool.Decides.{nat_tests}
-use Rattle.std.proofs.lemmas.List.Sums.{get_or-le-sum_by, sum_by-cons}
-use Rattle.slub_object_layout.specs.declared.event.Act.{Act}
-use Rattle.slub_object_layout.specs.declared.event.Act.TheVariants.{Alloc, Free, Write, Read, Poke, Trim, Flush}
+use Rattle.std.proofs.lemmas.List.Sums.{sum_by-cons}
 use Rattle.slub_object_layout.specs.declared.event.Event.{Event}
-use Rattle.slub_cache_create.specs.declared.caches.Cache.{Cache}
-use Rattle.slub_lists.specs.declared.lists.Held.{Held}
-use Rattle.slub_lists.specs.declared.lists.Slab.{Slab}
 use Rattle.slub_lists.specs.declared.reply.Reply.{Reply}
 use Rattle.slub_lists.specs.State.{State}
-use Rattle.slub_lists.specs.Alloc.{cache_of, slab_of}
-use Rattle.slub_lists.specs.Coherent.{IsCoherent, IsSlabOf, held_of}
-use Rattle.slub_engine.specs.Lawful.{Answers, RunsEvents, is_by, is_freed, is_given}
-use Rattle.slub_engine.proofs.Balance.{Balanced, alloc_balanced, free_balanced, live_in, poke_balanced, read_balanced, write_balanced}
-
--- ---- what is held is of a live cache
-
-pub within_some : {A : Type 0} (xs : List (Option A)) (i : ℕ) (v : A) → get_or xs i None ≡ Some v → i < length xs
-within_some [] i v is = absurd (let never : ⊥ = cc in never)
-within_some (x ∷ xs) zero v is = omega arith
-within_some (x ∷ xs) (suc i) v is = omega (arith, within_some xs i v is)
-
-live_within : (s : State) → IsCoherent s → (cache : ℕ) (found : Option Cache) → cache_of s cache ≡ found → MatchOption found ⊤ (λ live. cache < length s.live)
-live_within s coherent cache None is = tt
-live_within s coherent cache (Some live) is = omega (arith, within_some s.table.caches cache live is, coherent.shaped.table.numbers, coherent.shaped.live)
-
--- a slab's cache is live
-slab_alive : (s : State) (cache : ℕ) (slab : Option Slab) → IfSome slab (λ slab. MatchOption (cache_of s slab.cache) ⊥ (λ live. IsSlabOf live.layout slab)) → MatchOption slab ⊥ (λ slab. slab.cache ≡ cache)
-    → IsSome (cache_of s cache)
-slab_alive s cache None of_it here = absurd here
-slab_alive s cache (Some slab) of_it here = alive (cache_of s slab.cache) (ap (cache_of s) here) of_it
-  where
-    alive : (found : Option Cache) → found ≡ cache_of s cache → MatchOption found ⊥ (λ live. IsSlabOf live.layout slab) → IsSome (cache_of s cache)
-    alive None is of_it = absurd of_it
-    alive (Some live) is of_it = subst (λ (found : Option Cache). IsSome found) is (let some : IsSome (Some live) = cc in some)
-
-pub held_alive : (s : State) → IsCoherent s → (object : ℕ) (held : Held) → get_or s.board object None ≡ Some held → IsSome (cache_of s held.cache)
-held_alive s coherent object held is =
-    slab_alive s held.cache (slab_of s held.frame) (coherent.shaped.slab held.frame) (subst (λ (found : Option Held). IfSome found (λ held. MatchOption (slab_of s held.frame) ⊥ (λ slab. slab.cache ≡ held.cache))) is (coherent.shaped.held object))
-
-some_within : (s : State) → IsCoherent s → (cache : ℕ) (found : Option Cache) → cache_of s cache ≡ found → IsSome found → cache < length s.live
-some_within s coherent cache None is some = absurd (let never : ⊥ = cc in never)
-some_within s coherent cache (Some live) is some = live_within s coherent cache (Some live) is
-
-held_counted : (s : State) → IsCoherent s → (object : ℕ) (found : Option Held) → get_or s.board object None ≡ found
-    → IfSome found (λ held. (held.cache < length s.live) × (1 ≤ get_or s.live held.cache 0))
-held_counted s coherent object None is = tt
-held_counted s coherent object (Some held) is = (some_within s coherent held.cache (cache_of s held.cache) refl (held_alive s coherent object held is), some)
-  where
-    own : held_of held.cache (Some held) ≡ 1
-    own = grind (arith, nat_tests)
-
-    some : 1 ≤ get_or s.live held.cache 0
-    some =
-        let all = get_or-le-sum_by (held_of held.cache) s.board object None (within_some s.board object held is) in
-        let mine : held_of held.cache (get_or s.board object None) ≡ 1 = ap (held_of held.cache) is ∙ own in
-        omega (arith, coherent.accounted held.cache, all, mine)
+use Rattle.slub_lists.specs.Coherent.{IsCoherent}
+use Rattle.slub_engine.specs.Lawful.{RunsEvents, is_by, is_freed, is_given}
+use Rattle.slub_engine.proofs.Balance.{effect_balanced, live_in}
+use Rattle.slub_engine.proofs.Effects.{event_effect}
 
 -- ---- events
-
-event_balanced : (s : State) (event : Event) (act : Act) (answer : Reply) (after : State) → IsCoherent s → Answers s event act answer after → Balanced s answer after
-event_balanced s event (Alloc place object) answer after coherent answers = alloc_balanced s place event.cpu event.worker object answer after (live_within s coherent) answers
-event_balanced s event (Free object) answer after coherent answers = free_balanced s event.cpu event.worker object answer after (get_or s.board object None) refl (held_counted s coherent object (get_or s.board object None) refl) answers
-event_balanced s event (Write object word value) answer after coherent answers = write_balanced s event.worker object word value answer after answers
-event_balanced s event (Read object word) answer after coherent answers = subst (Balanced s answer) (sym answers.1) (read_balanced s event.worker object word answer answers.0)
-event_balanced s event (Poke object offset byte) answer after coherent answers = poke_balanced s event.worker object offset byte answer after answers
-event_balanced s event (Trim place) answer after coherent answers = absurd answers
-event_balanced s event Flush answer after coherent answers = absurd answers
 
 pub runs_balanced : (s : State) (events : List Event) (replies : List Reply) (after : State) → IsCoherent s → RunsEvents s events replies after
     → live_in after + count_by (λ one. is_freed one.1) (zip events replies) ≡ live_in s + count_by (λ one. is_given one.1) (zip events replies)
@@ -77,7 +20,7 @@ runs_balanced s [] [] after coherent runs = rw runs refl
 runs_balanced s [] (answer ∷ replies) after coherent runs = absurd runs
 runs_balanced s (event ∷ events) [] after coherent runs = absurd runs
 runs_balanced s (event ∷ events) (answer ∷ replies) after coherent runs =
-    let one = event_balanced s event event.act answer runs.0 coherent runs.1 in
+    let one = effect_balanced s event.act answer runs.0 coherent (event_effect s event event.act answer runs.0 runs.1) in
     let rest = runs_balanced runs.0 events replies after runs.2 runs.3 in
     omega (arith, one, rest, sum_by-cons (λ (one : Event × Reply). cond (is_freed one.1) 1 0) (event, answer) (zip events replies), sum_by-cons (λ (one : Event × Reply). cond (is_given one.1) 1 0) (event, answer) (zip events replies))
 

@@ -1,5 +1,5 @@
 -- The sums of a lawful journal: what was given less what was freed is live.
-use Rattle.std.proofs.Common.{◌≡◌, ℕ, suc, ◌+◌, ◌*◌, ◌≤◌, ◌&&◌, Bool, true, false, cond, eqb, List, [], ◌∷◌, length, take, get_or, sum_by, count_by, is_some, refl, sym, ◌∙◌, ap, subst, arith, All, Option, Some, None, IsSome, IfSome, MatchOption, Result, Ok, Err}
+use Rattle.std.proofs.Common.{◌≡◌, ℕ, suc, ◌+◌, ◌*◌, ◌<◌, ◌≤◌, ◌&&◌, Bool, true, false, cond, eqb, List, [], ◌∷◌, length, take, get_or, sum_by, count_by, is_some, refl, sym, ◌∙◌, ap, subst, arith, All, Option, Some, None, IsSome, IfSome, MatchOption}
 use Rattle.std.specs.Prelude.{⊤}
 use Rattle.std.specs.List.{range_with_len, zip, filter_map}
 use Rattle.std.proofs.lemmas.Bool.Decides.{nat_tests}
@@ -9,39 +9,32 @@ use Rattle.std.proofs.lemmas.List.Folds.{sum_by-replicate}
 use Rattle.std.proofs.lemmas.List.Sums.{sum_by-cons}
 use Rattle.slub_object_layout.specs.declared.event.Event.{Event}
 use Rattle.slub_object_layout.specs.declared.event.Round.{Round}
-use Rattle.slub_object_layout.specs.declared.layout.LayoutRefusal.TheVariants as refused
-use Rattle.slub_object_layout.specs.declared.layout.Spec.{Spec}
 use Rattle.slub_cache_create.specs.declared.caches.Cache.{Cache}
-use Rattle.slub_cache_create.specs.declared.caches.Created.TheVariants as made
 use Rattle.slub_common.specs.Times.{times}
 use Rattle.slub_lists.specs.declared.lists.Held.{Held}
 use Rattle.slub_lists.specs.declared.reply.Reply.{Reply}
 use Rattle.slub_lists.specs.State.{State}
 use Rattle.slub_lists.specs.Alloc.{cache_of}
 use Rattle.slub_lists.specs.Coherent.{IsCoherent, held_of}
+use Rattle.slub_lists.proofs.ObjectWords.{held-cache}
 use Rattle.slub_slabinfo_text.specs.declared.counts.InfoRow.{InfoRow}
 use Rattle.slub_slabinfo_text.specs.Counts.{row_of, row_with}
 use Rattle.slub_trace_reader.specs.declared.trace.Item.{Item}
 use Rattle.slub_trace_reader.specs.declared.trace.Item.TheVariants as item
 use Rattle.slub_trace_reader.specs.declared.trace.Trace.{Trace}
 use Rattle.slub_trace_reader.specs.Sound.{IsSound, IsSoundEvent, IsSoundItem}
-use Rattle.slub_engine.specs.declared.journal.Created.{Created}
-use Rattle.slub_engine.specs.declared.journal.Created.TheVariants.{New, Merged}
-use Rattle.slub_engine.specs.declared.journal.CreateRefusal.{CreateRefusal}
-use Rattle.slub_engine.specs.declared.journal.CreateRefusal.TheVariants as refusal
 use Rattle.slub_engine.specs.declared.journal.Ledger.{Ledger}
 use Rattle.slub_engine.specs.declared.journal.RoundResult.{RoundResult}
 use Rattle.slub_engine.specs.declared.journal.Done.{Done}
-use Rattle.slub_engine.specs.declared.journal.Done.TheVariants as done
 use Rattle.slub_engine.specs.declared.journal.Journal.{Journal}
 use Rattle.slub_engine.specs.declared.journal.Total.{Total}
-use Rattle.slub_engine.specs.Lawful.{AreLedgers, CreatesName, Does, DoesRound, IsLawful, IsTotal, RunsItems, cache_numbers, freed_in, given_in, is_by, is_freed, is_given, ledgers_of, opening_of, over_caches}
+use Rattle.slub_engine.specs.Lawful.{Does, DoesRound, IsLawful, IsTotal, RunsItems, cache_numbers, freed_in, given_in, is_by, is_freed, is_given, ledgers_of, opening_of, over_caches}
 use Rattle.slub_engine.specs.Sums.{counted}
 use Rattle.slub_engine.proofs.Balance.{live_in}
 use Rattle.slub_engine.proofs.Counted.{reversed_rows}
-use Rattle.slub_engine.proofs.Counts.{Keeps, creates_keep, destroys_keep, shrinks_keep}
 use Rattle.slub_engine.proofs.Damages.{sum_from, sum_numbers}
-use Rattle.slub_engine.proofs.Tally.{AreWithin, by_workers, held_alive, runs_balanced, sum_none, sum_one, sums_add, sums_same}
+use Rattle.slub_engine.proofs.Keeping.{ItemEffect, item_effect, no_round, one_round}
+use Rattle.slub_engine.proofs.Tally.{AreWithin, by_workers, runs_balanced, sum_none, sum_one, sums_add, sums_same}
 
 -- ---- a round
 
@@ -54,19 +47,14 @@ answers_within trace workers (event ∷ events) (answer ∷ replies) sound =
 abbrev no_ledger : Ledger
 no_ledger = record { given = 0; freed = 0; no_frames = [] }
 
-given_counted : (s : State) (answers : List (Event × Reply)) (workers : ℕ) (ledgers : List Ledger) → AreWithin workers answers → AreLedgers s answers workers ledgers
-    → given_in ledgers ≡ count_by (λ one. is_given one.1) answers
-given_counted s answers workers ledgers within are =
-    let places = sum_from (λ worker. count_by (λ one. is_by worker one && is_given one.1) answers) (λ (ledger : Ledger). ledger.given) no_ledger 0 ledgers
-    (λ i small. ap (λ worker. count_by (λ one. is_by worker one && is_given one.1) answers) (let e : 0 + i ≡ i = omega arith in e) ∙ sym (are.counts i no_ledger (omega (arith, are.each, small))).given) in
-    sym places ∙ ap (λ n. sum_by (λ worker. count_by (λ one. is_by worker one && is_given one.1) answers) (range_with_len 0 n)) are.each ∙ by_workers (λ one. is_given one.1) workers answers within
-
-freed_counted : (s : State) (answers : List (Event × Reply)) (workers : ℕ) (ledgers : List Ledger) → AreWithin workers answers → AreLedgers s answers workers ledgers
-    → freed_in ledgers ≡ count_by (λ one. is_freed one.1) answers
-freed_counted s answers workers ledgers within are =
-    let places = sum_from (λ worker. count_by (λ one. is_by worker one && is_freed one.1) answers) (λ (ledger : Ledger). ledger.freed) no_ledger 0 ledgers
-    (λ i small. ap (λ worker. count_by (λ one. is_by worker one && is_freed one.1) answers) (let e : 0 + i ≡ i = omega arith in e) ∙ sym (are.counts i no_ledger (omega (arith, are.each, small))).freed) in
-    sym places ∙ ap (λ n. sum_by (λ worker. count_by (λ one. is_by worker one && is_freed one.1) answers) (range_with_len 0 n)) are.each ∙ by_workers (λ one. is_freed one.1) workers answers within
+-- what each worker's ledger counts of its answers is counted of all answers in the sum
+all_counted : (p : Reply → Bool) (number : Ledger → ℕ) (answers : List (Event × Reply)) (workers : ℕ) (ledgers : List Ledger) → AreWithin workers answers → length ledgers ≡ workers
+    → ((worker : ℕ) → worker < workers → number (get_or ledgers worker no_ledger) ≡ count_by (λ one. is_by worker one && p one.1) answers)
+    → sum_by number ledgers ≡ count_by (λ one. p one.1) answers
+all_counted p number answers workers ledgers within each counts =
+    let mine = λ (worker : ℕ). count_by (λ (one : Event × Reply). is_by worker one && p one.1) answers in
+    let places = sum_from mine number no_ledger 0 ledgers (λ i small. ap mine (let e : 0 + i ≡ i = omega arith in e) ∙ sym (counts i (omega (arith, each, small)))) in
+    sym places ∙ ap (λ n. sum_by mine (range_with_len 0 n)) each ∙ by_workers (λ one. p one.1) workers answers within
 
 round_balanced : (s : State) (trace : Trace) (round : Round) (outcome : RoundResult) (after : State) → IsCoherent s → IsSoundItem trace (item.Round round) → DoesRound s round outcome after
     → live_in after + freed_in outcome.ledgers ≡ live_in s + given_in outcome.ledgers
@@ -74,52 +62,19 @@ round_balanced s trace round outcome after coherent sound does =
     let within = answers_within trace round.workers round.events outcome.replies sound.events in
     let run = runs_balanced s round.events outcome.replies does.last coherent does.runs in
     let laid : live_in after ≡ live_in does.last = ap (λ (s : State). live_in s) does.after_is in
-    omega (arith, run, laid, given_counted s _ round.workers outcome.ledgers within does.ledgers, freed_counted s _ round.workers outcome.ledgers within does.ledgers)
+    let given = all_counted is_given (λ ledger. ledger.given) _ round.workers outcome.ledgers within does.ledgers.each (λ worker small. (does.ledgers.counts worker no_ledger small).given) in
+    let freed = all_counted is_freed (λ ledger. ledger.freed) _ round.workers outcome.ledgers within does.ledgers.each (λ worker small. (does.ledgers.counts worker no_ledger small).freed) in
+    omega (arith, run, laid, given, freed)
 
 -- ---- items
 
-creation_keeps : (s : State) (name : List ℕ) (spec : Spec) (answer : Result Created CreateRefusal) (after : State) → CreatesName s name spec answer after → Keeps s after
-creation_keeps s name spec (Ok (New cache)) after creates = creates_keep s name spec (made.New cache) after creates.2
-creation_keeps s name spec (Ok (Merged cache title)) after creates = creates_keep s name spec (made.Merged cache) after creates.2
-creation_keeps s name spec (Err refusal.NameTaken) after creates = ap (λ (s : State). s.live) creates.1
-creation_keeps s name spec (Err refusal.TooMany) after creates = ap (λ (s : State). s.live) creates.2
-creation_keeps s name spec (Err (refusal.Layout refused.BadSize)) after creates = ap (λ (s : State). s.live) creates.2
-creation_keeps s name spec (Err (refusal.Layout refused.BadAlign)) after creates = ap (λ (s : State). s.live) creates.3
-creation_keeps s name spec (Err (refusal.Layout refused.BadFlags)) after creates = ap (λ (s : State). s.live) creates.4
-
-quiet_item : (s after : State) → Keeps s after → live_in after + 0 ≡ live_in s + 0
-quiet_item s after same = ap (λ (live : List ℕ). sum_by (λ count. count) live + 0) same
-
 item_balanced : (s : State) (trace : Trace) (it : Item) (dn : Done) (after : State) → IsCoherent s → IsSoundItem trace it → Does s trace it dn after
     → live_in after + freed_in (ledgers_of dn) ≡ live_in s + given_in (ledgers_of dn)
-unfolding Does
-item_balanced s trace (item.Cache place spec) (done.Created answer) after coherent sound does = quiet_item s after (creation_keeps s _ spec answer after does)
-item_balanced s trace (item.Cache place spec) (done.Round outcome) after coherent sound does = absurd does
-item_balanced s trace (item.Cache place spec) (done.Shrunk answer) after coherent sound does = absurd does
-item_balanced s trace (item.Cache place spec) (done.Destroyed answer) after coherent sound does = absurd does
-item_balanced s trace (item.Cache place spec) (done.Slabinfo rows) after coherent sound does = absurd does
-item_balanced s trace (item.Round round) (done.Created answer) after coherent sound does = absurd does
-item_balanced s trace (item.Round round) (done.Round outcome) after coherent sound does = round_balanced s trace round outcome after coherent sound does
-item_balanced s trace (item.Round round) (done.Shrunk answer) after coherent sound does = absurd does
-item_balanced s trace (item.Round round) (done.Destroyed answer) after coherent sound does = absurd does
-item_balanced s trace (item.Round round) (done.Slabinfo rows) after coherent sound does = absurd does
-item_balanced s trace (item.Shrink place) (done.Created answer) after coherent sound does = absurd does
-item_balanced s trace (item.Shrink place) (done.Round outcome) after coherent sound does = absurd does
-item_balanced s trace (item.Shrink place) (done.Shrunk answer) after coherent sound does = quiet_item s after (shrinks_keep s _ answer after does)
-item_balanced s trace (item.Shrink place) (done.Destroyed answer) after coherent sound does = absurd does
-item_balanced s trace (item.Shrink place) (done.Slabinfo rows) after coherent sound does = absurd does
-item_balanced s trace (item.Destroy place) (done.Created answer) after coherent sound does = absurd does
-item_balanced s trace (item.Destroy place) (done.Round outcome) after coherent sound does = absurd does
-item_balanced s trace (item.Destroy place) (done.Shrunk answer) after coherent sound does = absurd does
-item_balanced s trace (item.Destroy place) (done.Destroyed answer) after coherent sound does = quiet_item s after (destroys_keep s _ answer after does)
-item_balanced s trace (item.Destroy place) (done.Slabinfo rows) after coherent sound does = absurd does
-item_balanced s trace item.Slabinfo (done.Created answer) after coherent sound does = absurd does
-item_balanced s trace item.Slabinfo (done.Round outcome) after coherent sound does = absurd does
-item_balanced s trace item.Slabinfo (done.Shrunk answer) after coherent sound does = absurd does
-item_balanced s trace item.Slabinfo (done.Destroyed answer) after coherent sound does = absurd does
-item_balanced s trace item.Slabinfo (done.Slabinfo rows) after coherent sound does = quiet_item s after (ap (λ (s : State). s.live) does.1)
-item_balanced s trace (item.Tune place setting) dn after coherent sound does = absurd does
-item_balanced s trace (item.Client client) dn after coherent sound does = absurd does
+item_balanced s trace it dn after coherent sound does = by (item_effect s trace it dn after does)
+  where
+    by : ItemEffect s it dn after → live_in after + freed_in (ledgers_of dn) ≡ live_in s + given_in (ledgers_of dn)
+    by (one_round round outcome it_is dn_is runs) = rw dn_is (round_balanced s trace round outcome after coherent (subst (IsSoundItem trace) it_is sound) runs)
+    by (no_round no_events no_ledgers keeps) = rw (no_ledgers, keeps.live) refl
 
 abbrev all_given : List Done → ℕ
 all_given dones = sum_by (λ done. given_in (ledgers_of done)) dones
@@ -141,7 +96,7 @@ items_balanced s trace (it ∷ items) (dn ∷ dones) after coherent sound run =
 
 -- nothing is held of a cache that isn't live
 none_held : (s : State) → IsCoherent s → (cache : ℕ) → cache_of s cache ≡ None → get_or s.live cache 0 ≡ 0
-none_held s coherent cache dead = coherent.accounted cache ∙ sum_zero s.board (λ object held is. other held (held_alive s coherent object held is))
+none_held s coherent cache dead = coherent.accounted cache ∙ sum_zero s.board (λ object held is. other held (held-cache s held (record { object = object; here = is }) coherent))
   where
     sum_zero : (board : List (Option Held)) → ((object : ℕ) (held : Held) → get_or board object None ≡ Some held → held_of cache (Some held) ≡ 0) → sum_by (held_of cache) board ≡ 0
     sum_zero [] none = refl

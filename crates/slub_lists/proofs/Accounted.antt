@@ -3,23 +3,21 @@ use Rattle.std.proofs.Common.{◌≡◌, ℕ, ◌+◌, ◌<◌, ◌≤◌, List,
 use Rattle.std.proofs.lemmas.List.Sums.{sum_by-set}
 use Rattle.std.proofs.lemmas.List.Folds.{sum_by-replicate}
 use Rattle.std.proofs.lemmas.Bool.Decides.{nat_tests}
-use Rattle.slub_lists.specs.declared.lists.CpuLists.{CpuLists}
 use Rattle.slub_lists.specs.declared.lists.Held.{Held}
 use Rattle.slub_lists.specs.State.{State}
-use Rattle.slub_lists.specs.Alloc.{with_given}
+use Rattle.slub_lists.specs.Alloc.{with_held}
 use Rattle.slub_lists.specs.Coherent.{IsAccounted, held_of, laid_down, all_on_board, opening}
 use Rattle.slub_lists.proofs.Writes.{at_written_else}
 use Rattle.slub_lists.proofs.Times.{sum_by-same, sum_by-map, sum_by-le-length, get_or-replicate_any}
 
 -- one object more of the cache, and of no other
-pub accounted-with_given : (s : State) (cache cpu : ℕ) (lists : CpuLists) (object : ℕ) (held : Held) → cache < length s.live → object < length s.board → get_or s.board object None ≡ None → held.cache ≡ cache
-    → IsAccounted s → IsAccounted (with_given s cache cpu lists object held)
-accounted-with_given s cache cpu lists object held slot board unused own accounted c =
+pub accounted-with_held : (s : State) (object : ℕ) (held : Held) → held.cache < length s.live → object < length s.board → get_or s.board object None ≡ None → IsAccounted s → IsAccounted (with_held s object held)
+accounted-with_held s object held slot board unused accounted c =
     let more = sum_by-set (held_of c) s.board object (Some held) None board in
     let before : held_of c (get_or s.board object None) ≡ 0 = ap (held_of c) unused in
-    at_written_else (λ n. n ≡ sum_by (held_of c) (set s.board object (Some held))) s.live cache c (get_or s.live cache 0 + 1) 0 slot
-    (λ e. let one : held_of c (Some held) ≡ 1 = grind (arith, nat_tests, e, own) in omega (arith, more, before, one, accounted c, ap (λ n. get_or s.live n 0) e))
-    (λ ne. let none : held_of c (Some held) ≡ 0 = grind (arith, nat_tests, ne, own) in omega (arith, more, before, none, accounted c))
+    at_written_else (λ n. n ≡ sum_by (held_of c) (set s.board object (Some held))) s.live held.cache c (get_or s.live held.cache 0 + 1) 0 slot
+    (λ e. let one : held_of c (Some held) ≡ 1 = grind (arith, nat_tests, e) in omega (arith, more, before, one, accounted c, ap (λ n. get_or s.live n 0) e))
+    (λ ne. let none : held_of c (Some held) ≡ 0 = grind (arith, nat_tests, ne) in omega (arith, more, before, none, accounted c))
 
 held_of-laid_down : (c : ℕ) (x : Option Held) → held_of c (option_map laid_down x) ≡ held_of c x
 held_of-laid_down c None = refl

@@ -22,7 +22,7 @@ use Rattle.slub_lists.proofs.CheckedTaking.{held-slab, same-layout}
 use Rattle.slub_lists.proofs.ObjectWords.{slots-fit}
 
 -- two slabs that have a frame are one
-one-slab : (s : State) (f a b : ℕ) (x y : Slab) → slab_of s a ≡ Some x → slab_of s b ≡ Some y → covers f a (Some x) ≡ 1 → covers f b (Some y) ≡ 1 → IsConsistent s → a ≡ b
+pub one-slab : (s : State) (f a b : ℕ) (x y : Slab) → slab_of s a ≡ Some x → slab_of s b ≡ Some y → covers f a (Some x) ≡ 1 → covers f b (Some y) ≡ 1 → IsConsistent s → a ≡ b
 one-slab s f a b x y is_x is_y has_x has_y consistent =
     elim (cases_eq a b) [
       | inl same ↦ same

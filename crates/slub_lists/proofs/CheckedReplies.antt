@@ -15,8 +15,8 @@ use Rattle.slub_lists.specs.declared.lists.Run.{Run}
 use Rattle.slub_lists.specs.declared.reply.Reply.{Reply}
 use Rattle.slub_lists.specs.declared.reply.Reply.TheVariants.{Given, NoFrames, NoMemory as NoMemoryLeft}
 use Rattle.slub_lists.specs.State.{State}
-use Rattle.slub_lists.specs.Alloc.{cache_of, checked_of, held_here}
-use Rattle.slub_lists.specs.Checked.{AllocatesChecked, AllocatesNewChecked, first_slot, new_given, put_back, with_checked, with_held}
+use Rattle.slub_lists.specs.Alloc.{cache_of, checked_of, held_here, with_held}
+use Rattle.slub_lists.specs.Checked.{AllocatesChecked, AllocatesNewChecked, first_slot, new_given, put_back, with_checked}
 use Rattle.slub_lists.specs.CheckedSteps.{FindsRunIn, GivesIn, GivesNewIn, run_of, slab_of_run}
 use Rattle.slub_lists.specs.Coherent.{AddsReportsOf, IsConsistent, findable_in, has_object}
 use Rattle.slub_lists.specs.Steps.{HasLayout, KeepsFound}

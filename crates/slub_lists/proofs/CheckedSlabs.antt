@@ -14,12 +14,12 @@ use Rattle.slub_red_zone.specs.State.{CheckedState}
 use Rattle.slub_lists.specs.declared.lists.Slab.{Slab}
 use Rattle.slub_lists.specs.declared.lists.Held.{Held}
 use Rattle.slub_lists.specs.State.{State}
-use Rattle.slub_lists.specs.Alloc.{cache_of, checked_of, held_here, no_lists, slab_of}
-use Rattle.slub_lists.specs.Checked.{kept_by, with_checked, with_held}
+use Rattle.slub_lists.specs.Alloc.{cache_of, checked_of, held_here, slab_of, with_held}
+use Rattle.slub_lists.specs.Checked.{kept_by, with_checked}
 use Rattle.slub_lists.specs.Coherent.{AddsReportsOf, Agrees, AreChecked, IsAccounted, IsCheckedOf, IsConsistent, IsFramed, IsListed, IsPlaced, IsShaped, IsSlabOf, findable_in, held_of, held_under, idle_in}
 use Rattle.slub_lists.specs.Free.{with_taken}
 use Rattle.slub_lists.specs.Steps.{KeepsFound}
-use Rattle.slub_lists.proofs.Accounted.{accounted-with_given}
+use Rattle.slub_lists.proofs.Accounted.{accounted-with_held}
 use Rattle.slub_lists.proofs.Found.{AddsReportsOf-same}
 use Rattle.slub_lists.proofs.Times.{element-counted}
 use Rattle.slub_lists.proofs.Writes.{at_written, at_written_else}
@@ -271,7 +271,7 @@ board-standing s object x live same new accounted stands =
 pub held-standing : (s : State) (object : ℕ) (held : Held) → object < length s.board → get_or s.board object None ≡ None → held.cache < length s.live → IsLiveOf s held → IsStanding s → IsStanding (with_held s object held)
 held-standing s object held slot unused within live stands =
     board-standing s object (Some held) (set s.live held.cache (get_or s.live held.cache 0 + 1)) (length-set s.live held.cache (get_or s.live held.cache 0 + 1)) live
-    (accounted-with_given s held.cache 0 no_lists object held within slot unused refl stands.accounted) stands
+    (accounted-with_held s object held within slot unused stands.accounted) stands
 
 -- ---- an object that goes off it
 

@@ -20,7 +20,7 @@ use Rattle.slub_lists.proofs.Times.{times-cons, current-same, element-counted}
 use Rattle.slub_lists.proofs.Placed.{placed-with_new_slab, placed-with_given}
 use Rattle.slub_lists.proofs.Framed.{framed-with_new_slab, run-inside, run-unused}
 use Rattle.slub_lists.proofs.Listed.{listed-with_new_slab, listed-with_given, listed-with_pool}
-use Rattle.slub_lists.proofs.Accounted.{accounted-with_given, accounted-most}
+use Rattle.slub_lists.proofs.Accounted.{accounted-with_held, accounted-most}
 use Rattle.slub_lists.proofs.Shaped.{layouts-live, shaped-with_new_slab, shaped-with_given, shaped-with_pool}
 use Rattle.slub_lists.proofs.Unchecked.{apart-current, apart-unchecked, checked-lists, checked-with_new_slab}
 use Rattle.slub_lists.proofs.Runs.{run-for, none-frames, none-free}
@@ -149,7 +149,7 @@ module _ (s : State) (cache : ℕ) (layout : Layout) (consistent : IsConsistent 
           placed = placed-with_given s cache cpu inside object frame index worker rest slot unused current first consistent.placed;
           framed = consistent.framed;
           listed = listed-with_given s cache cpu cpu_within inside object frame rest held current consistent.listed;
-          accounted = accounted-with_given s cache cpu v object held (omega (arith, consistent.shaped.live, cache-within)) slot unused refl consistent.accounted;
+          accounted = accounted-with_held s object held (omega (arith, consistent.shaped.live, cache-within)) slot unused consistent.accounted;
         }
 
 -- a count is far from its end

@@ -11,8 +11,8 @@ use Rattle.slub_cache_create.specs.declared.caches.Cache.{Cache}
 use Rattle.slub_lists.specs.declared.reply.Reply.{Reply}
 use Rattle.slub_lists.specs.declared.reply.Reply.TheVariants.{NoSuchCache}
 use Rattle.slub_lists.specs.State.{State}
-use Rattle.slub_lists.specs.Alloc.{Allocates, AllocatesNew, Gives, batch_of, cache_of, checked_of, from_current, from_free, from_node, from_partial, from_slabs, lists_of, named, node_of, own_free, retired, stocked, with_given, with_new_slab}
-use Rattle.slub_lists.specs.Checked.{AllocatesChecked, AllocatesNewChecked, GivesOrMakes, GivesSlot, first_slot, put_back, with_checked, with_checked_slab, with_held}
+use Rattle.slub_lists.specs.Alloc.{Allocates, AllocatesNew, Gives, batch_of, cache_of, checked_of, from_current, from_free, from_node, from_partial, from_slabs, lists_of, named, node_of, own_free, retired, stocked, with_given, with_new_slab, with_held}
+use Rattle.slub_lists.specs.Checked.{AllocatesChecked, AllocatesNewChecked, GivesOrMakes, GivesSlot, first_slot, put_back, with_checked, with_checked_slab}
 use Rattle.slub_lists.specs.Named.{AllocatesFrom, AllocatesNamed}
 use Rattle.slub_lists.specs.Coherent.{KeepsOthers}
 use Rattle.slub_lists.specs.Steps.{KeepsFound}

@@ -4,6 +4,8 @@ pub mod SweepingChecked
 pub mod Flushing
 pub mod Sweeping
 pub mod Emptied
+pub mod Leaving
+pub mod ComingFree
 pub mod Writes
 pub mod Times
 pub mod Gathering

@@ -21,10 +21,10 @@ use Rattle.slub_lists.specs.Alloc.{checked_of, own_free, slab_of}
 use Rattle.slub_lists.specs.Checked.{discarded_where, with_checked}
 use Rattle.slub_lists.specs.CheckedSteps.{DiscardsSpare}
 use Rattle.slub_lists.specs.Coherent.{Agrees, IsCheckedOf, IsCoherent, IsConsistent, IsKept, IsShaped, has_object, idle_in, times_current, times_partial}
-use Rattle.slub_lists.specs.Destroy.{busy_of}
 use Rattle.slub_lists.specs.Free.{discarded}
-use Rattle.slub_lists.specs.Shrink.{PromotesChecked, all_free, has_slab, is_slab_of, swept_checked_slab}
-use Rattle.slub_lists.specs.Shrinking.{KeepsHeld, all_free_in, listed_of}
+use Rattle.slub_lists.specs.Leaving.{KeepsHeld}
+use Rattle.slub_lists.specs.Shrink.{PromotesChecked, all_free, busy_of, has_slab, is_slab_of, swept_checked_slab}
+use Rattle.slub_lists.specs.Shrinking.{all_free_in, listed_of}
 use Rattle.slub_lists.proofs.CheckedSlabs.{at_match, at_some, idle-with, inside-of, keeps-checked, was-checked}
 use Rattle.slub_lists.proofs.CheckedTaking.{with-checked-same}
 use Rattle.slub_lists.proofs.Discarding.{slab-bounds}
@@ -442,3 +442,6 @@ module _ (s after : State) (cache : ℕ) (slabs : CheckedState) (coherent : IsCo
 
   pub ordered-held : KeepsHeld s after
   ordered-held = subst (KeepsHeld s) (sym ordered.2) (record { frames = refl; cpus = refl; table = refl; board = refl; gone = refl; live = refl })
+
+  pub ordered-slabs : after.slabs ≡ s.slabs
+  ordered-slabs = ap (λ (t : State). t.slabs) ordered.2

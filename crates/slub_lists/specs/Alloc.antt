@@ -149,9 +149,14 @@ abbrev pub held_here : ℕ → ℕ → Option Held → ℕ
 held_here frame index None = 0
 held_here frame index (Some held) = if (held.frame == frame) && (held.index == index) then 1 else 0
 
+-- a worker has an object under a number
+abbrev pub with_held : State → ℕ → Held → State
+with_held s object held =
+    record s { board = slice_set s.board object (Some held); live = slice_set s.live held.cache (slice_index_or s.live held.cache 0 + 1) }
+
+-- and the CPU has this of the cache
 abbrev pub with_given : State → ℕ → ℕ → CpuLists → ℕ → Held → State
-with_given s cache cpu lists object held =
-    record (with_lists s cache cpu lists) { board = slice_set s.board object (Some held); live = slice_set s.live cache (slice_index_or s.live cache 0 + 1) }
+with_given s cache cpu lists object held = with_held (with_lists s cache cpu lists) object held
 
 -- the first object of the CPU freelist is given to a worker under this number
 pub record Gives (s : State) (layout : Layout) (cache cpu worker object : ℕ) (reply : Reply) (after : State) : Type 0 where

@@ -1,5 +1,5 @@
 -- Allocating from a checked cache and freeing to it, after `alloc_debug_processing`, `alloc_single_from_new_slab` and `free_debug_processing` of Linux 6.1.
-use Rattle.std.specs.Prelude.{◌≡◌, ℕ, ◌+◌, false, Option, Some, None, MatchOption, Result, Ok, Err, ◌⊎◌, sum_by, slice_set, slice_index_or}
+use Rattle.std.specs.Prelude.{◌≡◌, ℕ, false, Option, Some, None, MatchOption, Result, Ok, Err, ◌⊎◌, sum_by, slice_set}
 use Rattle.slub_page_pool.specs.FreeFrames.{FreeFrames}
 use Rattle.slub_page_pool.specs.Block.{with_run}
 use Rattle.slub_object_layout.specs.declared.layout.Layout.{Layout}
@@ -16,7 +16,7 @@ use Rattle.slub_lists.specs.declared.lists.Run.{Run}
 use Rattle.slub_lists.specs.declared.reply.Reply.{Reply}
 use Rattle.slub_lists.specs.declared.reply.Reply.TheVariants.{Given, NoFrames, NoMemory, Freed, Corrupt}
 use Rattle.slub_lists.specs.State.{State}
-use Rattle.slub_lists.specs.Alloc.{FindsRun, held_here}
+use Rattle.slub_lists.specs.Alloc.{FindsRun, held_here, with_held}
 use Rattle.slub_lists.specs.Free.{discarded, with_gone, with_taken}
 
 -- ---- changes
@@ -24,11 +24,6 @@ use Rattle.slub_lists.specs.Free.{discarded, with_gone, with_taken}
 -- what a checked cache has
 abbrev pub with_checked : State → ℕ → CheckedState → State
 with_checked s cache slabs = record s { checked = slice_set s.checked cache (Some slabs) }
-
--- a worker has an object under a number
-abbrev pub with_held : State → ℕ → Held → State
-with_held s object held =
-    record s { board = slice_set s.board object (Some held); live = slice_set s.live held.cache (slice_index_or s.live held.cache 0 + 1) }
 
 -- a run comes back to the pool
 abbrev pub put_back : FreeFrames → Run → FreeFrames

@@ -1,20 +1,14 @@
 -- Destroying a cache, after `kmem_cache_destroy` and `__kmem_cache_shutdown` of Linux 6.1.
-use Rattle.std.specs.Prelude.{◌≡◌, ℕ, ◌+◌, ◌<◌, false, List, None, MatchOption, Result, Ok, Err, slice_index_or, slice_set}
-use Rattle.std.specs.Option.{option_map_or}
+use Rattle.std.specs.Prelude.{◌≡◌, ℕ, ◌<◌, false, List, None, MatchOption, Result, Ok, Err, slice_set}
 use Rattle.slub_cache_create.specs.Drop.{without_alias, without_cache}
 use Rattle.slub_cache_create.specs.Table.{names_of, number_of}
-use Rattle.slub_red_zone.specs.State.{aside_count}
 use Rattle.slub_lists.specs.declared.destroy.Destroyed.{Destroyed}
 use Rattle.slub_lists.specs.declared.destroy.Destroyed.TheVariants.{NameDropped, Gone}
 use Rattle.slub_lists.specs.declared.destroy.DestroyRefusal.{DestroyRefusal}
 use Rattle.slub_lists.specs.declared.destroy.DestroyRefusal.TheVariants.{NoSuchCache, Busy}
 use Rattle.slub_lists.specs.State.{State}
-use Rattle.slub_lists.specs.Alloc.{checked_of}
-use Rattle.slub_lists.specs.Shrink.{ShrinksCache, has_slab}
-
--- how many objects of a cache are held, on the board or set aside
-abbrev pub busy_of : State → ℕ → ℕ
-busy_of s cache = slice_index_or s.live cache 0 + option_map_or aside_count (checked_of s cache) 0
+use Rattle.slub_lists.specs.Leaving.{FreesAll}
+use Rattle.slub_lists.specs.Shrink.{ShrinksCache, busy_of, has_slab}
 
 -- the name is dropped, and the cache lives on under others
 abbrev pub DropsName : State → List ℕ → ℕ → State → Type 0
@@ -28,10 +22,10 @@ IsBusy s cache objects after = (names_of s.table cache ≡ 1) × (0 < objects) �
 abbrev pub without : State → List ℕ → ℕ → State
 without s name cache = record s { table = without_cache s.table name cache; checked = slice_set s.checked cache None }
 
--- it is the last name, and shrinking leaves the cache no slab; then the cache is live no more
+-- it is the last name, and shrinking leaves the cache no slab; then the cache is live no more, and each of its frames is free
 abbrev pub Goes : State → List ℕ → ℕ → State → Type 0
 Goes s name cache after =
-    (names_of s.table cache ≡ 1) × (busy_of s cache ≡ 0) × (empty : State) × ShrinksCache s cache empty × (has_slab empty cache ≡ false) × (after ≡ without empty name cache)
+    (names_of s.table cache ≡ 1) × (busy_of s cache ≡ 0) × (empty : State) × ShrinksCache s cache empty × (has_slab empty cache ≡ false) × (after ≡ without empty name cache) × FreesAll s cache after
 
 -- a name is destroyed, and with its last name a cache
 abbrev pub Destroys : State → List ℕ → Result Destroyed DestroyRefusal → State → Type 0

@@ -6,6 +6,7 @@ pub mod Named
 pub mod Freeing
 pub mod Words
 pub mod Create
+pub mod Leaving
 pub mod Shrink
 pub mod Shrinking
 pub mod Destroy

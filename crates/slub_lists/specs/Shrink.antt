@@ -1,16 +1,17 @@
 -- Shrinking a cache, after `__kmem_cache_do_shrink`, `flush_all` and `deactivate_slab` of Linux 6.1.
-use Rattle.std.specs.Prelude.{◌≡◌, ℕ, ◌==◌, nat_lt, if◌then◌else◌, Bool, false, List, [], ◌∷◌, ◌++◌, length, map, fold, count_by, Option, Some, None, MatchOption, Result, Ok, Err, slice_set}
+use Rattle.std.specs.Prelude.{◌≡◌, ℕ, ◌+◌, ◌==◌, nat_lt, if◌then◌else◌, Bool, false, List, [], ◌∷◌, ◌++◌, length, map, fold, count_by, Option, Some, None, MatchOption, Result, Ok, Err, slice_index_or, slice_set}
 use Rattle.std.specs.List.{range_with_len}
 use Rattle.std.specs.Option.{option_map_or}
 use Rattle.slub_node_partial.specs.Promotion.{IsPromoted}
 use Rattle.slub_cache_create.specs.declared.caches.NoSuchCache.{NoSuchCache}
 use Rattle.slub_cache_create.specs.Table.{number_of}
-use Rattle.slub_red_zone.specs.State.{CheckedState, objects_in, slab_of as checked_slab}
+use Rattle.slub_red_zone.specs.State.{CheckedState, aside_count, objects_in, slab_of as checked_slab}
 use Rattle.slub_red_zone.specs.Steps.{free_counts, without_slab as without_checked}
 use Rattle.slub_lists.specs.declared.lists.Slab.{Slab}
 use Rattle.slub_lists.specs.State.{State}
 use Rattle.slub_lists.specs.Alloc.{cache_of, checked_of, lists_of, node_of, own_free, with_frozen, with_lists, with_node}
 use Rattle.slub_lists.specs.Checked.{with_checked}
+use Rattle.slub_lists.specs.Leaving.{FreesAll, FreesLost, KeepsHeld, LeavesSlabs}
 use Rattle.slub_lists.specs.Free.{discarded, inuse_of, is_spare, moved_all, with_partial, without_slab}
 
 -- ---- a current slab is put away (`deactivate_slab`)
@@ -105,10 +106,23 @@ is_slab_of cache (Some slab) = slab.cache == cache
 abbrev pub has_slab : State → ℕ → Bool
 has_slab s cache = nat_lt 0 (count_by (is_slab_of cache) s.slabs)
 
--- a live cache is shrunk, checked or not
-abbrev pub ShrinksCache : State → ℕ → State → Type 0
-ShrinksCache s cache after =
+-- how many objects of a cache are held, on the board or set aside
+abbrev pub busy_of : State → ℕ → ℕ
+busy_of s cache = slice_index_or s.live cache 0 + option_map_or aside_count (checked_of s cache) 0
+
+-- a live cache is shrunk by the steps of its kind
+abbrev pub ShrinksByKind : State → ℕ → State → Type 0
+ShrinksByKind s cache after =
     MatchOption (cache_of s cache) ⊥ (λ live. MatchOption (checked_of s cache) (ShrinksUnchecked s live.layout.min_partial cache after) (λ slabs. ShrinksChecked s cache slabs after))
+
+-- a live cache is shrunk: the steps, and what they leave
+pub record ShrinksCache (s : State) (cache : ℕ) (after : State) : Type 0 where
+  pub steps : ShrinksByKind s cache after
+  pub held : KeepsHeld s after
+  pub slabs : LeavesSlabs s cache after
+  pub pages : FreesLost s cache after
+  -- where nothing of the cache is held, on the board or set aside, no slab of it is left
+  pub emptied : busy_of s cache ≡ 0 → (has_slab after cache ≡ false) × FreesAll s cache after
 
 -- the answer is whether the cache still has a slab; where the name isn't live, nothing changes
 abbrev pub Shrinks : State → List ℕ → Result Bool NoSuchCache → State → Type 0

@@ -5,18 +5,10 @@ use Rattle.slub_common.specs.Times.{times}
 use Rattle.slub_lists.specs.State.{State}
 use Rattle.slub_lists.specs.Alloc.{checked_of, lists_of, no_lists, node_of}
 use Rattle.slub_lists.specs.Free.{inuse_of}
+use Rattle.slub_lists.specs.Leaving.{KeepsHeld}
 use Rattle.slub_lists.specs.Shrink.{all_free}
 
--- the live caches, the board and the counts are as before
-pub record KeepsHeld (old new : State) : Type 0 where
-  pub frames : new.frames ≡ old.frames
-  pub cpus : new.cpus ≡ old.cpus
-  pub table : new.table ≡ old.table
-  pub board : new.board ≡ old.board
-  pub gone : new.gone ≡ old.gone
-  pub live : new.live ≡ old.live
-
--- and so are the checked caches
+-- the live caches, the board, the counts and the checked caches are as before
 pub record KeepsChecked (old new : State) : Type 0 where
   pub held : KeepsHeld old new
   pub checked : new.checked ≡ old.checked

@@ -7,8 +7,8 @@ ghost use Rattle.slub_cache_create.specs.Table.{names_of, number_of};
 ghost use Rattle.slub_red_zone.specs.State.{aside_count};
 ghost use Rattle.slub_lists.specs.Alloc.{cache_of, checked_of};
 ghost use Rattle.slub_lists.specs.Coherent.{IsCoherent, IsShaped, KeepsMachine};
-ghost use Rattle.slub_lists.specs.Destroy.{Destroys, busy_of, without};
-ghost use Rattle.slub_lists.specs.Shrink.{has_slab};
+ghost use Rattle.slub_lists.specs.Destroy.{Destroys, without};
+ghost use Rattle.slub_lists.specs.Shrink.{busy_of, has_slab};
 
 use crate::lists::Lists;
 use slub_object_layout::name::Name;

@@ -3,6 +3,7 @@
 ghost use Rattle.std.specs.Prelude.{◌≡◌, ℕ, ◌+◌, ◌<◌, ◌++◌, ◌==◌, ◌∷◌, List, length, None, Some, MatchOption};
 ghost use Rattle.slub_lists.specs.Alloc.{checked_of, lists_of, no_lists, node_of, slab_of, with_node};
 ghost use Rattle.slub_lists.specs.Coherent.{IsCoherent, IsConsistent, times_current, times_partial};
+ghost use Rattle.slub_lists.specs.Leaving.{LeavesSlabs};
 ghost use Rattle.slub_lists.specs.Shrink.{flushed, flushed_below, put_away, put_where, taken_down};
 ghost use Rattle.slub_lists.specs.Shrinking.{KeepsChecked};
 ghost use Rattle.slub_lists.specs.Steps.{IsListable};
@@ -17,6 +18,7 @@ impl Lists {
         requires unchecked { checked_of self.old cache ≡ None }
         ensures flushed { self.new ≡ flushed_below self.old min_partial cache self.old.cpus }
         ensures bare { (cpu : ℕ) → cpu < self.new.cpus → lists_of self.new cache cpu ≡ no_lists }
+        ensures slabs { LeavesSlabs self.old cache self.new }
         ensures rest { KeepsChecked self.old self.new }
         ensures coherent { IsCoherent self.new }
     {
@@ -32,6 +34,7 @@ impl Lists {
         requires cpu { cpu < self.old.cpus }
         requires unchecked { checked_of self.old cache ≡ None }
         ensures flushed { self.new ≡ flushed min_partial cache self.old cpu }
+        ensures slabs { LeavesSlabs self.old cache self.new }
         ensures coherent { IsCoherent self.new }
     {
         self.put_away(cache, cpu, min_partial);

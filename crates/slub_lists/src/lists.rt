@@ -4,6 +4,7 @@ ghost use Rattle.std.specs.Prelude.{◌≡◌, ◌≤◌, [], length, replicate,
 ghost use Rattle.slub_page_pool.specs.FreeFrames as pool;
 ghost use Rattle.slub_lists.specs.Alloc.{no_lists};
 ghost use Rattle.slub_lists.specs.Coherent.{IsCoherent, all_on_board, opening};
+ghost use Rattle.slub_lists.specs.Shrink.{is_slab_of};
 
 use crate::front_list::FrontList;
 use crate::node::Node;
@@ -44,6 +45,16 @@ pub struct Slab {
     /// It belongs to one CPU: other CPUs put objects on its freelist, and take none. A slab of a
     /// checked cache never does.
     pub frozen: bool,
+}
+
+/// Whether this is a live slab of the cache.
+pub fn is_slab_of(slab: &Option<Slab>, cache: u8) -> bool
+    ensures { result ≡ is_slab_of cache slab.now }
+{
+    match slab {
+        Some(slab) => slab.cache == cache,
+        None => false,
+    }
 }
 
 /// A run of 2^order frames for a slab, and how many objects the slab has.

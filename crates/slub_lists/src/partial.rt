@@ -5,6 +5,7 @@ ghost use Rattle.slub_common.specs.Times.{times};
 ghost use Rattle.slub_lists.specs.Alloc.{lists_of, node_of, own_free, slab_of, with_node};
 ghost use Rattle.slub_lists.specs.Coherent.{IsConsistent, times_current};
 ghost use Rattle.slub_lists.specs.Free.{drained, moved, moved_all, put_partial, trimmed, with_partial, without_slab};
+ghost use Rattle.slub_lists.specs.Leaving.{LeavesSlabs};
 ghost use Rattle.slub_lists.specs.Steps.{IsListable, MovesFront};
 
 use crate::lists::Lists;
@@ -46,6 +47,7 @@ impl Lists {
         requires cache { cache < 32 }
         requires cpu { cpu < self.old.cpus }
         ensures moved { self.new ≡ moved_all (with_partial self.old cache cpu []) min_partial cache (lists_of self.old cache cpu).partial }
+        ensures slabs { LeavesSlabs self.old cache self.new }
         ensures consistent { IsConsistent self.new }
     {
         while self.move_front(cache, cpu, min_partial) {}

@@ -4,18 +4,21 @@ ghost use Rattle.std.specs.Prelude.{◌≡◌, ℕ, ◌<◌, ◌==◌, false, le
 ghost use Rattle.slub_common.specs.Times.{times};
 ghost use Rattle.slub_lists.specs.Alloc.{cache_of, checked_of, lists_of, no_lists, node_of};
 ghost use Rattle.slub_lists.specs.Coherent.{IsCoherent, IsConsistent, KeepsMachine};
-ghost use Rattle.slub_lists.specs.Destroy.{busy_of};
 ghost use Rattle.slub_lists.specs.Free.{inuse_of};
-ghost use Rattle.slub_lists.specs.Shrink.{Promotes, Shrinks, ShrinksCache, ShrinksUnchecked, has_slab, is_slab_of, swept, swept_slab};
-ghost use Rattle.slub_lists.specs.Shrinking.{IsSwept, KeepsChecked, KeepsHeld};
+ghost use Rattle.slub_lists.specs.Leaving.{LeavesSlabs};
+ghost use Rattle.slub_lists.specs.Shrink.{Promotes, Shrinks, ShrinksCache, ShrinksUnchecked, busy_of, has_slab, swept, swept_slab};
+ghost use Rattle.slub_lists.specs.Shrinking.{IsSwept, KeepsChecked};
 
-use crate::lists::{Lists, Slab};
+use crate::lists::{Lists, is_slab_of};
 use slub_cache_create::caches::NoSuchCache;
 use slub_object_layout::name::Name;
 
 impl Lists {
     /// Shrinks a cache: takes what its CPUs have to the node list, gives the pages of its unused slabs
     /// back and puts the others in order. The answer is whether the cache still has a slab.
+    ///
+    /// The frames of the slabs that went are free, and no other frame came free. Where no object of the
+    /// cache is held, on the board or set aside, no slab is left.
     ///
     /// It stands between rounds: no worker holds an object, and none knows a freed one.
     pub fn shrink(&mut self, name: &Name) -> Result<bool, NoSuchCache>
@@ -32,13 +35,11 @@ impl Lists {
         Ok(self.has_slab(cache))
     }
 
-    /// Shrinks a live cache, checked or not. Where nothing of it is held or set aside, no slab is left.
+    /// Shrinks a live cache, checked or not.
     pub(crate) fn shrink_cache(&mut self, cache: u8)
         requires coherent { IsCoherent self.old }
         requires live { IsSome (cache_of self.old cache) }
         ensures shrinks { ShrinksCache self.old cache self.new }
-        ensures emptied { busy_of self.old cache ≡ 0 → has_slab self.new cache ≡ false }
-        ensures kept { KeepsHeld self.old self.new }
         ensures coherent { IsCoherent self.new }
     {
         if self.checked[cache as usize].is_some() {
@@ -64,6 +65,7 @@ impl Lists {
         requires unchecked { checked_of self.old cache ≡ None }
         ensures shrinks { ShrinksUnchecked self.old min_partial cache self.new }
         ensures emptied { busy_of self.old cache ≡ 0 → has_slab self.new cache ≡ false }
+        ensures slabs { LeavesSlabs self.old cache self.new }
         ensures rest { KeepsChecked self.old self.new }
         ensures coherent { IsCoherent self.new }
     {
@@ -79,6 +81,7 @@ impl Lists {
         ensures swept { self.new ≡ swept self.old cache }
         ensures used { (frame : ℕ) → 0 < times frame (node_of self.new cache) → 0 < inuse_of self.new frame }
         ensures lists { self.new.cpu_lists ≡ self.old.cpu_lists }
+        ensures slabs { LeavesSlabs self.old cache self.new }
         ensures rest { KeepsChecked self.old self.new }
         ensures coherent { IsCoherent self.new }
     {
@@ -125,15 +128,5 @@ impl Lists {
         ensures coherent { IsCoherent self.new }
     {
         self.nodes[cache as usize].promote(self.frees.as_slice());
-    }
-}
-
-/// A live slab of the cache.
-fn is_slab_of(slab: &Option<Slab>, cache: u8) -> bool
-    ensures { result ≡ is_slab_of cache slab.now }
-{
-    match slab {
-        Some(slab) => slab.cache == cache,
-        None => false,
     }
 }

@@ -4,9 +4,9 @@ ghost use Rattle.std.specs.Prelude.{◌≡◌, ℕ, ◌<◌, ◌≤◌, false, l
 ghost use Rattle.slub_common.specs.Times.{times};
 ghost use Rattle.slub_lists.specs.Alloc.{checked_of};
 ghost use Rattle.slub_lists.specs.Coherent.{IsCoherent};
-ghost use Rattle.slub_lists.specs.Destroy.{busy_of};
-ghost use Rattle.slub_lists.specs.Shrink.{PromotesChecked, ShrinksChecked, has_slab, swept_checked, swept_checked_slab};
-ghost use Rattle.slub_lists.specs.Shrinking.{KeepsHeld, all_free_in, listed_of};
+ghost use Rattle.slub_lists.specs.Leaving.{KeepsHeld, LeavesSlabs};
+ghost use Rattle.slub_lists.specs.Shrink.{PromotesChecked, ShrinksChecked, busy_of, has_slab, swept_checked, swept_checked_slab};
+ghost use Rattle.slub_lists.specs.Shrinking.{all_free_in, listed_of};
 
 use crate::lists::Lists;
 
@@ -17,6 +17,7 @@ impl Lists {
         requires checked { IsSome (checked_of self.old cache) }
         ensures shrinks { MatchOption (checked_of self.old cache) ⊥ (λ slabs. ShrinksChecked self.old cache slabs self.new) }
         ensures emptied { busy_of self.old cache ≡ 0 → has_slab self.new cache ≡ false }
+        ensures slabs { LeavesSlabs self.old cache self.new }
         ensures kept { KeepsHeld self.old self.new }
         ensures coherent { IsCoherent self.new }
     {
@@ -32,6 +33,7 @@ impl Lists {
         ensures used { (frame : ℕ) → 0 < times frame (listed_of self.new cache) → all_free_in self.new cache frame ≡ false }
         ensures checked { IsSome (checked_of self.new cache) }
         ensures busy { busy_of self.new cache ≤ busy_of self.old cache }
+        ensures slabs { LeavesSlabs self.old cache self.new }
         ensures kept { KeepsHeld self.old self.new }
         ensures coherent { IsCoherent self.new }
     {

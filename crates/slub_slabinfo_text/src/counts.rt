@@ -9,7 +9,7 @@ ghost use Rattle.slub_lists.specs.Shrink.{is_slab_of};
 ghost use Rattle.slub_slabinfo_text.specs.Counts.{aside_of, counts_of, free_in, free_of, is_frozen_of, listed_free, loose_of, node_free_of, objects_in, row_of, rows_of};
 
 use slub_common::no_memory::NoMemory;
-use slub_lists::lists::{CpuLists, FreeList, Lists, Slab};
+use slub_lists::lists::{CpuLists, FreeList, Lists, Slab, is_slab_of};
 use slub_object_layout::layout::Layout;
 use slub_object_layout::name::Name;
 use slub_red_zone::checked::CheckedSlabs;
@@ -236,15 +236,6 @@ fn frozen(slabs: &[Option<Slab>], cache: u8) -> u64
         .iter()
         .filter(|slab| is_frozen_of(slab, cache))
         .count() as u64
-}
-
-fn is_slab_of(slab: &Option<Slab>, cache: u8) -> bool
-    ensures { result ≡ is_slab_of cache slab.now }
-{
-    match slab {
-        Some(slab) => slab.cache == cache,
-        None => false,
-    }
 }
 
 fn is_frozen_of(slab: &Option<Slab>, cache: u8) -> bool

@@ -6,6 +6,7 @@ use Rattle.slub_lists.specs.State.{State}
 use Rattle.slub_lists.specs.Alloc.{lists_of, no_lists}
 use Rattle.slub_lists.specs.Shrink.{flushed}
 use Rattle.slub_lists.specs.Shrinking.{KeepsChecked}
+use Rattle.slub_lists.proofs.Leaving.{leaves-both, leaves-same}
 use Rattle.slub_lists.proofs.Flushing.{flushed-bare, flushed-others, fold-next, rest-both, rest-flushed}
 use Rattle.slub_lists.proofs.lists.Lists.flush_all.Goals as goal
 
@@ -16,6 +17,7 @@ loop-cpu-init c = record {
       let whole : s.cpus - 0 ≡ s.cpus = omega arith in
       ap (λ n. fold (flushed c.args.min_partial c.args.cache) s (range_with_len 0 n)) whole;
   bare = λ cpu below. absurd (omega arith);
+  slabs = leaves-same c.args.self.now c.args.self.now c.args.cache refl;
   rest = record { held = record { frames = refl; cpus = refl; table = refl; board = refl; gone = refl; live = refl }; checked = refl };
   coherent = c.requires.coherent;
 }
@@ -52,6 +54,7 @@ loop-cpu-preserved c =
             | inl e ↦ subst (λ n. lists_of (flushed c.args.min_partial c.args.cache s c.loop-cpu.cpu) c.args.cache n ≡ no_lists) (sym e) (flushed-bare s c.args.min_partial c.args.cache c.loop-cpu.cpu shaped c.requires.cache cpu_within)
             | inr ne ↦ flushed-others s c.args.min_partial c.args.cache c.loop-cpu.cpu shaped c.requires.cache cpu_within other ne (c.loop-cpu.invariant.bare other (omega arith))
           ];
+      slabs = leaves-both c.args.self.now s c.flush.new.self c.args.cache c.loop-cpu.invariant.slabs c.flush.ensures.slabs;
       rest = rest-both c.args.self.now s c.flush.new.self c.loop-cpu.invariant.rest
           (subst (λ (t : State). KeepsChecked s t) (sym c.flush.ensures.flushed) (rest-flushed c.args.min_partial c.args.cache s c.loop-cpu.cpu));
       coherent = c.flush.ensures.coherent;

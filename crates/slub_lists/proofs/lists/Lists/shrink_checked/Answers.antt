@@ -4,7 +4,8 @@ use Rattle.slub_lists.specs.State.{State}
 use Rattle.slub_lists.specs.Alloc.{checked_of}
 use Rattle.slub_lists.specs.Shrink.{PromotesChecked, ShrinksChecked, swept_checked}
 use Rattle.slub_lists.proofs.CheckedSlabs.{at_match}
-use Rattle.slub_lists.proofs.SweepingChecked.{checked-emptied, held-both, ordered-busy, ordered-checked, ordered-held, ordered-in-use, the-checked}
+use Rattle.slub_lists.proofs.Leaving.{leaves-both, leaves-same}
+use Rattle.slub_lists.proofs.SweepingChecked.{checked-emptied, held-both, ordered-busy, ordered-checked, ordered-held, ordered-in-use, ordered-slabs, the-checked}
 use Rattle.slub_lists.proofs.lists.Lists.shrink_checked.Goals as goal
 
 pub returns-clause-shrinks : goal.returns-clause-shrinks
@@ -33,3 +34,10 @@ returns-clause-kept c =
     let own = the-checked (checked_of s c.args.cache) c.sweep_checked.ensures.checked in
     held-both c.args.self.now s c.promote_checked.new.self c.sweep_checked.ensures.kept
     (ordered-held s c.promote_checked.new.self c.args.cache own.0 c.sweep_checked.ensures.coherent own.1 c.promote_checked.ensures.promotes)
+
+pub returns-clause-slabs : goal.returns-clause-slabs
+returns-clause-slabs c =
+    let s : State = c.sweep_checked.new.self in
+    let own = the-checked (checked_of s c.args.cache) c.sweep_checked.ensures.checked in
+    leaves-both c.args.self.now s c.promote_checked.new.self c.args.cache c.sweep_checked.ensures.slabs
+    (leaves-same s c.promote_checked.new.self c.args.cache (ordered-slabs s c.promote_checked.new.self c.args.cache own.0 c.sweep_checked.ensures.coherent own.1 c.promote_checked.ensures.promotes))

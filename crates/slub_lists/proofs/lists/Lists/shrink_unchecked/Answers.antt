@@ -1,12 +1,14 @@
-use Rattle.std.proofs.Common.{◌≡◌, ℕ, ◌*◌, ◌+◌, List, Option, None, get_or, ap, sym, ◌∙◌, subst, arith}
+use Rattle.std.proofs.Common.{◌≡◌, ℕ, ◌*◌, ◌+◌, List, Option, None, get_or, refl, ap, sym, ◌∙◌, subst, arith}
 use Rattle.slub_lists.specs.declared.lists.CpuLists.{CpuLists}
 use Rattle.slub_lists.specs.State.{State}
-use Rattle.slub_lists.specs.Alloc.{checked_of, no_lists}
+use Rattle.slub_lists.specs.Alloc.{checked_of, no_lists, with_node}
+use Rattle.slub_lists.specs.Leaving.{LeavesSlabs}
 use Rattle.slub_lists.specs.Shrink.{Promotes, swept}
 use Rattle.slub_lists.specs.Shrinking.{IsSwept, KeepsChecked}
 use Rattle.slub_red_zone.specs.State.{CheckedState}
 use Rattle.slub_lists.proofs.Emptied.{unchecked-emptied}
 use Rattle.slub_lists.proofs.Flushing.{rest-both, rest-with_node}
+use Rattle.slub_lists.proofs.Leaving.{leaves-both, leaves-same}
 use Rattle.slub_lists.proofs.Sweeping.{promoted-swept}
 use Rattle.slub_lists.proofs.lists.Lists.shrink_unchecked.Goals as goal
 
@@ -44,3 +46,12 @@ returns-clause-emptied c = λ busy.
     let unchecked : checked_of t c.args.cache ≡ None = ap (λ (xs : List (Option CheckedState)). get_or xs c.args.cache None) rest.checked ∙ c.requires.unchecked in
     let live : get_or t.live c.args.cache 0 ≡ 0 = ap (λ (xs : List ℕ). get_or xs c.args.cache 0) rest.held.live ∙ omega (arith, busy) in
     unchecked-emptied t c.args.cache c.promote.ensures.coherent unchecked (swept-now c) live
+
+pub returns-clause-slabs : goal.returns-clause-slabs
+returns-clause-slabs c =
+    let s : State = c.args.self.now in
+    let t : State = c.sweep.new.self in
+    let cache = c.args.cache in
+    let promoted = c.promote.ensures.promotes in
+    leaves-both s t c.promote.new.self cache (leaves-both s c.flush_all.new.self t cache c.flush_all.ensures.slabs c.sweep.ensures.slabs)
+    (subst (λ (u : State). LeavesSlabs t cache u) (sym promoted.2) (leaves-same t (with_node t cache promoted.0) cache refl))

@@ -4,10 +4,12 @@ use Rattle.slub_lists.specs.State.{State}
 use Rattle.slub_lists.specs.Alloc.{node_of}
 use Rattle.slub_lists.specs.Coherent.{IsConsistent}
 use Rattle.slub_lists.specs.Free.{inuse_of}
+use Rattle.slub_lists.specs.Leaving.{LeavesSlabs}
 use Rattle.slub_lists.specs.Shrink.{swept, swept_slab}
 use Rattle.slub_lists.specs.Shrinking.{KeepsChecked}
 use Rattle.slub_lists.proofs.Kept.{consistent-of}
 use Rattle.slub_lists.proofs.Flushing.{rest-both}
+use Rattle.slub_lists.proofs.Leaving.{leaves-both, leaves-same, leaves-swept}
 use Rattle.slub_lists.proofs.Sweeping.{AreUsed, at-there, drop-past, take-past, gone, gone-next, gone-rest, gone-shorter, gone-used, goes-slab}
 use Rattle.slub_lists.proofs.lists.Lists.sweep.Goals as goal
 
@@ -16,6 +18,7 @@ loop-frame-init c = record {
   swept = refl;
   used = λ frame some. absurd (omega arith);
   lists = refl;
+  slabs = leaves-same c.args.self.now c.args.self.now c.args.cache refl;
   rest = record { held = record { frames = refl; cpus = refl; table = refl; board = refl; gone = refl; live = refl }; checked = refl };
   coherent = c.requires.coherent;
 }
@@ -61,6 +64,8 @@ loop-frame-preserved c =
       swept = ap (λ (t : State). fold (swept_slab cache) t (drop place (node_of t cache))) (new-is c) ∙ gone-next s cache place (consistent c) c.requires.cache below (swept c.args.self.now cache) (unused c) c.loop-frame.invariant.swept;
       used = subst (λ (t : State). AreUsed t (take place (node_of t cache))) (sym (new-is c)) (gone-used s cache place (consistent c) c.requires.cache below c.loop-frame.invariant.used);
       lists = ap (λ (t : State). t.cpu_lists) (new-is c) ∙ c.loop-frame.invariant.lists;
+      slabs = leaves-both c.args.self.now s c.sweep_slab.new.self cache c.loop-frame.invariant.slabs
+          (subst (λ (t : State). LeavesSlabs s cache t) (sym (new-is c)) (leaves-swept s cache (get_or (node_of s cache) place 0) (consistent c) (at-there s cache place (consistent c) c.requires.cache below)));
       rest = rest-both c.args.self.now s c.sweep_slab.new.self c.loop-frame.invariant.rest
           (subst (λ (t : State). KeepsChecked s t) (sym (new-is c)) (gone-rest s cache (get_or (node_of s cache) place 0)));
       coherent = c.sweep_slab.ensures.coherent;

@@ -1,6 +1,7 @@
 use Rattle.std.proofs.Common.{◌≡◌, ◌-◌, drop, fold, length, take}
 use Rattle.slub_lists.specs.Alloc.{node_of}
 use Rattle.slub_lists.specs.Coherent.{IsCoherent}
+use Rattle.slub_lists.specs.Leaving.{LeavesSlabs}
 use Rattle.slub_lists.specs.Shrink.{swept, swept_slab}
 use Rattle.slub_lists.specs.Shrinking.{KeepsChecked}
 use Rattle.slub_lists.proofs.Sweeping.{AreUsed}
@@ -12,6 +13,7 @@ invariant-loop-frame l = record {
   swept : fold (swept_slab l.cache) l.self (drop l.place (node_of l.self l.cache)) ≡ swept l.initial.self l.cache;
   used : AreUsed l.self (take l.place (node_of l.self l.cache));
   lists : l.self.cpu_lists ≡ l.initial.self.cpu_lists;
+  slabs : LeavesSlabs l.initial.self l.cache l.self;
   rest : KeepsChecked l.initial.self l.self;
   coherent : IsCoherent l.self;
 }

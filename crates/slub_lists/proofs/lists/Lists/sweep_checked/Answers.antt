@@ -3,11 +3,12 @@ use Rattle.slub_common.specs.Times.{times}
 use Rattle.slub_red_zone.specs.State.{CheckedState}
 use Rattle.slub_lists.specs.State.{State}
 use Rattle.slub_lists.specs.Alloc.{checked_of}
-use Rattle.slub_lists.specs.Destroy.{busy_of}
-use Rattle.slub_lists.specs.Shrink.{swept_checked, swept_checked_slab}
-use Rattle.slub_lists.specs.Shrinking.{KeepsHeld, all_free_in, listed_of}
+use Rattle.slub_lists.specs.Leaving.{KeepsHeld, LeavesSlabs}
+use Rattle.slub_lists.specs.Shrink.{busy_of, swept_checked, swept_checked_slab}
+use Rattle.slub_lists.specs.Shrinking.{all_free_in, listed_of}
+use Rattle.slub_lists.proofs.Leaving.{leaves-both, leaves-same, leaves-swept-checked}
 use Rattle.slub_lists.proofs.Sweeping.{drop-past, take-past}
-use Rattle.slub_lists.proofs.SweepingChecked.{AreInUse, at-goes, at-stays, held-both, left-busy, left-in-use, left-next, left-shorter, left-state, left-was, listed-is, listed-there, stays-in-use, stays-next-listed, swept_checked-held, the-checked}
+use Rattle.slub_lists.proofs.SweepingChecked.{AreInUse, at-goes, at-stays, held-both, left, left-busy, left-in-use, left-next, left-shorter, left-state, left-was, listed-is, listed-there, stays-in-use, stays-next-listed, swept_checked-held, the-checked}
 use Rattle.slub_lists.proofs.lists.Lists.sweep_checked.Goals as goal
 
 pub loop-frame-init : goal.loop-frame-init
@@ -16,6 +17,7 @@ loop-frame-init c = record {
   used = λ frame some. absurd (omega arith);
   checked = c.requires.checked;
   busy = omega arith;
+  slabs = leaves-same c.args.self.now c.args.self.now c.args.cache refl;
   kept = record { frames = refl; cpus = refl; table = refl; board = refl; gone = refl; live = refl };
   coherent = c.requires.coherent;
 }
@@ -66,6 +68,9 @@ loop-frame-preserved c =
       used = subst (λ (t : State). AreInUse t cache (take place (listed_of t cache))) is (left-in-use s cache place (own c).0 coherent (own c).1 below c.loop-frame.invariant.used);
       checked = subst (λ (t : State). IsSome (checked_of t cache)) is (ap is_some (left-was s cache place (own c).0 coherent (own c).1 below));
       busy = omega (arith, ap (λ (t : State). busy_of t cache) (new-is c), left-busy s cache place (own c).0 coherent (own c).1 below, c.loop-frame.invariant.busy);
+      slabs = leaves-both c.args.self.now s c.sweep_checked_slab.new.self cache c.loop-frame.invariant.slabs
+          (subst (λ (t : State). LeavesSlabs s cache t) is
+          (leaves-swept-checked s cache (get_or (listed_of s cache) place 0) (own c).0 (left s cache place (own c).0 coherent (own c).1 below) coherent (own c).1 (listed-there s cache place (own c).0 coherent (own c).1 below)));
       kept = held-both c.args.self.now s c.sweep_checked_slab.new.self c.loop-frame.invariant.kept
           (subst (λ (t : State). KeepsHeld s t) (sym c.sweep_checked_slab.ensures.swept) (swept_checked-held s cache c.in-Some.frame));
       coherent = c.sweep_checked_slab.ensures.coherent;
@@ -104,6 +109,7 @@ loop-frame-preserved-then-not-sweep_checked_slab c =
       used = subst (λ (t : State). AreInUse t cache (take (place + 1) (listed_of t cache))) is (stays-in-use s cache place own.0 coherent own.1 below used c.loop-frame.invariant.used);
       checked = subst (λ (t : State). IsSome (checked_of t cache)) is c.loop-frame.invariant.checked;
       busy = omega (arith, ap (λ (t : State). busy_of t cache) same, c.loop-frame.invariant.busy);
+      slabs = subst (λ (t : State). LeavesSlabs c.args.self.now cache t) is c.loop-frame.invariant.slabs;
       kept = subst (λ (t : State). KeepsHeld c.args.self.now t) is c.loop-frame.invariant.kept;
       coherent = c.sweep_checked_slab.ensures.coherent;
     }

@@ -1,9 +1,9 @@
 use Rattle.std.proofs.Common.{◌≡◌, ◌≤◌, ◌-◌, IsSome, drop, fold, length, take}
 use Rattle.slub_lists.specs.Alloc.{checked_of}
 use Rattle.slub_lists.specs.Coherent.{IsCoherent}
-use Rattle.slub_lists.specs.Destroy.{busy_of}
-use Rattle.slub_lists.specs.Shrink.{swept_checked_slab}
-use Rattle.slub_lists.specs.Shrinking.{KeepsHeld, listed_of}
+use Rattle.slub_lists.specs.Leaving.{KeepsHeld, LeavesSlabs}
+use Rattle.slub_lists.specs.Shrink.{busy_of, swept_checked_slab}
+use Rattle.slub_lists.specs.Shrinking.{listed_of}
 use Rattle.slub_lists.proofs.SweepingChecked.{AreInUse}
 use Rattle.slub_lists.proofs.lists.Lists.sweep_checked.Given as goal
 
@@ -14,6 +14,7 @@ invariant-loop-frame l = record {
   used : AreInUse l.self l.cache (take l.place (listed_of l.self l.cache));
   checked : IsSome (checked_of l.self l.cache);
   busy : busy_of l.self l.cache ≤ busy_of l.initial.self l.cache;
+  slabs : LeavesSlabs l.initial.self l.cache l.self;
   kept : KeepsHeld l.initial.self l.self;
   coherent : IsCoherent l.self;
 }

@@ -6,7 +6,7 @@ use Rattle.std.proofs.lemmas.Bool.{false≢true, cases_lt}
 use Rattle.std.specs.Io.KnownBytes.{Appends}
 use Rattle.std.proofs.KnownBytes.{Appends-nil, Appends-trans}
 use Rattle.slub_edges.specs.Edges.{Rose, AppendsFront}
-use Rattle.slub_edges.proofs.Told.{AppendsFront-after, AppendsFront-then, AppendsFront-none, AppendsFront-past, AppendsFront-whole}
+use Rattle.slub_edges.proofs.Told.{AppendsFront-after, AppendsFront-then, AppendsFront-none, AppendsFront-past}
 use Rattle.slub_object_layout.specs.declared.layout.Layout.{Layout as SlabLayout}
 use Rattle.slub_object_layout.specs.declared.layout.LayoutRefusal.{LayoutRefusal}
 use Rattle.slub_object_layout.specs.declared.layout.Spec.{Spec}
@@ -109,6 +109,18 @@ rose_from : (a b c : ℕ) → a ≤ b → Rose b c → Rose a c
 rose_from a b c before (inl rose) = inl (omega arith)
 rose_from a b c before (inr greatest) = inr greatest
 
+-- ---- the status of a stop
+
+-- only a write fault ends as one
+only_write_fault : (e : Stop) → stop_status e ≡ WriteFault → e ≡ stop.WriteFault
+only_write_fault stop.BadWords h = cc
+only_write_fault (stop.BadLine text) h = cc
+only_write_fault stop.NotBuilt h = cc
+only_write_fault stop.TooLong h = cc
+only_write_fault stop.ReadFault h = cc
+only_write_fault stop.WriteFault h = refl
+only_write_fault stop.NoMemory h = cc
+
 -- ---- at the end of the work, and at the end of the run
 module _ (words : List (List ℕ)) (told left old mid new : Option (List ℕ)) (read write after : ℕ × ℕ) (trace : Option Trace) (j : Journal) where
   abbrev pub worked : Call
@@ -206,19 +218,25 @@ module _ (words : List (List ℕ)) (told left old mid new : Option (List ℕ)) (
   stop_cause (Some (Layout spec cpus)) stop.NoMemory apart h = (tt, h.1)
   stop_cause (Some (Load m events workers)) e apart h = absurd h
 
+  -- the write of a stop's line failed
   cut_line : (asked : Option Command) (e : Stop) → stop_status e ≢ WriteFault → IsAsked words asked → Works worked asked old mid trace j (Err e) → AppendsFront mid new 0 (stop_line e) → TookFront ran old new trace j
   cut_line asked e named is works wrote =
       let p = stop_text asked e named works in
       (asked, is, inr (stop_status e, p.0, stop_line e, stop_cause asked e named works, p.1, stop_has_line asked e named works, AppendsFront-past old new (length p.0) _ (p.0 ++ stop_line e) (omega arith) (AppendsFront-after old mid new 0 p.0 (stop_line e) p.2 wrote)))
 
-  cut : (e : Stop) → Worked worked old mid trace j (Err e) → AppendsFront mid new 0 (stop_line e) → TookFront ran old new trace j
-  cut stop.WriteFault (None, is, works) wrote = absurd works.0
-  cut stop.WriteFault (Some (Replay how seed replies), is, works) wrote =
-      (Some (Replay how seed replies), is, inl (works.0.0, AppendsFront-then old mid new (last_in replies trace j) (text_in replies trace j) works.1 (AppendsFront-none mid new wrote)))
-  cut stop.WriteFault (Some (Layout spec cpus), is, works) wrote =
+  -- a write of the text failed, and nothing was taken after it
+  cut_text : (asked : Option Command) → IsAsked words asked → Works worked asked old mid trace j (Err stop.WriteFault) → Appends mid new [] → TookFront ran old new trace j
+  cut_text None is works none = absurd works.0
+  cut_text (Some (Replay how seed replies)) is works none =
+      (Some (Replay how seed replies), is, inl (works.0.0, AppendsFront-then old mid new (last_in replies trace j) (text_in replies trace j) works.1 none))
+  cut_text (Some (Layout spec cpus)) is works none =
       let p = works.0 in
-      (Some (Layout spec cpus), is, inl (p.0, p.1, AppendsFront-then old mid new 0 (layout_lines p.0) p.3 (AppendsFront-none mid new wrote)))
-  cut stop.WriteFault (Some (Load m events workers), is, works) wrote = absurd works
+      (Some (Layout spec cpus), is, inl (p.0, p.1, AppendsFront-then old mid new 0 (layout_lines p.0) p.3 none))
+  cut_text (Some (Load m events workers)) is works none = absurd works
+
+  -- the line of a stop was cut; a write fault has none
+  cut : (e : Stop) → Worked worked old mid trace j (Err e) → AppendsFront mid new 0 (stop_line e) → TookFront ran old new trace j
+  cut stop.WriteFault (asked, is, works) wrote = absurd (AppendsFront-none mid new 0 wrote)
   cut stop.BadWords (asked, is, works) wrote = cut_line asked stop.BadWords (λ h. cc) is works wrote
   cut (stop.BadLine text) (asked, is, works) wrote = cut_line asked (stop.BadLine text) (λ h. cc) is works wrote
   cut stop.NotBuilt (asked, is, works) wrote = cut_line asked stop.NotBuilt (λ h. cc) is works wrote
@@ -232,7 +250,9 @@ module _ (words : List (List ℕ)) (told left old mid new : Option (List ℕ)) (
       absurd (done_apart (list_any lacks_memory j.items) (list_any has_refused j.items) (sym (ends.0 ∙ works.0.1) ∙ is))
   run_prefix (Ok done) status (Some (Layout spec cpus), asked, works) ends is = let p = works.0 in absurd (answer_apart p.0 (sym (ends.0 ∙ p.2) ∙ is))
   run_prefix (Ok done) status (Some (Load m events workers), asked, works) ends is = absurd works
-  run_prefix (Err e) status w (inl (same, wrote)) is = cut e w (AppendsFront-whole mid new (stop_line e) wrote)
+  run_prefix (Err e) status (asked, named, works) (inl (same, wrote)) is =
+      let fault = only_write_fault e (sym same ∙ is) in
+      cut_text asked named (subst (λ s. Works worked asked old mid trace j (Err s)) fault works) (subst (λ s. Appends mid new (stop_line s)) fault wrote)
   run_prefix (Err e) status w (inr (same, rose, wrote)) is = cut e w wrote
 
   write_cause : (asked : Option Command) (e : Stop) → write.0 ≤ write.1 → write.1 ≤ after.1 → Works worked asked old mid trace j (Err e) → IsCauseOf ran asked trace j (stop_status e)

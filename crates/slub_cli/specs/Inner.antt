@@ -30,12 +30,12 @@ abbrev pub GrowsText : Bool → Option (List ℕ) → Option (List ℕ) → Trac
 GrowsText replies old new trace before after =
     (start : Option (List ℕ)) → Appends start old (text_of replies trace before) → Appends start new (text_of replies trace after)
 
--- the same up to a front of the last entry
+-- the same up to a front of the last entry, which isn't the whole
 abbrev pub GrowsFront : Bool → Option (List ℕ) → Option (List ℕ) → Trace → Journal → Journal → Type 0
 GrowsFront replies old new trace before after =
     (start : Option (List ℕ)) → Appends start old (text_of replies trace before) → AppendsFront start new (last_begins replies trace after) (text_of replies trace after)
 
--- what the sink tells after doing stopped: at a write fault a front of the last entry
+-- what the sink tells after doing stopped: at a write fault a front of the last entry, which isn't the whole
 abbrev pub TellsStopped : Bool → Option (List ℕ) → Option (List ℕ) → Trace → Journal → Journal → Stop → Type 0
 TellsStopped replies old new trace before after WriteFault = GrowsFront replies old new trace before after
 TellsStopped replies old new trace before after BadWords = GrowsText replies old new trace before after
@@ -50,7 +50,7 @@ abbrev pub Tells : {A : Type 0} → Bool → Option (List ℕ) → Option (List 
 Tells replies old new trace before after (Ok x) = GrowsText replies old new trace before after
 Tells replies old new trace before after (Err stop) = TellsStopped replies old new trace before after stop
 
--- the text of what was done was taken, or at a write fault a front of it
+-- the text of what was done was taken, or at a write fault a front of it, past where the last entry's text begins and not the whole
 abbrev pub TookText : {A : Type 0} → Bool → Option (List ℕ) → Option (List ℕ) → Option Trace → Journal → Result A Stop → Type 0
 TookText replies old new trace journal (Ok x) = Appends old new (text_in replies trace journal)
 TookText replies old new trace journal (Err WriteFault) = AppendsFront old new (last_in replies trace journal) (text_in replies trace journal)
@@ -148,7 +148,7 @@ abbrev pub ReadsBuilt : Option (List ℕ) → Option (List ℕ) → ℕ × ℕ �
 ReadsBuilt told left read (Ok trace) = IsAtEnd left × Spells told trace × IsBuilt trace
 ReadsBuilt told left read (Err stop) = IsReadStop told left read stop
 
--- a layout was printed, or its refusal; at a write fault a front of it was
+-- a layout was printed, or its refusal; at a write fault a front of it was, and not the whole
 abbrev pub PrintsLayout : Option (List ℕ) → Option (List ℕ) → ℕ × ℕ → Spec → ℕ → Result Status Stop → Type 0
 PrintsLayout old new write spec cpus (Ok status) =
     (answer : Result SlabLayout LayoutRefusal) × IsLayoutAnswer spec cpus answer × (status ≡ answer_status answer) × Appends old new (layout_lines answer)
@@ -216,7 +216,7 @@ stop_status ReadFault = ends.ReadFault
 stop_status WriteFault = ends.WriteFault
 stop_status NoMemory = ends.NoMemory
 
--- the line of a stop was written, or a front of it
+-- the line of a stop was written, or a front of it that isn't the whole
 abbrev pub WroteLine : Option (List ℕ) → Option (List ℕ) → ℕ × ℕ → Stop → Status → Type 0
 WroteLine old new write stop status =
     ((status ≡ stop_status stop) × Appends old new (stop_line stop)) ⊎ ((status ≡ ends.WriteFault) × Rose write.0 write.1 × AppendsFront old new 0 (stop_line stop))

@@ -281,7 +281,7 @@ abbrev pub TookAll : Call → Option (List ℕ) → Option (List ℕ) → Option
 TookAll c old new trace journal status =
     (asked : Option Command) × (text line : List ℕ) × IsAsked c.words asked × IsTextOf asked trace journal status text × IsFaultLine c journal status line × Appends old new (text ++ line)
 
--- a replay's write failed: a front of the text was taken, past where the last entry's text begins
+-- a write of the text failed: a front of it was taken that isn't the whole, of a replay past where the last entry's text begins
 abbrev pub TookEntry : Option Command → Option (List ℕ) → Option (List ℕ) → Option Trace → Journal → Type 0
 TookEntry None old new trace journal = ⊥
 TookEntry (Some (Replay how seed replies)) old new trace journal =
@@ -290,13 +290,13 @@ TookEntry (Some (Layout spec cpus)) old new trace journal =
     (answer : Result SlabLayout LayoutRefusal) × IsLayoutAnswer spec cpus answer × AppendsFront old new 0 (layout_lines answer)
 TookEntry (Some (Load seed events workers)) old new trace journal = ⊥
 
--- the write of the line failed that was meant: the text was taken, and a front of the line
+-- the write of the line failed that was meant: the text was taken, and a front of the line that isn't the whole
 abbrev pub TookLine : Call → Option Command → Option (List ℕ) → Option (List ℕ) → Option Trace → Journal → Type 0
 TookLine c asked old new trace journal =
     (meant : Status) × (text line : List ℕ) × IsCauseOf c asked trace journal meant × IsTextOf asked trace journal meant text × IsFaultLine c journal meant line
     × AppendsFront old new (length text) (text ++ line)
 
--- a write failed: a front of the text was taken, or the text and a front of the line that was meant
+-- a write failed, and a byte is missing: a front of the text was taken, or the text and a front of the line that was meant
 abbrev pub TookFront : Call → Option (List ℕ) → Option (List ℕ) → Option Trace → Journal → Type 0
 TookFront c old new trace journal =
     (asked : Option Command) × IsAsked c.words asked × (TookEntry asked old new trace journal ⊎ TookLine c asked old new trace journal)

@@ -1,5 +1,5 @@
 -- Lemmas on told bytes and their fronts.
-use Rattle.std.proofs.Common.{◌≡◌, ℕ, ◌+◌, ◌-◌, ◌≤◌, List, [], ◌∷◌, ◌++◌, refl, sym, ap, ◌∙◌, append_assoc, append-nil, arith, length, take, drop, length-drop, length-append, zero-le}
+use Rattle.std.proofs.Common.{◌≡◌, ℕ, ◌+◌, ◌-◌, ◌≤◌, List, [], ◌++◌, sym, ap, ◌∙◌, append_assoc, append-nil, arith, length, take, drop, length-drop, length-append, zero-le}
 use Rattle.std.proofs.lemmas.List.{take_at, drop-drop, take-append-drop, length-take-le, take_rest}
 use Rattle.std.specs.Prelude.{Option, Some, None, IfSome, ◌<◌}
 use Rattle.std.specs.Io.KnownBytes.{Appends, Consumes, IsAtEnd}
@@ -15,12 +15,13 @@ read_at xs back front at n fits is =
 
 -- all of a text, and then a front of more
 pub AppendsFront-after : (a b c : Option (List ℕ)) (n : ℕ) (xs ys : List ℕ) → Appends a b xs → AppendsFront b c n ys → AppendsFront a c (length xs + n) (xs ++ ys)
-AppendsFront-after a b c n xs ys p (front, rest, is, long, q) =
-    (xs ++ front, rest, ap (λ l. xs ++ l) is ∙ sym (append_assoc xs front rest), omega (arith, length-append xs front), Appends-trans a b c xs front p q)
+AppendsFront-after a b c n xs ys p (front, rest, is, long, some, q) =
+    (xs ++ front, rest, ap (λ l. xs ++ l) is ∙ sym (append_assoc xs front rest), omega (arith, length-append xs front), some, Appends-trans a b c xs front p q)
 
 -- a front of a text is a front of the text and more
 pub AppendsFront-longer : (a b : Option (List ℕ)) (n : ℕ) (xs ys : List ℕ) → AppendsFront a b n xs → AppendsFront a b n (xs ++ ys)
-AppendsFront-longer a b n xs ys (front, rest, is, long, q) = (front, rest ++ ys, ap (λ l. l ++ ys) is ∙ append_assoc front rest ys, long, q)
+AppendsFront-longer a b n xs ys (front, rest, is, long, some, q) =
+    (front, rest ++ ys, ap (λ l. l ++ ys) is ∙ append_assoc front rest ys, long, omega (arith, length-append rest ys), q)
 
 -- n more of the rest are done
 pub front_moves : (all done rest : List ℕ) (n : ℕ) → all ≡ done ++ rest → all ≡ (done ++ take n rest) ++ take (length rest - n) (drop n rest)
@@ -29,11 +30,12 @@ front_moves all done rest n e =
 
 -- all that is done, and then a front of the next piece
 pub AppendsFront-within : (a b c : Option (List ℕ)) (all done piece after : List ℕ) → all ≡ done ++ (piece ++ after) → Appends a b done → AppendsFront b c 0 piece → AppendsFront a c 0 all
-AppendsFront-within a b c all done piece after e p (front, rest, is, long, q) = (
+AppendsFront-within a b c all done piece after e p (front, rest, is, long, some, q) = (
   done ++ front,
   rest ++ after,
   e ∙ ap (λ l. done ++ (l ++ after)) is ∙ ap (λ l. done ++ l) (append_assoc front rest after) ∙ sym (append_assoc done front (rest ++ after)),
   zero-le,
+  omega (arith, length-append rest after),
   Appends-trans a b c done front p q,
 )
 
@@ -47,24 +49,15 @@ piece_done all done rest piece after e p = e ∙ ap (λ l. done ++ l) p ∙ sym 
 
 -- a front, and then nothing more
 pub AppendsFront-then : (a b c : Option (List ℕ)) (n : ℕ) (xs : List ℕ) → AppendsFront a b n xs → Appends b c [] → AppendsFront a c n xs
-AppendsFront-then a b c n xs (front, rest, is, long, q) none = (front, rest, is, long, (let p = Appends-trans a b c front [] q none in rw append-nil at p))
+AppendsFront-then a b c n xs (front, rest, is, long, some, q) none = (front, rest, is, long, some, (let p = Appends-trans a b c front [] q none in rw append-nil at p))
 
--- a front of nothing has no byte
-no_front : (front rest : List ℕ) → [] ≡ front ++ rest → front ≡ []
-no_front [] rest is = refl
-no_front (x ∷ front) rest is = cc
-
--- a sink that took a front of nothing took nothing
-pub AppendsFront-none : (a b : Option (List ℕ)) → AppendsFront a b 0 [] → Appends a b []
-AppendsFront-none a b (front, rest, is, long, q) = let e = no_front front rest is in rw e at q
+-- every front of nothing is the whole
+pub AppendsFront-none : (a b : Option (List ℕ)) (n : ℕ) → AppendsFront a b n [] → ⊥
+AppendsFront-none a b n (front, rest, is, long, some, q) = absurd (omega (arith, ap length is, length-append front rest))
 
 -- of at least fewer bytes
 pub AppendsFront-past : (a b : Option (List ℕ)) (m n : ℕ) (xs : List ℕ) → m ≤ n → AppendsFront a b n xs → AppendsFront a b m xs
-AppendsFront-past a b m n xs less (front, rest, is, long, q) = (front, rest, is, omega arith, q)
-
--- the whole is a front
-pub AppendsFront-whole : (a b : Option (List ℕ)) (xs : List ℕ) → Appends a b xs → AppendsFront a b 0 xs
-AppendsFront-whole a b xs p = (xs, [], sym (append-nil xs), zero-le, p)
+AppendsFront-past a b m n xs less (front, rest, is, long, some, q) = (front, rest, is, omega arith, some, q)
 
 -- of bytes that are read to their end, all were told
 pub Consumes-whole : (a b : Option (List ℕ)) (bs : List ℕ) → Consumes a b bs → IsAtEnd b → IfSome a (λ xs. xs ≡ bs)

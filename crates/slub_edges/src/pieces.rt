@@ -7,7 +7,8 @@ ghost use Rattle.slub_edges.specs.Edges.{Rose, AppendsFront};
 
 use crate::edges::{Failed, Sink};
 
-/// Writes a piece. Where a part of it was taken, it is written on from there.
+/// Writes a piece. Where a part of it was taken, it is written on from there. At `Failed` a byte of
+/// it or more was not taken.
 pub fn write_all<K: Sink>(sink: &mut K, piece: &[u8]) -> Result<(), Failed>
     ensures ok { OnOk result (Appends (K.taken sink.old) (K.taken sink.new) piece.now) }
     ensures err { OnErr result (AppendsFront (K.taken sink.old) (K.taken sink.new) 0 piece.now) }
@@ -23,7 +24,7 @@ pub fn write_all<K: Sink>(sink: &mut K, piece: &[u8]) -> Result<(), Failed>
 }
 
 /// Writes a text line by line. A line with its line feed is one piece, and so is what stands after
-/// the last line feed.
+/// the last line feed. At `Failed` a byte of the text or more was not taken.
 pub fn write_lines<K: Sink>(sink: &mut K, text: &[u8]) -> Result<(), Failed>
     ensures ok { OnOk result (Appends (K.taken sink.old) (K.taken sink.new) text.now) }
     ensures err { OnErr result (AppendsFront (K.taken sink.old) (K.taken sink.new) 0 text.now) }

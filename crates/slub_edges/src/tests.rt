@@ -1,6 +1,7 @@
 //! Tests. The functions with clauses show what a caller knows from the contracts alone.
 
-ghost use Rattle.std.specs.Prelude.{◌≡◌, ◌≢◌, ◌<◌, Err, IfOk, Some, []};
+ghost use Rattle.std.specs.Prelude.{◌≡◌, ◌≢◌, ◌<◌, ◌⊎◌, Err, IfOk, Some, []};
+ghost use Rattle.std.specs.Io.KnownBytes.{Appends};
 ghost use Rattle.slub_edges.specs.declared.reading.ReadAllFault.TheVariants as fault;
 ghost use Rattle.slub_edges.specs.Edges.{AppendsFront};
 
@@ -26,10 +27,11 @@ fn read_back(alloc: Global, bytes: &[u8], most: usize) -> Result<Vec<u8>, ReadAl
     read_all(alloc, &mut source, most)
 }
 
-/// A text through a sink in memory, as far as it goes.
+/// A text through a sink in memory, as far as it goes: the whole, or a front that isn't.
 fn written(alloc: Global, text: &[u8], failing: &[u64], most: usize) -> Result<Vec<u8>, Fail>
     requires { 0 < most }
-    ensures { IfOk result (λ copy. AppendsFront (Some []) (Some copy.items) 0 text.now) }
+    ensures { IfOk result (λ copy. Appends (Some []) (Some copy.items) text.now ⊎
+        AppendsFront (Some []) (Some copy.items) 0 text.now) }
 {
     let mut sink = MemSink::of(alloc, failing, most)?;
     let _ = write_lines(&mut sink, text);

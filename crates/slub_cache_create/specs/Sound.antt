@@ -3,6 +3,7 @@ use Rattle.std.specs.Prelude.{◌≡◌, ℕ, ◌≤◌, ◌==◌, true, false, 
 use Rattle.std.specs.List.{IsDistinct}
 use Rattle.std.specs.Map.{keys_of}
 use Rattle.std.specs.Str.{bytes_eq}
+use Rattle.slub_common.specs.Times.{times}
 use Rattle.slub_object_layout.specs.declared.layout.Flags.{Flags}
 use Rattle.slub_object_layout.specs.declared.layout.Layout.{Layout}
 use Rattle.slub_object_layout.specs.Layout.{IsWithinBounds, is_checked}
@@ -36,7 +37,7 @@ pub record IsSound (s : Table) : Type 0 where
   pub alive : All (λ named. IsSome (cache_of s named.1)) s.live
   -- the numbers are 0 to 31, and the ages are the live caches, each once
   pub numbers : length s.caches ≡ 32
-  pub aged : (cache : ℕ) → count_by (λ other. other == cache) s.ages ≡ (if is_some (cache_of s cache) then 1 else 0)
+  pub aged : (cache : ℕ) → times cache s.ages ≡ (if is_some (cache_of s cache) then 1 else 0)
   pub live : (cache : ℕ) → IfSome (cache_of s cache) (IsLiveCache s cache)
   -- no two caches have the same title
   pub titles : (name : List ℕ) (one other : ℕ) → HasTitle s one name → HasTitle s other name → one ≡ other

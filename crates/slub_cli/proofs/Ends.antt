@@ -29,8 +29,8 @@ use Rattle.slub_cli.specs.declared.stop.Stop.{Stop}
 use Rattle.slub_cli.specs.declared.stop.Stop.TheVariants as stop
 use Rattle.slub_cli.specs.declared.status.Status.{Status}
 use Rattle.slub_cli.specs.declared.status.Status.TheVariants.{Fine, Refused, BadWords, BadTrace, ReadFault, WriteFault, NoMemory}
-use Rattle.slub_cli.specs.Run.{AreBadWords, AsksReplay, Call, IsAsked, IsBadInput, IsCause, IsCauseOf, IsFaultLine, IsBadBytes, IsDone, IsJournalOf, IsLayoutAnswer, IsLayoutCause, IsLayoutText, IsReplayCause, IsSomeTrace, IsTextOf, IsWant, TookAll, TookFront, answer_status, done_status, has_refused, lacks_memory, last_begins, last_from, last_in, text_in}
-use Rattle.slub_cli.specs.Inner.{Finishes, Worked, Works, stop_line, stop_status}
+use Rattle.slub_cli.specs.Run.{AreBadWords, AsksReplay, Call, IsAsked, IsBadInput, IsCause, IsCauseOf, IsFaultLine, IsBadBytes, IsDone, IsJournalOf, IsLayoutAnswer, IsLayoutCause, IsLayoutText, IsReplayCause, IsSomeTrace, IsTextOf, IsWant, TellsFaults, TookAll, TookFront, answer_status, done_status, has_refused, lacks_memory, last_begins, last_from, last_in, text_in}
+use Rattle.slub_cli.specs.Inner.{Finishes, StopsAtReadFault, StopsAtWriteFault, Worked, Works, stop_line, stop_status}
 use Rattle.slub_cli.proofs.Texts.{items_text-none}
 use Rattle.slub_cli.proofs.Words.{one_layout, replay_apart}
 
@@ -121,6 +121,18 @@ only_write_fault stop.ReadFault h = cc
 only_write_fault stop.WriteFault h = refl
 only_write_fault stop.NoMemory h = cc
 
+-- ---- the counts of faults
+
+-- where neither rose, no call failed, whatever the status
+tells_faults : (c : Call) (status : Status) → c.read.1 ≡ c.read.0 → c.write.1 ≡ c.write.0 → TellsFaults c status
+tells_faults c Fine reads writes = (reads, writes)
+tells_faults c Refused reads writes = (reads, writes)
+tells_faults c BadWords reads writes = (reads, writes)
+tells_faults c BadTrace reads writes = (reads, writes)
+tells_faults c ReadFault reads writes = writes
+tells_faults c WriteFault reads writes = tt
+tells_faults c NoMemory reads writes = (reads, writes)
+
 -- ---- at the end of the work, and at the end of the run
 module _ (words : List (List ℕ)) (told left old mid new : Option (List ℕ)) (read write after : ℕ × ℕ) (trace : Option Trace) (j : Journal) where
   abbrev pub worked : Call
@@ -187,7 +199,7 @@ module _ (words : List (List ℕ)) (told left old mid new : Option (List ℕ)) (
       let p = works.0 in
       (Some (Layout spec cpus), layout_lines p.0, [], is, rw (ends.0, p.2) (answer_text spec cpus p.0 p.1), rw (ends.0, p.2) (answer_line ran j p.0), rw (ends.1, append-nil (layout_lines p.0)) p.3)
   run_text (Ok done) status (Some (Load m events workers), is, works) ends apart = absurd works
-  run_text (Err e) status (asked, is, works) (inl (same, wrote)) apart =
+  run_text (Err e) status (asked, is, works) (inl (same, wrote, still)) apart =
       let named : stop_status e ≢ WriteFault = λ h. apart (same ∙ h) in
       let p = stop_text asked e named works in
       (asked, p.0, stop_line e, is, subst (λ s. IsTextOf asked trace j s p.0) (sym same) p.1, subst (λ s. IsFaultLine ran j s (stop_line e)) (sym same) (stop_has_line asked e named works), Appends-trans old mid new p.0 (stop_line e) p.2 wrote)
@@ -250,7 +262,7 @@ module _ (words : List (List ℕ)) (told left old mid new : Option (List ℕ)) (
       absurd (done_apart (list_any lacks_memory j.items) (list_any has_refused j.items) (sym (ends.0 ∙ works.0.1) ∙ is))
   run_prefix (Ok done) status (Some (Layout spec cpus), asked, works) ends is = let p = works.0 in absurd (answer_apart p.0 (sym (ends.0 ∙ p.2) ∙ is))
   run_prefix (Ok done) status (Some (Load m events workers), asked, works) ends is = absurd works
-  run_prefix (Err e) status (asked, named, works) (inl (same, wrote)) is =
+  run_prefix (Err e) status (asked, named, works) (inl (same, wrote, still)) is =
       let fault = only_write_fault e (sym same ∙ is) in
       cut_text asked named (subst (λ s. Works worked asked old mid trace j (Err s)) fault works) (subst (λ s. Appends mid new (stop_line s)) fault wrote)
   run_prefix (Err e) status w (inr (same, rose, wrote)) is = cut e w wrote
@@ -290,9 +302,21 @@ module _ (words : List (List ℕ)) (told left old mid new : Option (List ℕ)) (
       let p = works.0 in
       (Some (Layout spec cpus), asked, (rw (ends.0, p.2) (answer_cause ran spec cpus p.0 p.1), works.1))
   run_cause (Ok done) status counts same more (Some (Load m events workers), asked, works) ends = absurd works
-  run_cause (Err e) status counts same more (asked, is, works) (inl (stopped, wrote)) = (asked, is, rw stopped (write_cause asked e counts (omega arith) works))
+  run_cause (Err e) status counts same more (asked, is, works) (inl (stopped, wrote, still)) = (asked, is, rw stopped (write_cause asked e counts (omega arith) works))
   run_cause (Err e) status counts same more (asked, is, works) (inr (stopped, rose, wrote)) =
       (asked, is, rw stopped (faulted asked e (rose_from write.0 after.0 after.1 (omega arith) rose) works))
+
+  -- a call that failed is told; after.0 is the count of write faults after the work
+  pub run_faults : (r : Result Status Stop) (status : Status) → StopsAtReadFault read.0 read.1 r → StopsAtWriteFault write.0 write.1 r → after.0 ≡ write.1 → Finishes mid new after r status → TellsFaults ran status
+  run_faults (Ok done) status reads writes same ends = tells_faults ran status reads (ends.2 ∙ same ∙ writes)
+  run_faults (Err stop.BadWords) status reads writes same (inl (is, wrote, still)) = tells_faults ran status reads (still ∙ same ∙ writes)
+  run_faults (Err (stop.BadLine text)) status reads writes same (inl (is, wrote, still)) = tells_faults ran status reads (still ∙ same ∙ writes)
+  run_faults (Err stop.NotBuilt) status reads writes same (inl (is, wrote, still)) = tells_faults ran status reads (still ∙ same ∙ writes)
+  run_faults (Err stop.TooLong) status reads writes same (inl (is, wrote, still)) = tells_faults ran status reads (still ∙ same ∙ writes)
+  run_faults (Err stop.ReadFault) status reads writes same (inl (is, wrote, still)) = rw is (still ∙ same ∙ writes)
+  run_faults (Err stop.WriteFault) status reads writes same (inl (is, wrote, still)) = rw is tt
+  run_faults (Err stop.NoMemory) status reads writes same (inl (is, wrote, still)) = tells_faults ran status reads (still ∙ same ∙ writes)
+  run_faults (Err e) status reads writes same (inr (is, rose, wrote)) = rw is tt
 
 -- ---- corollaries of the table
 

@@ -15,16 +15,24 @@ use Rattle.slub_engine.specs.declared.journal.Journal.{Journal}
 use Rattle.slub_cli.specs.declared.stop.Stop.{Stop}
 use Rattle.slub_cli.specs.declared.stop.Stop.TheVariants.{BadWords, BadLine, NotBuilt, TooLong, ReadFault, WriteFault, NoMemory}
 use Rattle.slub_cli.specs.Run.{IsLayoutAnswer}
-use Rattle.slub_cli.specs.Inner.{IsReadStop, Replays}
+use Rattle.slub_cli.specs.Inner.{IsReadStop, Replays, StopsAtReadFault}
 use Rattle.slub_cli.specs.Stop.{IsStopOf}
 
 -- a fault of the reader stops the reading
 pub read_stop : (told left : Option (List ℕ)) (read : ℕ × ℕ) (why : TraceFault) (e : Stop) → Reads told left read.0 read.1 (Err why) → IsStopOf why e → IsReadStop told left read e
 read_stop told left read fault.ReadFault e reads is = rw is reads
-read_stop told left read fault.TooLong e reads is = rw is reads
+read_stop told left read fault.TooLong e reads is = rw is reads.0
 read_stop told left read (fault.BadLine line why) e reads (inl is) = rw is tt
 read_stop told left read (fault.BadLine line why) e reads (inr (text, is, made)) = rw is (line, why, made, reads.1, reads.0)
 read_stop told left read fault.NoMemory e reads is = rw is tt
+
+-- and no other read failed
+pub read_stop_faults : (told left : Option (List ℕ)) (old new : ℕ) (why : TraceFault) (e : Stop) → Reads told left old new (Err why) → IsStopOf why e → StopsAtReadFault {A = Trace} old new (Err e)
+read_stop_faults told left old new fault.ReadFault e reads is = rw is tt
+read_stop_faults told left old new fault.TooLong e reads is = rw is reads.1
+read_stop_faults told left old new (fault.BadLine line why) e reads (inl is) = rw is reads.2
+read_stop_faults told left old new (fault.BadLine line why) e reads (inr (text, is, made)) = rw is reads.2
+read_stop_faults told left old new fault.NoMemory e reads is = rw is reads
 
 -- a replay for which no trace was read came to that stop
 pub unread_replays : (words : List (List ℕ)) (told left : Option (List ℕ)) (read write : ℕ × ℕ) (trace : Option Trace) (j : Journal) (e : Stop) → IsReadStop told left read e → trace ≡ None → j.total ≡ None

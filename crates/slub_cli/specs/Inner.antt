@@ -122,6 +122,28 @@ Totals s old new (Err ReadFault) = ⊥
 
 -- ---- why it ended
 
+-- a read that failed stopped it, or else the source's count of faults is as it was
+abbrev pub StopsAtReadFault : {A : Type 0} → ℕ → ℕ → Result A Stop → Type 0
+StopsAtReadFault old new (Ok x) = new ≡ old
+StopsAtReadFault old new (Err BadWords) = new ≡ old
+StopsAtReadFault old new (Err (BadLine line)) = new ≡ old
+StopsAtReadFault old new (Err NotBuilt) = new ≡ old
+StopsAtReadFault old new (Err TooLong) = new ≡ old
+StopsAtReadFault old new (Err ReadFault) = ⊤
+StopsAtReadFault old new (Err WriteFault) = new ≡ old
+StopsAtReadFault old new (Err NoMemory) = new ≡ old
+
+-- a write that failed stopped it, or else the sink's count of faults is as it was
+abbrev pub StopsAtWriteFault : {A : Type 0} → ℕ → ℕ → Result A Stop → Type 0
+StopsAtWriteFault old new (Ok x) = new ≡ old
+StopsAtWriteFault old new (Err BadWords) = new ≡ old
+StopsAtWriteFault old new (Err (BadLine line)) = new ≡ old
+StopsAtWriteFault old new (Err NotBuilt) = new ≡ old
+StopsAtWriteFault old new (Err TooLong) = new ≡ old
+StopsAtWriteFault old new (Err ReadFault) = new ≡ old
+StopsAtWriteFault old new (Err WriteFault) = ⊤
+StopsAtWriteFault old new (Err NoMemory) = new ≡ old
+
 -- doing items stops for two causes
 abbrev pub IsItemStop : ℕ → ℕ → Journal → Stop → Type 0
 IsItemStop old new journal WriteFault = Rose old new
@@ -216,12 +238,12 @@ stop_status ReadFault = ends.ReadFault
 stop_status WriteFault = ends.WriteFault
 stop_status NoMemory = ends.NoMemory
 
--- the line of a stop was written, or a front of it that isn't the whole
+-- the line of a stop was written and no write failed, or a front of it that isn't the whole
 abbrev pub WroteLine : Option (List ℕ) → Option (List ℕ) → ℕ × ℕ → Stop → Status → Type 0
 WroteLine old new write stop status =
-    ((status ≡ stop_status stop) × Appends old new (stop_line stop)) ⊎ ((status ≡ ends.WriteFault) × Rose write.0 write.1 × AppendsFront old new 0 (stop_line stop))
+    ((status ≡ stop_status stop) × Appends old new (stop_line stop) × (write.1 ≡ write.0)) ⊎ ((status ≡ ends.WriteFault) × Rose write.0 write.1 × AppendsFront old new 0 (stop_line stop))
 
 -- how a run that came to this end finishes
 abbrev pub Finishes : Option (List ℕ) → Option (List ℕ) → ℕ × ℕ → Result Status Stop → Status → Type 0
-Finishes old new write (Ok done) status = (status ≡ done) × (new ≡ old)
+Finishes old new write (Ok done) status = (status ≡ done) × (new ≡ old) × (write.1 ≡ write.0)
 Finishes old new write (Err stop) status = WroteLine old new write stop status

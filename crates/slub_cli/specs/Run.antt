@@ -225,6 +225,16 @@ abbrev pub IsCause : Call → Option Trace → Journal → Status → Type 0
 IsCause c trace journal status =
     (asked : Option Command) × IsAsked c.words asked × IsCauseOf c asked trace journal status
 
+-- no write failed but at a write fault, and no read but at a read fault, or at a write fault after it
+abbrev pub TellsFaults : Call → Status → Type 0
+TellsFaults c Fine = (c.read.1 ≡ c.read.0) × (c.write.1 ≡ c.write.0)
+TellsFaults c Refused = (c.read.1 ≡ c.read.0) × (c.write.1 ≡ c.write.0)
+TellsFaults c BadWords = (c.read.1 ≡ c.read.0) × (c.write.1 ≡ c.write.0)
+TellsFaults c BadTrace = (c.read.1 ≡ c.read.0) × (c.write.1 ≡ c.write.0)
+TellsFaults c ReadFault = c.write.1 ≡ c.write.0
+TellsFaults c WriteFault = ⊤
+TellsFaults c NoMemory = (c.read.1 ≡ c.read.0) × (c.write.1 ≡ c.write.0)
+
 -- ---- what is written
 
 -- a line of the program's own

@@ -1,7 +1,7 @@
 //! Printing the layout of a cache.
 
 ghost use Rattle.std.specs.Prelude.{◌≤◌};
-ghost use Rattle.slub_cli.specs.Inner.{PrintsLayout};
+ghost use Rattle.slub_cli.specs.Inner.{PrintsLayout, StopsAtWriteFault};
 
 use crate::status::{Status, answer_status};
 use crate::stop::Stop;
@@ -23,6 +23,7 @@ pub fn print_layout<K: Sink>(
     requires few_cpus { cpus ≤ 16 }
     ensures printed { PrintsLayout (K.taken sink.old) (K.taken sink.new)
         (K.faults sink.old, K.faults sink.new) spec.now cpus result }
+    ensures write_faults { StopsAtWriteFault (K.faults sink.old) (K.faults sink.new) result }
     ensures counts { K.faults sink.old ≤ K.faults sink.new }
 {
     let answer = layout_of(spec, cpus);

@@ -7,7 +7,7 @@ ghost use Rattle.slub_lists.specs.Coherent.{IsCoherent};
 ghost use Rattle.slub_engine.specs.Journal.{IsEmpty};
 ghost use Rattle.slub_trace_reader.specs.Sound.{IsSound};
 ghost use Rattle.slub_engine.specs.Lawful.{IsBuilt, IsLawful, IsReady, RunsItems, opening_of};
-ghost use Rattle.slub_cli.specs.Inner.{DoesItem, IsItemStop, IsMachineOf, Tells, TookText, Totals};
+ghost use Rattle.slub_cli.specs.Inner.{DoesItem, IsItemStop, IsMachineOf, StopsAtWriteFault, Tells, TookText, Totals};
 
 use crate::stop::Stop;
 use slub_common::no_memory::NoMemory;
@@ -39,6 +39,7 @@ fn do_item<K: Sink>(
     ensures done { DoesItem lists.old trace.now number lists.new journal.old journal.new result }
     ensures told { Tells replies (K.taken sink.old) (K.taken sink.new) trace.now journal.old journal.new result }
     ensures stops { IfErr result (IsItemStop (K.faults sink.old) (K.faults sink.new) journal.new) }
+    ensures write_faults { StopsAtWriteFault (K.faults sink.old) (K.faults sink.new) result }
     ensures counts { K.faults sink.old ≤ K.faults sink.new }
 {
     let done = item(alloc, lists, trace, number)?;
@@ -70,6 +71,7 @@ fn do_items<K: Sink>(
     ensures no_total { journal.new.total ≡ None }
     ensures told { Tells replies (K.taken sink.old) (K.taken sink.new) trace.now journal.old journal.new result }
     ensures stops { IfErr result (IsItemStop (K.faults sink.old) (K.faults sink.new) journal.new) }
+    ensures write_faults { StopsAtWriteFault (K.faults sink.old) (K.faults sink.new) result }
     ensures counts { K.faults sink.old ≤ K.faults sink.new }
 {
     for number in 0..trace.items.len() {
@@ -93,6 +95,7 @@ fn do_total<K: Sink>(
     ensures done { Totals lists.now journal.old journal.new result }
     ensures told { (replies : Bool) → Tells replies (K.taken sink.old) (K.taken sink.new) trace.now journal.old journal.new result }
     ensures stops { IfErr result (IsItemStop (K.faults sink.old) (K.faults sink.new) journal.new) }
+    ensures write_faults { StopsAtWriteFault (K.faults sink.old) (K.faults sink.new) result }
     ensures counts { K.faults sink.old ≤ K.faults sink.new }
 {
     let sums = total(lists, trace, journal.items.as_slice());
@@ -143,6 +146,7 @@ pub fn do_trace<K: Sink>(
     ensures all { OnOk result (IsSome journal.new.total) }
     ensures told { TookText replies (K.taken sink.old) (K.taken sink.new) (Some trace.now) journal.new result }
     ensures stops { IfErr result (IsItemStop (K.faults sink.old) (K.faults sink.new) journal.new) }
+    ensures write_faults { StopsAtWriteFault (K.faults sink.old) (K.faults sink.new) result }
     ensures counts { K.faults sink.old ≤ K.faults sink.new }
 {
     begin(trace, journal);

@@ -9,8 +9,8 @@ ghost use Rattle.slub_command.specs.declared.command.Command.{Command as Asked};
 ghost use Rattle.slub_command.specs.Command.{IsCommand};
 ghost use Rattle.slub_trace_reader.specs.Sound.{IsSound};
 ghost use Rattle.slub_engine.specs.Journal.{IsEmpty};
-ghost use Rattle.slub_cli.specs.Run.{AreBadWords, AsksReplay, IsBadBytes, IsCause, IsDone, IsJournalOf, IsLayoutAnswer, IsSomeTrace, TookAll, TookFront, answer_status, done_status};
-ghost use Rattle.slub_cli.specs.Inner.{Finishes, ReadsBuilt, Replays, TookText, Worked, stop_line, stop_status};
+ghost use Rattle.slub_cli.specs.Run.{AreBadWords, AsksReplay, IsBadBytes, IsCause, IsDone, IsJournalOf, IsLayoutAnswer, IsSomeTrace, TellsFaults, TookAll, TookFront, answer_status, done_status};
+ghost use Rattle.slub_cli.specs.Inner.{Finishes, ReadsBuilt, Replays, StopsAtReadFault, StopsAtWriteFault, TookText, Worked, stop_line, stop_status};
 
 use crate::layout::print_layout;
 use crate::replay::do_trace;
@@ -29,6 +29,7 @@ use std::alloc::Global;
 fn read_built<S: Source>(alloc: Global, source: &mut S) -> Result<Trace, Stop>
     ensures reads { ReadsBuilt (S.rest source.old) (S.rest source.new)
         (S.faults source.old, S.faults source.new) result }
+    ensures read_faults { StopsAtReadFault (S.faults source.old) (S.faults source.new) result }
     ensures sound { IfOk result IsSound }
 {
     let trace = match read_trace(alloc, source) {
@@ -67,6 +68,8 @@ fn replay<S: Source, K: Sink>(
       write = (K.faults sink.old, K.faults sink.new);
     }) trace.new journal.new }
     ensures told { TookText replies (K.taken sink.old) (K.taken sink.new) trace.new journal.new result }
+    ensures read_faults { StopsAtReadFault (S.faults source.old) (S.faults source.new) result }
+    ensures write_faults { StopsAtWriteFault (K.faults sink.old) (K.faults sink.new) result }
     ensures counts { K.faults sink.old ≤ K.faults sink.new }
 {
     let read = match read_built(alloc, source) {
@@ -107,6 +110,8 @@ fn work<S: Source, K: Sink>(
       write = (K.faults sink.old, K.faults sink.new);
     }) trace.new journal.new }
     ensures untouched { ¬ AsksReplay (map string_bytes words.now) → source.new ≡ source.old }
+    ensures read_faults { StopsAtReadFault (S.faults source.old) (S.faults source.new) result }
+    ensures write_faults { StopsAtWriteFault (K.faults sink.old) (K.faults sink.new) result }
     ensures counts { K.faults sink.old ≤ K.faults sink.new }
 {
     let command = match read(alloc, words) {
@@ -201,6 +206,13 @@ fn run_all<S: Source, K: Sink>(
       read = (S.faults source.old, S.faults source.new);
       write = (K.faults sink.old, K.faults sink.new);
     }) result.trace result.journal result.status }
+    ensures faults { TellsFaults (record {
+      words = map string_bytes words.now;
+      told = S.rest source.old;
+      left = S.rest source.new;
+      read = (S.faults source.old, S.faults source.new);
+      write = (K.faults sink.old, K.faults sink.new);
+    }) result.status }
     ensures untouched { ¬ AsksReplay (map string_bytes words.now) → source.new ≡ source.old }
 {
     let mut trace = None;
@@ -257,6 +269,13 @@ pub fn run<S: Source, K: Sink>(
       read = (S.faults source.old, S.faults source.new);
       write = (K.faults sink.old, K.faults sink.new);
     }) result.trace result.journal result.status }
+    ensures faults { TellsFaults (record {
+      words = map string_bytes words.now;
+      told = S.rest source.old;
+      left = S.rest source.new;
+      read = (S.faults source.old, S.faults source.new);
+      write = (K.faults sink.old, K.faults sink.new);
+    }) result.status }
     ensures bad_words { result.status ≢ Status.WriteFault → result.status ≢ Status.NoMemory →
         (result.status ≡ Status.BadWords ↔ AreBadWords (map string_bytes words.now)) }
     ensures untouched { ¬ AsksReplay (map string_bytes words.now) → source.new ≡ source.old }

@@ -1,4 +1,4 @@
-//! What all crates share: want of memory, and how often a number stands in a list
+//! What several crates share: want of memory, and how often a number stands in a list
 //! (`specs/Times.antt`).
 #![tactic(auto)]
 

@@ -13,6 +13,7 @@ pub fn write_all<K: Sink>(sink: &mut K, piece: &[u8]) -> Result<(), Failed>
     ensures ok { OnOk result (Appends (K.taken sink.old) (K.taken sink.new) piece.now) }
     ensures err { OnErr result (AppendsFront (K.taken sink.old) (K.taken sink.new) 0 piece.now) }
     ensures counts { K.faults sink.old ≤ K.faults sink.new }
+    ensures still { OnOk result (K.faults sink.new ≡ K.faults sink.old) }
     ensures failed { OnErr result (Rose (K.faults sink.old) (K.faults sink.new)) }
 {
     let mut rest = piece;
@@ -29,6 +30,7 @@ pub fn write_lines<K: Sink>(sink: &mut K, text: &[u8]) -> Result<(), Failed>
     ensures ok { OnOk result (Appends (K.taken sink.old) (K.taken sink.new) text.now) }
     ensures err { OnErr result (AppendsFront (K.taken sink.old) (K.taken sink.new) 0 text.now) }
     ensures counts { K.faults sink.old ≤ K.faults sink.new }
+    ensures still { OnOk result (K.faults sink.new ≡ K.faults sink.old) }
     ensures failed { OnErr result (Rose (K.faults sink.old) (K.faults sink.new)) }
 {
     let mut rest = text;

@@ -22,7 +22,7 @@ IsBusy s cache objects after = (names_of s.table cache ≡ 1) × (0 < objects) �
 abbrev pub without : State → List ℕ → ℕ → State
 without s name cache = record s { table = without_cache s.table name cache; checked = slice_set s.checked cache None }
 
--- it is the last name, and shrinking leaves the cache no slab; then the cache is live no more, and each of its frames is free
+-- it is the last name, nothing of the cache is held or set aside, and shrinking leaves it no slab; then the cache is live no more, and each of its frames is free
 abbrev pub Goes : State → List ℕ → ℕ → State → Type 0
 Goes s name cache after =
     (names_of s.table cache ≡ 1) × (busy_of s cache ≡ 0) × (empty : State) × ShrinksCache s cache empty × (has_slab empty cache ≡ false) × (after ≡ without empty name cache) × FreesAll s cache after

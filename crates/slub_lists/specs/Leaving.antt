@@ -4,7 +4,7 @@ use Rattle.slub_lists.specs.declared.lists.Slab.{Slab}
 use Rattle.slub_lists.specs.State.{State}
 use Rattle.slub_lists.specs.Alloc.{marked, slab_of}
 
--- the live caches, the board and the counts are as before
+-- the numbers of frames and CPUs, the live caches, the board, what was freed and the counts are as before
 pub record KeepsHeld (old new : State) : Type 0 where
   pub frames : new.frames ≡ old.frames
   pub cpus : new.cpus ≡ old.cpus

@@ -121,7 +121,7 @@ pub record ShrinksCache (s : State) (cache : ℕ) (after : State) : Type 0 where
   pub held : KeepsHeld s after
   pub slabs : LeavesSlabs s cache after
   pub pages : FreesLost s cache after
-  -- where nothing of the cache is held, on the board or set aside, no slab of it is left
+  -- where nothing of the cache is held, on the board or set aside, no slab of it is left, and the free frames grow by exactly its frames
   pub emptied : busy_of s cache ≡ 0 → (has_slab after cache ≡ false) × FreesAll s cache after
 
 -- the answer is whether the cache still has a slab; where the name isn't live, nothing changes

@@ -8,7 +8,7 @@ use Rattle.slub_lists.specs.Free.{inuse_of}
 use Rattle.slub_lists.specs.Leaving.{KeepsHeld}
 use Rattle.slub_lists.specs.Shrink.{all_free}
 
--- the live caches, the board, the counts and the checked caches are as before
+-- what `KeepsHeld` says, and the checked caches are as before
 pub record KeepsChecked (old new : State) : Type 0 where
   pub held : KeepsHeld old new
   pub checked : new.checked ≡ old.checked

@@ -20,7 +20,7 @@ impl Lists {
     /// The frames of the slabs that went are free, and no other frame came free. Where no object of the
     /// cache is held, on the board or set aside, no slab is left.
     ///
-    /// It stands between rounds: no worker holds an object, and none knows a freed one.
+    /// It is asked between rounds.
     pub fn shrink(&mut self, name: &Name) -> Result<bool, NoSuchCache>
         requires coherent { IsCoherent self.old }
         ensures shrinks { Shrinks self.old name.now result self.new }

@@ -38,15 +38,15 @@ all_told (Some xs) None bs takes end = absurd takes
 all_told (Some xs) (Some ys) bs takes end = takes ∙ ap (λ s. bs ++ s) end ∙ append-nil bs
 
 -- what parsing says of all bytes is what reading says
-pub parsed_reads : (told left : Option (List ℕ)) (old new : ℕ) (bs : List ℕ) (r : Result Trace TraceFault) → Consumes told left bs → IsAtEnd left → length bs ≤ 16777216
+pub parsed_reads : (told left : Option (List ℕ)) (old new : ℕ) (bs : List ℕ) (r : Result Trace TraceFault) → Consumes told left bs → IsAtEnd left → length bs ≤ 16777216 → new ≡ old
     → IfOk r (IsTrace bs) → IfErr r (Refuses bs) → Reads told left old new r
-parsed_reads told left old new bs (Ok trace) takes end short found refused =
-    (record { bytes = bs; all_told = all_told told left bs takes end; spells = found; only = λ other is. trace_once bs trace other found is }, end)
-parsed_reads told left old new bs (Err (BadLine line why)) takes end short found refused =
-    (record { bytes = bs; all_told = all_told told left bs takes end; bad = bad_at bs line why short refused }, end)
-parsed_reads told left old new bs (Err NoMemory) takes end short found refused = tt
-parsed_reads told left old new bs (Err TooLong) takes end short found refused = absurd refused
-parsed_reads told left old new bs (Err ReadFault) takes end short found refused = absurd refused
+parsed_reads told left old new bs (Ok trace) takes end short still found refused =
+    (record { bytes = bs; all_told = all_told told left bs takes end; spells = found; only = λ other is. trace_once bs trace other found is }, end, still)
+parsed_reads told left old new bs (Err (BadLine line why)) takes end short still found refused =
+    (record { bytes = bs; all_told = all_told told left bs takes end; bad = bad_at bs line why short refused }, end, still)
+parsed_reads told left old new bs (Err NoMemory) takes end short still found refused = still
+parsed_reads told left old new bs (Err TooLong) takes end short still found refused = absurd refused
+parsed_reads told left old new bs (Err ReadFault) takes end short still found refused = absurd refused
 
 -- bytes that begin with too many are too many
 too_many : (told left : Option (List ℕ)) (bs : List ℕ) → Consumes told left bs → 16777216 < length bs → IfSome told (λ bytes. 16777216 < length bytes)
@@ -57,5 +57,5 @@ too_many (Some xs) (Some ys) bs takes long = omega (arith, ap length takes, leng
 -- a fault of reading comes through
 pub fault_reads : (told left : Option (List ℕ)) (old new : ℕ) (fault : ReadAllFault) → (let r : Result (Vec ℕ Global) ReadAllFault = Err fault in ReadsAll told left old new 16777216 r) → Reads told left old new (Err (fault_of fault))
 fault_reads told left old new Failed reads = reads.1
-fault_reads told left old new too_long reads = too_many told left reads.0 reads.1 reads.2
-fault_reads told left old new no_memory reads = tt
+fault_reads told left old new too_long reads = (too_many told left reads.0 reads.1 reads.2, reads.3)
+fault_reads told left old new no_memory reads = reads.1

@@ -1,5 +1,5 @@
 -- What comes of reading a trace.
-use Rattle.std.specs.Prelude.{◌≡◌, ℕ, ◌<◌, ◌≤◌, List, length, Option, IfSome, Result, Ok, Err, ⊤}
+use Rattle.std.specs.Prelude.{◌≡◌, ℕ, ◌<◌, ◌≤◌, List, length, Option, IfSome, Result, Ok, Err}
 use Rattle.std.specs.Io.KnownBytes.{IsAtEnd}
 use Rattle.slub_edges.specs.Edges.{Rose}
 use Rattle.slub_trace_reader.specs.declared.trace.Trace.{Trace}
@@ -36,10 +36,10 @@ pub record IsBadIn (told : Option (List ℕ)) (line : ℕ) (why : Why) : Type 0 
 abbrev pub IsTooLong : List ℕ → Type 0
 IsTooLong bytes = 16777216 < length bytes
 
--- what is told and left are the bytes to come before and after, old and new the counts of faults
+-- what is told and left are the bytes to come before and after, old and new the counts of faults; no read failed but at ReadFault
 abbrev pub Reads : Option (List ℕ) → Option (List ℕ) → ℕ → ℕ → Result Trace TraceFault → Type 0
-Reads told left old new (Ok trace) = Spells told trace × IsAtEnd left
-Reads told left old new (Err (BadLine line why)) = IsBadIn told line why × IsAtEnd left
-Reads told left old new (Err TooLong) = IfSome told IsTooLong
+Reads told left old new (Ok trace) = Spells told trace × IsAtEnd left × (new ≡ old)
+Reads told left old new (Err (BadLine line why)) = IsBadIn told line why × IsAtEnd left × (new ≡ old)
+Reads told left old new (Err TooLong) = IfSome told IsTooLong × (new ≡ old)
 Reads told left old new (Err ReadFault) = Rose old new
-Reads told left old new (Err NoMemory) = ⊤
+Reads told left old new (Err NoMemory) = new ≡ old

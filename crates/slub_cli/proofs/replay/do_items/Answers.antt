@@ -1,4 +1,4 @@
-use Rattle.std.proofs.Common.{arith, le_trans, le_refl}
+use Rattle.std.proofs.Common.{◌∙◌, arith, le_trans, le_refl, refl}
 use Rattle.slub_cli.proofs.Laws.{Reached-begins, Reached-more, Reached-lawful, stopped_lawful}
 use Rattle.slub_cli.proofs.replay.do_items.Goals as goal
 
@@ -6,6 +6,7 @@ pub loop-number-init : goal.loop-number-init
 loop-number-init g c = record {
   reached = Reached-begins c.args.trace.now c.args.lists.now c.args.journal.now c.requires.coherent c.requires.opened c.requires.machine c.requires.no_items c.requires.no_total;
   told = λ start h. h;
+  still = refl;
   counts = le_refl _;
 }
 
@@ -20,6 +21,7 @@ loop-number-preserved g c =
     record {
       reached = Reached-more c.args.trace.now at.number at.lists c.do_item.new.lists at.journal c.do_item.new.journal at.invariant.reached c.in_ok-do_item.ensures.done;
       told = λ start h. c.in_ok-do_item.ensures.told start (at.invariant.told start h);
+      still = c.in_ok-do_item.ensures.write_faults ∙ at.invariant.still;
       counts = le_trans at.invariant.counts c.do_item.ensures.counts;
     }
 

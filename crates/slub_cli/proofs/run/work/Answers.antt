@@ -25,6 +25,8 @@ returns-in-Schedule g c =
       worked = (None, tt, ((bad, c.requires.unread), refl));
       lawful = rw c.requires.unread c.requires.empty;
       untouched = λ none. refl;
+      read_faults = refl;
+      write_faults = refl;
       counts = le_refl _;
     }
 
@@ -36,6 +38,8 @@ returns-in-Load g c =
       worked = (None, tt, ((bad, c.requires.unread), refl));
       lawful = rw c.requires.unread c.requires.empty;
       untouched = λ none. refl;
+      read_faults = refl;
+      write_faults = refl;
       counts = le_refl _;
     }
 

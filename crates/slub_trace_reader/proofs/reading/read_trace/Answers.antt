@@ -7,7 +7,7 @@ pub returns-clause-reads : goal.returns-clause-reads
 returns-clause-reads g c =
     let all = c.in_ok-bytes.ensures.all in
     let same = c.deref.ensures.value in
-    parsed_reads _ _ _ _ c.in_ok-bytes.bytes.items c.parse.result all.0 all.1 all.2 (rw same at c.parse.ensures.found) (rw same at c.parse.ensures.refused)
+    parsed_reads _ _ _ _ c.in_ok-bytes.bytes.items c.parse.result all.0 all.1 all.2 all.3 (rw same at c.parse.ensures.found) (rw same at c.parse.ensures.refused)
 
 pub returns-in_err-bytes-clause-reads : goal.returns-in_err-bytes-clause-reads
 returns-in_err-bytes-clause-reads g c =

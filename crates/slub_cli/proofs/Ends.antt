@@ -1,5 +1,5 @@
 -- From the parts of a run to its clauses.
-use Rattle.std.proofs.Common.{◌≡◌, ◌≢◌, ℕ, ◌-◌, ◌<◌, ◌≤◌, List, [], ◌∷◌, ◌++◌, Bool, true, false, cond, Some, None, Ok, Err, Result, refl, sym, subst, ◌∙◌, length, take, arith, length-append, append-nil, inl, inr, zero, suc, zero-le}
+use Rattle.std.proofs.Common.{◌≡◌, ◌≢◌, ℕ, ◌<◌, ◌≤◌, List, [], ◌++◌, Bool, true, false, cond, Some, None, Ok, Err, Result, refl, sym, subst, ◌∙◌, length, arith, append-nil, inl, inr}
 use Rattle.std.specs.Prelude.{Option, ◌⊎◌, IsSomeAnd, IsSome}
 use Rattle.std.specs.List.{list_any}
 use Rattle.std.proofs.lemmas.Bool.{false≢true, cases_lt}
@@ -15,45 +15,19 @@ use Rattle.slub_command.specs.declared.command.Command.{Command}
 use Rattle.slub_command.specs.declared.command.Command.TheVariants.{Replay, Layout, Load}
 use Rattle.slub_command.specs.Command.{IsCommand}
 use Rattle.slub_slabinfo_text.specs.Texts.{layout_lines}
-use Rattle.slub_trace_reader.specs.declared.trace.Item.{Item}
 use Rattle.slub_trace_reader.specs.declared.trace.Trace.{Trace}
 use Rattle.slub_trace_reader.specs.declared.reading.Why.{Why}
 use Rattle.slub_trace_reader.specs.Grammar.{IsTrace}
 use Rattle.slub_trace_reader.specs.Reads.{IsBadIn, Spells}
 use Rattle.slub_engine.specs.Lawful.{IsBuilt}
-use Rattle.slub_engine.specs.declared.journal.Done.{Done}
-use Rattle.slub_engine.specs.declared.journal.Total.{Total}
 use Rattle.slub_engine.specs.declared.journal.Journal.{Journal}
-use Rattle.slub_engine.specs.Text.{text_of, done_text, items_text, end_text}
 use Rattle.slub_cli.specs.declared.stop.Stop.{Stop}
 use Rattle.slub_cli.specs.declared.stop.Stop.TheVariants as stop
 use Rattle.slub_cli.specs.declared.status.Status.{Status}
 use Rattle.slub_cli.specs.declared.status.Status.TheVariants.{Fine, Refused, BadWords, BadTrace, ReadFault, WriteFault, NoMemory}
-use Rattle.slub_cli.specs.Run.{AreBadWords, AsksReplay, Call, IsAsked, IsBadInput, IsCause, IsCauseOf, IsFaultLine, IsBadBytes, IsDone, IsJournalOf, IsLayoutAnswer, IsLayoutCause, IsLayoutText, IsReplayCause, IsSomeTrace, IsTextOf, IsWant, TellsFaults, TookAll, TookFront, answer_status, done_status, has_refused, lacks_memory, last_begins, last_from, last_in, text_in}
+use Rattle.slub_cli.specs.Run.{AreBadWords, AsksReplay, Call, IsAsked, IsBadInput, IsCause, IsCauseOf, IsFaultLine, IsBadBytes, IsDone, IsJournalOf, IsLayoutAnswer, IsLayoutCause, IsLayoutText, IsReplayCause, IsSomeTrace, IsTextOf, IsWant, TellsFaults, TookAll, TookFront, answer_status, done_status, has_refused, lacks_memory, last_in, text_in}
 use Rattle.slub_cli.specs.Inner.{Finishes, StopsAtReadFault, StopsAtWriteFault, Worked, Works, stop_line, stop_status}
-use Rattle.slub_cli.proofs.Texts.{items_text-none}
 use Rattle.slub_cli.proofs.Words.{one_layout, replay_apart}
-
--- ---- where the last entry begins
-
--- the first items have no more text than all
-front_shorter : (replies : Bool) (trace : Trace) (n : ℕ) (items : List Item) (dones : List Done) → length (items_text replies trace items (take n dones)) ≤ length (items_text replies trace items dones)
-front_shorter replies trace zero items dones = rw (items_text-none replies trace items) zero-le
-front_shorter replies trace (suc n) [] dones = zero-le
-front_shorter replies trace (suc n) (item ∷ items) [] = zero-le
-front_shorter replies trace (suc n) (item ∷ items) (d ∷ dones) =
-    omega (arith, front_shorter replies trace n items dones, length-append (done_text replies trace item d) (items_text replies trace items (take n dones)), length-append (done_text replies trace item d) (items_text replies trace items dones))
-
--- the last entry begins within the text
-last_from-within : (replies : Bool) (trace : Trace) (total : Option Total) (dones : List Done) → last_from replies trace total dones ≤ length (items_text replies trace trace.items dones ++ end_text total)
-last_from-within replies trace (Some total) dones = omega (arith, length-append (items_text replies trace trace.items dones) (end_text (Some total)))
-last_from-within replies trace None dones = omega (arith, front_shorter replies trace (length dones - 1) trace.items dones, length-append (items_text replies trace trace.items dones) [])
-
--- the same of what was read
-begins_within : (replies : Bool) (trace : Option Trace) (journal : Journal) → last_in replies trace journal ≤ length (text_in replies trace journal)
-unfolding last_begins text_of
-begins_within replies None journal = zero-le
-begins_within replies (Some trace) journal = last_from-within replies trace journal.total journal.items
 
 -- ---- the status of a replay that did everything
 

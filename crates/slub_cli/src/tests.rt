@@ -127,9 +127,8 @@ fn replies_of(alloc: Global, name: &str, count: u32, size: u32) -> Result<String
 }
 
 #[test]
-fn a_second_slab_and_a_smaller_one(rt: HostRuntime) -> Result<(), Fail> {
+fn a_second_slab(rt: HostRuntime) -> Result<(), Fail> {
     let alloc = rt.alloc();
-
     let input = trace_of(alloc, "16 2", "dentry", 192, 22)?;
     let replies = replies_of(alloc, "dentry", 21, 192)?;
     let text = text_of(
@@ -149,8 +148,12 @@ fn a_second_slab_and_a_smaller_one(rt: HostRuntime) -> Result<(), Fail> {
         &SOUND,
         Status::Fine,
         text.as_str(),
-    )?;
+    )
+}
 
+#[test]
+fn a_slab_of_the_least_order(rt: HostRuntime) -> Result<(), Fail> {
+    let alloc = rt.alloc();
     let input = trace_of(alloc, "3 2", "big", 1024, 1)?;
     let text = text_of(
         alloc,
@@ -168,8 +171,12 @@ fn a_second_slab_and_a_smaller_one(rt: HostRuntime) -> Result<(), Fail> {
         &SOUND,
         Status::Fine,
         text.as_str(),
-    )?;
+    )
+}
 
+#[test]
+fn no_frames_for_a_third_slab(rt: HostRuntime) -> Result<(), Fail> {
+    let alloc = rt.alloc();
     let input = trace_of(alloc, "3 2", "big", 1024, 9)?;
     let replies = replies_of(alloc, "big", 8, 1024)?;
     let text = text_of(

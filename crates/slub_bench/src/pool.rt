@@ -3,13 +3,11 @@
 ghost use Rattle.std.specs.Prelude.{◌≤◌};
 
 use crate::nanos_since;
+use slub_common::limits::FRAMES_MAX;
 use slub_page_pool::Pool;
 use std::io;
 use std::rt::Clock;
 use std::time::Instant;
-
-/// The page frames of the machine that is measured.
-const FRAMES: u32 = 4096;
 
 /// Whether a block of this order is free at a frame.
 fn is_free(marks: &[bool], frame: usize, len: usize) -> bool {
@@ -35,12 +33,12 @@ fn plain_take(marks: &mut [bool], order: u32) -> Option<usize>
 fn drain_pool(rt: &(impl Clock + AllocGlobal), order: u32) -> io::Result<(u64, u64)>
     requires { order ≤ 10 }
 {
-    let Ok(mut pool) = Pool::open(rt.alloc(), FRAMES) else {
+    let Ok(mut pool) = Pool::open(rt.alloc(), FRAMES_MAX) else {
         return Err(io::Error::from(io::ErrorKind::OutOfMemory));
     };
     let start = Instant::now(rt)?;
     let mut takes = 0u64;
-    for _ in 0..FRAMES {
+    for _ in 0..FRAMES_MAX {
         if pool.take(order).is_none() {
             break;
         }
@@ -53,13 +51,13 @@ fn drain_pool(rt: &(impl Clock + AllocGlobal), order: u32) -> io::Result<(u64, u
 fn drain_plain(rt: &(impl Clock + AllocGlobal), order: u32) -> io::Result<(u64, u64)>
     requires { order ≤ 10 }
 {
-    let mut marks = vec![in rt.alloc(); true; FRAMES as usize]?;
+    let mut marks = vec![in rt.alloc(); true; FRAMES_MAX as usize]?;
     if let Some(first) = marks.first_mut() {
         *first = false;
     }
     let start = Instant::now(rt)?;
     let mut takes = 0u64;
-    for _ in 0..FRAMES {
+    for _ in 0..FRAMES_MAX {
         if plain_take(&mut marks, order).is_none() {
             break;
         }

@@ -12,9 +12,6 @@ abbrev pub having : {K : Type 0} → ℕ → List (K × ℕ) → ℕ
 having x es = count_by (λ e. eqb e.1 x) es
 
 -- one more at the end
-pub times-push : (x y : ℕ) (xs : List ℕ) → times x (xs ++ y ∷ []) ≡ times x xs + cond (eqb y x) 1 0
-times-push x y xs = sum_by_push (λ y. cond (eqb y x) 1 0) xs y
-
 pub having-push : {K : Type 0} (x : ℕ) (k : K) (y : ℕ) (es : List (K × ℕ)) → having x (es ++ (k, y) ∷ []) ≡ having x es + cond (eqb y x) 1 0
 having-push x k y es = sum_by_push (λ e. cond (eqb e.1 x) 1 0) es (k, y)
 

@@ -6,4 +6,3 @@ pub mod Places
 pub mod Sound
 pub mod Unique
 pub mod Views
-pub mod Writes

@@ -17,9 +17,10 @@ use Rattle.slub_cache_create.specs.Create.{IsOpenTo, IsLeastUnused, with_alias, 
 use Rattle.slub_cache_create.specs.Drop.{less_named, without_alias, without_cache, without_name}
 use Rattle.slub_cache_create.specs.Sound.{IsLiveCache, IsLiveLayout, IsSound}
 use Rattle.slub_common.specs.Times.{times}
-use Rattle.slub_cache_create.proofs.Counts.{times-push, times-filter, having, having-none, having-push, having-removed, length-removed, All-removed, many-within}
+use Rattle.slub_cache_create.proofs.Counts.{times-filter, having, having-none, having-push, having-removed, length-removed, All-removed, many-within}
+use Rattle.slub_common.proofs.Times.{times-push}
 use Rattle.slub_cache_create.proofs.Layouts.{IsLiveLayout-merged}
-use Rattle.slub_cache_create.proofs.Writes.{at_written, at_written_else, inside-some, get_or-replicate_any}
+use Rattle.slub_common.proofs.Writes.{at_written, at_written_else, get_or-replicate_any, inside-of}
 
 -- the cache of a number, where it is known
 pub known : {X : Type 0} (x : Option X) → IsSome x → (y : X) × (x ≡ Some y)
@@ -74,7 +75,7 @@ module _ (s : Table) (cache : ℕ) (old new : Cache) (live : List (List ℕ × �
 
   pub rewritten-sound : IsSound s → IsSound (record s { live = live; caches = set s.caches cache (Some new) })
   rewritten-sound sound =
-      let inside : cache < length s.caches = inside-some s.caches cache old is in
+      let inside : cache < length s.caches = inside-of s.caches cache old is in
       record {
         few = few;
         distinct = distinct;
@@ -211,7 +212,7 @@ module _ (s : Table) (name : List ℕ) (cache : ℕ) (named : number_of s name �
       by : (x : Option Cache) → cache_of s cache ≡ x → IsSound (without_cache s name cache)
       by None is = let none : names_of s cache ≡ 0 = rw is refl in absurd (omega (arith, none, last))
       by (Some old) is =
-          let inside : cache < length s.caches = inside-some s.caches cache old is in
+          let inside : cache < length s.caches = inside-of s.caches cache old is in
           let was = at_known (cache_of s cache) old (IsLiveCache s cache) is (sound.live cache) in
           let only : old.names ≡ 1 = rw is at last in
           let test = bytes_eq name in

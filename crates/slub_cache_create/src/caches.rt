@@ -12,14 +12,12 @@ ghost use Rattle.slub_cache_create.specs.Table.{IsTaken, IsTitle, cache_of, name
 
 use crate::merging;
 use indexmap::{IndexMap, IndexSet};
+use slub_common::limits::NAMES_MAX;
 use slub_common::no_memory::NoMemory;
 use slub_object_layout::layout::{Flags, Layout, LayoutRefusal, Spec, layout_of};
 use slub_object_layout::name::Name;
 use std::alloc::Global;
 use std::marker::Model;
-
-/// The most live names, and so the most live caches (*profile*).
-pub const NAMES_MAX: usize = 32;
 
 /// What a creation did, with the number of the cache that the name names now, 0 to 31.
 #[derive(Clone, Copy, Debug, PartialEq, Eq)]

@@ -1,5 +1,13 @@
-//! What several crates share: want of memory, and how often a number stands in a list
-//! (`specs/Times.antt`).
+//! What several crates share: the limits, want of memory, lists that contracts see as lists of their
+//! elements, and how often a number stands in a list (`specs/Times.antt`).
+//!
+//! `proofs/` has the lemmas on lists of numbers, on sums, and on what holds of a list after one of
+//! its elements is written, which the proofs of the crates above cite.
 #![tactic(auto)]
 
+pub mod front_list;
+pub mod limits;
 pub mod no_memory;
+pub mod sequence;
+#[cfg(test)]
+mod tests;

@@ -5,7 +5,8 @@ use Rattle.slub_object_layout.specs.declared.event.Act.{Act}
 use Rattle.slub_lists.specs.declared.reply.Reply.{Reply}
 use Rattle.slub_lists.specs.State.{State}
 use Rattle.slub_lists.specs.Coherent.{IsCoherent}
-use Rattle.slub_lists.proofs.CheckedSlabs.{counted, counted-within, inside-of}
+use Rattle.slub_lists.proofs.CheckedSlabs.{counted, counted-within}
+use Rattle.slub_common.proofs.Writes.{inside-of}
 use Rattle.slub_engine.specs.Lawful.{is_freed, is_given}
 use Rattle.slub_engine.proofs.Effects.{Effect, given, kept, quiet, taken}
 

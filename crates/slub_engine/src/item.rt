@@ -19,7 +19,7 @@ use slub_lists::reply::Reply;
 use slub_object_layout::event::{Act, Event, Round};
 use slub_object_layout::layout::Spec;
 use slub_object_layout::name::Name;
-use slub_object_layout::sequence::Sequence;
+use slub_common::sequence::Sequence;
 use slub_slabinfo_text::counts::info_rows;
 use slub_trace_reader::trace::{Item, Trace};
 use std::alloc::Global;

@@ -7,7 +7,7 @@ use slub_lists::destroy::{DestroyRefusal, Destroyed};
 use slub_lists::reply::Reply;
 use slub_object_layout::layout::LayoutRefusal;
 use slub_object_layout::name::Name;
-use slub_object_layout::sequence::Sequence;
+use slub_common::sequence::Sequence;
 use slub_red_zone::zones::Report;
 use slub_slabinfo_text::counts::InfoRow;
 use std::alloc::Global;

@@ -14,7 +14,7 @@ use Rattle.slub_lists.specs.declared.reply.Reply.{Reply}
 use Rattle.slub_lists.specs.declared.reply.Reply.TheVariants as reply
 use Rattle.slub_lists.specs.State.{State}
 use Rattle.slub_lists.specs.Coherent.{laid_down}
-use Rattle.slub_lists.proofs.CheckedSlabs.{inside-of}
+use Rattle.slub_common.proofs.Writes.{inside-of}
 use Rattle.slub_trace_reader.specs.declared.trace.Item.{Item}
 use Rattle.slub_trace_reader.specs.declared.trace.Trace.{Trace}
 use Rattle.slub_trace_reader.specs.Sound.{IsSound, objects_in as allocated_in}

@@ -7,8 +7,8 @@ use Rattle.slub_lists.specs.declared.lists.Held.{Held}
 use Rattle.slub_lists.specs.State.{State}
 use Rattle.slub_lists.specs.Alloc.{with_held}
 use Rattle.slub_lists.specs.Coherent.{IsAccounted, held_of, laid_down, all_on_board, opening}
-use Rattle.slub_lists.proofs.Writes.{at_written_else}
-use Rattle.slub_lists.proofs.Times.{sum_by-same, sum_by-map, sum_by-le-length, get_or-replicate_any}
+use Rattle.slub_common.proofs.Writes.{at_written_else, get_or-replicate_any}
+use Rattle.slub_common.proofs.Sums.{sum_by-same, sum_by-map, sum_by-le-length}
 
 -- one object more of the cache, and of no other
 pub accounted-with_held : (s : State) (object : ℕ) (held : Held) → held.cache < length s.live → object < length s.board → get_or s.board object None ≡ None → IsAccounted s → IsAccounted (with_held s object held)

@@ -15,8 +15,9 @@ use Rattle.slub_lists.specs.Steps.{HasLayout}
 use Rattle.slub_lists.specs.Laws.{HasByte}
 use Rattle.slub_lists.proofs.Framed.{covered-set, framed-most}
 use Rattle.slub_lists.proofs.Kept.{consistent-of}
-use Rattle.slub_lists.proofs.Times.{element-counted}
-use Rattle.slub_lists.proofs.CheckedSlabs.{inside-of, on-board}
+use Rattle.slub_common.proofs.Sums.{element-counted}
+use Rattle.slub_lists.proofs.CheckedSlabs.{on-board}
+use Rattle.slub_common.proofs.Writes.{inside-of}
 use Rattle.slub_lists.proofs.CheckedGiving.{layout-live, one-object, slab-sized}
 use Rattle.slub_lists.proofs.CheckedTaking.{held-slab, same-layout}
 use Rattle.slub_lists.proofs.ObjectWords.{slots-fit}

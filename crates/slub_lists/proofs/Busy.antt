@@ -11,7 +11,7 @@ use Rattle.slub_lists.specs.declared.lists.Held.{Held}
 use Rattle.slub_lists.specs.State.{State}
 use Rattle.slub_lists.specs.Alloc.{held_here, slab_of}
 use Rattle.slub_lists.specs.Coherent.{IsCoherent, has_object, held_of, held_under}
-use Rattle.slub_lists.proofs.Times.{element-counted}
+use Rattle.slub_common.proofs.Sums.{element-counted}
 use Rattle.slub_lists.proofs.CheckedGiving.{one-object}
 use Rattle.slub_lists.proofs.Coherence.{live-inside}
 use Rattle.slub_lists.proofs.Discarding.{slab-bounds}

@@ -5,7 +5,7 @@ use Rattle.std.specs.List.{range_with_len}
 use Rattle.std.proofs.lemmas.Bool.{cases_lt}
 use Rattle.std.proofs.lemmas.Bool.Decides.{nat_tests}
 use Rattle.std.proofs.lemmas.List.Sums.{sum_by-set}
-use Rattle.slub_page_pool.proofs.Times.{times-append}
+use Rattle.slub_common.proofs.Times.{times-append, times-cons, times-range, times-contained, times-filter_fail, times-filter_pass}
 use Rattle.slub_page_pool.specs.Block.{CanPut, with_run}
 use Rattle.slub_page_pool.specs.FreeFrames.{FreeFrames, IsPool}
 use Rattle.slub_common.specs.Times.{times}
@@ -22,9 +22,10 @@ use Rattle.slub_lists.specs.Checked.{first_slot, put_back}
 use Rattle.slub_lists.specs.CheckedSteps.{run_of, slab_of_run}
 use Rattle.slub_lists.specs.Coherent.{Agrees, AreChecked, IsCheckedOf, IsConsistent, IsFramed, IsListed, IsSlabOf, covers, has_object, idle_in, places, times_current, times_partial}
 use Rattle.slub_lists.specs.Steps.{HasLayout, IsLive}
-use Rattle.slub_lists.proofs.Writes.{at_written, at_written_else}
-use Rattle.slub_lists.proofs.Times.{times-cons, times-range, current-same, element-counted}
-use Rattle.slub_lists.proofs.Framed.{covered-set, framed-most, framed-with_new_slab, run-inside, run-unused, times-contained, times-filter-no, times-filter-yes}
+use Rattle.slub_common.proofs.Writes.{at_written, at_written_else}
+use Rattle.slub_lists.proofs.Times.{current-same}
+use Rattle.slub_common.proofs.Sums.{element-counted}
+use Rattle.slub_lists.proofs.Framed.{covered-set, framed-most, framed-with_new_slab, run-inside, run-unused}
 use Rattle.slub_lists.proofs.Listed.{IsFrozenBy, IsOf, current-counted-at, node-counted, partial-counted-at, unlisted-unused}
 use Rattle.slub_lists.proofs.Runs.{IsRunFor, none-frames, none-free}
 use Rattle.slub_lists.proofs.CheckedSlabs.{IsLiveOf, IsStanding, are-checked-same, are-checked-with, at_match, held-standing, idle-with, listed-same, match_weaker, shaped-with_slabs, some_weaker, was-checked, whole, with_slabs}
@@ -46,19 +47,19 @@ times-with_run f free frame order none =
     times-append f (filter (λ g. nat_lt g frame) free ++ range_with_len frame (2 ^ order)) (filter (λ g. nat_le (frame + 2 ^ order) g) free) in
     let range = times-range f frame (2 ^ order) in (
       λ within.
-          let gone = times-filter-no f (λ g. nat_lt g frame) free (grind (arith, nat_tests, within.0)) in
-          let out = times-filter-no f (λ g. nat_le (frame + 2 ^ order) g) free (grind (arith, nat_tests, within.1)) in
+          let gone = times-filter_fail f (λ g. nat_lt g frame) free (grind (arith, nat_tests, within.0)) in
+          let out = times-filter_fail f (λ g. nat_le (frame + 2 ^ order) g) free (grind (arith, nat_tests, within.1)) in
           let one : times f (range_with_len frame (2 ^ order)) ≡ 1 = grind (arith, nat_tests, range, within.0, within.1) in
           omega (arith, all, first, gone, out, one),
       λ outside. elim outside [
         | inl before ↦
-            let stays = times-filter-yes f (λ g. nat_lt g frame) free (grind (arith, nat_tests, before)) in
-            let out = times-filter-no f (λ g. nat_le (frame + 2 ^ order) g) free (grind (arith, nat_tests, before)) in
+            let stays = times-filter_pass f (λ g. nat_lt g frame) free (grind (arith, nat_tests, before)) in
+            let out = times-filter_fail f (λ g. nat_le (frame + 2 ^ order) g) free (grind (arith, nat_tests, before)) in
             let nothing : times f (range_with_len frame (2 ^ order)) ≡ 0 = grind (arith, nat_tests, range, before) in
             omega (arith, all, first, stays, out, nothing)
         | inr past ↦
-            let gone = times-filter-no f (λ g. nat_lt g frame) free (grind (arith, nat_tests, past)) in
-            let stays = times-filter-yes f (λ g. nat_le (frame + 2 ^ order) g) free (grind (arith, nat_tests, past)) in
+            let gone = times-filter_fail f (λ g. nat_lt g frame) free (grind (arith, nat_tests, past)) in
+            let stays = times-filter_pass f (λ g. nat_le (frame + 2 ^ order) g) free (grind (arith, nat_tests, past)) in
             let nothing : times f (range_with_len frame (2 ^ order)) ≡ 0 = grind (arith, nat_tests, range, past) in
             omega (arith, all, first, gone, stays, nothing)
       ],
@@ -89,7 +90,7 @@ module _ (s : State) (layout : Layout) (run : Run) (pool : FreeFrames) (consiste
   -- none of them is free any more
   run-taken : (g : ℕ) → run.frame ≤ g → g < run.frame + 2 ^ run.order → times g pool.free ≡ 0
   run-taken g low high =
-      ap (times g) is_run.less ∙ times-filter-no g (λ g. nat_lt g run.frame || nat_le (run.frame + 2 ^ run.order) g) s.pool.free (grind (arith, nat_tests, low, high))
+      ap (times g) is_run.less ∙ times-filter_fail g (λ g. nat_lt g run.frame || nat_le (run.frame + 2 ^ run.order) g) s.pool.free (grind (arith, nat_tests, low, high))
 
   -- it can come back
   pub run-can-put : IsLive layout → CanPut pool run.frame run.order
@@ -114,10 +115,10 @@ module _ (s : State) (layout : Layout) (run : Run) (pool : FreeFrames) (consiste
       let back = times-with_run f pool.free run.frame run.order run-taken in
       let less = ap (times f) is_run.less in
       elim (cases_lt f run.frame) [
-        | inl before ↦ omega (arith, back.1 (inl before), less, times-filter-yes f (λ g. nat_lt g run.frame || nat_le (run.frame + 2 ^ run.order) g) s.pool.free (grind (arith, nat_tests, before)))
+        | inl before ↦ omega (arith, back.1 (inl before), less, times-filter_pass f (λ g. nat_lt g run.frame || nat_le (run.frame + 2 ^ run.order) g) s.pool.free (grind (arith, nat_tests, before)))
         | inr from ↦ elim (cases_lt f (run.frame + 2 ^ run.order)) [
           | inl within ↦ omega (arith, back.0 (from, within), (run-frames f from within).2)
-          | inr past ↦ omega (arith, back.1 (inr past), less, times-filter-yes f (λ g. nat_lt g run.frame || nat_le (run.frame + 2 ^ run.order) g) s.pool.free (grind (arith, nat_tests, past)))
+          | inr past ↦ omega (arith, back.1 (inr past), less, times-filter_pass f (λ g. nat_lt g run.frame || nat_le (run.frame + 2 ^ run.order) g) s.pool.free (grind (arith, nat_tests, past)))
         ]
       ] in
       record {

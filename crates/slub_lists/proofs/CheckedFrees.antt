@@ -20,7 +20,8 @@ use Rattle.slub_lists.specs.Coherent.{IsConsistent, held_under}
 use Rattle.slub_lists.specs.Free.{discarded, order_of, with_gone, with_taken}
 use Rattle.slub_lists.specs.Steps.{HasLayout, KeepsFound}
 use Rattle.slub_lists.proofs.Found.{found-same}
-use Rattle.slub_lists.proofs.CheckedSlabs.{counted, counted-within, found-with, inside-of, kept-consistent, on-board, reports-from}
+use Rattle.slub_lists.proofs.CheckedSlabs.{counted, counted-within, found-with, kept-consistent, on-board, reports-from}
+use Rattle.slub_common.proofs.Writes.{inside-of}
 use Rattle.slub_lists.proofs.CheckedTaking.{back-consistent, going-can-put, going-consistent, going-order, going-own, going-slot, held-frame, held-has, held-objects, held-used, with-checked-same}
 use Rattle.slub_lists.proofs.CheckedReplies.{of-slabs, slabs-of}
 

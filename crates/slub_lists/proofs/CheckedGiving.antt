@@ -18,8 +18,9 @@ use Rattle.slub_lists.specs.Alloc.{cache_of, checked_of, held_here, slab_of, wit
 use Rattle.slub_lists.specs.Checked.{with_checked}
 use Rattle.slub_lists.specs.Coherent.{Agrees, IsConsistent, IsShaped, IsSlabOf, has_object, idle_in}
 use Rattle.slub_lists.specs.Steps.{HasLayout, IsLive}
-use Rattle.slub_lists.proofs.Times.{element-counted}
-use Rattle.slub_lists.proofs.CheckedSlabs.{at_some, held-standing, idle-with, inside-of, keeps-standing, standing, was-checked, whole}
+use Rattle.slub_common.proofs.Sums.{element-counted}
+use Rattle.slub_lists.proofs.CheckedSlabs.{at_some, held-standing, idle-with, keeps-standing, standing, was-checked, whole}
+use Rattle.slub_common.proofs.Writes.{inside-of}
 
 -- the value that is there
 pub the-value : {X : Type 0} (x : Option X) (P : X → Type 0) → MatchOption x ⊥ P → (y : X) × (x ≡ Some y) × P y

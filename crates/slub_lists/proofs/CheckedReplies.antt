@@ -23,7 +23,8 @@ use Rattle.slub_lists.specs.Steps.{HasLayout, KeepsFound}
 use Rattle.slub_lists.proofs.Accounted.{accounted-most}
 use Rattle.slub_lists.proofs.Found.{found-same}
 use Rattle.slub_lists.proofs.Runs.{IsRunFor, run-for}
-use Rattle.slub_lists.proofs.CheckedSlabs.{findable-with, found-with, inside-of, keeps-consistent, reports-from, reports-trans, reports-with}
+use Rattle.slub_lists.proofs.CheckedSlabs.{findable-with, found-with, keeps-consistent, reports-from, reports-trans, reports-with}
+use Rattle.slub_common.proofs.Writes.{inside-of}
 use Rattle.slub_lists.proofs.CheckedGiving.{given-consistent, given-frame, given-index, given-unheld, layout-live, the-value}
 use Rattle.slub_lists.proofs.CheckedComing.{coming, coming-consistent, new-lacks, new-sized, put-back-consistent, run-can-put, run-first, run-none, run-slot}
 use Rattle.slub_lists.proofs.CheckedTaking.{with-checked-same}

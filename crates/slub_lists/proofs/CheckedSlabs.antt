@@ -21,8 +21,8 @@ use Rattle.slub_lists.specs.Free.{with_taken}
 use Rattle.slub_lists.specs.Steps.{KeepsFound}
 use Rattle.slub_lists.proofs.Accounted.{accounted-with_held}
 use Rattle.slub_lists.proofs.Found.{AddsReportsOf-same}
-use Rattle.slub_lists.proofs.Times.{element-counted}
-use Rattle.slub_lists.proofs.Writes.{at_written, at_written_else}
+use Rattle.slub_common.proofs.Sums.{element-counted}
+use Rattle.slub_common.proofs.Writes.{at_written, at_written_else, inside-of}
 
 -- a machine with other frames, slabs and objects, on the same lists
 abbrev pub with_slabs : State → FreeFrames → List (Option Slab) → List (List ℕ) → List (Option CheckedState) → List ℕ → List (Option Held) → List ℕ → State
@@ -41,17 +41,6 @@ standing s consistent = record { shaped = consistent.shaped; framed = consistent
 
 pub whole : (s : State) → IsStanding s → IsPlaced s → IsConsistent s
 whole s stands placed = record { shaped = stands.shaped; placed = placed; framed = stands.framed; listed = stands.listed; accounted = stands.accounted }
-
--- a value that is there stands inside its list
-pub inside-of : {X : Type 0} (xs : List (Option X)) (i : ℕ) (x : X) → get_or xs i None ≡ Some x → i < length xs
-inside-of xs i x is =
-    elim (cases_lt i (length xs)) [
-      | inl inside ↦ inside
-      | inr past ↦ let gone = get_or_past xs i None past in absurd (nothing (sym gone ∙ is))
-    ]
-  where
-    nothing : {X : Type 0} {x : X} → None ≡ Some x → ⊥
-    nothing e = cc
 
 -- what holds of a value, if there is one, holds of this one
 pub at_some : {X : Type 0} (o : Option X) (x : X) (P : X → Type 0) → o ≡ Some x → IfSome o P → P x

@@ -26,11 +26,13 @@ use Rattle.slub_lists.specs.Checked.{slot_of_held, with_checked}
 use Rattle.slub_lists.specs.Coherent.{Agrees, AreChecked, IsCheckedOf, IsConsistent, IsFramed, IsListed, IsPlaced, IsSlabOf, covered_from, covers, has_object, held_under, idle_in, if_current, on_cpu, places, times_current, times_partial}
 use Rattle.slub_lists.specs.Free.{discarded, order_of, with_taken}
 use Rattle.slub_lists.specs.Steps.{HasLayout}
-use Rattle.slub_lists.proofs.Writes.{at_written, at_written_else}
-use Rattle.slub_lists.proofs.Times.{current-other, element-counted}
-use Rattle.slub_lists.proofs.Framed.{covered-set, framed-most, times-contained}
+use Rattle.slub_common.proofs.Writes.{at_written, at_written_else, inside-of}
+use Rattle.slub_lists.proofs.Times.{current-other}
+use Rattle.slub_common.proofs.Sums.{element-counted}
+use Rattle.slub_lists.proofs.Framed.{covered-set, framed-most}
+use Rattle.slub_common.proofs.Times.{times-contained}
 use Rattle.slub_lists.proofs.Listed.{IsFrozenBy, IsOf}
-use Rattle.slub_lists.proofs.CheckedSlabs.{IsLiveOf, are-checked-with, at_some, held-live, held-once, idle-with, inside-of, keeps-standing, match_weaker, on-board, shaped-with_slabs, standing, taken-standing, was-checked, whole}
+use Rattle.slub_lists.proofs.CheckedSlabs.{IsLiveOf, are-checked-with, at_some, held-live, held-once, idle-with, keeps-standing, match_weaker, on-board, shaped-with_slabs, standing, taken-standing, was-checked, whole}
 use Rattle.slub_lists.proofs.CheckedGiving.{layout-live, one-object, slab-objects, slab-sized, the-value}
 use Rattle.slub_lists.proofs.CheckedComing.{times-with_run}
 

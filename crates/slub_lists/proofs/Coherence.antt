@@ -15,7 +15,8 @@ use Rattle.slub_lists.specs.Alloc.{IsStocked, from_node, from_partial, no_lists,
 use Rattle.slub_common.specs.Times.{times}
 use Rattle.slub_lists.specs.Coherent.{IsConsistent, IsShaped, times_current, times_partial, if_current, all_on_board, opening}
 use Rattle.slub_lists.specs.Steps.{IsTakable, IsRelisted, PopsNode, PopsPartial}
-use Rattle.slub_lists.proofs.Times.{times-cons, times-take-drop, times-reverse, current-same}
+use Rattle.slub_lists.proofs.Times.{current-same}
+use Rattle.slub_common.proofs.Times.{times-cons, times-take-drop, times-reverse}
 use Rattle.slub_lists.proofs.Placed.{placed-retired, placed-taken_up, placed-partial, placed-all_on_board, placed-opening}
 use Rattle.slub_lists.proofs.Framed.{framed-retired, framed-taken_up, framed-opening}
 use Rattle.slub_lists.proofs.Listed.{listed-retired, listed-taken_up, listed-relisted, listed-all_on_board, listed-opening, current-counted, live-from}

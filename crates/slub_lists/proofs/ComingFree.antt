@@ -4,7 +4,7 @@ use Rattle.std.specs.Prelude.{if◌then◌else◌, count_by}
 use Rattle.std.proofs.lemmas.Bool.{cases_Bool, cases_eq}
 use Rattle.std.proofs.lemmas.Bool.Decides.{nat_tests}
 use Rattle.slub_common.specs.Times.{times}
-use Rattle.slub_page_pool.proofs.Times.{Contains-times}
+use Rattle.slub_common.proofs.Times.{Contains-times, times-contained}
 use Rattle.slub_lists.specs.declared.lists.Slab.{Slab}
 use Rattle.slub_lists.specs.State.{State}
 use Rattle.slub_lists.specs.Alloc.{slab_of}
@@ -12,10 +12,10 @@ use Rattle.slub_lists.specs.Coherent.{IsCoherent, covered_from, covers}
 use Rattle.slub_lists.specs.Leaving.{FreesAll, FreesLost, HasFrame, KeepsHeld, LeavesSlabs, StaysOrGoes}
 use Rattle.slub_lists.specs.Shrink.{ShrinksByKind, ShrinksCache, busy_of, has_slab, is_slab_of}
 use Rattle.slub_lists.proofs.Apart.{one-slab}
-use Rattle.slub_lists.proofs.CheckedSlabs.{inside-of}
-use Rattle.slub_lists.proofs.Framed.{covered-set, framed-most, times-contained}
+use Rattle.slub_common.proofs.Writes.{inside-of}
+use Rattle.slub_lists.proofs.Framed.{covered-set, framed-most}
 use Rattle.slub_lists.proofs.Kept.{consistent-of}
-use Rattle.slub_lists.proofs.Times.{element-counted}
+use Rattle.slub_common.proofs.Sums.{element-counted}
 
 -- ---- a frame that is covered is one of a slab
 

@@ -6,8 +6,8 @@ use Rattle.std.proofs.lemmas.Bool.Decides.{nat_tests}
 use Rattle.std.proofs.lemmas.List.Sums.{length-filter}
 use Rattle.std.proofs.lemmas.List.Filters.{length-filter_both}
 use Rattle.slub_common.specs.Times.{times}
-use Rattle.slub_lists.proofs.Times.{times-cons, current-same, current-other}
-use Rattle.slub_lists.proofs.Framed.{times-filter-yes, times-filter-no}
+use Rattle.slub_lists.proofs.Times.{current-same, current-other}
+use Rattle.slub_common.proofs.Times.{times-cons, times-filter_pass, times-filter_fail}
 
 -- each number of the list is below a bound, and none stands there twice
 abbrev pub IsOnce : ℕ → List ℕ → Type 0
@@ -18,10 +18,10 @@ once-without : (n : ℕ) (xs : List ℕ) → IsOnce (suc n) xs → IsOnce n (fil
 once-without n xs once x =
     elim (cases_eq x n) [
       | inl same ↦
-          let gone = times-filter-no x (λ y. not (eqb y n)) xs (grind (arith, nat_tests, same)) in
+          let gone = times-filter_fail x (λ y. not (eqb y n)) xs (grind (arith, nat_tests, same)) in
           omega (arith, gone)
       | inr other ↦
-          let kept = times-filter-yes x (λ y. not (eqb y n)) xs (grind (arith, nat_tests, other)) in
+          let kept = times-filter_pass x (λ y. not (eqb y n)) xs (grind (arith, nat_tests, other)) in
           let most = once x in
           grind (arith, nat_tests, other, kept, most)
     ]

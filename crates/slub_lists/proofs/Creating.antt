@@ -30,8 +30,7 @@ use Rattle.slub_lists.specs.Alloc.{cache_of, checked_of, cpu_place, lists_of, no
 use Rattle.slub_lists.specs.Coherent.{Agrees, AreChecked, IsCheckedOf, IsCoherent, IsListed, IsShaped, IsSlabOf, idle_in, times_current, times_partial}
 use Rattle.slub_lists.specs.Checked.{with_checked}
 use Rattle.slub_lists.specs.Create.{CreatesCache, with_new}
-use Rattle.slub_lists.proofs.Writes.{at_written, at_written_else}
-use Rattle.slub_lists.proofs.Times.{get_or-replicate_any}
+use Rattle.slub_common.proofs.Writes.{at_written, at_written_else, get_or-replicate_any}
 use Rattle.slub_lists.proofs.Listed.{IsOf, live-from, current-counted-at, partial-counted-at, node-counted}
 use Rattle.slub_lists.proofs.Unchecked.{IsUnfree, nothing-stands}
 use Rattle.slub_lists.proofs.Shaped.{IfSome-weaker}

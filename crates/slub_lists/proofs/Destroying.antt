@@ -23,8 +23,8 @@ use Rattle.slub_lists.specs.Destroy.{without}
 use Rattle.slub_lists.specs.Shrink.{has_slab, is_slab_of}
 use Rattle.slub_lists.proofs.Emptied.{idle-none}
 use Rattle.slub_lists.proofs.CheckedSlabs.{some_weaker}
-use Rattle.slub_lists.proofs.Times.{element-counted}
-use Rattle.slub_lists.proofs.Writes.{at_written}
+use Rattle.slub_common.proofs.Sums.{element-counted}
+use Rattle.slub_common.proofs.Writes.{at_written}
 
 -- ---- what the table of names did
 

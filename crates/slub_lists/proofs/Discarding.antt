@@ -7,7 +7,7 @@ use Rattle.std.proofs.lemmas.Bool.Decides.{nat_tests}
 use Rattle.slub_page_pool.specs.FreeFrames.{IsPool}
 use Rattle.slub_page_pool.specs.Block.{CanPut, with_run}
 use Rattle.slub_common.specs.Times.{times}
-use Rattle.slub_page_pool.proofs.Times.{times-append}
+use Rattle.slub_common.proofs.Times.{times-append, times-range, times-contained, times-filter_pass, times-filter_fail}
 use Rattle.slub_lists.specs.declared.lists.Slab.{Slab}
 use Rattle.slub_cache_create.specs.declared.caches.Cache.{Cache}
 use Rattle.slub_lists.specs.declared.lists.Held.{Held}
@@ -15,10 +15,10 @@ use Rattle.slub_lists.specs.State.{State}
 use Rattle.slub_lists.specs.Alloc.{cache_of, held_here, own_free, slab_of}
 use Rattle.slub_lists.specs.Coherent.{IsConsistent, IsFramed, IsListed, IsPlaced, IsShaped, IsSlabOf, covers, covered_from, has_object, held_under, idle_in, on_cpu, places, times_current, times_partial}
 use Rattle.slub_lists.specs.Free.{discarded, inuse_of, order_of}
-use Rattle.slub_lists.proofs.Writes.{at_written, at_written_else}
-use Rattle.slub_lists.proofs.Times.{times-range, element-counted}
+use Rattle.slub_common.proofs.Writes.{at_written, at_written_else}
+use Rattle.slub_common.proofs.Sums.{element-counted}
 use Rattle.slub_lists.proofs.Counting.{IsOnce, once-all}
-use Rattle.slub_lists.proofs.Framed.{covered-set, framed-most, times-contained, times-filter-yes, times-filter-no}
+use Rattle.slub_lists.proofs.Framed.{covered-set, framed-most}
 use Rattle.slub_lists.proofs.Listed.{IsOf, IsFrozenBy}
 use Rattle.slub_lists.specs.Steps.{IsLive}
 use Rattle.slub_lists.proofs.Shaped.{IsAligned, IsLiveOf, IsOfItsCache, layouts-live}
@@ -141,19 +141,19 @@ module _ (s : State) (frame : ℕ) (slab : Slab) (consistent : IsConsistent s) (
         let range = times-range f frame (2 ^ slab.order) in
         elim (cases_lt f frame) [
           | inl before ↦
-              let stays = times-filter-yes f (λ g. nat_lt g frame) s.pool.free (grind (arith, nat_tests, before)) in
-              let out = times-filter-no f (λ g. nat_le (frame + 2 ^ slab.order) g) s.pool.free (grind (arith, nat_tests, before)) in
+              let stays = times-filter_pass f (λ g. nat_lt g frame) s.pool.free (grind (arith, nat_tests, before)) in
+              let out = times-filter_fail f (λ g. nat_le (frame + 2 ^ slab.order) g) s.pool.free (grind (arith, nat_tests, before)) in
               let none : times f (range_with_len frame (2 ^ slab.order)) ≡ 0 = grind (arith, nat_tests, range, before) in
               omega (arith, whole, first, stays, out, none, covers-before f before)
           | inr from ↦
-              let gone = times-filter-no f (λ g. nat_lt g frame) s.pool.free (grind (arith, nat_tests, from)) in
+              let gone = times-filter_fail f (λ g. nat_lt g frame) s.pool.free (grind (arith, nat_tests, from)) in
               elim (cases_lt f (frame + 2 ^ slab.order)) [
                 | inl within ↦
-                    let out = times-filter-no f (λ g. nat_le (frame + 2 ^ slab.order) g) s.pool.free (grind (arith, nat_tests, within)) in
+                    let out = times-filter_fail f (λ g. nat_le (frame + 2 ^ slab.order) g) s.pool.free (grind (arith, nat_tests, within)) in
                     let one : times f (range_with_len frame (2 ^ slab.order)) ≡ 1 = grind (arith, nat_tests, range, from, within) in
                     omega (arith, whole, first, gone, out, one, covers-run f from within, (run-frames f from within).2)
                 | inr past ↦
-                    let stays = times-filter-yes f (λ g. nat_le (frame + 2 ^ slab.order) g) s.pool.free (grind (arith, nat_tests, past)) in
+                    let stays = times-filter_pass f (λ g. nat_le (frame + 2 ^ slab.order) g) s.pool.free (grind (arith, nat_tests, past)) in
                     let none : times f (range_with_len frame (2 ^ slab.order)) ≡ 0 = grind (arith, nat_tests, range, past) in
                     omega (arith, whole, first, gone, stays, none, covers-after f past)
               ]

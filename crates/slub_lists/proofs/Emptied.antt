@@ -20,8 +20,8 @@ use Rattle.slub_lists.specs.Coherent.{Agrees, IsCheckedOf, IsCoherent, has_objec
 use Rattle.slub_lists.specs.Free.{inuse_of}
 use Rattle.slub_lists.specs.Shrink.{has_slab, is_slab_of}
 use Rattle.slub_lists.specs.Shrinking.{IsSwept}
-use Rattle.slub_lists.proofs.Times.{element-counted}
-use Rattle.slub_lists.proofs.Framed.{times-filter-yes}
+use Rattle.slub_common.proofs.Sums.{element-counted}
+use Rattle.slub_common.proofs.Times.{times-filter_pass}
 use Rattle.slub_lists.proofs.Shaped.{IsLiveOf}
 use Rattle.slub_lists.proofs.Discarding.{slab-bounds}
 
@@ -40,7 +40,7 @@ all-length (suc n) xs all =
     let here : length (filter (λ x. eqb x n) xs) ≡ times n xs = length-filter (λ x. eqb x n) xs in
     let rest = all-length n (filter (λ x. not (eqb x n)) xs)
     (λ i below.
-    let stays = times-filter-yes i (λ x. not (eqb x n)) xs (grind (arith, nat_tests, below)) in
+    let stays = times-filter_pass i (λ x. not (eqb x n)) xs (grind (arith, nat_tests, below)) in
     omega (arith, stays, all i (omega arith))) in
     omega (arith, both, here, rest, all n (omega arith))
 

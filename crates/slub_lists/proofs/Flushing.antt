@@ -7,7 +7,7 @@ use Rattle.std.proofs.lemmas.List.Sums.{sum_by-set}
 use Rattle.std.proofs.lemmas.Bool.{cases_eq, cond_both}
 use Rattle.std.proofs.lemmas.Bool.Decides.{nat_tests}
 use Rattle.slub_common.specs.Times.{times}
-use Rattle.slub_page_pool.proofs.Times.{times-append}
+use Rattle.slub_common.proofs.Times.{times-append, times-cons}
 use Rattle.slub_lists.specs.declared.lists.Slab.{Slab}
 use Rattle.slub_lists.specs.declared.lists.CpuLists.{CpuLists}
 use Rattle.slub_lists.specs.State.{State}
@@ -17,8 +17,10 @@ use Rattle.slub_lists.specs.Free.{discarded, is_spare, moved, moved_all, with_pa
 use Rattle.slub_lists.specs.Shrink.{flushed, moved_partial, put_away, put_away_slab, put_on_node, put_where, taken_down}
 use Rattle.slub_lists.specs.Steps.{IsListable}
 use Rattle.slub_lists.specs.Shrinking.{KeepsChecked}
-use Rattle.slub_lists.proofs.Writes.{at_written, at_written_else, at_marked}
-use Rattle.slub_lists.proofs.Times.{times-cons, current-same, current-other, element-counted}
+use Rattle.slub_lists.proofs.Writes.{at_marked}
+use Rattle.slub_common.proofs.Writes.{at_written, at_written_else}
+use Rattle.slub_lists.proofs.Times.{current-same, current-other}
+use Rattle.slub_common.proofs.Sums.{element-counted}
 use Rattle.slub_lists.proofs.Counting.{IsOnce, once-length}
 use Rattle.slub_lists.proofs.Discarding.{the-slab, slab-bounds}
 use Rattle.slub_lists.proofs.Placed.{has_object-marked, on_cpu-written}

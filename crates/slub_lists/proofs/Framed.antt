@@ -11,7 +11,8 @@ use Rattle.slub_lists.specs.State.{State}
 use Rattle.slub_lists.specs.Alloc.{marked, slab_of, retired, taken_up, with_new_slab}
 use Rattle.slub_common.specs.Times.{times}
 use Rattle.slub_lists.specs.Coherent.{IsFramed, covers, covered_from, opening}
-use Rattle.slub_lists.proofs.Times.{times-cons, times-range, current-other}
+use Rattle.slub_lists.proofs.Times.{current-other}
+use Rattle.slub_common.proofs.Times.{times-cons, times-range, times-filter_pass, times-filter_fail}
 
 -- one slab more or less changes what is covered by what it covers
 pub covered-set : (f k : ℕ) (xs : List (Option Slab)) (i : ℕ) (v : Option Slab) → i < length xs
@@ -37,34 +38,6 @@ framed-retired s cache cpu frame framed f = omega (arith, framed f, covered-mark
 
 pub framed-taken_up : (s : State) (cache cpu frame : ℕ) (partial : List ℕ) → IsFramed s → IsFramed (taken_up s cache cpu frame partial)
 framed-taken_up s cache cpu frame partial framed f = omega (arith, framed f, covered-marked f 0 true s.slabs frame)
-
--- a number that passes stays in a list that is filtered, and one that doesn't is gone
-pub times-filter-yes : (x : ℕ) (p : ℕ → Bool) (xs : List ℕ) → p x ≡ true → times x (filter p xs) ≡ times x xs
-times-filter-yes x p [] passes = refl
-times-filter-yes x p (y ∷ ys) passes =
-    cond_both (p y) (y ∷ filter p ys) (filter p ys) (λ zs. times x zs ≡ times x (y ∷ ys))
-    (λ kept. omega (arith, times-cons x y (filter p ys), times-cons x y ys, times-filter-yes x p ys passes))
-    (λ gone. omega (arith, times-cons x y ys, times-filter-yes x p ys passes, current-other x y 1 (λ e. apart p x y e passes gone)))
-  where
-    apart : (p : ℕ → Bool) (x y : ℕ) → x ≡ y → p x ≡ true → p y ≡ false → ⊥
-    apart p x y e passes gone = let same = ap p e in cc
-
-pub times-filter-no : (x : ℕ) (p : ℕ → Bool) (xs : List ℕ) → p x ≡ false → times x (filter p xs) ≡ 0
-times-filter-no x p [] fails = refl
-times-filter-no x p (y ∷ ys) fails =
-    cond_both (p y) (y ∷ filter p ys) (filter p ys) (λ zs. times x zs ≡ 0)
-    (λ kept. omega (arith, times-cons x y (filter p ys), times-filter-no x p ys fails, current-other x y 1 (λ e. apart p x y e fails kept)))
-    (λ gone. times-filter-no x p ys fails)
-  where
-    apart : (p : ℕ → Bool) (x y : ℕ) → x ≡ y → p x ≡ false → p y ≡ true → ⊥
-    apart p x y e fails kept = let same = ap p e in cc
-
--- what a list has stands in it
-pub times-contained : (x : ℕ) (xs : List ℕ) → Contains xs x → 0 < times x xs
-times-contained x xs found =
-    let at : cond (eqb (get_or xs found.0 x) x) 1 0 ≤ times x xs = get_or-le-sum_by (λ y. cond (eqb y x) 1 0) xs found.0 x found.1 in
-    let same : get_or xs found.0 x ≡ x = found.2 in
-    grind (arith, nat_tests, at, same)
 
 -- the least and the most that a frame is free or covered
 pub framed-most : (s : State) (f : ℕ) → IsFramed s → times f s.pool.free + covered_from f 0 s.slabs ≤ 1
@@ -98,11 +71,11 @@ module _ (s : State) (cache cpu : ℕ) (pool : FreeFrames) (run : Run) (all_free
       let free : times f pool.free ≡ times f (less_run s.pool.free run.frame run.order) = ap (times f) less in
       elim (cases_Bool (nat_lt f run.frame || nat_le (run.frame + 2 ^ run.order) f)) [
         | inl outside ↦
-            let stays = times-filter-yes f (λ g. nat_lt g run.frame || nat_le (run.frame + 2 ^ run.order) g) s.pool.free outside in
+            let stays = times-filter_pass f (λ g. nat_lt g run.frame || nat_le (run.frame + 2 ^ run.order) g) s.pool.free outside in
             let out : covers f (0 + run.frame) (Some new) ≡ 0 = grind (arith, nat_tests, outside, zero-add run.frame) in
             omega (arith, free, stays, out, more, unused, before)
         | inr within ↦
-            let gone = times-filter-no f (λ g. nat_lt g run.frame || nat_le (run.frame + 2 ^ run.order) g) s.pool.free within in
+            let gone = times-filter_fail f (λ g. nat_lt g run.frame || nat_le (run.frame + 2 ^ run.order) g) s.pool.free within in
             let low : run.frame ≤ f = grind (arith, nat_tests, within) in
             let high : f < run.frame + 2 ^ run.order = grind (arith, nat_tests, within) in
             let has : covers f (0 + run.frame) (Some new) ≡ 1 = grind (arith, nat_tests, low, high, zero-add run.frame) in

@@ -12,8 +12,10 @@ use Rattle.slub_lists.specs.Alloc.{cache_of, checked_of, cpu_place, held_here, l
 use Rattle.slub_lists.specs.Coherent.{IsConsistent, IsListed, IsPlaced, IsShaped, IsSlabOf, has_object, held_under, if_current, on_cpu, times_current, times_partial}
 use Rattle.slub_lists.specs.Free.{freed_here, with_freed, with_taken}
 use Rattle.slub_lists.specs.Steps.{HasLayout, IsLive}
-use Rattle.slub_lists.proofs.Writes.{at_written, at_written_else}
-use Rattle.slub_lists.proofs.Times.{times-cons, current-same, element-counted}
+use Rattle.slub_common.proofs.Writes.{at_written, at_written_else}
+use Rattle.slub_lists.proofs.Times.{current-same}
+use Rattle.slub_common.proofs.Times.{times-cons}
+use Rattle.slub_common.proofs.Sums.{element-counted}
 use Rattle.slub_lists.proofs.Counting.{IsOnce, once-room}
 use Rattle.slub_lists.proofs.Placed.{on_cpu-written}
 use Rattle.slub_lists.proofs.Listed.{IsOf, IsFrozenBy-same, current-written, partial-written, of-written}

@@ -16,7 +16,9 @@ use Rattle.slub_lists.specs.Alloc.{FindsRun, IsStocked, held_here, no_lists, cpu
 use Rattle.slub_common.specs.Times.{times}
 use Rattle.slub_lists.specs.Coherent.{IsConsistent, IsSlabOf, has_object, if_current, on_cpu}
 use Rattle.slub_lists.specs.Steps.{HasLayout, IsLive, IsRelisted}
-use Rattle.slub_lists.proofs.Times.{times-cons, current-same, element-counted}
+use Rattle.slub_lists.proofs.Times.{current-same}
+use Rattle.slub_common.proofs.Times.{times-cons}
+use Rattle.slub_common.proofs.Sums.{element-counted}
 use Rattle.slub_lists.proofs.Placed.{placed-with_new_slab, placed-with_given}
 use Rattle.slub_lists.proofs.Framed.{framed-with_new_slab, run-inside, run-unused}
 use Rattle.slub_lists.proofs.Listed.{listed-with_new_slab, listed-with_given, listed-with_pool}

@@ -5,7 +5,7 @@ use Rattle.std.specs.List.{All, range_with_len}
 use Rattle.std.proofs.lemmas.List.FromFn.{length-range_with_len}
 use Rattle.std.proofs.lemmas.List.FromFn.{get_or-range_with_len}
 use Rattle.slub_page_pool.specs.FreeFrames as pool
-use Rattle.slub_page_pool.proofs.Lists.{IsStrictlyIncreasing-range_with_len}
+use Rattle.slub_common.proofs.Lists.{IsStrictlyIncreasing-range_with_len}
 use Rattle.slub_object_layout.specs.declared.layout.Layout.{Layout}
 use Rattle.slub_cache_create.specs.declared.caches.Cache.{Cache}
 use Rattle.slub_lists.specs.declared.reply.Reply.{Reply}

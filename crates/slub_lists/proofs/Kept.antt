@@ -20,7 +20,9 @@ use Rattle.slub_red_zone.specs.State.{CheckedState}
 use Rattle.slub_red_zone.specs.declared.checked.CheckedGive.{CheckedGive}
 use Rattle.slub_red_zone.specs.declared.checked.CheckedGive.TheVariants as give
 use Rattle.slub_lists.specs.Coherent.{IsCoherent, IsConsistent, IsKept, IsShaped, if_current, opening, times_current, times_partial}
-use Rattle.slub_lists.proofs.Times.{times-cons, times-take-drop, times-reverse, current-other, get_or-replicate_any}
+use Rattle.slub_lists.proofs.Times.{current-other}
+use Rattle.slub_common.proofs.Times.{times-cons, times-take-drop, times-reverse}
+use Rattle.slub_common.proofs.Writes.{get_or-replicate_any}
 use Rattle.slub_lists.proofs.Listed.{current-written, partial-written}
 use Rattle.slub_lists.proofs.Coherence.{live-inside, place-inside, IsSome-live}
 

@@ -5,7 +5,7 @@ use Rattle.std.proofs.lemmas.List.Sums.{sum_by-set}
 use Rattle.std.proofs.lemmas.Bool.{cases_eq, cond_both}
 use Rattle.std.proofs.lemmas.Bool.Decides.{nat_tests}
 use Rattle.slub_common.specs.Times.{times}
-use Rattle.slub_page_pool.proofs.Times.{times-append}
+use Rattle.slub_common.proofs.Times.{times-append, times-cons, times-filter_pass}
 use Rattle.slub_object_layout.specs.declared.layout.Layout.{Layout}
 use Rattle.slub_lists.specs.declared.lists.CpuLists.{CpuLists}
 use Rattle.slub_cache_create.specs.declared.caches.Cache.{Cache}
@@ -20,8 +20,7 @@ use Rattle.slub_lists.specs.Freeing.{Frees, FreesHeld}
 use Rattle.slub_lists.specs.Checked.{FreesChecked, IsFreedOrKept}
 use Rattle.slub_red_zone.specs.State.{CheckedState}
 use Rattle.slub_red_zone.specs.declared.zones.Damage.{Damage}
-use Rattle.slub_lists.proofs.Times.{times-cons, current-same, current-other}
-use Rattle.slub_lists.proofs.Framed.{times-filter-yes}
+use Rattle.slub_lists.proofs.Times.{current-same, current-other}
 use Rattle.slub_lists.proofs.Listed.{current-written, partial-written}
 use Rattle.slub_lists.proofs.Coherence.{live-inside, place-inside, IsSome-live}
 use Rattle.slub_lists.proofs.Kept.{IsKeptBut, at_emptied, kept-no-hand}
@@ -95,7 +94,7 @@ module _ (s : State) (cache cpu : ℕ) (within : cpu < s.cpus) (inside : cpu_pla
         | inl e ↦ omega (arith, times-cons f frame [], current-same f frame 1 e)
         | inr ne ↦
             let node = sum_by-set (times f) s.nodes cache (filter (λ other. not (eqb other frame)) (node_of s cache)) [] slot in
-            let stays = times-filter-yes f (λ other. not (eqb other frame)) (node_of s cache) (grind (arith, nat_tests, ne)) in
+            let stays = times-filter_pass f (λ other. not (eqb other frame)) (node_of s cache) (grind (arith, nat_tests, ne)) in
             omega (arith, kept f some, node, stays, times-cons f frame [], none)
       ] in
       pick (is_spare s min_partial cache frame && nat_lt 0 (times frame (node_of s cache))) (discarded t frame) s IsKept (kept-no-hand (discarded t frame) (kept-discarded t frame [] in_hand)) kept

@@ -21,7 +21,7 @@ use Rattle.slub_lists.proofs.Moving.{pick, popped-listable}
 use Rattle.slub_lists.proofs.Listed.{live-from, node-counted}
 use Rattle.slub_lists.proofs.Shaped.{IsLiveOf}
 use Rattle.slub_lists.proofs.SweepingChecked.{listed-has}
-use Rattle.slub_lists.proofs.Writes.{at_written}
+use Rattle.slub_common.proofs.Writes.{at_written}
 
 -- ---- one slab
 

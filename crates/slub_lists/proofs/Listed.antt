@@ -15,8 +15,10 @@ use Rattle.slub_lists.specs.Alloc.{marked, no_lists, cpu_place, lists_of, node_o
 use Rattle.slub_common.specs.Times.{times}
 use Rattle.slub_lists.specs.Coherent.{IsListed, times_current, times_partial, if_current, all_on_board, opening}
 use Rattle.slub_lists.specs.Steps.{IsTakable}
-use Rattle.slub_lists.proofs.Writes.{at_written, at_written_else, at_marked}
-use Rattle.slub_lists.proofs.Times.{current-same, current-other, element-counted, get_or-replicate_any}
+use Rattle.slub_lists.proofs.Writes.{at_marked}
+use Rattle.slub_common.proofs.Writes.{at_written, at_written_else, get_or-replicate_any}
+use Rattle.slub_lists.proofs.Times.{current-same, current-other}
+use Rattle.slub_common.proofs.Sums.{element-counted}
 
 -- the slab, if there is one, is one of this cache
 abbrev pub IsOf : ℕ → Option Slab → Type 0

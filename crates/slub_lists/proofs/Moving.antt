@@ -6,7 +6,7 @@ use Rattle.std.proofs.lemmas.List.Sums.{sum_by-set}
 use Rattle.std.proofs.lemmas.Bool.{cases_eq, cases_Bool}
 use Rattle.std.proofs.lemmas.Bool.Decides.{nat_tests}
 use Rattle.slub_common.specs.Times.{times}
-use Rattle.slub_page_pool.proofs.Times.{times-append}
+use Rattle.slub_common.proofs.Times.{times-append, times-cons, times-filter_pass, times-filter_fail}
 use Rattle.slub_object_layout.specs.declared.layout.Layout.{Layout}
 use Rattle.slub_lists.specs.declared.lists.CpuLists.{CpuLists}
 use Rattle.slub_lists.specs.State.{State}
@@ -14,10 +14,9 @@ use Rattle.slub_lists.specs.Alloc.{cpu_place, lists_of, no_lists, node_of, own_f
 use Rattle.slub_lists.specs.Coherent.{IsConsistent, IsListed, if_current, times_current, times_partial}
 use Rattle.slub_lists.specs.Free.{discarded, drained, is_spare, moved, moved_all, trimmed, with_partial, without_slab}
 use Rattle.slub_lists.specs.Steps.{IsListable}
-use Rattle.slub_lists.proofs.Writes.{at_written}
-use Rattle.slub_lists.proofs.Times.{times-cons, current-same, current-other}
+use Rattle.slub_common.proofs.Writes.{at_written}
+use Rattle.slub_lists.proofs.Times.{current-same, current-other}
 use Rattle.slub_lists.proofs.Counting.{IsOnce, once-length, once-more}
-use Rattle.slub_lists.proofs.Framed.{times-filter-yes, times-filter-no}
 use Rattle.slub_lists.proofs.Placed.{placed-partial}
 use Rattle.slub_lists.proofs.Listed.{IsOf, IsOf-live, IsFrozenBy-same, current-written, partial-written, of-written, node-counted, partial-counted, live-from}
 use Rattle.slub_lists.proofs.Shaped.{shaped-partial}
@@ -170,8 +169,8 @@ module _ (s : State) (cache cpu : ℕ) (consistent : IsConsistent s) (within : c
 times-filter : (x : ℕ) (p : ℕ → Bool) (xs : List ℕ) → times x (filter p xs) ≤ times x xs
 times-filter x p xs =
     elim (cases_Bool (p x)) [
-      | inl passes ↦ omega (arith, times-filter-yes x p xs passes)
-      | inr fails ↦ omega (arith, times-filter-no x p xs fails)
+      | inl passes ↦ omega (arith, times-filter_pass x p xs passes)
+      | inr fails ↦ omega (arith, times-filter_fail x p xs fails)
     ]
 
 module _ (s : State) (cache : ℕ) (consistent : IsConsistent s) (within : cache < 32) (frame : ℕ) where
@@ -189,7 +188,7 @@ module _ (s : State) (cache : ℕ) (consistent : IsConsistent s) (within : cache
   -- it was there once, so now it is on no list
   pub removed-unlisted : 0 < times frame (node_of s cache) → times_current s frame ≡ 0 → times_current (without_slab s cache frame) frame + times_partial (without_slab s cache frame) frame ≡ 0
   removed-unlisted there current =
-      let gone = times-filter-no frame (λ other. not (eqb other frame)) (node_of s cache) (grind (arith, nat_tests)) in
+      let gone = times-filter_fail frame (λ other. not (eqb other frame)) (node_of s cache) (grind (arith, nat_tests)) in
       let node = sum_by-set (times frame) s.nodes cache (filter (λ other. not (eqb other frame)) (node_of s cache)) [] (omega (arith, consistent.shaped.nodes, within)) in
       let once = consistent.listed.once frame in
       omega (arith, gone, node, once, there, current)

@@ -27,7 +27,8 @@ use Rattle.slub_lists.specs.WordSteps.{IsHeld, KeepsAll, WritesIn}
 use Rattle.slub_lists.proofs.Found.{found-same}
 use Rattle.slub_lists.proofs.Framed.{covered-set}
 use Rattle.slub_lists.proofs.Kept.{coherent-of, consistent-of}
-use Rattle.slub_lists.proofs.CheckedSlabs.{at_some, found-with, held-live, inside-of, keeps-consistent, match_weaker, memory-consistent, reports-from, was-checked}
+use Rattle.slub_lists.proofs.CheckedSlabs.{at_some, found-with, held-live, keeps-consistent, match_weaker, memory-consistent, reports-from, was-checked}
+use Rattle.slub_common.proofs.Writes.{inside-of}
 use Rattle.slub_lists.proofs.CheckedGiving.{layout-live, slab-sized, the-value}
 use Rattle.slub_lists.proofs.CheckedTaking.{checked-layout, held-frame, held-objects, held-slab, held-used, same-layout}
 

@@ -13,8 +13,11 @@ use Rattle.slub_lists.specs.State.{State}
 use Rattle.slub_lists.specs.Alloc.{marked, no_lists, cpu_place, lists_of, slab_of, own_free, retired, taken_up, with_new_slab, with_given, with_lists, held_here}
 use Rattle.slub_common.specs.Times.{times}
 use Rattle.slub_lists.specs.Coherent.{IsPlaced, places, has_object, idle_in, on_cpu, if_current, laid_down, all_on_board, opening}
-use Rattle.slub_lists.proofs.Writes.{at_written_else, at_marked}
-use Rattle.slub_lists.proofs.Times.{times-cons, times-range, current-same, current-other, get_or-replicate_any, sum_by-same, sum_by-map}
+use Rattle.slub_lists.proofs.Writes.{at_marked}
+use Rattle.slub_common.proofs.Writes.{at_written_else, get_or-replicate_any}
+use Rattle.slub_lists.proofs.Times.{current-same, current-other}
+use Rattle.slub_common.proofs.Times.{times-cons, times-range}
+use Rattle.slub_common.proofs.Sums.{sum_by-same, sum_by-map}
 
 -- a mark changes no object
 pub has_object-marked : (i n : ℕ) (b : Bool) (x : Option Slab) → has_object i x ≡ n → has_object i (option_map (marked b) x) ≡ n

@@ -5,10 +5,9 @@ use Rattle.std.proofs.lemmas.Bool.{cases_eq, cases_Bool}
 use Rattle.std.proofs.lemmas.Bool.Decides.{nat_tests}
 use Rattle.std.proofs.lemmas.List.Elements.{filter-append}
 use Rattle.slub_common.specs.Times.{times}
-use Rattle.slub_page_pool.proofs.Times.{times-append, Contains-times}
+use Rattle.slub_common.proofs.Times.{times-append, Contains-times, times-cons, times-contained}
 use Rattle.slub_node_partial.specs.PartialList.{IsTakenOut}
-use Rattle.slub_lists.proofs.Times.{times-cons, current-same}
-use Rattle.slub_lists.proofs.Framed.{times-contained}
+use Rattle.slub_lists.proofs.Times.{current-same}
 
 -- where the number doesn't stand there, nothing goes
 pub filter-absent : (x : ℕ) (xs : List ℕ) → times x xs ≡ 0 → filter (λ y. not (eqb y x)) xs ≡ xs

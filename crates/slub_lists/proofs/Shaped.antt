@@ -14,8 +14,8 @@ use Rattle.slub_cache_create.specs.Sound.{IsLiveCache, IsSound}
 use Rattle.slub_cache_create.specs.Table.{opening as no_caches}
 use Rattle.slub_lists.specs.Coherent.{AreChecked, IsShaped, IsSlabOf, held_under, laid_down, all_on_board, opening}
 use Rattle.slub_lists.specs.Steps.{IsLive}
-use Rattle.slub_lists.proofs.Writes.{at_written, at_marked}
-use Rattle.slub_lists.proofs.Times.{get_or-replicate_any}
+use Rattle.slub_lists.proofs.Writes.{at_marked}
+use Rattle.slub_common.proofs.Writes.{at_written, get_or-replicate_any}
 use Rattle.slub_lists.proofs.Unchecked.{checked-opening, checked-rest}
 
 -- a CPU with no slab has no freelist

@@ -27,7 +27,8 @@ use Rattle.slub_lists.specs.Steps.{IsLive}
 use Rattle.slub_lists.specs.Words.{Writes, WritesHeld, held_by, is_word, with_word, word_at, word_of}
 use Rattle.slub_lists.proofs.Apart.{held-apart, one-number}
 use Rattle.slub_lists.proofs.Kept.{consistent-of}
-use Rattle.slub_lists.proofs.CheckedSlabs.{inside-of, was-checked}
+use Rattle.slub_lists.proofs.CheckedSlabs.{was-checked}
+use Rattle.slub_common.proofs.Writes.{inside-of}
 use Rattle.slub_lists.proofs.CheckedGiving.{layout-live, the-value}
 use Rattle.slub_lists.proofs.CheckedTaking.{checked-layout, held-has, held-index, same-layout}
 use Rattle.slub_lists.proofs.ObjectWords.{own-is, word-ends}

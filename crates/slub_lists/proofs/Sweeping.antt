@@ -16,8 +16,8 @@ use Rattle.slub_lists.specs.Coherent.{IsConsistent, IsKept, times_current}
 use Rattle.slub_lists.specs.Free.{discarded, inuse_of, without_slab}
 use Rattle.slub_lists.specs.Shrink.{node_counts, swept_slab}
 use Rattle.slub_lists.specs.Shrinking.{IsSwept, KeepsChecked}
-use Rattle.slub_lists.proofs.Times.{times-cons, current-same, current-other}
-use Rattle.slub_lists.proofs.Framed.{times-filter-yes}
+use Rattle.slub_lists.proofs.Times.{current-same, current-other}
+use Rattle.slub_common.proofs.Times.{times-cons, times-filter_pass}
 use Rattle.slub_lists.proofs.Listed.{node-counted}
 use Rattle.slub_lists.proofs.Coherence.{gathered-consistent}
 use Rattle.slub_lists.proofs.Kept.{IsKeptBut, kept-no-hand}
@@ -121,7 +121,7 @@ gone-kept s cache frame slot kept =
       | inl e ↦ omega (arith, times-cons f frame [], current-same f frame 1 e)
       | inr ne ↦
           let node = sum_by-set (times f) s.nodes cache (filter (λ other. not (eqb other frame)) (node_of s cache)) [] slot in
-          let stays = times-filter-yes f (λ other. not (eqb other frame)) (node_of s cache) (grind (arith, nat_tests, ne)) in
+          let stays = times-filter_pass f (λ other. not (eqb other frame)) (node_of s cache) (grind (arith, nat_tests, ne)) in
           omega (arith, kept f some, node, stays, times-cons f frame [], none)
     ] in
     kept-no-hand (discarded t frame) (kept-gone t frame [] in_hand)

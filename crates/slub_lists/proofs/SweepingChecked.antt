@@ -25,11 +25,12 @@ use Rattle.slub_lists.specs.Free.{discarded}
 use Rattle.slub_lists.specs.Leaving.{KeepsHeld}
 use Rattle.slub_lists.specs.Shrink.{PromotesChecked, all_free, busy_of, has_slab, is_slab_of, swept_checked_slab}
 use Rattle.slub_lists.specs.Shrinking.{all_free_in, listed_of}
-use Rattle.slub_lists.proofs.CheckedSlabs.{at_match, at_some, idle-with, inside-of, keeps-checked, was-checked}
+use Rattle.slub_lists.proofs.CheckedSlabs.{at_match, at_some, idle-with, keeps-checked, was-checked}
+use Rattle.slub_common.proofs.Writes.{inside-of}
 use Rattle.slub_lists.proofs.CheckedTaking.{with-checked-same}
 use Rattle.slub_lists.proofs.Discarding.{slab-bounds}
 use Rattle.slub_lists.proofs.Coherence.{live-inside}
-use Rattle.slub_lists.proofs.Times.{element-counted}
+use Rattle.slub_common.proofs.Sums.{element-counted}
 use Rattle.slub_lists.proofs.Emptied.{idle-none, none-held, no-slabs, on-no-cpu, sum-none}
 use Rattle.slub_lists.proofs.Kept.{at_emptied}
 use Rattle.slub_lists.proofs.Sweeping.{IsWithout, at-counted, drop-at, take-at, times-IsPermutation, without-at}

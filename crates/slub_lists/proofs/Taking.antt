@@ -9,8 +9,8 @@ use Rattle.slub_lists.specs.State.{State}
 use Rattle.slub_lists.specs.Alloc.{cache_of, held_here, slab_of}
 use Rattle.slub_lists.specs.Coherent.{IsAccounted, IsConsistent, IsListed, IsShaped, IsSlabOf, held_of, held_under}
 use Rattle.slub_lists.specs.Free.{with_gone, with_taken}
-use Rattle.slub_lists.proofs.Writes.{at_written, at_written_else}
-use Rattle.slub_lists.proofs.Times.{element-counted}
+use Rattle.slub_common.proofs.Writes.{at_written, at_written_else}
+use Rattle.slub_common.proofs.Sums.{element-counted}
 use Rattle.slub_lists.proofs.Shaped.{IsLiveOf}
 use Rattle.slub_lists.proofs.Unchecked.{checked-rest}
 use Rattle.slub_lists.proofs.Coherence.{live-inside}

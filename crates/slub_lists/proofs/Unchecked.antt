@@ -13,8 +13,10 @@ use Rattle.slub_lists.specs.declared.lists.Held.{Held}
 use Rattle.slub_lists.specs.State.{State}
 use Rattle.slub_lists.specs.Alloc.{marked, no_lists, cpu_place, checked_of, slab_of, own_free, lists_of, node_of}
 use Rattle.slub_lists.specs.Coherent.{Agrees, AreChecked, IsCheckedOf, opening}
-use Rattle.slub_lists.proofs.Writes.{at_written, at_marked}
-use Rattle.slub_lists.proofs.Times.{times-cons, current-same, get_or-replicate_any}
+use Rattle.slub_lists.proofs.Writes.{at_marked}
+use Rattle.slub_common.proofs.Writes.{at_written, get_or-replicate_any}
+use Rattle.slub_lists.proofs.Times.{current-same}
+use Rattle.slub_common.proofs.Times.{times-cons}
 use Rattle.slub_lists.proofs.Listed.{same-cache}
 
 -- a slab of the cache has no freelist here

@@ -21,7 +21,6 @@ pub mod destroy;
 mod discard;
 mod flush;
 pub mod free;
-pub mod front_list;
 pub mod laws;
 pub mod lists;
 pub mod node;

@@ -6,27 +6,16 @@ ghost use Rattle.slub_lists.specs.Alloc.{no_lists};
 ghost use Rattle.slub_lists.specs.Coherent.{IsCoherent, all_on_board, opening};
 ghost use Rattle.slub_lists.specs.Shrink.{is_slab_of};
 
-use crate::front_list::FrontList;
+use slub_common::front_list::FrontList;
 use crate::node::Node;
 use slub_cache_create::caches::Caches;
+use slub_common::limits::{CACHES_MAX, FRAME_WORDS};
 use slub_common::no_memory::NoMemory;
 use slub_object_layout::name::Name;
 use slub_page_pool::Pool;
 use slub_red_zone::checked::CheckedSlabs;
 use std::alloc::Global;
 use std::marker::Model;
-
-/// The most objects of a slab.
-pub const SLAB_OBJECTS: usize = 512;
-
-/// The most slabs of a machine: each has a frame, and frame 0 is never given.
-pub const MACHINE_SLABS: usize = 4095;
-
-/// The most live caches of a machine.
-pub const MACHINE_CACHES: usize = 32;
-
-/// The words, of eight bytes, of a frame.
-const FRAME_WORDS: usize = 512;
 
 /// Objects of one slab, as indexes, front first.
 pub type FreeList = FrontList<512>;
@@ -169,13 +158,13 @@ impl Lists {
             slabs: open_slabs(alloc, frames as usize)?,
             frees: open_front_lists(alloc, frames as usize)?,
             table: Caches::open(alloc, names)?,
-            cpu_lists: open_cpu_lists(alloc, MACHINE_CACHES * cpus as usize)?,
+            cpu_lists: open_cpu_lists(alloc, CACHES_MAX * cpus as usize)?,
             nodes: open_nodes(alloc)?,
             checked: open_checked(alloc)?,
             memory: zeros(alloc, FRAME_WORDS * frames as usize)?,
             board: open_board(alloc, objects as usize + 1)?,
             gone: open_board(alloc, objects as usize + 1)?,
-            live: zeros(alloc, MACHINE_CACHES)?,
+            live: zeros(alloc, CACHES_MAX)?,
         })
     }
 
@@ -313,8 +302,8 @@ fn zeros(alloc: Global, count: usize) -> Result<Vec<u64>, NoMemory>
 fn open_nodes(alloc: Global) -> Result<Vec<Node>, NoMemory>
     ensures { IfOk result (λ nodes. nodes.items ≡ replicate 32 []) }
 {
-    let mut nodes = Vec::with_capacity(alloc, MACHINE_CACHES)?;
-    for _ in 0..MACHINE_CACHES {
+    let mut nodes = Vec::with_capacity(alloc, CACHES_MAX)?;
+    for _ in 0..CACHES_MAX {
         nodes.push(Node::open(alloc)?)?;
     }
     Ok(nodes)
@@ -324,8 +313,8 @@ fn open_nodes(alloc: Global) -> Result<Vec<Node>, NoMemory>
 fn open_checked(alloc: Global) -> Result<Vec<Option<CheckedSlabs>>, NoMemory>
     ensures { IfOk result (λ checked. checked.items ≡ replicate 32 None) }
 {
-    let mut checked = Vec::with_capacity(alloc, MACHINE_CACHES)?;
-    for _ in 0..MACHINE_CACHES {
+    let mut checked = Vec::with_capacity(alloc, CACHES_MAX)?;
+    for _ in 0..CACHES_MAX {
         checked.push(None)?;
     }
     Ok(checked)

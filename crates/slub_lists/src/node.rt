@@ -5,13 +5,11 @@ ghost use Rattle.slub_common.specs.Times.{times};
 ghost use Rattle.slub_node_partial.specs.Promotion.{IsPromoted};
 
 use crate::lists::FreeList;
+use slub_common::limits::SLABS_MAX;
 use slub_common::no_memory::NoMemory;
 use slub_node_partial::NodeList;
 use std::alloc::Global;
 use std::marker::Model;
-
-/// The most slabs of a machine: each has a frame, and frame 0 is never given.
-const ROOM: u32 = 4095;
 
 /// The node's partial list of a cache (`struct kmem_cache_node`): slabs by their first frames, head
 /// first, with room for all slabs of a machine.
@@ -40,8 +38,8 @@ impl Node {
         ensures { IfOk result (λ list. list ≡ []) }
     {
         Ok(Node {
-            list: NodeList::open(alloc, ROOM)?,
-            counts: Vec::with_capacity(alloc, ROOM as usize)?,
+            list: NodeList::open(alloc, SLABS_MAX)?,
+            counts: Vec::with_capacity(alloc, SLABS_MAX as usize)?,
         })
     }
 

@@ -3,11 +3,11 @@
 ghost use Rattle.std.specs.Prelude.{IfOk, ◌≤◌};
 ghost use Rattle.slub_lists.specs.Coherent.{IsCoherent};
 
-use crate::front_list::FrontList;
-use crate::lists::{FrameList, Held, Lists, MACHINE_CACHES, Slab};
+use crate::lists::{FrameList, Held, Lists, Slab};
 use crate::node::Node;
 use crate::reply::Reply;
 use slub_cache_create::caches::{CreateRefusal, Created};
+use slub_common::limits::CACHES_MAX;
 use slub_object_layout::layout::{Flags, Spec};
 use slub_object_layout::name::Name;
 use std::alloc::Global;
@@ -374,7 +374,7 @@ fn caches_by_name_and_age(rt: HostRuntime) -> Result<(), Fail> {
     assert_eq!(rt; lists.caches().find(&a), Some(1));
     assert_eq!(rt; lists.caches().in_order(), [0, 1].as_slice());
     assert_eq!(rt; lists.frees().len(), 16);
-    assert_eq!(rt; lists.nodes().len(), MACHINE_CACHES);
+    assert_eq!(rt; lists.nodes().len(), CACHES_MAX);
     Ok(())
 }
 
@@ -404,31 +404,6 @@ fn checked_cache_has_its_slabs(rt: HostRuntime) -> Result<(), Fail> {
         .filter(|slabs| slabs.is_some())
         .count();
     assert_eq!(rt; checked, 1);
-    Ok(())
-}
-
-#[test]
-fn front_and_back_of_a_list(rt: HostRuntime) -> Result<(), Fail> {
-    let mut list: FrontList<8> = FrontList::open(rt.alloc())?;
-    list.fill_rising(2);
-    list.push(9);
-    list.push_back(7);
-    assert_eq!(rt; list.pop(), Some(9));
-    assert_eq!(rt; list.get(0), Some(0));
-    assert_eq!(rt; list.get(2), Some(7));
-    assert_eq!(rt; list.get(3), None);
-    Ok(())
-}
-
-#[test]
-fn one_taken_out_of_a_list(rt: HostRuntime) -> Result<(), Fail> {
-    let mut list: FrontList<8> = FrontList::open(rt.alloc())?;
-    list.fill_rising(3);
-    assert!(rt; list.remove(1));
-    assert!(rt; !list.remove(1));
-    assert_eq!(rt; list.len(), 2);
-    list.clear();
-    assert!(rt; list.is_empty());
     Ok(())
 }
 

@@ -1,6 +1,6 @@
 //! What the workers of a round are to do.
 
-use crate::sequence::Sequence;
+use slub_common::sequence::Sequence;
 
 /// What one event asks of the allocator. Object numbers are 1 to 1048576.
 #[derive(Clone, Copy, Debug, PartialEq, Eq)]

@@ -7,14 +7,12 @@
 //! equations, one a field, and `IsWithinBounds` what holds of every layout. `laws` has what
 //! follows: one layout for a spec, slots apart and within their frames, free pointers within
 //! their slots. `Name`, `Act`, `Event` and `Round` stand here so that every crate above can name
-//! them; what a name is says `specs/Name.antt`. No call but `with_capacity` and `push` of a
-//! `Sequence` takes memory.
+//! them; what a name is says `specs/Name.antt`. No call takes memory.
 #![tactic(auto)]
 
 pub mod event;
 pub mod laws;
 pub mod layout;
 pub mod name;
-pub mod sequence;
 #[cfg(test)]
 mod tests;

@@ -6,7 +6,6 @@ use crate::layout::{
     Flags, Layout, LayoutRefusal, Spec, address, alignment_of, layout_of, order_of,
 };
 use crate::name::Name;
-use crate::sequence::Sequence;
 use std::process::Abort;
 use std::test::Fail;
 
@@ -255,15 +254,5 @@ fn names(rt: HostRuntime) -> Result<(), Fail> {
     assert!(rt; Name::read("a b").is_none());
     assert!(rt; Name::read("a234567890123456789012345678901").is_some());
     assert!(rt; Name::read("a2345678901234567890123456789012").is_none());
-    Ok(())
-}
-
-#[test]
-fn sequences(rt: HostRuntime) -> Result<(), Fail> {
-    let mut numbers = Sequence::with_capacity(rt.alloc(), 2)?;
-    numbers.push(7)?;
-    numbers.push(9)?;
-    assert_eq!(rt; numbers.get(1), Some(&9));
-    assert_eq!(rt; numbers.into_vec().as_slice(), [7, 9].as_slice());
     Ok(())
 }

@@ -8,7 +8,7 @@ use Rattle.std.proofs.lemmas.List.Kept.{IsStrictlyIncreasing-filter}
 use Rattle.std.proofs.lemmas.Nat.{pow_pos, mod_below}
 use Rattle.std.proofs.lemmas.Nat.Gcd.{dvd_trans, dvd_of_mod-eq-zero, mod-eq-zero_of_dvd, le_of_dvd}
 use Rattle.slub_page_pool.specs.Block.{IsFreeRun, IsBlock, IsTaken, less_run, with_run}
-use Rattle.slub_page_pool.proofs.Lists.{Contains-filter, from_filter, Contains-range_with_len, from_range_with_len, IsStrictlyIncreasing-range_with_len, IsStrictlyIncreasing-append, same_members}
+use Rattle.slub_common.proofs.Lists.{Contains-filter, from_filter, Contains-range_with_len, from_range_with_len, IsStrictlyIncreasing-range_with_len, IsStrictlyIncreasing-append, same_members}
 use Rattle.slub_page_pool.proofs.Aligned.{pow_divides, run_within, aligned_start}
 
 -- the free frames below a frame, and from a frame on

@@ -10,10 +10,10 @@ use Rattle.slub_page_pool.specs.FreeFrames.{FreeFrames, opening}
 use Rattle.slub_page_pool.specs.Block.{Takes, TakesOrNotes, CanPut, Puts, less_run, with_run}
 use Rattle.slub_common.specs.Times.{times}
 use Rattle.slub_page_pool.specs.History.{Act, took, noted, returned, Does, Reaches, out_with, out_after, frames_out, IsPartition, KeepsFrames, ReopensWhenAllBack, CountsDryTakes, is_dry}
-use Rattle.slub_page_pool.proofs.Lists.{from_range_with_len, Contains-range_with_len, same_members, IsStrictlyIncreasing-range_with_len}
+use Rattle.slub_common.proofs.Lists.{from_range_with_len, Contains-range_with_len, same_members, IsStrictlyIncreasing-range_with_len}
 use Rattle.slub_page_pool.proofs.FreeRuns.{IsTaken-free, IsStrictlyIncreasing-less_run, IsStrictlyIncreasing-with_run, below, above}
 use Rattle.slub_page_pool.proofs.MarkedFrames.{same_pool}
-use Rattle.slub_page_pool.proofs.Times.{times-append, times-filter_pass, times-filter_fail, times-rising, times-within, times-below, times-above, Contains-times}
+use Rattle.slub_common.proofs.Times.{times-append, times-filter_pass, times-filter_fail, times-rising, times-within, times-below, times-above, Contains-times}
 
 -- the frames outside a run stand in the list without it as often
 times-less_run_outside : (g : ℕ) (xs : List ℕ) (frame order : ℕ) → (g < frame) ⊎ (frame + 2 ^ order ≤ g) → times g (less_run xs frame order) ≡ times g xs

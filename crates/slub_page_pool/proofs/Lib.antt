@@ -1,8 +1,6 @@
-pub mod Lists
 pub mod Aligned
 pub mod FreeRuns
 pub mod MarkedFrames
-pub mod Times
 pub mod Histories
 pub mod Steps
 pub mod RunOrders

@@ -13,7 +13,7 @@ use Rattle.slub_page_pool.specs.FreeFrames.{FreeFrames, opening, IsPool}
 use Rattle.slub_page_pool.specs.Marks.{free_of, AreMarks}
 use Rattle.slub_page_pool.specs.Block.{IsFreeRun, IsBlock, IsTaken, less_run, with_run}
 use Rattle.slub_page_pool.proofs.FreeRuns.{pow_le, IsTaken-free, IsStrictlyIncreasing-with_run, Contains-with_run_old, Contains-with_run_new, from_with_run}
-use Rattle.slub_page_pool.proofs.Lists.{Contains-filter, from_filter, Contains-range_with_len, from_range_with_len, IsStrictlyIncreasing-range_with_len, filter-filter, filter_all, same_members, range_with_len-append}
+use Rattle.slub_common.proofs.Lists.{Contains-filter, from_filter, Contains-range_with_len, from_range_with_len, IsStrictlyIncreasing-range_with_len, filter-filter, filter_all, same_members, range_with_len-append}
 
 -- a mark that is set lies within the machine
 pub mark_inside : (marks : List Bool) (g : ℕ) → get_or marks g false ≡ true → g < length marks

@@ -10,7 +10,7 @@ use Rattle.std.proofs.lemmas.List.Filters.{length-filter_both}
 use Rattle.std.proofs.lemmas.List.FromFn.{length-range_with_len}
 use Rattle.slub_page_pool.specs.FreeFrames.{FreeFrames, IsPool}
 use Rattle.slub_page_pool.specs.Block.{IsTaken, HasNoBlock, Takes, CanPut, less_run, with_run}
-use Rattle.slub_page_pool.proofs.Lists.{Contains-filter, from_filter, same_members, Contains-range_with_len, from_range_with_len, IsStrictlyIncreasing-range_with_len}
+use Rattle.slub_common.proofs.Lists.{Contains-filter, from_filter, same_members, Contains-range_with_len, from_range_with_len, IsStrictlyIncreasing-range_with_len}
 use Rattle.slub_page_pool.proofs.FreeRuns.{IsTaken-free, IsTaken-aligned, IsTaken-unique, from_less_run, Contains-less_run_below, Contains-less_run_above, IsStrictlyIncreasing-less_run, from_with_run, Contains-with_run_old, Contains-with_run_new, IsStrictlyIncreasing-with_run}
 
 -- a free frame is from 1 to frames - 1

@@ -9,7 +9,7 @@ use Rattle.slub_red_zone.specs.declared.slab.ObjectState.TheVariants.{Free, Used
 use Rattle.slub_red_zone.specs.State.{is_free}
 use Rattle.slub_red_zone.specs.Steps.{set_aside}
 use Rattle.slub_common.specs.Times.{times}
-use Rattle.slub_red_zone.proofs.Times.{times-cons, times-range}
+use Rattle.slub_common.proofs.Times.{times-cons, times-range}
 
 -- the free objects are these, each once
 abbrev pub AreFree : List ObjectState → List ℕ → Type 0

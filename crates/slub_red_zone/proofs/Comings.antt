@@ -1,15 +1,12 @@
 -- A slab that comes, and one that goes.
-use Rattle.std.proofs.Common.{◌≡◌, ℕ, suc, ◌+◌, ◌*◌, ◌-◌, ◌<◌, ◌≤◌, ◌++◌, not, Bool, List, [], ◌∷◌, length, get_or, set, filter, Option, None, Some, IfSome, IsSome, is_some, unwrap_or, refl, ap, arith, subst, sym, ◌∙◌, eqb, inl, inr}
+use Rattle.std.proofs.Common.{◌≡◌, ℕ, suc, ◌+◌, ◌*◌, ◌-◌, ◌<◌, ◌≤◌, ◌++◌, not, Bool, List, [], ◌∷◌, length, get_or, set, filter, Option, None, Some, IfSome, IsSome, is_some, unwrap_or, refl, ap, arith, subst, sym, ◌∙◌, eqb, inl, inr, length-set, Contains, IsPermutation, cond}
 use Rattle.std.proofs.lemmas.List.Sums.{count_by-le-length}
-use Rattle.std.proofs.Common.{length-set}
 use Rattle.std.proofs.lemmas.List.FromFn.{length-range_with_len}
-use Rattle.std.proofs.Common.{Contains, IsPermutation, cond}
 use Rattle.std.proofs.lemmas.Bool.{cases_eq, cond_both}
 use Rattle.std.proofs.lemmas.Bool.Decides.{nat_tests}
 use Rattle.std.proofs.lemmas.List.Sorted.{sum_by-IsPermutation, length_permutation}
 use Rattle.slub_node_partial.specs.PartialList.{IsTakenOut}
-use Rattle.slub_red_zone.proofs.Times.{times-cons}
-use Rattle.slub_red_zone.proofs.Whole.{times-append}
+use Rattle.slub_common.proofs.Times.{times-cons, times-append}
 use Rattle.slub_red_zone.specs.declared.checked.Run.{Run}
 use Rattle.slub_red_zone.specs.declared.totals.Totals.{Totals}
 use Rattle.slub_red_zone.specs.State.{SlabState, CheckedState, Has, no_slab, slab_of, free_in, used_in, aside_in, objects_in}

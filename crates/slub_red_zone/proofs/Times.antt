@@ -1,23 +1,8 @@
--- How often a number stands in a list, and lists that grow.
+-- Lists that grow.
 use Rattle.std.proofs.Common.{◌≡◌, ◌≢◌, ℕ, zero, suc, ◌+◌, ◌<◌, ◌≤◌, ◌++◌, ◌&&◌, cond, Bool, true, false, List, [], ◌∷◌, length, get_or, take, drop, map, count_by, replicate, refl, ap, arith, eqb, nat_lt, nat_le, if◌then◌else◌, append_assoc, append-nil}
 use Rattle.std.specs.List.{range_with_len, concat}
 use Rattle.std.proofs.lemmas.List.{drop-drop}
 use Rattle.std.proofs.lemmas.List.FromFn.{length-range_with_len}
-use Rattle.std.proofs.lemmas.List.Sums.{sum_by-cons}
-use Rattle.std.proofs.lemmas.Bool.Decides.{nat_tests}
-use Rattle.slub_common.specs.Times.{times}
-
--- the head counts where it is the number
-pub times-cons : (x y : ℕ) (ys : List ℕ) → times x (y ∷ ys) ≡ (if eqb y x then 1 else 0) + times x ys
-times-cons x y ys = sum_by-cons (λ y. cond (eqb y x) 1 0) y ys
-
--- a run of numbers has each once
-pub times-range : (x a n : ℕ) → times x (range_with_len a n) ≡ (if nat_le a x && nat_lt x (a + n) then 1 else 0)
-times-range x a zero = grind (arith, nat_tests)
-times-range x a (suc n) =
-    let e = times-cons x a (range_with_len (a + 1) n) in
-    let h = times-range x (a + 1) n in
-    grind (arith, nat_tests, e, h)
 
 -- one number more
 pub range-more : (a n : ℕ) → range_with_len a (n + 1) ≡ range_with_len a n ++ (a + n) ∷ []

@@ -9,7 +9,8 @@ use Rattle.slub_red_zone.specs.declared.zones.Report.{Report}
 use Rattle.slub_red_zone.specs.State.{SlabState, CheckedState, no_slab, slab_of, slab_at, aside_in, objects_in}
 use Rattle.slub_common.specs.Times.{times}
 use Rattle.slub_red_zone.specs.Sound.{IsSound, IsSlab, is_stocked}
-use Rattle.slub_red_zone.proofs.Times.{times-cons}
+use Rattle.slub_common.proofs.Times.{times-append, times-cons}
+use Rattle.slub_common.proofs.Writes.{at_written}
 
 -- 1 for a slab with a free object
 abbrev pub stock : Option SlabState → ℕ
@@ -22,14 +23,6 @@ stock-few (Some slab) = few (is_stocked (Some slab))
     few : (b : Bool) → (if b then 1 else 0) ≤ 1
     few true = omega arith
     few false = omega arith
-
--- what holds of the new element and of the old ones holds of each
-pub at_written : {A : Type 0} (P : A → Type 0) (xs : List A) (i j : ℕ) (v d : A) → (j ≡ i → P v) → P (get_or xs j d) → P (get_or (set xs i v) j d)
-at_written P [] i j v d new old = old
-at_written P (x ∷ xs) zero zero v d new old = new refl
-at_written P (x ∷ xs) zero (suc j) v d new old = old
-at_written P (x ∷ xs) (suc i) zero v d new old = old
-at_written P (x ∷ xs) (suc i) (suc j) v d new old = at_written P xs i j v d (λ e. new (ap suc e)) old
 
 -- the list is right for the slabs after one is written
 abbrev pub IsRelisted : CheckedState → ℕ → Option SlabState → List ℕ → Type 0
@@ -76,10 +69,6 @@ relisted-front s frame x sound none one f =
     let t = times-cons f frame s.listed in
     let h = sound.listed f in
     (λ e. let g = ap (λ g. stock (get_or s.slabs g None)) e in grind (arith, nat_tests, t, h, e, g, none, one), λ other. grind (arith, nat_tests, t, other))
-
-pub times-append : (f : ℕ) (xs ys : List ℕ) → times f (xs ++ ys) ≡ times f xs + times f ys
-times-append f [] ys = omega arith
-times-append f (x ∷ xs) ys = omega (arith, times-cons f x (xs ++ ys), times-cons f x xs, times-append f xs ys)
 
 pub relisted-end : (s : CheckedState) (frame : ℕ) (x : Option SlabState) → IsSound s → stock (get_or s.slabs frame None) ≡ 0 → stock x ≡ 1 → IsRelisted s frame x (s.listed ++ frame ∷ [])
 relisted-end s frame x sound none one f =

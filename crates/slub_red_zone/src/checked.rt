@@ -9,9 +9,10 @@ ghost use Rattle.slub_red_zone.specs.Steps as step;
 ghost use Rattle.slub_red_zone.specs.Objects.{GivesObject, TakesObject, KeepsObjects};
 
 use crate::slab::{ObjectState, Slab};
-use crate::slabs::{self, FRAMES};
+use crate::slabs;
 use crate::totals::Totals;
 use crate::zones::{self, Damage, Report};
+use slub_common::limits::FRAMES_MAX;
 use slub_common::no_memory::NoMemory;
 use slub_node_partial::NodeList;
 use slub_object_layout::layout::{self, Flags, Layout};
@@ -97,8 +98,8 @@ impl CheckedSlabs {
             flags,
             cache,
             slabs: slabs::open(alloc)?,
-            listed: NodeList::open(alloc, FRAMES as u32)?,
-            counts: Vec::with_capacity(alloc, FRAMES)?,
+            listed: NodeList::open(alloc, FRAMES_MAX)?,
+            counts: Vec::with_capacity(alloc, FRAMES_MAX as usize)?,
             reports: Vec::new(alloc),
             totals: Totals {
                 free: 0,

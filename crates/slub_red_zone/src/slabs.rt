@@ -8,18 +8,16 @@ ghost use Rattle.slub_red_zone.specs.Sound.{IsFreeList};
 ghost use Rattle.slub_red_zone.specs.Steps.{slab_with_given, slab_with_taken, slab_set_aside, no_slabs};
 
 use crate::slab::Slab;
+use slub_common::limits::FRAMES_MAX;
 use slub_node_partial::NodeList;
 use slub_object_layout::layout::{Flags, Layout};
 use std::alloc::{AllocError, Global};
-
-/// The most frames of a machine (*profile*).
-pub(crate) const FRAMES: usize = 4096;
 
 /// A table with no slab.
 pub(crate) fn open(alloc: Global) -> Result<Vec<Option<Slab>>, AllocError>
     ensures { IfOk result (λ slabs. slabs.items ≡ no_slabs) }
 {
-    open_places(alloc, FRAMES)
+    open_places(alloc, FRAMES_MAX as usize)
 }
 
 /// A table of so many places, with no slab.

@@ -12,9 +12,7 @@ use crate::line::{Line, is_skipped, say};
 use crate::place::Place;
 use crate::reading::Why;
 use crate::state::State;
-
-/// The most rounds of a trace.
-const ROUNDS_MAX: u32 = 256;
+use slub_common::limits::ROUNDS_MAX;
 
 /// The least power of two that is not below 1 to 16 CPUs.
 fn step(cpus: u128) -> u128

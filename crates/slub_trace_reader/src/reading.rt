@@ -16,12 +16,10 @@ ghost use Rattle.slub_trace_reader.specs.Sound.{IsSound};
 use crate::state::State;
 use crate::trace::Trace;
 use crate::words::cut;
+use slub_common::limits::INPUT_MAX;
 use slub_edges::edges::Source;
 use slub_edges::reading::{ReadAllFault, read_all};
 use std::alloc::{AllocError, Global};
-
-/// The most bytes of a trace.
-pub const INPUT_MAX: usize = 16777216;
 
 /// Why a line is bad, in the order in which the reasons are tried.
 #[derive(Clone, Copy, Debug, PartialEq, Eq)]

@@ -16,7 +16,7 @@ use indexmap::IndexSet;
 use slub_object_layout::event::{Act, Event, Round};
 use slub_object_layout::layout::{Flags, Spec};
 use slub_object_layout::name::Name;
-use slub_object_layout::sequence::Sequence;
+use slub_common::sequence::Sequence;
 use std::alloc::{AllocError, Global};
 use std::mem;
 

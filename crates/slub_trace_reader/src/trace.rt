@@ -3,7 +3,7 @@
 use slub_object_layout::event::Round;
 use slub_object_layout::layout::{Setting, Spec};
 use slub_object_layout::name::Name;
-use slub_object_layout::sequence::Sequence;
+use slub_common::sequence::Sequence;
 
 /// What a line of a client of the allocator asks. Sizes are in bytes.
 #[derive(Clone, Copy, Debug)]

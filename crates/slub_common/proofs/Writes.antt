@@ -21,8 +21,8 @@ at_written_else P (x ∷ xs) (suc i) (suc j) v d inside new old =
     at_written_else P xs i j v d (omega arith) (λ e. new (ap suc e)) (λ ne. old (λ e. ne (omega arith)))
 
 -- an element that is there is within the list
-pub inside-some : {A : Type 0} (xs : List (Option A)) (i : ℕ) (v : A) → get_or xs i None ≡ Some v → i < length xs
-inside-some xs i v is =
+pub inside-of : {A : Type 0} (xs : List (Option A)) (i : ℕ) (v : A) → get_or xs i None ≡ Some v → i < length xs
+inside-of xs i v is =
     elim (cases_lt i (length xs)) [
       | inl inside ↦ inside
       | inr past ↦ let none = sym is ∙ get_or_past xs i None past in absurd cc

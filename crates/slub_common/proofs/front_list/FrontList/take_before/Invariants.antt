@@ -1,5 +1,5 @@
 use Rattle.std.proofs.Common.{◌≡◌, ◌++◌, length}
-use Rattle.slub_lists.proofs.front_list.FrontList.take_before.Given as goal
+use Rattle.slub_common.proofs.front_list.FrontList.take_before.Given as goal
 
 -- the two lists one after the other are as they were
 abbrev pub invariant-loop-last : goal.invariant-loop-last

@@ -1,6 +1,6 @@
 use Rattle.std.proofs.Common.{◌-◌, length, ap, arith, lit<}
 use Rattle.std.proofs.lemmas.List.FromFn.{length-range_with_len}
-use Rattle.slub_lists.proofs.front_list.FrontList.fill_rising.Goals as goal
+use Rattle.slub_common.proofs.front_list.FrontList.fill_rising.Goals as goal
 
 -- fewer than `count` stand there before the last is put in
 pub push-requires : goal.push-requires

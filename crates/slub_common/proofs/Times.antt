@@ -1,22 +1,24 @@
 -- How often a number stands in a list.
-use Rattle.std.proofs.Common.{ℕ, ◌+◌, ◌<◌, ◌≤◌, ◌≡◌, inl, inr, Bool, true, false, cond, eqb, List, [], ◌∷◌, ◌++◌, refl, sym, ◌∙◌, ap, subst, arith, Contains}
+use Rattle.std.proofs.Common.{ℕ, zero, suc, ◌+◌, ◌<◌, ◌≤◌, ◌≡◌, ◌&&◌, inl, inr, Bool, true, false, cond, eqb, nat_lt, nat_le, if◌then◌else◌, List, [], ◌∷◌, ◌++◌, length, get_or, take, drop, reverse, refl, sym, ◌∙◌, ap, subst, arith, Contains}
 use Rattle.std.specs.List.{filter, range_with_len}
 use Rattle.std.specs.List.Sorted.{IsStrictlyIncreasing}
 use Rattle.std.proofs.lemmas.Bool.{cases_Bool, cases_eq, eq-eqb, ne_eqb, false≢true}
-use Rattle.std.proofs.lemmas.List.Sums.{sum_by-cons, sum_by-append}
+use Rattle.std.proofs.lemmas.Bool.Decides.{nat_tests}
+use Rattle.std.proofs.lemmas.List.Sums.{sum_by-cons, sum_by-append, sum_by_push, sum_by-take-drop, count_by-le-length, get_or-le-sum_by}
+use Rattle.std.proofs.lemmas.List.Sorted.{sum_by-IsPermutation, IsPermutation-reverse}
 use Rattle.slub_common.specs.Times.{times}
-use Rattle.slub_page_pool.proofs.Lists.{from_filter, Contains-head, Contains-tail, Contains-nil, Contains-cons_cases, rising_head, rising_tail, Contains-range_with_len, from_range_with_len, IsStrictlyIncreasing-range_with_len}
+use Rattle.slub_common.proofs.Lists.{from_filter, Contains-head, Contains-tail, Contains-nil, Contains-cons_cases, rising_head, rising_tail, Contains-range_with_len, from_range_with_len, IsStrictlyIncreasing-range_with_len}
 
 -- one more element
-times-cons : (g x : ℕ) (xs : List ℕ) → times g (x ∷ xs) ≡ cond (eqb x g) 1 0 + times g xs
+pub times-cons : (g x : ℕ) (xs : List ℕ) → times g (x ∷ xs) ≡ cond (eqb x g) 1 0 + times g xs
 times-cons g x xs = sum_by-cons (λ f. cond (eqb f g) 1 0) x xs
 
 -- one more element that is the number
-times-cons_same : (g x : ℕ) (xs : List ℕ) → x ≡ g → times g (x ∷ xs) ≡ 1 + times g xs
+pub times-cons_same : (g x : ℕ) (xs : List ℕ) → x ≡ g → times g (x ∷ xs) ≡ 1 + times g xs
 times-cons_same g x xs same = times-cons g x xs ∙ rw (eq-eqb x g same) refl
 
 -- one more element that isn't
-times-cons_other : (g x : ℕ) (xs : List ℕ) → (x ≡ g → ⊥) → times g (x ∷ xs) ≡ times g xs
+pub times-cons_other : (g x : ℕ) (xs : List ℕ) → (x ≡ g → ⊥) → times g (x ∷ xs) ≡ times g xs
 times-cons_other g x xs other = times-cons g x xs ∙ rw (ne_eqb x g other) (omega arith)
 
 -- two lists, one after the other
@@ -74,3 +76,33 @@ times-below a n g before = times-absent g (range_with_len a n) (λ found. omega 
 
 pub times-above : (a n g : ℕ) → a + n ≤ g → times g (range_with_len a n) ≡ 0
 times-above a n g after = times-absent g (range_with_len a n) (λ found. omega (arith, (from_range_with_len a n g found).1))
+
+-- one more at the end
+pub times-push : (x y : ℕ) (xs : List ℕ) → times x (xs ++ y ∷ []) ≡ times x xs + cond (eqb y x) 1 0
+times-push x y xs = sum_by_push (λ y. cond (eqb y x) 1 0) xs y
+
+-- what is taken off and what is left
+pub times-take-drop : (x n : ℕ) (xs : List ℕ) → times x (take n xs) + times x (drop n xs) ≡ times x xs
+times-take-drop x n xs = sum_by-take-drop (λ y. cond (eqb y x) 1 0) xs n
+
+pub times-reverse : (x : ℕ) (xs : List ℕ) → times x (reverse xs) ≡ times x xs
+times-reverse x xs = sum_by-IsPermutation (λ y. cond (eqb y x) 1 0) xs (reverse xs) (IsPermutation-reverse xs)
+
+-- a number stands at most as often in a list as the list is long
+pub times-le : (x : ℕ) (xs : List ℕ) → times x xs ≤ length xs
+times-le x xs = count_by-le-length (λ y. eqb y x) xs
+
+-- a run of numbers has each once
+pub times-range : (x a n : ℕ) → times x (range_with_len a n) ≡ (if nat_le a x && nat_lt x (a + n) then 1 else 0)
+times-range x a zero = grind (arith, nat_tests)
+times-range x a (suc n) =
+    let e = times-cons x a (range_with_len (a + 1) n) in
+    let h = times-range x (a + 1) n in
+    grind (arith, nat_tests, e, h)
+
+-- what a list has stands in it
+pub times-contained : (x : ℕ) (xs : List ℕ) → Contains xs x → 0 < times x xs
+times-contained x xs found =
+    let at : cond (eqb (get_or xs found.0 x) x) 1 0 ≤ times x xs = get_or-le-sum_by (λ y. cond (eqb y x) 1 0) xs found.0 x found.1 in
+    let same : get_or xs found.0 x ≡ x = found.2 in
+    grind (arith, nat_tests, at, same)

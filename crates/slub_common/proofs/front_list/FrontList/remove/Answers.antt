@@ -5,7 +5,7 @@ use Rattle.std.proofs.lemmas.Bool.Decides.{nat_tests}
 use Rattle.std.proofs.lemmas.List.Sums.{length-filter}
 use Rattle.std.proofs.lemmas.List.Filters.{length-filter_both}
 use Rattle.slub_common.specs.Times.{times}
-use Rattle.slub_lists.proofs.front_list.FrontList.remove.Goals as goal
+use Rattle.slub_common.proofs.front_list.FrontList.remove.Goals as goal
 
 pub returns-clause-removed : goal.returns-clause-removed
 returns-clause-removed g c = filter_same _ (λ other. not (eqb other c.args.item)) _ (λ x b f k. search rules) _ _ c.retain.ensures.filtered ∙ ap (filter (λ other. not (eqb other c.args.item))) c.self.view_is

@@ -1,6 +1,6 @@
 use Rattle.std.proofs.Common.{◌≡◌, ◌-◌}
 use Rattle.std.specs.List.{range_with_len}
-use Rattle.slub_lists.proofs.front_list.FrontList.fill_rising.Given as goal
+use Rattle.slub_common.proofs.front_list.FrontList.fill_rising.Given as goal
 
 -- the last numbers stand there in rising order
 abbrev pub invariant-loop-item : goal.invariant-loop-item

@@ -1,0 +1,4 @@
+pub mod Lists
+pub mod Times
+pub mod Sums
+pub mod Writes

@@ -1,6 +1,12 @@
-//! What every machine answers, be it on plain lists or in words: replies to the events of a round,
-//! and the ledgers of its workers.
+//! What every machine answers, be it on plain lists or in words: replies to the events of a round, the
+//! ledgers of its workers, and what creating, destroying and tuning a cache answer. (Shrinking
+//! answers whether slabs remain, or `NoSuchCache` of `slub_common`.)
+//!
+//! `specs/Kinds.antt` says by what kind of reply the rest of the repository tells replies apart.
 #![tactic(auto)]
 
+pub mod create;
+pub mod destroy;
 pub mod ledger;
 pub mod reply;
+pub mod tune;

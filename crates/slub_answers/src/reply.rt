@@ -1,5 +1,8 @@
 //! What the allocator answers to an event.
 
+ghost use Rattle.std.specs.Prelude.{◌≡◌};
+ghost use Rattle.slub_answers.specs.Kinds.{is_ok_reply, kind_of};
+
 use slub_red_zone::zones::Damage;
 
 /// The answer to one event of a round.
@@ -39,4 +42,55 @@ pub enum Reply {
     Checked,
     /// A flush put away so many current slabs and slabs of partial lists.
     Flushed(u32),
+}
+
+/// What kind of answer a reply is, as far as ledgers, texts and statuses tell replies apart.
+#[derive(Clone, Copy, Debug, PartialEq, Eq)]
+pub enum Kind {
+    /// An object was given.
+    Gives,
+    /// An object was freed.
+    Frees,
+    /// Something else was done.
+    Does,
+    /// No run of frames was there.
+    LacksFrames,
+    /// No memory was there.
+    LacksMemory,
+    /// Nothing was done, for another cause.
+    Refuses,
+}
+
+impl Reply {
+    /// The kind of this reply.
+    pub fn kind(&self) -> Kind
+        ensures { result ≡ kind_of self.now }
+    {
+        match self {
+            Reply::Given(_) => Kind::Gives,
+            Reply::Freed(_) => Kind::Frees,
+            Reply::Wrote
+            | Reply::Value(_)
+            | Reply::Poked
+            | Reply::Trimmed(_)
+            | Reply::Flushed(_) => Kind::Does,
+            Reply::NoFrames => Kind::LacksFrames,
+            Reply::NoMemory => Kind::LacksMemory,
+            Reply::NoSuchCache
+            | Reply::IdsSpent(_)
+            | Reply::NotHeld
+            | Reply::Corrupt(_)
+            | Reply::OutOfObject
+            | Reply::OutOfSlot
+            | Reply::NotChecked
+            | Reply::Checked => Kind::Refuses,
+        }
+    }
+
+    /// Whether what was asked was done: nothing was lacking, nothing refused, nothing found damaged.
+    pub fn is_ok(&self) -> bool
+        ensures { result ≡ is_ok_reply self.now }
+    {
+        matches!(self.kind(), Kind::Gives | Kind::Frees | Kind::Does)
+    }
 }

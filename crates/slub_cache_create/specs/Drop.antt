@@ -6,7 +6,7 @@ use Rattle.std.specs.Str.{bytes_eq}
 use Rattle.slub_cache_create.specs.declared.caches.Cache.{Cache}
 use Rattle.slub_cache_create.specs.declared.caches.Dropped.{Dropped}
 use Rattle.slub_cache_create.specs.declared.caches.Dropped.TheVariants.{Alias, Last}
-use Rattle.slub_cache_create.specs.declared.caches.NoSuchCache.{NoSuchCache}
+use Rattle.slub_common.specs.declared.no_such_cache.NoSuchCache.{NoSuchCache}
 use Rattle.slub_cache_create.specs.Table.{Table, cache_of, names_of, number_of}
 
 -- the live names without one; the others keep their order

@@ -14,6 +14,7 @@ use crate::merging;
 use indexmap::{IndexMap, IndexSet};
 use slub_common::limits::NAMES_MAX;
 use slub_common::no_memory::NoMemory;
+use slub_common::no_such_cache::NoSuchCache;
 use slub_object_layout::layout::{Flags, Layout, LayoutRefusal, Spec, layout_of};
 use slub_object_layout::name::Name;
 use std::alloc::Global;
@@ -48,10 +49,6 @@ pub enum Dropped {
     /// It was the cache's last name, and the cache is live no more.
     Last(u8),
 }
-
-/// The name isn't live.
-#[derive(Clone, Copy, Debug, PartialEq, Eq)]
-pub struct NoSuchCache;
 
 /// A live cache (`struct kmem_cache`).
 #[derive(Clone, Copy, Debug, PartialEq, Eq)]

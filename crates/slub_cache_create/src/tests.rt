@@ -3,7 +3,8 @@
 ghost use Rattle.std.specs.Prelude.{IsSome};
 ghost use Rattle.slub_cache_create.specs.Table.{cache_of};
 
-use crate::caches::{Caches, CreateRefusal, Created, Dropped, NoSuchCache};
+use crate::caches::{Caches, CreateRefusal, Created, Dropped};
+use slub_common::no_such_cache::NoSuchCache;
 use slub_object_layout::layout::{Flags, LayoutRefusal, Spec};
 use slub_object_layout::name::Name;
 use std::process::Abort;

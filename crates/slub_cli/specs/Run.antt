@@ -13,9 +13,8 @@ use Rattle.slub_command.specs.declared.command.Command.{Command}
 use Rattle.slub_command.specs.declared.command.Command.TheVariants.{Replay, Layout, Load}
 use Rattle.slub_command.specs.declared.command.How.TheVariants.{Serial}
 use Rattle.slub_command.specs.Command.{IsCommand}
-use Rattle.slub_lists.specs.declared.reply.Reply.{Reply}
-use Rattle.slub_lists.specs.declared.reply.Reply.TheVariants as reply
-use Rattle.slub_slabinfo_text.specs.Texts.{is_ok_reply, layout_lines}
+use Rattle.slub_slabinfo_text.specs.Texts.{layout_lines}
+use Rattle.slub_answers.specs.Kinds.{is_no_memory, is_ok_reply}
 use Rattle.slub_trace_reader.specs.declared.trace.Trace.{Trace}
 use Rattle.slub_trace_reader.specs.Grammar.{IsTrace}
 use Rattle.slub_trace_reader.specs.declared.reading.Why.{Why}
@@ -58,22 +57,6 @@ abbrev pub AsksReplay : List (List ℕ) → Type 0
 AsksReplay words = (seed : ℕ) × (replies : Bool) × IsCommand words (Replay Serial seed replies)
 
 -- ---- the replies
-
--- no memory was there for an event
-abbrev pub is_no_memory : Reply → Bool
-is_no_memory (reply.Given address) = false
-is_no_memory reply.NoFrames = false
-is_no_memory reply.NoSuchCache = false
-is_no_memory reply.NoMemory = true
-is_no_memory (reply.Freed address) = false
-is_no_memory reply.NotHeld = false
-is_no_memory (reply.Corrupt damage) = false
-is_no_memory reply.Wrote = false
-is_no_memory (reply.Value value) = false
-is_no_memory reply.OutOfObject = false
-is_no_memory reply.Poked = false
-is_no_memory reply.OutOfSlot = false
-is_no_memory reply.NotChecked = false
 
 -- a reply of an item is that no memory was there
 abbrev pub lacks_memory : Done → Bool

@@ -1,4 +1,4 @@
-//! What several crates share: the limits, want of memory, lists that contracts see as lists of their
+//! What several crates share: the limits, want of memory, a name that names no cache, lists that contracts see as lists of their
 //! elements, and how often a number stands in a list (`specs/Times.antt`).
 //!
 //! `proofs/` has the lemmas on lists of numbers, on sums, and on what holds of a list after one of
@@ -8,6 +8,7 @@
 pub mod front_list;
 pub mod limits;
 pub mod no_memory;
+pub mod no_such_cache;
 pub mod sequence;
 #[cfg(test)]
 mod tests;

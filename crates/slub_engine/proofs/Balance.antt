@@ -2,12 +2,12 @@
 use Rattle.std.proofs.Common.{◌≡◌, ℕ, ◌+◌, ◌-◌, ◌<◌, cond, length, get_or, sum_by, refl, arith}
 use Rattle.std.proofs.lemmas.List.Sums.{sum_by-set}
 use Rattle.slub_object_layout.specs.declared.event.Act.{Act}
-use Rattle.slub_lists.specs.declared.reply.Reply.{Reply}
+use Rattle.slub_answers.specs.declared.reply.Reply.{Reply}
 use Rattle.slub_lists.specs.State.{State}
 use Rattle.slub_lists.specs.Coherent.{IsCoherent}
 use Rattle.slub_lists.proofs.CheckedSlabs.{counted, counted-within}
 use Rattle.slub_common.proofs.Writes.{inside-of}
-use Rattle.slub_engine.specs.Lawful.{is_freed, is_given}
+use Rattle.slub_answers.specs.Kinds.{is_freed, is_given}
 use Rattle.slub_engine.proofs.Effects.{Effect, given, kept, quiet, taken}
 
 -- how many objects are held, of all caches

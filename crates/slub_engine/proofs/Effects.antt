@@ -16,8 +16,8 @@ use Rattle.slub_red_zone.specs.declared.checked.Slot.{Slot}
 use Rattle.slub_red_zone.specs.declared.zones.Damage.{Damage}
 use Rattle.slub_lists.specs.declared.lists.Held.{Held}
 use Rattle.slub_lists.specs.declared.lists.Run.{Run}
-use Rattle.slub_lists.specs.declared.reply.Reply.{Reply}
-use Rattle.slub_lists.specs.declared.reply.Reply.TheVariants as reply
+use Rattle.slub_answers.specs.declared.reply.Reply.{Reply}
+use Rattle.slub_answers.specs.declared.reply.Reply.TheVariants as reply
 use Rattle.slub_lists.specs.State.{State}
 use Rattle.slub_lists.specs.Alloc.{AllocatesNew, Gives, batch_of, cache_of, checked_of, from_current, from_free, from_node, from_partial, from_slabs, lists_of, named, node_of, own_free, retired, stocked, with_held, with_lists, with_new_slab}
 use Rattle.slub_lists.specs.Named.{AllocatesFrom, AllocatesNamed}
@@ -26,7 +26,8 @@ use Rattle.slub_lists.specs.Free.{FreesUnchecked, discarded, drained, freed, fre
 use Rattle.slub_lists.specs.Freeing.{Frees, FreesHeld}
 use Rattle.slub_lists.specs.Words.{PokesChecked, Pokes, Reads, Writes, held_by, inside, is_word, known_to, outside, with_word, word_at, word_of}
 use Rattle.slub_lists.proofs.Flushing.{rest-moved_partial}
-use Rattle.slub_engine.specs.Lawful.{Answers, is_freed, is_given}
+use Rattle.slub_engine.specs.Lawful.{Answers}
+use Rattle.slub_answers.specs.Kinds.{is_freed, is_given}
 use Rattle.slub_engine.proofs.Keeping.{Keeps, keeps_either, keeps_held, keeps_same, keeps_both, keeps_written, match_some}
 
 -- ---- what an event does

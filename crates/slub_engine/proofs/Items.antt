@@ -8,9 +8,9 @@ use Rattle.slub_trace_reader.specs.declared.trace.Item.{Item}
 use Rattle.slub_trace_reader.specs.declared.trace.Item.TheVariants as item
 use Rattle.slub_trace_reader.specs.declared.trace.Trace.{Trace}
 use Rattle.slub_trace_reader.specs.Sound.{IsSound, IsSoundItem}
-use Rattle.slub_cache_create.specs.declared.caches.NoSuchCache.{NoSuchCache}
-use Rattle.slub_lists.specs.declared.destroy.Destroyed.{Destroyed}
-use Rattle.slub_lists.specs.declared.destroy.DestroyRefusal.{DestroyRefusal}
+use Rattle.slub_common.specs.declared.no_such_cache.NoSuchCache.{NoSuchCache}
+use Rattle.slub_answers.specs.declared.destroy.Destroyed.{Destroyed}
+use Rattle.slub_answers.specs.declared.destroy.DestroyRefusal.{DestroyRefusal}
 use Rattle.slub_lists.specs.Destroy.{Destroys}
 use Rattle.slub_lists.specs.Shrink.{Shrinks}
 use Rattle.slub_lists.specs.State.{State}
@@ -18,8 +18,8 @@ use Rattle.slub_slabinfo_text.specs.declared.counts.InfoRow.{InfoRow}
 use Rattle.slub_slabinfo_text.specs.Counts.{rows_of}
 use Rattle.slub_slabinfo_text.specs.declared.text.ItemWord.TheVariants as word
 use Rattle.slub_slabinfo_text.specs.Texts.{info_text}
-use Rattle.slub_engine.specs.declared.journal.Created.{Created}
-use Rattle.slub_engine.specs.declared.journal.CreateRefusal.{CreateRefusal}
+use Rattle.slub_answers.specs.declared.create.Created.{Created}
+use Rattle.slub_answers.specs.declared.create.CreateRefusal.{CreateRefusal}
 use Rattle.slub_engine.specs.declared.journal.RoundResult.{RoundResult}
 use Rattle.slub_engine.specs.declared.journal.Done.{Done}
 use Rattle.slub_engine.specs.declared.journal.Done.TheVariants as done

@@ -3,14 +3,14 @@ use Rattle.std.proofs.Common.{◌≡◌, ℕ, Bool, true, false, cond, List, [],
 use Rattle.slub_object_layout.specs.declared.event.Round.{Round}
 use Rattle.slub_object_layout.specs.declared.layout.LayoutRefusal.TheVariants as refused
 use Rattle.slub_object_layout.specs.declared.layout.Spec.{Spec}
-use Rattle.slub_cache_create.specs.declared.caches.NoSuchCache.{NoSuchCache}
+use Rattle.slub_common.specs.declared.no_such_cache.NoSuchCache.{NoSuchCache}
 use Rattle.slub_cache_create.specs.declared.caches.Created.{Created as CreatedCache}
 use Rattle.slub_cache_create.specs.declared.caches.Created.TheVariants as made
 use Rattle.slub_cache_create.specs.Table.{number_of, cache_of as live_cache}
-use Rattle.slub_lists.specs.declared.destroy.Destroyed.{Destroyed}
-use Rattle.slub_lists.specs.declared.destroy.Destroyed.TheVariants.{NameDropped, Gone}
-use Rattle.slub_lists.specs.declared.destroy.DestroyRefusal.{DestroyRefusal}
-use Rattle.slub_lists.specs.declared.destroy.DestroyRefusal.TheVariants.{NoSuchCache as NotLive, Busy}
+use Rattle.slub_answers.specs.declared.destroy.Destroyed.{Destroyed}
+use Rattle.slub_answers.specs.declared.destroy.Destroyed.TheVariants.{NameDropped, Gone}
+use Rattle.slub_answers.specs.declared.destroy.DestroyRefusal.{DestroyRefusal}
+use Rattle.slub_answers.specs.declared.destroy.DestroyRefusal.TheVariants.{NoSuchCache as NotLive, Busy}
 use Rattle.slub_lists.specs.State.{State}
 use Rattle.slub_lists.specs.Create.{CreatesCache}
 use Rattle.slub_lists.specs.Destroy.{Destroys}
@@ -20,10 +20,10 @@ use Rattle.slub_trace_reader.specs.declared.trace.Item.{Item}
 use Rattle.slub_trace_reader.specs.declared.trace.Item.TheVariants as item
 use Rattle.slub_trace_reader.specs.declared.trace.Trace.{Trace}
 use Rattle.slub_trace_reader.specs.Sound.{events_in}
-use Rattle.slub_engine.specs.declared.journal.Created.{Created}
-use Rattle.slub_engine.specs.declared.journal.Created.TheVariants.{New, Merged}
-use Rattle.slub_engine.specs.declared.journal.CreateRefusal.{CreateRefusal}
-use Rattle.slub_engine.specs.declared.journal.CreateRefusal.TheVariants as refusal
+use Rattle.slub_answers.specs.declared.create.Created.{Created}
+use Rattle.slub_answers.specs.declared.create.Created.TheVariants.{New, Merged}
+use Rattle.slub_answers.specs.declared.create.CreateRefusal.{CreateRefusal}
+use Rattle.slub_answers.specs.declared.create.CreateRefusal.TheVariants as refusal
 use Rattle.slub_engine.specs.declared.journal.RoundResult.{RoundResult}
 use Rattle.slub_engine.specs.declared.journal.Done.{Done}
 use Rattle.slub_engine.specs.declared.journal.Done.TheVariants as done

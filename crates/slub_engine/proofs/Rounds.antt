@@ -11,14 +11,15 @@ use Rattle.slub_object_layout.specs.declared.event.Act.{Act}
 use Rattle.slub_object_layout.specs.declared.event.Act.TheVariants.{Alloc, Free, Write, Read, Poke, Trim, Flush}
 use Rattle.slub_object_layout.specs.declared.event.Event.{Event}
 use Rattle.slub_cache_create.specs.Table.{Table}
-use Rattle.slub_lists.specs.declared.reply.Reply.{Reply}
-use Rattle.slub_lists.specs.declared.reply.Reply.TheVariants as reply
+use Rattle.slub_answers.specs.declared.reply.Reply.{Reply}
+use Rattle.slub_answers.specs.declared.reply.Reply.TheVariants as reply
 use Rattle.slub_lists.specs.State.{State}
 use Rattle.slub_lists.specs.Alloc.{checked_of}
 use Rattle.slub_lists.specs.Coherent.{AddsReportsOf, IsCoherent, KeepsOthers, findable_in}
 use Rattle.slub_trace_reader.specs.Sound.{allocated, objects_of}
-use Rattle.slub_engine.specs.declared.journal.Ledger.{Ledger}
-use Rattle.slub_engine.specs.Lawful.{Answers, AreLedgers, IsLedger, IsUnheld, RunsEvents, is_by, is_freed, is_given, is_order, lacks, least_order_of}
+use Rattle.slub_answers.specs.declared.ledger.Ledger.{Ledger}
+use Rattle.slub_engine.specs.Lawful.{Answers, AreLedgers, IsLedger, IsUnheld, RunsEvents, is_by, is_order, lacks, least_order_of}
+use Rattle.slub_answers.specs.Kinds.{is_freed, is_given, is_no_frames}
 use Rattle.slub_engine.specs.Steps.{IsBelow, IsBlank, IsKnown, IsKnownAct, KeepsCaches, KeepsUnheld, Notes, NotesOwn, object_of}
 use Rattle.slub_engine.proofs.Parts.{All-back, All-front}
 use Rattle.slub_engine.proofs.Reports.{adds_none, adds_then}
@@ -59,19 +60,7 @@ least_order_kept s now Flush table = refl
 
 lacks_kept : (s now : State) (order : ℕ) (event : Event) (reply : Reply) → now.table ≡ s.table
     → lacks now order (event, reply) ≡ lacks s order (event, reply)
-lacks_kept s now order event (reply.Given address) table = refl
-lacks_kept s now order event reply.NoFrames table = ap (is_order order) (least_order_kept s now event.act table)
-lacks_kept s now order event reply.NoSuchCache table = refl
-lacks_kept s now order event reply.NoMemory table = refl
-lacks_kept s now order event (reply.Freed address) table = refl
-lacks_kept s now order event reply.NotHeld table = refl
-lacks_kept s now order event (reply.Corrupt damage) table = refl
-lacks_kept s now order event reply.Wrote table = refl
-lacks_kept s now order event (reply.Value value) table = refl
-lacks_kept s now order event reply.OutOfObject table = refl
-lacks_kept s now order event reply.Poked table = refl
-lacks_kept s now order event reply.OutOfSlot table = refl
-lacks_kept s now order event reply.NotChecked table = refl
+lacks_kept s now order event answer table = ap (λ b. is_no_frames answer && b) (ap (is_order order) (least_order_kept s now event.act table))
 
 -- ---- ledgers
 

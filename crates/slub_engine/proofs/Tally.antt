@@ -5,10 +5,11 @@ use Rattle.std.specs.List.{range_with_len, zip}
 use Rattle.std.proofs.lemmas.Bool.Decides.{nat_tests}
 use Rattle.std.proofs.lemmas.List.Sums.{sum_by-cons}
 use Rattle.slub_object_layout.specs.declared.event.Event.{Event}
-use Rattle.slub_lists.specs.declared.reply.Reply.{Reply}
+use Rattle.slub_answers.specs.declared.reply.Reply.{Reply}
 use Rattle.slub_lists.specs.State.{State}
 use Rattle.slub_lists.specs.Coherent.{IsCoherent}
-use Rattle.slub_engine.specs.Lawful.{RunsEvents, is_by, is_freed, is_given}
+use Rattle.slub_engine.specs.Lawful.{RunsEvents, is_by}
+use Rattle.slub_answers.specs.Kinds.{is_freed, is_given}
 use Rattle.slub_engine.proofs.Balance.{effect_balanced, live_in}
 use Rattle.slub_engine.proofs.Effects.{event_effect}
 

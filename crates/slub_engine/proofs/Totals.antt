@@ -12,7 +12,7 @@ use Rattle.slub_object_layout.specs.declared.event.Round.{Round}
 use Rattle.slub_cache_create.specs.declared.caches.Cache.{Cache}
 use Rattle.slub_common.specs.Times.{times}
 use Rattle.slub_lists.specs.declared.lists.Held.{Held}
-use Rattle.slub_lists.specs.declared.reply.Reply.{Reply}
+use Rattle.slub_answers.specs.declared.reply.Reply.{Reply}
 use Rattle.slub_lists.specs.State.{State}
 use Rattle.slub_lists.specs.Alloc.{cache_of}
 use Rattle.slub_lists.specs.Coherent.{IsCoherent, held_of}
@@ -23,12 +23,13 @@ use Rattle.slub_trace_reader.specs.declared.trace.Item.{Item}
 use Rattle.slub_trace_reader.specs.declared.trace.Item.TheVariants as item
 use Rattle.slub_trace_reader.specs.declared.trace.Trace.{Trace}
 use Rattle.slub_trace_reader.specs.Sound.{IsSound, IsSoundEvent, IsSoundItem}
-use Rattle.slub_engine.specs.declared.journal.Ledger.{Ledger}
+use Rattle.slub_answers.specs.declared.ledger.Ledger.{Ledger}
 use Rattle.slub_engine.specs.declared.journal.RoundResult.{RoundResult}
 use Rattle.slub_engine.specs.declared.journal.Done.{Done}
 use Rattle.slub_engine.specs.declared.journal.Journal.{Journal}
 use Rattle.slub_engine.specs.declared.journal.Total.{Total}
-use Rattle.slub_engine.specs.Lawful.{Does, DoesRound, IsLawful, IsTotal, RunsItems, cache_numbers, freed_in, given_in, is_by, is_freed, is_given, ledgers_of, opening_of, over_caches}
+use Rattle.slub_engine.specs.Lawful.{Does, DoesRound, IsLawful, IsTotal, RunsItems, cache_numbers, freed_in, given_in, is_by, ledgers_of, opening_of, over_caches}
+use Rattle.slub_answers.specs.Kinds.{is_freed, is_given}
 use Rattle.slub_engine.specs.Sums.{counted}
 use Rattle.slub_engine.proofs.Balance.{live_in}
 use Rattle.slub_engine.proofs.Counted.{reversed_rows}

@@ -7,7 +7,7 @@ use Rattle.std.proofs.lemmas.List.Elements.{Contains-append_left, Contains-appen
 use Rattle.slub_object_layout.specs.declared.event.Act.TheVariants.{Alloc}
 use Rattle.slub_object_layout.specs.declared.event.Event.{Event}
 use Rattle.slub_lists.specs.declared.lists.Held.{Held}
-use Rattle.slub_lists.specs.declared.reply.Reply.{Reply}
+use Rattle.slub_answers.specs.declared.reply.Reply.{Reply}
 use Rattle.slub_lists.specs.Freeing.{Frees}
 use Rattle.slub_lists.specs.State.{State}
 use Rattle.slub_lists.specs.Coherent.{KeepsOthers, all_on_board, laid_down}

@@ -12,11 +12,12 @@ use Rattle.slub_trace_reader.specs.declared.trace.Item.{Item}
 use Rattle.slub_trace_reader.specs.declared.trace.Item.TheVariants as item
 use Rattle.slub_trace_reader.specs.declared.trace.Trace.{Trace}
 use Rattle.slub_trace_reader.specs.Sound.{IsSound, IsSoundItem, events_in}
-use Rattle.slub_engine.specs.declared.journal.Ledger.{Ledger}
+use Rattle.slub_answers.specs.declared.ledger.Ledger.{Ledger}
 use Rattle.slub_engine.specs.declared.journal.RoundResult.{RoundResult}
 use Rattle.slub_engine.specs.declared.journal.Done.{Done}
 use Rattle.slub_engine.specs.declared.journal.Done.TheVariants as done
-use Rattle.slub_engine.specs.Lawful.{Does, DoesRound, RunsItems, freed_in, given_in, is_by, is_freed, is_given, ledgers_of, opening_of}
+use Rattle.slub_engine.specs.Lawful.{Does, DoesRound, RunsItems, freed_in, given_in, is_by, ledgers_of, opening_of}
+use Rattle.slub_answers.specs.Kinds.{is_freed, is_given}
 
 -- 16 ledgers at most, none of which counts more than the events are
 round_few : (s : State) (round : Round) (outcome : RoundResult) (after : State) → round.workers ≤ 16 → DoesRound s round outcome after

@@ -14,8 +14,8 @@ use Rattle.slub_cache_create.specs.Table.{HasTitle, IsTaken}
 use Rattle.slub_cache_create.specs.declared.caches.Cache.{Cache}
 use Rattle.slub_cache_create.specs.declared.caches.Created.TheVariants as made
 use Rattle.slub_red_zone.specs.declared.zones.Report.{Report}
-use Rattle.slub_lists.specs.declared.reply.Reply.{Reply}
-use Rattle.slub_lists.specs.declared.reply.Reply.TheVariants as reply
+use Rattle.slub_answers.specs.declared.reply.Reply.{Reply}
+use Rattle.slub_answers.specs.Kinds.{is_freed, is_given, is_no_frames}
 use Rattle.slub_lists.specs.State.{State}
 use Rattle.slub_lists.specs.Alloc.{cache_of, checked_of, named}
 use Rattle.slub_lists.specs.Named.{AllocatesNamed}
@@ -31,12 +31,12 @@ use Rattle.slub_trace_reader.specs.declared.trace.Item.{Item}
 use Rattle.slub_trace_reader.specs.declared.trace.Item.TheVariants as item
 use Rattle.slub_trace_reader.specs.declared.trace.Trace.{Trace}
 use Rattle.slub_trace_reader.specs.Sound.{objects_in}
-use Rattle.slub_engine.specs.declared.journal.Created.{Created}
-use Rattle.slub_engine.specs.declared.journal.Created.TheVariants.{New, Merged}
-use Rattle.slub_engine.specs.declared.journal.CreateRefusal.{CreateRefusal}
-use Rattle.slub_engine.specs.declared.journal.CreateRefusal.TheVariants as refusal
+use Rattle.slub_answers.specs.declared.create.Created.{Created}
+use Rattle.slub_answers.specs.declared.create.Created.TheVariants.{New, Merged}
+use Rattle.slub_answers.specs.declared.create.CreateRefusal.{CreateRefusal}
+use Rattle.slub_answers.specs.declared.create.CreateRefusal.TheVariants as refusal
 use Rattle.slub_engine.specs.declared.journal.Found.{Found}
-use Rattle.slub_engine.specs.declared.journal.Ledger.{Ledger}
+use Rattle.slub_answers.specs.declared.ledger.Ledger.{Ledger}
 use Rattle.slub_engine.specs.declared.journal.RoundResult.{RoundResult}
 use Rattle.slub_engine.specs.declared.journal.Done.{Done}
 use Rattle.slub_engine.specs.declared.journal.Done.TheVariants as done
@@ -83,38 +83,6 @@ RunsEvents s (event ∷ events) [] after = ⊥
 
 -- ---- what a round counts
 
--- an object was given
-abbrev pub is_given : Reply → Bool
-is_given (reply.Given address) = true
-is_given reply.NoFrames = false
-is_given reply.NoSuchCache = false
-is_given reply.NoMemory = false
-is_given (reply.Freed address) = false
-is_given reply.NotHeld = false
-is_given (reply.Corrupt damage) = false
-is_given reply.Wrote = false
-is_given (reply.Value value) = false
-is_given reply.OutOfObject = false
-is_given reply.Poked = false
-is_given reply.OutOfSlot = false
-is_given reply.NotChecked = false
-
--- an object was freed
-abbrev pub is_freed : Reply → Bool
-is_freed (reply.Given address) = false
-is_freed reply.NoFrames = false
-is_freed reply.NoSuchCache = false
-is_freed reply.NoMemory = false
-is_freed (reply.Freed address) = true
-is_freed reply.NotHeld = false
-is_freed (reply.Corrupt damage) = false
-is_freed reply.Wrote = false
-is_freed (reply.Value value) = false
-is_freed reply.OutOfObject = false
-is_freed reply.Poked = false
-is_freed reply.OutOfSlot = false
-is_freed reply.NotChecked = false
-
 -- the least order of a cache
 abbrev pub min_order_of : Cache → ℕ
 min_order_of cache = cache.layout.min_order
@@ -122,12 +90,7 @@ min_order_of cache = cache.layout.min_order
 -- the least order of the cache that an act allocates from
 abbrev pub least_order_of : State → Act → Option ℕ
 least_order_of s (Alloc place object) = option_map min_order_of (option_and_then (cache_of s) (named s place))
-least_order_of s (Free object) = None
-least_order_of s (Write object word value) = None
-least_order_of s (Read object word) = None
-least_order_of s (Poke object offset byte) = None
-least_order_of s (Trim place) = None
-least_order_of s Flush = None
+least_order_of s _ = None
 
 abbrev pub is_order : ℕ → Option ℕ → Bool
 is_order order None = false
@@ -135,19 +98,7 @@ is_order order (Some other) = other == order
 
 -- no run of this least order was there
 abbrev pub lacks : State → ℕ → Event × Reply → Bool
-lacks s order (event, reply.Given address) = false
-lacks s order (event, reply.NoFrames) = is_order order (least_order_of s event.act)
-lacks s order (event, reply.NoSuchCache) = false
-lacks s order (event, reply.NoMemory) = false
-lacks s order (event, reply.Freed address) = false
-lacks s order (event, reply.NotHeld) = false
-lacks s order (event, reply.Corrupt damage) = false
-lacks s order (event, reply.Wrote) = false
-lacks s order (event, reply.Value value) = false
-lacks s order (event, reply.OutOfObject) = false
-lacks s order (event, reply.Poked) = false
-lacks s order (event, reply.OutOfSlot) = false
-lacks s order (event, reply.NotChecked) = false
+lacks s order (event, answer) = is_no_frames answer && is_order order (least_order_of s event.act)
 
 -- the event is one of this worker
 abbrev pub is_by : ℕ → Event × Reply → Bool

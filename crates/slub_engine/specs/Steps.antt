@@ -6,11 +6,12 @@ use Rattle.slub_object_layout.specs.declared.event.Act.{Act}
 use Rattle.slub_object_layout.specs.declared.event.Act.TheVariants.{Alloc, Free, Write, Read, Poke, Trim, Flush}
 use Rattle.slub_object_layout.specs.declared.event.Event.{Event}
 use Rattle.slub_red_zone.specs.declared.zones.Report.{Report}
-use Rattle.slub_lists.specs.declared.reply.Reply.{Reply}
+use Rattle.slub_answers.specs.declared.reply.Reply.{Reply}
 use Rattle.slub_lists.specs.State.{State}
 use Rattle.slub_engine.specs.declared.journal.Found.{Found}
-use Rattle.slub_engine.specs.declared.journal.Ledger.{Ledger}
-use Rattle.slub_engine.specs.Lawful.{IsUnheld, cache_numbers, is_freed, is_given, lacks, reports_of, title_of}
+use Rattle.slub_answers.specs.declared.ledger.Ledger.{Ledger}
+use Rattle.slub_engine.specs.Lawful.{IsUnheld, cache_numbers, lacks, reports_of, title_of}
+use Rattle.slub_answers.specs.Kinds.{is_freed, is_given}
 
 -- an act under a number that the machine has, an allocation of a name of it; no trim and no flush
 abbrev pub IsKnownAct : State → Act → Type 0

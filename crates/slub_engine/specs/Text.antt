@@ -5,24 +5,25 @@ use Rattle.std.specs.Option.{option_map_or}
 use Rattle.slub_object_layout.specs.declared.event.Event.{Event}
 use Rattle.slub_object_layout.specs.declared.event.Round.{Round}
 use Rattle.slub_object_layout.specs.declared.layout.LayoutRefusal.TheVariants as refused
-use Rattle.slub_cache_create.specs.declared.caches.NoSuchCache.{NoSuchCache}
-use Rattle.slub_lists.specs.declared.destroy.Destroyed.{Destroyed}
-use Rattle.slub_lists.specs.declared.destroy.Destroyed.TheVariants as destroyed
-use Rattle.slub_lists.specs.declared.destroy.DestroyRefusal.{DestroyRefusal}
-use Rattle.slub_lists.specs.declared.destroy.DestroyRefusal.TheVariants as kept
-use Rattle.slub_lists.specs.declared.reply.Reply.{Reply}
+use Rattle.slub_common.specs.declared.no_such_cache.NoSuchCache.{NoSuchCache}
+use Rattle.slub_answers.specs.declared.destroy.Destroyed.{Destroyed}
+use Rattle.slub_answers.specs.declared.destroy.Destroyed.TheVariants as destroyed
+use Rattle.slub_answers.specs.declared.destroy.DestroyRefusal.{DestroyRefusal}
+use Rattle.slub_answers.specs.declared.destroy.DestroyRefusal.TheVariants as kept
+use Rattle.slub_answers.specs.declared.reply.Reply.{Reply}
 use Rattle.slub_slabinfo_text.specs.declared.text.ItemWord.{ItemWord}
 use Rattle.slub_slabinfo_text.specs.declared.text.ItemWord.TheVariants as word
 use Rattle.slub_slabinfo_text.specs.declared.text.ItemAnswer.{ItemAnswer}
 use Rattle.slub_slabinfo_text.specs.declared.text.ItemAnswer.TheVariants as answer
-use Rattle.slub_slabinfo_text.specs.Texts.{damage_line, info_text, is_ok_answer, is_ok_reply, item_line, reply_text, total_line}
+use Rattle.slub_slabinfo_text.specs.Texts.{damage_line, info_text, is_ok_answer, item_line, reply_text, total_line}
+use Rattle.slub_answers.specs.Kinds.{is_ok_reply}
 use Rattle.slub_trace_reader.specs.declared.trace.Item.{Item}
 use Rattle.slub_trace_reader.specs.declared.trace.Item.TheVariants as item
 use Rattle.slub_trace_reader.specs.declared.trace.Trace.{Trace}
-use Rattle.slub_engine.specs.declared.journal.Created.{Created}
-use Rattle.slub_engine.specs.declared.journal.Created.TheVariants.{New, Merged}
-use Rattle.slub_engine.specs.declared.journal.CreateRefusal.{CreateRefusal}
-use Rattle.slub_engine.specs.declared.journal.CreateRefusal.TheVariants as refusal
+use Rattle.slub_answers.specs.declared.create.Created.{Created}
+use Rattle.slub_answers.specs.declared.create.Created.TheVariants.{New, Merged}
+use Rattle.slub_answers.specs.declared.create.CreateRefusal.{CreateRefusal}
+use Rattle.slub_answers.specs.declared.create.CreateRefusal.TheVariants as refusal
 use Rattle.slub_engine.specs.declared.journal.Found.{Found}
 use Rattle.slub_engine.specs.declared.journal.RoundResult.{RoundResult}
 use Rattle.slub_engine.specs.declared.journal.Done.{Done}

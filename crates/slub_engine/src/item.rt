@@ -9,13 +9,15 @@ ghost use Rattle.slub_engine.specs.Lawful.{Answers, AreLedgers, CreatesName, Doe
 ghost use Rattle.slub_engine.specs.Steps.{IsBelow, IsBlank, IsKnown, IsKnownAct, KeepsCaches, KeepsSizes, KeepsUnheld, Notes, NotesOwn, object_of};
 
 use crate::found::{counts_told, push_found, room_to_find};
-use crate::journal::{CreateRefusal, Created, Done, Ledger, RoundResult, Total};
+use crate::journal::{Done, RoundResult, Total};
+use slub_answers::create::{CreateRefusal, Created};
+use slub_answers::ledger::Ledger;
 use crate::names::name_of;
 use crate::sums::{self, CacheSums};
 use slub_cache_create::caches;
 use slub_common::no_memory::NoMemory;
 use slub_lists::lists::Lists;
-use slub_lists::reply::Reply;
+use slub_answers::reply::{Kind, Reply};
 use slub_object_layout::event::{Act, Event, Round};
 use slub_object_layout::layout::Spec;
 use slub_object_layout::name::Name;
@@ -195,24 +197,15 @@ fn note(ledger: &mut Ledger, lists: &Lists, event: &Event, reply: Reply)
     requires room { IsBelow (2 ^ 64 - 1) ledger.old }
     ensures { Notes lists.now event.now reply ledger.old ledger.new }
 {
-    match reply {
-        Reply::Given(_) => ledger.given += 1,
-        Reply::NoFrames => {
+    match reply.kind() {
+        Kind::Gives => ledger.given += 1,
+        Kind::Frees => ledger.freed += 1,
+        Kind::LacksFrames => {
             if let Some(order) = least_order(lists, &event.act) {
                 ledger.no_frames[order as usize] += 1;
             }
         }
-        Reply::Freed(_) => ledger.freed += 1,
-        Reply::NoSuchCache
-        | Reply::NoMemory
-        | Reply::NotHeld
-        | Reply::Corrupt(_)
-        | Reply::Wrote
-        | Reply::Value(_)
-        | Reply::OutOfObject
-        | Reply::Poked
-        | Reply::OutOfSlot
-        | Reply::NotChecked => {}
+        Kind::Does | Kind::LacksMemory | Kind::Refuses => {}
     }
 }
 

@@ -2,46 +2,16 @@
 
 ghost use Rattle.slub_engine.specs.Journal.{IsEmpty};
 
-use slub_cache_create::caches::NoSuchCache;
-use slub_lists::destroy::{DestroyRefusal, Destroyed};
-use slub_lists::reply::Reply;
-use slub_object_layout::layout::LayoutRefusal;
+use slub_answers::create::{CreateRefusal, Created};
+use slub_answers::destroy::{DestroyRefusal, Destroyed};
+use slub_answers::ledger::Ledger;
+use slub_answers::reply::Reply;
+use slub_common::no_such_cache::NoSuchCache;
 use slub_object_layout::name::Name;
 use slub_common::sequence::Sequence;
 use slub_red_zone::zones::Report;
 use slub_slabinfo_text::counts::InfoRow;
 use std::alloc::Global;
-
-/// What a creation did, with the number of the cache that the name names now, 0 to 31.
-#[derive(Clone, Copy, Debug)]
-pub enum Created {
-    /// It made a cache.
-    New(u8),
-    /// It gave the live cache of this title one more name.
-    Merged { cache: u8, title: Name },
-}
-
-/// Why no cache was created. The causes are tried in this order.
-#[derive(Clone, Copy, Debug, PartialEq, Eq)]
-pub enum CreateRefusal {
-    /// The name is live, or a live cache was made under it.
-    NameTaken,
-    /// 32 names are live.
-    TooMany,
-    /// There is no layout for such a cache.
-    Layout(LayoutRefusal),
-}
-
-/// What a worker did in a round.
-#[derive(Clone, Copy, Debug, PartialEq, Eq)]
-pub struct Ledger {
-    /// The objects that it was given.
-    pub given: u64,
-    /// The objects that it freed.
-    pub freed: u64,
-    /// By order: how often no run was there for a slab of this least order.
-    pub no_frames: [u64; 11],
-}
 
 /// A damage that was found in a round, with the title of its cache.
 #[derive(Clone, Copy, Debug)]

@@ -4,7 +4,8 @@ ghost use Rattle.std.specs.Prelude.{◌≡◌, ◌+◌, ◌*◌, ◌^◌, ◌<�
 ghost use Rattle.slub_lists.specs.Coherent.{IsCoherent};
 ghost use Rattle.slub_engine.specs.Lawful.{freed_in, given_in, ledgers_of};
 
-use crate::journal::{Done, Ledger};
+use crate::journal::Done;
+use slub_answers::ledger::Ledger;
 use slub_lists::lists::Lists;
 use slub_slabinfo_text::counts::{Counts, cache_counts};
 

@@ -7,12 +7,13 @@ ghost use Rattle.slub_trace_reader.specs.Sound.{IsSound};
 ghost use Rattle.slub_engine.specs.Lawful.{IsBuilt};
 ghost use Rattle.slub_engine.specs.Text.{answer_line, created_answer, destroyed_answer, event_text, found_text, round_text, shrunk_answer, text_at, total_text};
 
-use crate::journal::{CreateRefusal, Created, Done, Found, RoundResult, Total};
+use crate::journal::{Done, Found, RoundResult, Total};
+use slub_answers::create::{CreateRefusal, Created};
 use crate::names::name_of;
-use slub_cache_create::caches::NoSuchCache;
+use slub_common::no_such_cache::NoSuchCache;
 use slub_common::no_memory::NoMemory;
-use slub_lists::destroy::{DestroyRefusal, Destroyed};
-use slub_lists::reply::Reply;
+use slub_answers::destroy::{DestroyRefusal, Destroyed};
+use slub_answers::reply::Reply;
 use slub_object_layout::event::{Event, Round};
 use slub_object_layout::layout::LayoutRefusal;
 use slub_object_layout::name::Name;

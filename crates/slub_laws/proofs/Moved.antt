@@ -10,8 +10,8 @@ use Rattle.slub_object_layout.specs.declared.event.Act.TheVariants.{Alloc, Free}
 use Rattle.slub_object_layout.specs.declared.event.Event.{Event}
 use Rattle.slub_red_zone.specs.declared.zones.Damage.{Damage}
 use Rattle.slub_lists.specs.declared.lists.Held.{Held}
-use Rattle.slub_lists.specs.declared.reply.Reply.{Reply}
-use Rattle.slub_lists.specs.declared.reply.Reply.TheVariants as reply
+use Rattle.slub_answers.specs.declared.reply.Reply.{Reply}
+use Rattle.slub_answers.specs.declared.reply.Reply.TheVariants as reply
 use Rattle.slub_lists.specs.State.{State}
 use Rattle.slub_lists.specs.Coherent.{laid_down}
 use Rattle.slub_common.proofs.Writes.{inside-of}
@@ -20,7 +20,8 @@ use Rattle.slub_trace_reader.specs.declared.trace.Trace.{Trace}
 use Rattle.slub_trace_reader.specs.Sound.{IsSound, objects_in as allocated_in}
 use Rattle.slub_engine.specs.declared.journal.Done.{Done}
 use Rattle.slub_engine.specs.declared.journal.Journal.{Journal}
-use Rattle.slub_engine.specs.Lawful.{Does, IsLawful, RunsEvents, RunsItems, is_freed, is_given, opening_of}
+use Rattle.slub_engine.specs.Lawful.{Does, IsLawful, RunsEvents, RunsItems, opening_of}
+use Rattle.slub_answers.specs.Kinds.{is_freed, is_given}
 use Rattle.slub_engine.proofs.Effects.{Effect, event_effect, given, kept, quiet, taken}
 use Rattle.slub_engine.proofs.Keeping.{ItemEffect, item_effect, no_round, one_round}
 use Rattle.slub_laws.specs.Freed.{answered_in, did_free, freed_times, gave, given_times, is_alloc_of, is_free_of}

@@ -4,14 +4,14 @@ use Rattle.std.specs.List.{zip}
 use Rattle.slub_object_layout.specs.declared.event.Act.{Act}
 use Rattle.slub_object_layout.specs.declared.event.Act.TheVariants.{Alloc, Free, Write, Read, Poke, Trim, Flush}
 use Rattle.slub_object_layout.specs.declared.event.Event.{Event}
-use Rattle.slub_lists.specs.declared.reply.Reply.{Reply}
+use Rattle.slub_answers.specs.declared.reply.Reply.{Reply}
 use Rattle.slub_trace_reader.specs.declared.trace.Item.{Item}
 use Rattle.slub_trace_reader.specs.declared.trace.Trace.{Trace}
 use Rattle.slub_trace_reader.specs.Sound.{events_in}
 use Rattle.slub_engine.specs.declared.journal.Done.{Done}
 use Rattle.slub_engine.specs.declared.journal.Done.TheVariants.{Created, Round, Shrunk, Destroyed, Slabinfo}
 use Rattle.slub_engine.specs.declared.journal.Journal.{Journal}
-use Rattle.slub_engine.specs.Lawful.{is_freed, is_given}
+use Rattle.slub_answers.specs.Kinds.{is_freed, is_given}
 
 -- ---- one event
 

@@ -11,7 +11,7 @@ use Rattle.slub_red_zone.specs.Objects.{findable, shape_of}
 use Rattle.slub_red_zone.specs.State.{CheckedState, Has, IsUsed, SlabState, slab_of as checked_slab}
 use Rattle.slub_red_zone.specs.Steps.{TakesEmpty}
 use Rattle.slub_lists.specs.declared.lists.Held.{Held}
-use Rattle.slub_lists.specs.declared.reply.Reply.TheVariants.{Corrupt, Freed}
+use Rattle.slub_answers.specs.declared.reply.Reply.TheVariants.{Corrupt, Freed}
 use Rattle.slub_lists.specs.State.{State}
 use Rattle.slub_lists.specs.Alloc.{checked_of}
 use Rattle.slub_lists.specs.Checked.{FreesChecked, discarded_where, kept_by, slot_of_held, with_checked}

@@ -9,7 +9,7 @@ use Rattle.slub_object_layout.specs.Layout.{is_checked}
 use Rattle.slub_cache_create.specs.declared.caches.Cache.{Cache}
 use Rattle.slub_cache_create.specs.declared.caches.Dropped.{Dropped}
 use Rattle.slub_cache_create.specs.declared.caches.Dropped.TheVariants.{Alias, Last}
-use Rattle.slub_cache_create.specs.declared.caches.NoSuchCache.{NoSuchCache}
+use Rattle.slub_common.specs.declared.no_such_cache.NoSuchCache.{NoSuchCache}
 use Rattle.slub_cache_create.specs.Drop.{Drops, less_named, without_alias, without_cache}
 use Rattle.slub_cache_create.specs.Sound.{IsSound as IsSoundTable}
 use Rattle.slub_cache_create.specs.Table.{Table, names_of, number_of, cache_of as live_cache}

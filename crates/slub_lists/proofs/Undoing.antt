@@ -15,7 +15,7 @@ use Rattle.slub_object_layout.specs.declared.layout.Spec.{Spec}
 use Rattle.slub_cache_create.specs.declared.caches.Cache.{Cache}
 use Rattle.slub_cache_create.specs.declared.caches.Dropped.{Dropped}
 use Rattle.slub_cache_create.specs.declared.caches.Dropped.TheVariants.{Alias, Last}
-use Rattle.slub_cache_create.specs.declared.caches.NoSuchCache.{NoSuchCache}
+use Rattle.slub_common.specs.declared.no_such_cache.NoSuchCache.{NoSuchCache}
 use Rattle.slub_cache_create.specs.Create.{with_cache}
 use Rattle.slub_cache_create.specs.Drop.{Drops, without_cache}
 use Rattle.slub_cache_create.specs.Sound.{IsSound}

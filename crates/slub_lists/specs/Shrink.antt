@@ -3,7 +3,7 @@ use Rattle.std.specs.Prelude.{◌≡◌, ℕ, ◌+◌, ◌==◌, nat_lt, if◌th
 use Rattle.std.specs.List.{range_with_len}
 use Rattle.std.specs.Option.{option_map_or}
 use Rattle.slub_node_partial.specs.Promotion.{IsPromoted}
-use Rattle.slub_cache_create.specs.declared.caches.NoSuchCache.{NoSuchCache}
+use Rattle.slub_common.specs.declared.no_such_cache.NoSuchCache.{NoSuchCache}
 use Rattle.slub_cache_create.specs.Table.{number_of}
 use Rattle.slub_red_zone.specs.State.{CheckedState, aside_count, objects_in, slab_of as checked_slab}
 use Rattle.slub_red_zone.specs.Steps.{free_counts, without_slab as without_checked}

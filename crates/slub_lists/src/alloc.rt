@@ -9,7 +9,7 @@ ghost use Rattle.slub_lists.specs.Coherent.{IsCoherent, IsConsistent, KeepsOther
 ghost use Rattle.slub_lists.specs.Steps.{HasLayout, IsLive, IsRelisted, KeepsFound};
 
 use crate::lists::{Held, Lists, Run, Slab};
-use crate::reply::Reply;
+use slub_answers::reply::Reply;
 use slub_object_layout::layout::{Layout, address};
 use slub_page_pool::Pool;
 

@@ -15,7 +15,7 @@ ghost use Rattle.slub_lists.specs.Steps.{HasLayout, IsLive, KeepsFound};
 
 use crate::alloc::find_run;
 use crate::lists::{Held, Lists, Run, Slab};
-use crate::reply::Reply;
+use slub_answers::reply::Reply;
 use slub_common::no_memory::NoMemory;
 use slub_object_layout::layout::{Layout, address};
 use slub_red_zone::checked::{self, CheckedGive, Slot};

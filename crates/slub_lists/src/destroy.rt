@@ -11,25 +11,8 @@ ghost use Rattle.slub_lists.specs.Destroy.{Destroys, without};
 ghost use Rattle.slub_lists.specs.Shrink.{busy_of, has_slab};
 
 use crate::lists::Lists;
+use slub_answers::destroy::{DestroyRefusal, Destroyed};
 use slub_object_layout::name::Name;
-
-/// What the end of a name did.
-#[derive(Clone, Copy, Debug, PartialEq, Eq)]
-pub enum Destroyed {
-    /// The cache has other names, and lives on.
-    NameDropped,
-    /// It was the cache's last name: every frame of the cache is free, and it is live no more.
-    Gone,
-}
-
-/// Why a name wasn't destroyed.
-#[derive(Clone, Copy, Debug, PartialEq, Eq)]
-pub enum DestroyRefusal {
-    /// The name isn't live.
-    NoSuchCache,
-    /// It is the cache's last name, and so many objects are held, on the board or set aside.
-    Busy(u32),
-}
 
 impl Lists {
     /// Ends a name, and with its last name a cache. After a refusal nothing has changed.

@@ -8,7 +8,7 @@ ghost use Rattle.slub_lists.specs.Freeing.{Frees, FreesHeld};
 ghost use Rattle.slub_lists.specs.Steps.{HasLayout, KeepsFound};
 
 use crate::lists::{Held, Lists};
-use crate::reply::Reply;
+use slub_answers::reply::Reply;
 use slub_object_layout::layout::{Layout, address};
 
 impl Lists {

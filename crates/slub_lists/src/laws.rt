@@ -5,7 +5,7 @@ ghost use Rattle.slub_lists.specs.Coherent.{IsCoherent};
 ghost use Rattle.slub_lists.specs.Laws.{HasByte, KeepsWords};
 ghost use Rattle.slub_lists.specs.State.{State};
 ghost use Rattle.slub_lists.specs.Words.{Writes};
-ghost use Rattle.slub_lists.specs.declared.reply.Reply.{Reply as Answer};
+ghost use Rattle.slub_answers.specs.declared.reply.Reply.{Reply as Answer};
 
 use crate::lists::Lists;
 

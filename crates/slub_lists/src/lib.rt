@@ -25,7 +25,6 @@ pub mod laws;
 pub mod lists;
 pub mod node;
 mod partial;
-pub mod reply;
 pub mod shrink;
 mod shrink_checked;
 mod stock;

@@ -10,7 +10,7 @@ ghost use Rattle.slub_lists.specs.Shrink.{Promotes, Shrinks, ShrinksCache, Shrin
 ghost use Rattle.slub_lists.specs.Shrinking.{IsSwept, KeepsChecked};
 
 use crate::lists::{Lists, is_slab_of};
-use slub_cache_create::caches::NoSuchCache;
+use slub_common::no_such_cache::NoSuchCache;
 use slub_object_layout::name::Name;
 
 impl Lists {

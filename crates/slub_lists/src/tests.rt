@@ -5,7 +5,7 @@ ghost use Rattle.slub_lists.specs.Coherent.{IsCoherent};
 
 use crate::lists::{FrameList, Held, Lists, Slab};
 use crate::node::Node;
-use crate::reply::Reply;
+use slub_answers::reply::Reply;
 use slub_cache_create::caches::{CreateRefusal, Created};
 use slub_common::limits::CACHES_MAX;
 use slub_object_layout::layout::{Flags, Spec};

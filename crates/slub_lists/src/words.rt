@@ -12,7 +12,7 @@ ghost use Rattle.slub_lists.specs.Words.{Pokes, PokesChecked, Reads, Writes, hel
 ghost use Rattle.slub_lists.specs.WordSteps.{IsHeld, KeepsAll, PokesIn, WritesIn};
 
 use crate::lists::{Held, Lists};
-use crate::reply::Reply;
+use slub_answers::reply::Reply;
 use slub_object_layout::layout::{Layout, address};
 use slub_red_zone::checked::{OutOfSlot, Slot};
 

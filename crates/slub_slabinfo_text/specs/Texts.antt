@@ -10,8 +10,8 @@ use Rattle.slub_red_zone.specs.declared.zones.Damage.{Damage}
 use Rattle.slub_red_zone.specs.declared.zones.Report.{Report}
 use Rattle.slub_red_zone.specs.declared.zones.Zone.{Zone}
 use Rattle.slub_red_zone.specs.declared.zones.Zone.TheVariants as zone
-use Rattle.slub_lists.specs.declared.reply.Reply.{Reply}
-use Rattle.slub_lists.specs.declared.reply.Reply.TheVariants as reply
+use Rattle.slub_answers.specs.declared.reply.Reply.{Reply}
+use Rattle.slub_answers.specs.declared.reply.Reply.TheVariants as reply
 use Rattle.slub_slabinfo_text.specs.declared.counts.Counts.{Counts}
 use Rattle.slub_slabinfo_text.specs.declared.counts.InfoRow.{InfoRow}
 use Rattle.slub_slabinfo_text.specs.declared.text.ItemWord.{ItemWord}
@@ -61,6 +61,10 @@ reply_answer reply.OutOfObject = codes "out of object"
 reply_answer reply.Poked = codes "poked"
 reply_answer reply.OutOfSlot = codes "out of slot"
 reply_answer reply.NotChecked = codes "not checked"
+reply_answer (reply.IdsSpent tid) = codes "ids spent " ++ decimal tid
+reply_answer (reply.Trimmed slabs) = codes "discarded " ++ decimal slabs
+reply_answer reply.Checked = codes "checked"
+reply_answer (reply.Flushed slabs) = codes "moved " ++ decimal slabs
 
 -- the act of an event that is answered today: no trim and no flush
 abbrev pub IsAnswered : Act → Type 0
@@ -85,22 +89,6 @@ event_words Flush = []
 -- `alloc O: `, `write O WORD: ` or the like, and the answer
 abbrev pub reply_text : Act → Reply → List ℕ
 reply_text act reply = event_words act ++ codes ": " ++ reply_answer reply ++ 10 ∷ []
-
--- a reply that is Ok: its line is written with `--replies` alone
-abbrev pub is_ok_reply : Reply → Bool
-is_ok_reply (reply.Given address) = true
-is_ok_reply reply.NoFrames = false
-is_ok_reply reply.NoSuchCache = false
-is_ok_reply reply.NoMemory = false
-is_ok_reply (reply.Freed address) = true
-is_ok_reply reply.NotHeld = false
-is_ok_reply (reply.Corrupt damage) = false
-is_ok_reply reply.Wrote = true
-is_ok_reply (reply.Value value) = true
-is_ok_reply reply.OutOfObject = false
-is_ok_reply reply.Poked = true
-is_ok_reply reply.OutOfSlot = false
-is_ok_reply reply.NotChecked = false
 
 -- ---- items
 

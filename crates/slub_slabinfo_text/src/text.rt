@@ -2,11 +2,12 @@
 
 ghost use Rattle.std.specs.Prelude.{◌≡◌, ◌∷◌, ◌++◌, Err, IfOk, OnOk, codes, replicate, slice_index};
 ghost use Rattle.std.specs.Fmt.{decimal, signed_decimal};
-ghost use Rattle.slub_slabinfo_text.specs.Texts.{IsAnswered, answer_text, column, damage_line, damage_words, event_words, header_text, hex_byte, info_text, is_ok_answer, is_ok_reply, item_line, layout_lines, left, number_line, reply_answer, reply_text, row_numbers, row_objects, row_slabs, row_text, total_line, word_text, zone_text};
+ghost use Rattle.slub_slabinfo_text.specs.Texts.{IsAnswered, answer_text, column, damage_line, damage_words, event_words, header_text, hex_byte, info_text, is_ok_answer, item_line, layout_lines, left, number_line, reply_answer, reply_text, row_numbers, row_objects, row_slabs, row_text, total_line, word_text, zone_text};
+ghost use Rattle.slub_answers.specs.Kinds.{is_ok_reply};
 
 use crate::counts::{Counts, InfoRow};
 use slub_common::no_memory::NoMemory;
-use slub_lists::reply::Reply;
+use slub_answers::reply::Reply;
 use slub_object_layout::event::Act;
 use slub_object_layout::layout::{Layout, LayoutRefusal};
 use slub_object_layout::name::Name;
@@ -96,6 +97,10 @@ fn push_reply(alloc: Global, text: &mut Vec<u8>, reply: &Reply) -> Result<(), No
         Reply::Poked => push_words(text, b"poked"),
         Reply::OutOfSlot => push_words(text, b"out of slot"),
         Reply::NotChecked => push_words(text, b"not checked"),
+        Reply::IdsSpent(tid) => push_words(text, format!(in alloc; "ids spent {tid}")?.as_bytes()),
+        Reply::Trimmed(slabs) => push_words(text, format!(in alloc; "discarded {slabs}")?.as_bytes()),
+        Reply::Checked => push_words(text, b"checked"),
+        Reply::Flushed(slabs) => push_words(text, format!(in alloc; "moved {slabs}")?.as_bytes()),
     }
 }
 
@@ -110,10 +115,7 @@ fn push_corrupt(alloc: Global, text: &mut Vec<u8>, damage: &Damage) -> Result<()
 pub fn is_ok_reply(reply: &Reply) -> bool
     ensures { result ≡ is_ok_reply reply.now }
 {
-    matches!(
-        reply,
-        Reply::Given(_) | Reply::Freed(_) | Reply::Wrote | Reply::Value(_) | Reply::Poked
-    )
+    reply.is_ok()
 }
 
 /// Whether an answer is no refusal: its line is written with `--replies` alone.

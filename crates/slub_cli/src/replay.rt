@@ -16,7 +16,7 @@ use slub_edges::pieces::write_lines;
 use slub_engine::item::{item, total};
 use slub_engine::journal::Journal;
 use slub_engine::text::{text_of_item, text_of_total};
-use slub_lists::lists::Lists;
+use slub_list_machine::lists::Lists;
 use slub_trace_reader::trace::Trace;
 use std::alloc::Global;
 

@@ -8,7 +8,7 @@ ghost use Rattle.slub_engine.specs.Steps.{found_past, found_since, found_with, l
 
 use crate::journal::Found;
 use slub_common::no_memory::NoMemory;
-use slub_lists::lists::Lists;
+use slub_list_machine::lists::Lists;
 use slub_object_layout::name::Name;
 use slub_red_zone::checked::CheckedSlabs;
 use slub_red_zone::zones::Report;

@@ -16,7 +16,7 @@ use crate::names::name_of;
 use crate::sums::{self, CacheSums};
 use slub_cache_create::caches;
 use slub_common::no_memory::NoMemory;
-use slub_lists::lists::Lists;
+use slub_list_machine::lists::Lists;
 use slub_answers::reply::{Kind, Reply};
 use slub_object_layout::event::{Act, Event, Round};
 use slub_object_layout::layout::Spec;

@@ -6,7 +6,7 @@ ghost use Rattle.slub_engine.specs.Lawful.{freed_in, given_in, ledgers_of};
 
 use crate::journal::Done;
 use slub_answers::ledger::Ledger;
-use slub_lists::lists::Lists;
+use slub_list_machine::lists::Lists;
 use slub_slabinfo_text::counts::{Counts, cache_counts};
 
 /// Sums of the counts of caches.

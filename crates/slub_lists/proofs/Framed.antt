@@ -12,7 +12,7 @@ use Rattle.slub_lists.specs.Alloc.{marked, slab_of, retired, taken_up, with_new_
 use Rattle.slub_common.specs.Times.{times}
 use Rattle.slub_lists.specs.Coherent.{IsFramed, covers, covered_from, opening}
 use Rattle.slub_lists.proofs.Times.{current-other}
-use Rattle.slub_common.proofs.Times.{times-cons, times-range, times-filter_pass, times-filter_fail}
+use Rattle.slub_common.proofs.Times.{times-cons, times-range, times-contained, times-filter_pass, times-filter_fail}
 
 -- one slab more or less changes what is covered by what it covers
 pub covered-set : (f k : ℕ) (xs : List (Option Slab)) (i : ℕ) (v : Option Slab) → i < length xs

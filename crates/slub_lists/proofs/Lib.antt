@@ -8,7 +8,6 @@ pub mod Leaving
 pub mod ComingFree
 pub mod Writes
 pub mod Times
-pub mod Gathering
 pub mod Placed
 pub mod Framed
 pub mod Listed
@@ -17,8 +16,6 @@ pub mod Removing
 pub mod Unchecked
 pub mod Shaped
 pub mod Coherence
-pub mod Opening
-pub mod Laying
 pub mod Runs
 pub mod Giving
 pub mod Found
@@ -32,7 +29,6 @@ pub mod Moving
 pub mod Settling
 pub mod KeepsFreed
 pub mod KeptFreed
-pub mod Undoing
 pub mod Creating
 pub mod CheckedSlabs
 pub mod CheckedGiving

@@ -9,7 +9,8 @@ ghost use Rattle.slub_lists.specs.Shrink.{is_slab_of};
 ghost use Rattle.slub_slabinfo_text.specs.Counts.{aside_of, counts_of, free_in, free_of, is_frozen_of, listed_free, loose_of, node_free_of, objects_in, row_of, rows_of};
 
 use slub_common::no_memory::NoMemory;
-use slub_lists::lists::{CpuLists, FreeList, Lists, Slab, is_slab_of};
+use slub_list_machine::lists::{Lists, is_slab_of};
+use slub_lists::lists::{CpuLists, FreeList, Slab};
 use slub_object_layout::layout::Layout;
 use slub_object_layout::name::Name;
 use slub_red_zone::checked::CheckedSlabs;

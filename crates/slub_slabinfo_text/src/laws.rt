@@ -5,7 +5,7 @@ ghost use Rattle.slub_lists.specs.Alloc.{cache_of};
 ghost use Rattle.slub_lists.specs.Coherent.{IsCoherent};
 ghost use Rattle.slub_slabinfo_text.specs.Counts.{counts_of};
 
-use slub_lists::lists::Lists;
+use slub_list_machine::lists::Lists;
 
 /// Every object of a live cache's slabs is given, free or set aside: `num_objs` counts each of them
 /// once.

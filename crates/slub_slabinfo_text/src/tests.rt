@@ -11,7 +11,7 @@ use crate::text::{
 };
 use slub_cache_create::caches::Created;
 use slub_common::no_memory::NoMemory;
-use slub_lists::lists::Lists;
+use slub_list_machine::lists::Lists;
 use slub_answers::reply::Reply;
 use slub_object_layout::event::Act;
 use slub_object_layout::layout::{Flags, Layout, LayoutRefusal, Spec};

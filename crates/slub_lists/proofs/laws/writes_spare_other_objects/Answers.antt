@@ -2,4 +2,4 @@ use Rattle.slub_lists.proofs.Spared.{writes-spare}
 use Rattle.slub_lists.proofs.laws.writes_spare_other_objects.Goals as goal
 
 pub returns : goal.returns
-returns c = λ worker object word value reply after writes. writes-spare c.args.lists.now worker object word value reply after c.requires writes
+returns c = λ s worker object word value reply after coherent writes. writes-spare s worker object word value reply after coherent writes

@@ -1,0 +1,4 @@
+pub mod Gathering
+pub mod Laying
+pub mod Opening
+pub mod Undoing

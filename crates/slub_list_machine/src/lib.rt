@@ -1,0 +1,25 @@
+//! The machine on plain lists: the sequential semantics of `slub_lists`, as calls.
+//!
+//! A `Lists` is the machine, and contracts see it as the record `State` of `slub_lists`. Each operation is
+//! one call whose contract is its definition there, and keeps the machine coherent. `alloc`, `free`,
+//! `words`, `create`, `shrink` and `destroy` have the calls; the other modules have their steps.
+//!
+//! After `Lists::open` only checked caches take memory: at their creation, and for each new slab.
+#![tactic(auto)]
+
+pub mod alloc;
+mod checked;
+pub mod create;
+pub mod destroy;
+mod discard;
+mod flush;
+pub mod free;
+pub mod lists;
+pub mod node;
+mod partial;
+pub mod shrink;
+mod shrink_checked;
+mod stock;
+#[cfg(test)]
+mod tests;
+pub mod words;

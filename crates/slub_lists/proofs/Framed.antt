@@ -1,7 +1,6 @@
 -- Each frame stays free or in one run.
-use Rattle.std.proofs.Common.{◌≡◌, ℕ, zero, suc, ◌+◌, ◌-◌, ◌^◌, ◌<◌, ◌≤◌, ◌||◌, cond, Bool, true, false, List, [], ◌∷◌, length, get_or, set, filter, replicate, Option, Some, None, option_map, Contains, refl, ap, inl, inr, arith, eqb, nat_lt, nat_le, add-zero, pow_pos, zero-add}
-use Rattle.std.proofs.lemmas.List.Sums.{get_or-le-sum_by}
-use Rattle.std.proofs.lemmas.Bool.{cond_both, cases_Bool}
+use Rattle.std.proofs.Common.{◌≡◌, ℕ, zero, suc, ◌+◌, ◌-◌, ◌^◌, ◌<◌, ◌≤◌, ◌||◌, Bool, true, false, List, [], ◌∷◌, length, get_or, set, replicate, Option, Some, None, option_map, Contains, refl, ap, inl, inr, arith, nat_lt, nat_le, add-zero, pow_pos, zero-add}
+use Rattle.std.proofs.lemmas.Bool.{cases_Bool}
 use Rattle.std.proofs.lemmas.Bool.Decides.{nat_tests}
 use Rattle.slub_page_pool.specs.FreeFrames.{FreeFrames}
 use Rattle.slub_page_pool.specs.Block.{less_run}
@@ -11,8 +10,7 @@ use Rattle.slub_lists.specs.State.{State}
 use Rattle.slub_lists.specs.Alloc.{marked, slab_of, retired, taken_up, with_new_slab}
 use Rattle.slub_common.specs.Times.{times}
 use Rattle.slub_lists.specs.Coherent.{IsFramed, covers, covered_from, opening}
-use Rattle.slub_lists.proofs.Times.{current-other}
-use Rattle.slub_common.proofs.Times.{times-cons, times-range, times-contained, times-filter_pass, times-filter_fail}
+use Rattle.slub_common.proofs.Times.{times-range, times-contained, times-filter_pass, times-filter_fail}
 
 -- one slab more or less changes what is covered by what it covers
 pub covered-set : (f k : ℕ) (xs : List (Option Slab)) (i : ℕ) (v : Option Slab) → i < length xs

@@ -1,5 +1,5 @@
 -- What holds of each slab after one is marked.
-use Rattle.std.proofs.Common.{◌≡◌, ℕ, Bool, List, get_or, set, Option, None, option_map, subst}
+use Rattle.std.proofs.Common.{ℕ, Bool, List, get_or, set, Option, None, option_map, subst}
 use Rattle.slub_lists.specs.declared.lists.Slab.{Slab}
 use Rattle.slub_lists.specs.Alloc.{marked}
 use Rattle.slub_common.proofs.Writes.{at_written}

@@ -22,7 +22,7 @@ use Rattle.slub_lists.specs.State.{State}
 use Rattle.slub_lists.specs.Alloc.{AllocatesNew, Gives, batch_of, cache_of, checked_of, from_current, from_free, from_node, from_partial, from_slabs, lists_of, named, node_of, own_free, retired, stocked, with_held, with_lists, with_new_slab}
 use Rattle.slub_lists.specs.Named.{AllocatesFrom, AllocatesNamed}
 use Rattle.slub_lists.specs.Checked.{GivesOrMakes, GivesSlot, IsFreedOrKept, LacksMemory, LacksRun, discarded_where, first_slot, kept_by, slot_of_held, with_checked, with_checked_slab}
-use Rattle.slub_lists.specs.Free.{FreesUnchecked, discarded, drained, freed, freed_here, is_current, is_freeable, is_frozen, put_partial, settled, trimmed, with_freed, with_gone, with_taken, without_slab}
+use Rattle.slub_lists.specs.Free.{FreesUnchecked, discarded, drained, freed, freed_here, is_current, is_freeable, is_frozen, put_partial, settled, without_spare, with_freed, with_gone, with_taken, without_slab}
 use Rattle.slub_lists.specs.Freeing.{Frees, FreesHeld}
 use Rattle.slub_lists.specs.Words.{PokesChecked, Pokes, Reads, Writes, held_by, inside, is_word, known_to, outside, with_word, word_at, word_of}
 use Rattle.slub_lists.proofs.Flushing.{rest-moved_partial}
@@ -149,8 +149,8 @@ alloc_effect s place cpu worker object answer after allocates = match_either (na
 
 -- ---- freeing
 
-trimmed_keeps : (s : State) (min_partial cache frame : ℕ) → Keeps s (trimmed s min_partial cache frame)
-trimmed_keeps s min_partial cache frame = keeps_either s (discarded (without_slab s cache frame) frame) s _ (record { board = refl; live = refl }) (keeps_same s s refl)
+without_spare_keeps : (s : State) (min_partial cache frame : ℕ) → Keeps s (without_spare s min_partial cache frame)
+without_spare_keeps s min_partial cache frame = keeps_either s (discarded (without_slab s cache frame) frame) s _ (record { board = refl; live = refl }) (keeps_same s s refl)
 
 drained_keeps : (s : State) (layout : Layout) (cache cpu : ℕ) → Keeps s (drained s layout cache cpu)
 drained_keeps s layout cache cpu = keeps_either s _ s _ (keeps_held s _ (rest-moved_partial s layout.min_partial cache cpu).held) (keeps_same s s refl)
@@ -160,7 +160,7 @@ put_partial_keeps s layout cache cpu frame = let keeps = drained_keeps s layout 
 
 settled_keeps : (s : State) (layout : Layout) (cache cpu frame : ℕ) (own : List ℕ) → Keeps s (settled s layout cache cpu frame own)
 settled_keeps s layout cache cpu frame [] = keeps_either s s _ (is_frozen s frame) (keeps_same s s refl) (put_partial_keeps s layout cache cpu frame)
-settled_keeps s layout cache cpu frame (index ∷ free) = keeps_either s s _ (is_frozen s frame) (keeps_same s s refl) (trimmed_keeps s layout.min_partial cache frame)
+settled_keeps s layout cache cpu frame (index ∷ free) = keeps_either s s _ (is_frozen s frame) (keeps_same s s refl) (without_spare_keeps s layout.min_partial cache frame)
 
 freed_keeps : (s : State) (layout : Layout) (cache cpu frame index : ℕ) → Keeps s (freed s layout cache cpu frame index)
 freed_keeps s layout cache cpu frame index =

@@ -12,7 +12,7 @@ use crate::lists::Lists;
 
 impl Lists {
     /// Flushes every CPU, from CPU 0 on (`flush_all`): no CPU has anything of the cache then.
-    pub(crate) fn flush_all(&mut self, cache: u8, min_partial: u32)
+    pub(crate) fn flush_cpus(&mut self, cache: u8, min_partial: u32)
         requires coherent { IsCoherent self.old }
         requires cache { cache < 32 }
         requires unchecked { checked_of self.old cache ≡ None }
@@ -23,12 +23,12 @@ impl Lists {
         ensures coherent { IsCoherent self.new }
     {
         for cpu in 0..self.cpus {
-            self.flush(cache, cpu, min_partial);
+            self.flush_cache(cache, cpu, min_partial);
         }
     }
 
     /// Puts the CPU's current slab away, and moves its partial list (`flush_cpu_slab`).
-    fn flush(&mut self, cache: u8, cpu: u32, min_partial: u32)
+    fn flush_cache(&mut self, cache: u8, cpu: u32, min_partial: u32)
         requires coherent { IsCoherent self.old }
         requires cache { cache < 32 }
         requires cpu { cpu < self.old.cpus }

@@ -134,7 +134,7 @@ impl Lists {
         if was_full {
             self.put_partial(held.cache, cpu, held.frame, layout);
         } else {
-            self.trim(held.cache, held.frame, layout.min_partial);
+            self.drop_spare(held.cache, held.frame, layout.min_partial);
         }
     }
 

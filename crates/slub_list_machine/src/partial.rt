@@ -4,7 +4,7 @@ ghost use Rattle.std.specs.Prelude.{◌≡◌, ◌+◌, ◌<◌, ◌++◌, [], �
 ghost use Rattle.slub_common.specs.Times.{times};
 ghost use Rattle.slub_lists.specs.Alloc.{lists_of, node_of, own_free, slab_of, with_node};
 ghost use Rattle.slub_lists.specs.Coherent.{IsConsistent, times_current};
-ghost use Rattle.slub_lists.specs.Free.{drained, moved, moved_all, put_partial, trimmed, with_partial, without_slab};
+ghost use Rattle.slub_lists.specs.Free.{drained, moved, moved_all, put_partial, without_spare, with_partial, without_slab};
 ghost use Rattle.slub_lists.specs.Leaving.{LeavesSlabs};
 ghost use Rattle.slub_lists.specs.Steps.{IsListable, MovesFront};
 
@@ -87,12 +87,12 @@ impl Lists {
 
     /// Takes a slab off the node list and discards it, where it stands there, nothing of it is in
     /// use and the list has enough slabs.
-    pub(crate) fn trim(&mut self, cache: u8, frame: u16, min_partial: u32)
+    pub(crate) fn drop_spare(&mut self, cache: u8, frame: u16, min_partial: u32)
         requires consistent { IsConsistent self.old }
         requires cache { cache < 32 }
         requires live { MatchOption (slab_of self.old frame) ⊥ (λ slab. slab.cache ≡ cache) }
         requires current { times_current self.old frame ≡ 0 }
-        ensures trimmed { self.new ≡ trimmed self.old min_partial cache frame }
+        ensures without_spare { self.new ≡ without_spare self.old min_partial cache frame }
         ensures consistent { IsConsistent self.new }
     {
         if self.is_spare(cache, frame, min_partial) && self.remove_from_node(cache, frame) {

@@ -69,7 +69,7 @@ impl Lists {
         ensures rest { KeepsChecked self.old self.new }
         ensures coherent { IsCoherent self.new }
     {
-        self.flush_all(cache, min_partial);
+        self.flush_cpus(cache, min_partial);
         self.sweep(cache);
         self.promote(cache);
     }

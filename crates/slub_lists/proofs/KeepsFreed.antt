@@ -10,7 +10,7 @@ use Rattle.slub_answers.specs.declared.reply.Reply.TheVariants.{NotHeld}
 use Rattle.slub_lists.specs.State.{State}
 use Rattle.slub_lists.specs.Alloc.{cache_of, checked_of, lists_of, node_of, own_free, with_node}
 use Rattle.slub_lists.specs.Coherent.{KeepsOthers}
-use Rattle.slub_lists.specs.Free.{FreesUnchecked, discarded, drained, freed, freed_here, freed_there, is_current, is_freeable, is_frozen, is_spare, moved, moved_all, put_partial, settled, trimmed, with_freed, with_gone, with_partial, with_taken, without_slab}
+use Rattle.slub_lists.specs.Free.{FreesUnchecked, discarded, drained, freed, freed_here, freed_there, is_current, is_freeable, is_frozen, is_spare, moved, moved_all, put_partial, settled, without_spare, with_freed, with_gone, with_partial, with_taken, without_slab}
 use Rattle.slub_lists.specs.Freeing.{Frees, FreesHeld}
 use Rattle.slub_lists.specs.Checked.{FreesChecked, IsFreedOrKept, kept_by, with_checked}
 use Rattle.slub_lists.specs.Steps.{KeepsFound}
@@ -42,14 +42,14 @@ same_drained s layout cache cpu =
     (same_moved_all layout.min_partial cache (with_partial s cache cpu []) (lists_of s cache cpu).partial) (refl, refl, refl, refl, refl)
 
 -- a spare slab goes
-same_trimmed : (s : State) (min_partial cache frame : ℕ) → IsSame s (trimmed s min_partial cache frame)
-same_trimmed s min_partial cache frame =
+same_without_spare : (s : State) (min_partial cache frame : ℕ) → IsSame s (without_spare s min_partial cache frame)
+same_without_spare s min_partial cache frame =
     pick (is_spare s min_partial cache frame && nat_lt 0 (times frame (node_of s cache))) (discarded (without_slab s cache frame) frame) s (IsSame s) (refl, refl, refl, refl, refl) (refl, refl, refl, refl, refl)
 
 -- whatever follows on the slab's own freelist
 pub same_settled : (s : State) (layout : Layout) (cache cpu frame : ℕ) (own : List ℕ) → IsSame s (settled s layout cache cpu frame own)
 same_settled s layout cache cpu frame [] = pick (is_frozen s frame) s (put_partial s layout cache cpu frame) (IsSame s) (refl, refl, refl, refl, refl) (same_drained s layout cache cpu)
-same_settled s layout cache cpu frame (index ∷ free) = pick (is_frozen s frame) s (trimmed s layout.min_partial cache frame) (IsSame s) (refl, refl, refl, refl, refl) (same_trimmed s layout.min_partial cache frame)
+same_settled s layout cache cpu frame (index ∷ free) = pick (is_frozen s frame) s (without_spare s layout.min_partial cache frame) (IsSame s) (refl, refl, refl, refl, refl) (same_without_spare s layout.min_partial cache frame)
 
 -- so a freed object changes slabs, freelists, lists and pool alone
 same_freed : (s : State) (layout : Layout) (cache cpu frame index : ℕ) → IsSame s (freed s layout cache cpu frame index)

@@ -15,7 +15,7 @@ use Rattle.slub_answers.specs.declared.reply.Reply.TheVariants.{NotHeld}
 use Rattle.slub_lists.specs.State.{State}
 use Rattle.slub_lists.specs.Alloc.{cache_of, checked_of, cpu_place, lists_of, node_of, own_free, with_node}
 use Rattle.slub_lists.specs.Coherent.{IsCoherent, IsKept, IsListed, IsShaped, times_current, times_partial}
-use Rattle.slub_lists.specs.Free.{FreesUnchecked, discarded, drained, freed, freed_here, freed_there, is_current, is_freeable, is_frozen, is_spare, moved, moved_all, put_partial, settled, trimmed, with_freed, with_partial, with_taken, without_slab}
+use Rattle.slub_lists.specs.Free.{FreesUnchecked, discarded, drained, freed, freed_here, freed_there, is_current, is_freeable, is_frozen, is_spare, moved, moved_all, put_partial, settled, without_spare, with_freed, with_partial, with_taken, without_slab}
 use Rattle.slub_lists.specs.Freeing.{Frees, FreesHeld}
 use Rattle.slub_lists.specs.Checked.{FreesChecked, IsFreedOrKept}
 use Rattle.slub_red_zone.specs.State.{CheckedState}
@@ -85,8 +85,8 @@ module _ (s : State) (cache cpu : ℕ) (within : cpu < s.cpus) (inside : cpu_pla
       omega (arith, kept f some, current-written s cache cpu within inside f v, partial-written s cache cpu within inside f v)
 
   -- a slab is taken off the node list and goes
-  kept-trimmed : (min_partial frame : ℕ) → IsKept s → IsKept (trimmed s min_partial cache frame)
-  kept-trimmed min_partial frame kept =
+  kept-without_spare : (min_partial frame : ℕ) → IsKept s → IsKept (without_spare s min_partial cache frame)
+  kept-without_spare min_partial frame kept =
       let t : State = without_slab s cache frame in
       let in_hand : IsKeptBut (frame ∷ []) t = λ f some.
       let none : times f [] ≡ 0 = refl in
@@ -129,7 +129,7 @@ module _ (s : State) (layout : Layout) (cache cpu frame index : ℕ) (within : c
   kept-settled (other ∷ free) stocked =
       let t : State = with_freed s frame index in
       let there = kept-with_freed s frame index (kept frame (let e = ap length stocked in omega (arith, e))) kept in
-      pick (is_frozen s frame) t (trimmed t layout.min_partial cache frame) IsKept there (kept-trimmed t cache cpu within inside slot layout.min_partial frame there)
+      pick (is_frozen s frame) t (without_spare t layout.min_partial cache frame) IsKept there (kept-without_spare t cache cpu within inside slot layout.min_partial frame there)
 
   -- so the free of an object loses no slab
   kept-freed : IsKept (freed s layout cache cpu frame index)

@@ -12,7 +12,7 @@ use Rattle.slub_lists.specs.declared.lists.CpuLists.{CpuLists}
 use Rattle.slub_lists.specs.State.{State}
 use Rattle.slub_lists.specs.Alloc.{cpu_place, lists_of, no_lists, node_of, own_free, slab_of, with_node}
 use Rattle.slub_lists.specs.Coherent.{IsConsistent, IsListed, if_current, times_current, times_partial}
-use Rattle.slub_lists.specs.Free.{discarded, drained, is_spare, moved, moved_all, trimmed, with_partial, without_slab}
+use Rattle.slub_lists.specs.Free.{discarded, drained, is_spare, moved, moved_all, without_spare, with_partial, without_slab}
 use Rattle.slub_lists.specs.Steps.{IsListable}
 use Rattle.slub_common.proofs.Writes.{at_written}
 use Rattle.slub_lists.proofs.Times.{current-same, current-other}
@@ -230,12 +230,12 @@ moved-all-lists min_partial cache frame s all =
     pick-all (is_spare s min_partial cache frame) (discarded s frame) (with_node s cache (node_of s cache ++ frame ∷ [])) all
 
 -- the set that is left, moved
-abbrev pub flushed : State → ℕ → ℕ → ℕ → State
-flushed s min_partial cache cpu = moved_all (with_partial s cache cpu []) min_partial cache (lists_of s cache cpu).partial
+abbrev pub set_moved : State → ℕ → ℕ → ℕ → State
+set_moved s min_partial cache cpu = moved_all (with_partial s cache cpu []) min_partial cache (lists_of s cache cpu).partial
 
 -- nothing is left
-pub flushed-none : (s : State) (min_partial cache cpu : ℕ) → (lists_of s cache cpu).partial ≡ [] → flushed s min_partial cache cpu ≡ s
-flushed-none s min_partial cache cpu none =
+pub set_moved-none : (s : State) (min_partial cache cpu : ℕ) → (lists_of s cache cpu).partial ≡ [] → set_moved s min_partial cache cpu ≡ s
+set_moved-none s min_partial cache cpu none =
     ap (λ (l : List ℕ). moved_all (with_partial s cache cpu []) min_partial cache l) none
     ∙ ap (λ (l : List ℕ). with_partial s cache cpu l) (sym none)
     ∙ ap (λ (all : List CpuLists). record s { cpu_lists = all }) (set-get_or s.cpu_lists (cpu_place s cache cpu) no_lists)
@@ -280,8 +280,8 @@ module _ (s new : State) (min_partial cache cpu frame : ℕ) (rest : List ℕ) (
       ∙ ap (with_all front) (set-set s.cpu_lists (cpu_place s cache cpu) left none-left)
 
   -- the front and then the rest is the whole
-  pub flushed-step : flushed new min_partial cache cpu ≡ flushed s min_partial cache cpu
-  flushed-step =
+  pub set_moved-step : set_moved new min_partial cache cpu ≡ set_moved s min_partial cache cpu
+  set_moved-step =
       let empty : with_partial new cache cpu [] ≡ moved min_partial cache (with_partial s cache cpu []) frame =
       ap (λ (t : State). with_partial t cache cpu []) new-is ∙ emptied-rest ∙ sym (moved-all-lists min_partial cache frame s (set s.cpu_lists (cpu_place s cache cpu) none-left)) in
       ap (λ (t : State). moved_all t min_partial cache (lists_of new cache cpu).partial) empty
@@ -414,10 +414,10 @@ keeps-both true d x y none = rw none refl
 keeps-both false d x y none = refl
 
 -- it isn't there
-pub trimmed-absent : (s : State) (min_partial cache frame : ℕ) → nat_lt 0 (times frame (node_of s cache)) ≡ false → trimmed s min_partial cache frame ≡ s
-trimmed-absent s min_partial cache frame absent =
+pub without_spare-absent : (s : State) (min_partial cache frame : ℕ) → nat_lt 0 (times frame (node_of s cache)) ≡ false → without_spare s min_partial cache frame ≡ s
+without_spare-absent s min_partial cache frame absent =
     keeps-both (is_spare s min_partial cache frame) (nat_lt 0 (times frame (node_of s cache))) (discarded (without_slab s cache frame) frame) s absent
 
 -- or it isn't spare
-pub trimmed-needed : (s : State) (min_partial cache frame : ℕ) → is_spare s min_partial cache frame ≡ false → trimmed s min_partial cache frame ≡ s
-trimmed-needed s min_partial cache frame needed = rw needed refl
+pub without_spare-needed : (s : State) (min_partial cache frame : ℕ) → is_spare s min_partial cache frame ≡ false → without_spare s min_partial cache frame ≡ s
+without_spare-needed s min_partial cache frame needed = rw needed refl

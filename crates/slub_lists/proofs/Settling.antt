@@ -6,10 +6,10 @@ use Rattle.slub_lists.specs.declared.lists.Slab.{Slab}
 use Rattle.slub_lists.specs.State.{State}
 use Rattle.slub_lists.specs.Alloc.{slab_of}
 use Rattle.slub_lists.specs.Coherent.{IsListed, times_current}
-use Rattle.slub_lists.specs.Free.{is_frozen, settled, trimmed}
+use Rattle.slub_lists.specs.Free.{is_frozen, settled, without_spare}
 
 -- an unfrozen slab that wasn't full stays, unless it is spare
-pub settled-listed : (s : State) (layout : Layout) (cache cpu frame : ℕ) (own : List ℕ) → length own ≢ 0 → is_frozen s frame ≡ false → settled s layout cache cpu frame own ≡ trimmed s layout.min_partial cache frame
+pub settled-listed : (s : State) (layout : Layout) (cache cpu frame : ℕ) (own : List ℕ) → length own ≢ 0 → is_frozen s frame ≡ false → settled s layout cache cpu frame own ≡ without_spare s layout.min_partial cache frame
 settled-listed s layout cache cpu frame [] some not_frozen = absurd (some refl)
 settled-listed s layout cache cpu frame (index ∷ free) some not_frozen = rw not_frozen refl
 

@@ -78,15 +78,15 @@ abbrev pub without_slab : State → ℕ → ℕ → State
 without_slab s cache frame = with_node s cache (filter (λ other. not (other == frame)) (node_of s cache))
 
 -- a slab of the node list of which nothing is in use goes, where the list with it has `min_partial` slabs or more
-abbrev pub trimmed : State → ℕ → ℕ → ℕ → State
-trimmed s min_partial cache frame =
+abbrev pub without_spare : State → ℕ → ℕ → ℕ → State
+without_spare s min_partial cache frame =
     if is_spare s min_partial cache frame && nat_lt 0 (times frame (node_of s cache)) then discarded (without_slab s cache frame) frame else s
 
 -- what follows where the object has gone to its slab's own freelist: nothing for a frozen slab; a slab that was full goes
 -- to the CPU's partial list; one of a partial list stays, but for a spare slab of the node list (`__slab_free`)
 abbrev pub settled : State → Layout → ℕ → ℕ → ℕ → List ℕ → State
 settled s layout cache cpu frame [] = if is_frozen s frame then s else put_partial s layout cache cpu frame
-settled s layout cache cpu frame (index ∷ free) = if is_frozen s frame then s else trimmed s layout.min_partial cache frame
+settled s layout cache cpu frame (index ∷ free) = if is_frozen s frame then s else without_spare s layout.min_partial cache frame
 
 -- an object of a slab that isn't current on the CPU; `own` is the slab's own freelist before
 abbrev pub freed_there : State → Layout → ℕ → ℕ → ℕ → ℕ → State

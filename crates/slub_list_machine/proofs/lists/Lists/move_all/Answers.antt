@@ -1,7 +1,7 @@
 use Rattle.std.proofs.Common.{true, refl, ◌∙◌, arith}
 use Rattle.slub_lists.proofs.Coherence.{place-inside}
 use Rattle.slub_lists.proofs.Leaving.{leaves-both, leaves-front, leaves-same}
-use Rattle.slub_lists.proofs.Moving.{flushed-step, front-cpus}
+use Rattle.slub_lists.proofs.Moving.{set_moved-step, front-cpus}
 use Rattle.slub_list_machine.proofs.lists.Lists.move_all.Goals as goal
 
 pub loop-init : goal.loop-init
@@ -21,5 +21,5 @@ loop-preserved c =
       cpu = omega (arith, c.loop.invariant.cpu, front-cpus c.loop.self c.move_front.new.self c.args.min_partial c.args.cache c.args.cpu front.0 front.1 front.3);
       slabs = leaves-both c.args.self.now c.loop.self c.move_front.new.self c.args.cache c.loop.invariant.slabs
           (leaves-front c.loop.self c.move_front.new.self c.args.min_partial c.args.cache c.args.cpu true c.loop.invariant.consistent c.requires.cache c.loop.invariant.cpu front);
-      moved = flushed-step c.loop.self c.move_front.new.self c.args.min_partial c.args.cache c.args.cpu front.0 front.1 inside front.2 front.3 ∙ c.loop.invariant.moved;
+      moved = set_moved-step c.loop.self c.move_front.new.self c.args.min_partial c.args.cache c.args.cpu front.0 front.1 inside front.2 front.3 ∙ c.loop.invariant.moved;
     }

@@ -14,19 +14,19 @@ use Rattle.slub_list_machine.proofs.lists.Lists.shrink_unchecked.Goals as goal
 
 pub returns-clause-shrinks : goal.returns-clause-shrinks
 returns-clause-shrinks c =
-    subst (λ (t : State). Promotes t c.args.cache c.promote.new.self) (c.sweep.ensures.swept ∙ ap (λ (t : State). swept t c.args.cache) c.flush_all.ensures.flushed) c.promote.ensures.promotes
+    subst (λ (t : State). Promotes t c.args.cache c.promote.new.self) (c.sweep.ensures.swept ∙ ap (λ (t : State). swept t c.args.cache) c.flush_cpus.ensures.flushed) c.promote.ensures.promotes
 
 -- no CPU has anything of the cache, and what is on its node list is in use
 swept-now : (c : goal.After-promote) → IsSwept c.promote.new.self c.args.cache
 swept-now c =
-    let s : State = c.flush_all.new.self in
+    let s : State = c.flush_cpus.new.self in
     let t : State = c.sweep.new.self in
     let cache = c.args.cache in
     let cpus = c.sweep.ensures.rest.held.cpus in
     let before : IsSwept t cache = record {
       bare = λ cpu within.
           ap (λ n. get_or t.cpu_lists (cache * n + cpu) no_lists) cpus ∙ ap (λ (l : List CpuLists). get_or l (cache * s.cpus + cpu) no_lists) c.sweep.ensures.lists
-          ∙ c.flush_all.ensures.bare cpu (omega (arith, within, cpus));
+          ∙ c.flush_cpus.ensures.bare cpu (omega (arith, within, cpus));
       used = c.sweep.ensures.used;
     } in
     let promoted = c.promote.ensures.promotes in
@@ -36,7 +36,7 @@ pub returns-clause-rest : goal.returns-clause-rest
 returns-clause-rest c =
     let t : State = c.sweep.new.self in
     let promoted = c.promote.ensures.promotes in
-    rest-both c.args.self.now t c.promote.new.self (rest-both c.args.self.now c.flush_all.new.self t c.flush_all.ensures.rest c.sweep.ensures.rest)
+    rest-both c.args.self.now t c.promote.new.self (rest-both c.args.self.now c.flush_cpus.new.self t c.flush_cpus.ensures.rest c.sweep.ensures.rest)
     (subst (λ (u : State). KeepsChecked t u) (sym promoted.2) (rest-with_node t c.args.cache promoted.0))
 
 pub returns-clause-emptied : goal.returns-clause-emptied
@@ -53,5 +53,5 @@ returns-clause-slabs c =
     let t : State = c.sweep.new.self in
     let cache = c.args.cache in
     let promoted = c.promote.ensures.promotes in
-    leaves-both s t c.promote.new.self cache (leaves-both s c.flush_all.new.self t cache c.flush_all.ensures.slabs c.sweep.ensures.slabs)
+    leaves-both s t c.promote.new.self cache (leaves-both s c.flush_cpus.new.self t cache c.flush_cpus.ensures.slabs c.sweep.ensures.slabs)
     (subst (λ (u : State). LeavesSlabs t cache u) (sym promoted.2) (leaves-same t (with_node t cache promoted.0) cache refl))

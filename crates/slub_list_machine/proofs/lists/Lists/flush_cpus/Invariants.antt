@@ -5,7 +5,7 @@ use Rattle.slub_lists.specs.Coherent.{IsCoherent}
 use Rattle.slub_lists.specs.Leaving.{LeavesSlabs}
 use Rattle.slub_lists.specs.Shrink.{flushed, flushed_below}
 use Rattle.slub_lists.specs.Shrinking.{KeepsChecked}
-use Rattle.slub_list_machine.proofs.lists.Lists.flush_all.Given as goal
+use Rattle.slub_list_machine.proofs.lists.Lists.flush_cpus.Given as goal
 
 -- flushing the CPUs that are left gives what flushing all gives, and the first ones have nothing
 abbrev pub invariant-loop-cpu : goal.invariant-loop-cpu

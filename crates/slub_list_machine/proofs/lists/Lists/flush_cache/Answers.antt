@@ -5,7 +5,7 @@ use Rattle.slub_lists.specs.Leaving.{LeavesSlabs}
 use Rattle.slub_lists.proofs.Flushing.{moved_partial-kept, rest-put_away}
 use Rattle.slub_lists.proofs.Kept.{coherent-of, consistent-of}
 use Rattle.slub_lists.proofs.Leaving.{leaves-both, leaves-put_away}
-use Rattle.slub_list_machine.proofs.lists.Lists.flush.Goals as goal
+use Rattle.slub_list_machine.proofs.lists.Lists.flush_cache.Goals as goal
 
 pub returns-clause-coherent : goal.returns-clause-coherent
 returns-clause-coherent c =

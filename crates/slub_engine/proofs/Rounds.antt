@@ -146,7 +146,7 @@ blank_ledgers s ledgers blank = record {
 
 -- what an act names is still there
 pub known_kept : (s now : State) (act : Act) → length now.table.kept ≡ length s.table.kept → length now.board ≡ length s.board → IsKnownAct s act → IsKnownAct now act
-known_kept s now (Alloc place object) names board known = (omega (arith, known.0), omega (arith, known.1))
+known_kept s now (Alloc place object) names board known = (omega (arith, known.0), known.1, omega (arith, known.2))
 known_kept s now (Free object) names board known = omega (arith, known)
 known_kept s now (Write object word value) names board known = (omega (arith, known.0), known.1)
 known_kept s now (Read object word) names board known = (omega (arith, known.0), known.1)

@@ -15,7 +15,7 @@ use Rattle.slub_answers.specs.Kinds.{is_freed, is_given}
 
 -- an act under a number that the machine has, an allocation of a name of it; no trim and no flush
 abbrev pub IsKnownAct : State → Act → Type 0
-IsKnownAct s (Alloc place object) = (place < length s.table.kept) × (object < length s.board)
+IsKnownAct s (Alloc place object) = (place < length s.table.kept) × (1 ≤ object) × (object < length s.board)
 IsKnownAct s (Free object) = object < length s.board
 IsKnownAct s (Write object word value) = (object < length s.board) × (word ≤ 4095)
 IsKnownAct s (Read object word) = (object < length s.board) × (word ≤ 4095)

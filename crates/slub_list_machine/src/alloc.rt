@@ -49,12 +49,12 @@ impl Lists {
     /// Allocates an object of the cache that a name names, on a CPU, for a worker, under a number
     /// (`___slab_alloc`).
     ///
-    /// The number is one that no object on the board has.
+    /// Object numbers begin at 1, and the number is one that no object on the board has.
     pub fn alloc_named(&mut self, place: u32, cpu: u32, worker: u32, object: u32) -> Reply
         requires coherent { IsCoherent self.old }
         requires place { place < length self.old.table.kept }
         requires cpu { cpu < self.old.cpus }
-        requires object { object < length self.old.board }
+        requires object { (1 ≤ object) × (object < length self.old.board) }
         requires unused { slice_index_or self.old.board object None ≡ None }
         ensures allocates { AllocatesNamed self.old place cpu worker object result self.new }
         ensures others { KeepsOthers self.old object self.new }
@@ -68,7 +68,7 @@ impl Lists {
         requires consistent { IsConsistent self.old }
         requires place { place < length self.old.table.kept }
         requires cpu { cpu < self.old.cpus }
-        requires object { object < length self.old.board }
+        requires object { (1 ≤ object) × (object < length self.old.board) }
         requires unused { slice_index_or self.old.board object None ≡ None }
         ensures allocates { AllocatesNamed self.old place cpu worker object result self.new }
         ensures found { KeepsFound self.old self.new }
@@ -85,7 +85,7 @@ impl Lists {
         requires consistent { IsConsistent self.old }
         requires live { IsSome (cache_of self.old cache) }
         requires cpu { cpu < self.old.cpus }
-        requires object { object < length self.old.board }
+        requires object { (1 ≤ object) × (object < length self.old.board) }
         requires unused { slice_index_or self.old.board object None ≡ None }
         ensures allocates { IfSome (cache_of self.old cache) (λ live. AllocatesFrom self.old live.layout cache cpu worker object result self.new) }
         ensures found { KeepsFound self.old self.new }
@@ -105,7 +105,7 @@ impl Lists {
         requires live { HasLayout self.old cache layout.now }
         requires unchecked { checked_of self.old cache ≡ None }
         requires cpu { cpu < self.old.cpus }
-        requires object { object < length self.old.board }
+        requires object { (1 ≤ object) × (object < length self.old.board) }
         requires unused { slice_index_or self.old.board object None ≡ None }
         ensures allocates { Allocates self.old layout.now cache cpu worker object result self.new }
         ensures consistent { IsConsistent self.new }
@@ -125,7 +125,7 @@ impl Lists {
         requires unchecked { checked_of self.old cache ≡ None }
         requires cpu { cpu < self.old.cpus }
         requires current { (lists_of self.old cache cpu).current ≡ None }
-        requires object { object < length self.old.board }
+        requires object { (1 ≤ object) × (object < length self.old.board) }
         requires unused { slice_index_or self.old.board object None ≡ None }
         ensures allocates { AllocatesNew self.old layout.now cache cpu worker object result self.new }
         ensures consistent { IsConsistent self.new }
@@ -181,7 +181,7 @@ impl Lists {
         requires unchecked { checked_of self.old cache ≡ None }
         requires cpu { cpu < self.old.cpus }
         requires free { 0 < length (lists_of self.old cache cpu).free }
-        requires object { object < length self.old.board }
+        requires object { (1 ≤ object) × (object < length self.old.board) }
         requires unused { slice_index_or self.old.board object None ≡ None }
         ensures gives { Gives self.old layout.now cache cpu worker object (Reply.Given result) self.new }
         ensures consistent { IsConsistent self.new }

@@ -35,7 +35,7 @@ impl Lists {
         requires consistent { IsConsistent self.old }
         requires live { HasLayout self.old cache layout.now }
         requires checked { IsSome (checked_of self.old cache) }
-        requires object { object < length self.old.board }
+        requires object { (1 ≤ object) × (object < length self.old.board) }
         requires unused { slice_index_or self.old.board object None ≡ None }
         ensures allocates { MatchOption (checked_of self.old cache) ⊥ (λ slabs. AllocatesChecked self.old layout.now cache slabs worker object result self.new) }
         ensures found { KeepsFound self.old self.new }
@@ -55,7 +55,7 @@ impl Lists {
         requires consistent { IsConsistent self.old }
         requires live { HasLayout self.old cache layout.now }
         requires checked { IsSome (checked_of self.old cache) }
-        requires object { object < length self.old.board }
+        requires object { (1 ≤ object) × (object < length self.old.board) }
         requires unused { slice_index_or self.old.board object None ≡ None }
         ensures allocates { MatchOption (checked_of self.old cache) ⊥ (λ slabs. AllocatesNewChecked self.old layout.now cache slabs worker object result self.new) }
         ensures found { KeepsFound self.old self.new }

@@ -123,7 +123,7 @@ module _ (s : State) (layout : Layout) (run : Run) (pool : FreeFrames) (consiste
       ] in
       record {
         shaped = shaped-with_slabs s (put_back pool run) s.slabs s.frees s.checked s.memory s.board s.live good is_run.frames refl refl refl refl refl
-            (are-checked-same s (put_back pool run) s.memory s.board s.live shaped.checked) shaped.slab shaped.aligned shaped.held shaped;
+            (are-checked-same s (put_back pool run) s.memory s.board s.live shaped.checked) shaped.slab shaped.aligned shaped.held shaped.no_zero shaped;
         placed = consistent.placed;
         framed = λ f. omega (arith, consistent.framed f, same f);
         listed = listed-same s (put_back pool run) s.checked s.memory s.board s.live consistent.listed;
@@ -136,7 +136,7 @@ counted-consistent s layout pool good found consistent =
     let shaped = consistent.shaped in
     record {
       shaped = shaped-with_slabs s pool s.slabs s.frees s.checked s.memory s.board s.live good (none-frames s.pool layout pool found) refl refl refl refl refl
-          (are-checked-same s pool s.memory s.board s.live shaped.checked) shaped.slab shaped.aligned shaped.held shaped;
+          (are-checked-same s pool s.memory s.board s.live shaped.checked) shaped.slab shaped.aligned shaped.held shaped.no_zero shaped;
       placed = consistent.placed;
       framed = λ f. omega (arith, consistent.framed f, ap (times f) (none-free s.pool layout pool found));
       listed = listed-same s pool s.checked s.memory s.board s.live consistent.listed;
@@ -257,14 +257,14 @@ module _ (s : State) (cache : ℕ) (layout : Layout) (old : CheckedState) (run :
               (λ f. at_written (λ x. IfSome x (λ slab. f % 2 ^ slab.order ≡ 0)) s.slabs run.frame f (Some (slab_of_run cache run)) None (λ e. ap (λ n. n % 2 ^ run.order) e ∙ is_run.aligned) (shaped.aligned f))
               (λ object. some_weaker (get_or s.board object None) (IsLiveOf s) (λ held. MatchOption (get_or (set s.slabs run.frame (Some (slab_of_run cache run))) held.frame None) ⊥ (λ slab. slab.cache ≡ held.cache))
               (λ held live. at_written (λ x. MatchOption x ⊥ (λ slab. slab.cache ≡ held.cache)) s.slabs run.frame held.frame (Some (slab_of_run cache run)) None
-              (λ e. absurd (subst (λ x. MatchOption x ⊥ (λ slab. slab.cache ≡ held.cache)) (ap (slab_of s) e ∙ unused) live)) live) (shaped.held object)) shaped;
+              (λ e. absurd (subst (λ x. MatchOption x ⊥ (λ slab. slab.cache ≡ held.cache)) (ap (slab_of s) e ∙ unused) live)) live) (shaped.held object)) shaped.no_zero shaped;
           framed = coming-framed;
           listed = coming-listed;
           accounted = consistent.accounted;
         }
 
     -- its first object is the worker's, and the others are idle
-    pub coming-consistent : (object worker : ℕ) → object < length s.board → get_or s.board object None ≡ None → cache < length s.live
+    pub coming-consistent : (object worker : ℕ) → (1 ≤ object) × (object < length s.board) → get_or s.board object None ≡ None → cache < length s.live
         → IsConsistent (with_held (coming s cache pool run new) object (record { frame = run.frame; index = 0; cache = cache; worker = Some worker }))
     coming-consistent object worker inside free within =
         let held : Held = record { frame = run.frame; index = 0; cache = cache; worker = Some worker } in
@@ -273,7 +273,7 @@ module _ (s : State) (cache : ℕ) (layout : Layout) (old : CheckedState) (run :
         whole (with_held t object held)
         (held-standing t object held inside free within (live-of (slab_of t run.frame) (slab_of_run cache run) cache at refl) coming-standing)
         (λ f i.
-        let board = sum_by-set (held_here f i) s.board object (Some held) None inside in
+        let board = sum_by-set (held_here f i) s.board object (Some held) None inside.1 in
         let nobody = ap (held_here f i) free in
         let sums = idle-with s cache old new was f i in
         let same : held_here f i (Some held) ≡ here (first_slot run) f i = refl in

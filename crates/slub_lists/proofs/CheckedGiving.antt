@@ -103,7 +103,7 @@ module _ (s : State) (cache : ℕ) (slot : Slot) (old new : CheckedState) (was :
       omega (arith, slab.3, slab-objects layout slab.0 (layout-live s cache layout has consistent.shaped) (slab-sized s cache slot.frame layout slab.0 has slab.1 slab.2 consistent.shaped))
 
   -- it goes from the slab to the worker
-  pub given-consistent : (object worker : ℕ) → object < length s.board → get_or s.board object None ≡ None → cache < length s.live
+  pub given-consistent : (object worker : ℕ) → (1 ≤ object) × (object < length s.board) → get_or s.board object None ≡ None → cache < length s.live
       → IsConsistent (with_held (with_checked s cache new) object (record { frame = slot.frame; index = slot.index; cache = cache; worker = Some worker }))
   given-consistent object worker inside unused within =
       let t : State = with_checked s cache new in
@@ -113,4 +113,4 @@ module _ (s : State) (cache : ℕ) (slot : Slot) (old new : CheckedState) (was :
       (held-standing t object held inside unused within (live-of (slab_of s slot.frame) slab.0 cache slab.1 slab.2) (keeps-standing s cache old new was gives.slabs sound (standing s consistent)))
       (λ f i.
       let same : held_here f i (Some held) ≡ here slot f i = refl in
-      omega (arith, consistent.placed f i, idle-with s cache old new was f i, gives.objects.one f i, sum_by-set (held_here f i) s.board object (Some held) None inside, ap (held_here f i) unused, same))
+      omega (arith, consistent.placed f i, idle-with s cache old new was f i, gives.objects.one f i, sum_by-set (held_here f i) s.board object (Some held) None inside.1, ap (held_here f i) unused, same))

@@ -151,7 +151,7 @@ module _ (s t : State) (cache : ℕ) (layout : Layout) (run : Run) (consistent :
     pub made-lengths : (length v.board ≡ length s.board) × (length v.live ≡ length s.live) × (get_or v.live cache 0 ≡ get_or s.live cache 0)
     made-lengths = (ap (λ (v : State). length v.board) made-now, ap (λ (v : State). length v.live) made-now, ap (λ (v : State). get_or v.live cache 0) made-now)
 
-    module _ (w : State) (worker object address : ℕ) (inside : object < length s.board) (free : get_or s.board object None ≡ None)
+    module _ (w : State) (worker object address : ℕ) (inside : (1 ≤ object) × (object < length s.board)) (free : get_or s.board object None ≡ None)
         (held : w ≡ with_held v object (record { frame = slot.frame; index = slot.index; cache = cache; worker = Some worker })) where
       made-held : w ≡ with_held (coming s cache finds.pool run gives.rest) object (record { frame = run.frame; index = 0; cache = cache; worker = Some worker })
       made-held =
@@ -204,7 +204,7 @@ module _ (s t : State) (cache : ℕ) (layout : Layout) (consistent : IsConsisten
     pub listed-lengths : (length t.board ≡ length s.board) × (length t.live ≡ length s.live) × (get_or t.live cache 0 ≡ get_or s.live cache 0)
     listed-lengths = (ap (λ (t : State). length t.board) gives.swaps.now, ap (λ (t : State). length t.live) gives.swaps.now, ap (λ (t : State). get_or t.live cache 0) gives.swaps.now)
 
-    module _ (w : State) (worker object address : ℕ) (inside : object < length s.board) (free : get_or s.board object None ≡ None)
+    module _ (w : State) (worker object address : ℕ) (inside : (1 ≤ object) × (object < length s.board)) (free : get_or s.board object None ≡ None)
         (held : w ≡ with_held t object (record { frame = slot.frame; index = slot.index; cache = cache; worker = Some worker })) where
       listed-held : w ≡ with_held (with_checked s cache gives.rest) object (record { frame = slot.frame; index = slot.index; cache = cache; worker = Some worker })
       listed-held = held ∙ ap (λ (t : State). with_held t object (record { frame = slot.frame; index = slot.index; cache = cache; worker = Some worker })) gives.swaps.now

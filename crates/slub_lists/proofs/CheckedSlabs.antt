@@ -167,8 +167,8 @@ pub shaped-with_slabs : (s : State) (pool : FreeFrames) (slabs : List (Option Sl
     → ((frame : ℕ) → IfSome (get_or slabs frame None) (λ slab. MatchOption (cache_of s slab.cache) ⊥ (λ live. IsSlabOf live.layout slab)))
     → ((frame : ℕ) → IfSome (get_or slabs frame None) (λ slab. frame % 2 ^ slab.order ≡ 0))
     → ((object : ℕ) → IfSome (get_or board object None) (λ held. MatchOption (get_or slabs held.frame None) ⊥ (λ slab. slab.cache ≡ held.cache)))
-    → IsShaped s → IsShaped (with_slabs s pool slabs frees checked memory board live)
-shaped-with_slabs s pool slabs frees checked memory board live good same_frames same_slabs same_frees same_memory same_board same_live are slab aligned held shaped = record {
+    → get_or board 0 None ≡ None → IsShaped s → IsShaped (with_slabs s pool slabs frees checked memory board live)
+shaped-with_slabs s pool slabs frees checked memory board live good same_frames same_slabs same_frees same_memory same_board same_live are slab aligned held no_zero shaped = record {
   frames = shaped.frames;
   cpus = shaped.cpus;
   pool = good;
@@ -186,6 +186,7 @@ shaped-with_slabs s pool slabs frees checked memory board live good same_frames 
   slab = slab;
   aligned = aligned;
   held = held;
+  no_zero = no_zero;
   bare = shaped.bare;
 }
 
@@ -210,7 +211,7 @@ module _ (s : State) (cache : ℕ) (old new : CheckedState) (was : checked_of s 
       let shaped = stands.shaped in
       record {
         shaped = shaped-with_slabs s s.pool s.slabs s.frees checked s.memory s.board s.live shaped.pool refl refl refl refl refl refl
-            (keeps-checked s cache old new was keeps sound shaped.checked) shaped.slab shaped.aligned shaped.held shaped;
+            (keeps-checked s cache old new was keeps sound shaped.checked) shaped.slab shaped.aligned shaped.held shaped.no_zero shaped;
         framed = stands.framed;
         listed = listed-same s s.pool checked s.memory s.board s.live stands.listed;
         accounted = stands.accounted;
@@ -229,7 +230,7 @@ memory-consistent s memory same consistent =
     let shaped = consistent.shaped in
     record {
       shaped = shaped-with_slabs s s.pool s.slabs s.frees s.checked memory s.board s.live shaped.pool refl refl refl same refl refl
-          (are-checked-same s s.pool memory s.board s.live shaped.checked) shaped.slab shaped.aligned shaped.held shaped;
+          (are-checked-same s s.pool memory s.board s.live shaped.checked) shaped.slab shaped.aligned shaped.held shaped.no_zero shaped;
       placed = consistent.placed;
       framed = consistent.framed;
       listed = listed-same s s.pool s.checked memory s.board s.live consistent.listed;
@@ -244,23 +245,24 @@ IsLiveOf s held = MatchOption (slab_of s held.frame) ⊥ (λ slab. slab.cache �
 abbrev pub with_board : State → List (Option Held) → List ℕ → State
 with_board s board live = record s { board = board; live = live }
 
-board-standing : (s : State) (object : ℕ) (x : Option Held) (live : List ℕ) → length live ≡ length s.live → IfSome x (IsLiveOf s) → IsAccounted (with_board s (set s.board object x) live) → IsStanding s → IsStanding (with_board s (set s.board object x) live)
-board-standing s object x live same new accounted stands =
+board-standing : (s : State) (object : ℕ) (x : Option Held) (live : List ℕ) → (object ≡ 0 → x ≡ None) → length live ≡ length s.live → IfSome x (IsLiveOf s) → IsAccounted (with_board s (set s.board object x) live) → IsStanding s → IsStanding (with_board s (set s.board object x) live)
+board-standing s object x live numbered same new accounted stands =
     let shaped = stands.shaped in
     let board : List (Option Held) = set s.board object x in
     record {
       shaped = shaped-with_slabs s s.pool s.slabs s.frees s.checked s.memory board live shaped.pool refl refl refl refl (length-set s.board object x) same
           (are-checked-same s s.pool s.memory board live shaped.checked) shaped.slab shaped.aligned
-          (λ number. at_written (λ x. IfSome x (IsLiveOf s)) s.board object number x None (λ e. new) (shaped.held number)) shaped;
+          (λ number. at_written (λ x. IfSome x (IsLiveOf s)) s.board object number x None (λ e. new) (shaped.held number))
+          (at_written (λ (x : Option Held). x ≡ None) s.board object 0 x None (λ e. numbered (sym e)) shaped.no_zero) shaped;
       framed = stands.framed;
       listed = listed-same s s.pool s.checked s.memory board live stands.listed;
       accounted = accounted;
     }
 
-pub held-standing : (s : State) (object : ℕ) (held : Held) → object < length s.board → get_or s.board object None ≡ None → held.cache < length s.live → IsLiveOf s held → IsStanding s → IsStanding (with_held s object held)
+pub held-standing : (s : State) (object : ℕ) (held : Held) → (1 ≤ object) × (object < length s.board) → get_or s.board object None ≡ None → held.cache < length s.live → IsLiveOf s held → IsStanding s → IsStanding (with_held s object held)
 held-standing s object held slot unused within live stands =
-    board-standing s object (Some held) (set s.live held.cache (get_or s.live held.cache 0 + 1)) (length-set s.live held.cache (get_or s.live held.cache 0 + 1)) live
-    (accounted-with_held s object held within slot unused stands.accounted) stands
+    board-standing s object (Some held) (set s.live held.cache (get_or s.live held.cache 0 + 1)) (λ e. absurd (omega (arith, e, slot.0))) (length-set s.live held.cache (get_or s.live held.cache 0 + 1)) live
+    (accounted-with_held s object held within slot.1 unused stands.accounted) stands
 
 -- ---- an object that goes off it
 
@@ -293,7 +295,7 @@ module _ (s : State) (object : ℕ) (held : Held) (here : held_under s object �
 
   pub taken-standing : IsStanding s → IsStanding (with_taken s object held.cache)
   taken-standing stands =
-      board-standing s object None (set s.live held.cache (get_or s.live held.cache 0 - 1)) (length-set s.live held.cache (get_or s.live held.cache 0 - 1)) tt
+      board-standing s object None (set s.live held.cache (get_or s.live held.cache 0 - 1)) (λ e. refl) (length-set s.live held.cache (get_or s.live held.cache 0 - 1)) tt
       (λ c.
       let nothing : held_of c None ≡ 0 = refl in
       let less = sum_by-set (held_of c) s.board object None None on-board in
@@ -307,7 +309,7 @@ module _ (s : State) (object : ℕ) (held : Held) (here : held_under s object �
   kept-consistent worker consistent =
       let other : Held = record held { worker = Some worker } in
       whole (kept_by s object worker held)
-      (board-standing s object (Some other) s.live refl (held-live consistent.shaped)
+      (board-standing s object (Some other) s.live (λ e. let at : held_under s object ≡ held_under s 0 = ap (held_under s) e in let none = consistent.shaped.no_zero in absurd cc) refl (held-live consistent.shaped)
       (λ c. omega (arith, consistent.accounted c, sum_by-set (held_of c) s.board object (Some other) None on-board, ap (held_of c) here, same-cache c worker)) (standing s consistent))
       (λ f i. omega (arith, consistent.placed f i, sum_by-set (held_here f i) s.board object (Some other) None on-board, ap (held_here f i) here, same-place f i worker))
     where

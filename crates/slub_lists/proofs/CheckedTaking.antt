@@ -365,7 +365,7 @@ module _ (s : State) (cache frame : ℕ) (old : CheckedState) (was : checked_of 
               gone-checked
               (λ f. at_written (λ x. IfSome x (λ slab. MatchOption (cache_of s slab.cache) ⊥ (λ live. IsSlabOf live.layout slab))) s.slabs frame f None None (λ e. tt) (shaped.slab f))
               (λ f. at_written (λ x. IfSome x (λ slab. f % 2 ^ slab.order ≡ 0)) s.slabs frame f None None (λ e. tt) (shaped.aligned f))
-              (λ object. held-elsewhere object (held_under s object) refl (shaped.held object)) shaped;
+              (λ object. held-elsewhere object (held_under s object) refl (shaped.held object)) shaped.no_zero shaped;
           placed = gone-placed;
           framed = gone-framed;
           listed = gone-listed;

@@ -143,6 +143,7 @@ recached s table checked sound still same_idle are coherent =
             (λ slab. still slab.cache slab) (shaped.slab f);
         aligned = shaped.aligned;
         held = shaped.held;
+        no_zero = shaped.no_zero;
         bare = shaped.bare;
       };
       placed = λ f i. omega (arith, coherent.placed f i, same_idle f i);

@@ -82,6 +82,7 @@ module _ (s : State) (table : Table) (checked : List (Option CheckedState)) (coh
           slab = slabs;
           aligned = shaped.aligned;
           held = shaped.held;
+          no_zero = shaped.no_zero;
           bare = shaped.bare;
         }
 

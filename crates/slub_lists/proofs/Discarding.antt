@@ -224,6 +224,7 @@ module _ (s : State) (frame : ℕ) (slab : Slab) (consistent : IsConsistent s) (
           slab = λ f. at_written (IsOfItsCache s) s.slabs frame f None None (λ e. tt) (shaped.slab f);
           aligned = λ f. at_written (IsAligned f) s.slabs frame f None None (λ e. tt) (shaped.aligned f);
           held = λ object. held-elsewhere object (held_under s object) refl (shaped.held object);
+          no_zero = shaped.no_zero;
           bare = shaped.bare;
         }
 

@@ -123,6 +123,7 @@ module _ (s : State) (cache cpu : ℕ) (consistent : IsConsistent s) (within : c
         slab = shaped.slab;
         aligned = shaped.aligned;
         held = shaped.held;
+        no_zero = shaped.no_zero;
         bare = shaped.bare;
       }
 

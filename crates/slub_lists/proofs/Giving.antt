@@ -138,20 +138,20 @@ module _ (s : State) (cache : ℕ) (layout : Layout) (consistent : IsConsistent 
     pub frame-most : frame < 4096
     frame-most = omega (arith, current-inside s cache cpu consistent cache-within cpu_within frame current, consistent.shaped.frames.1)
 
-    pub with_given-consistent : (object worker : ℕ) → object < length s.board → get_or s.board object None ≡ None
+    pub with_given-consistent : (object worker : ℕ) → (1 ≤ object) × (object < length s.board) → get_or s.board object None ≡ None
         → IsConsistent (with_given s cache cpu (record { current = Some frame; free = rest; partial = (lists_of s cache cpu).partial }) object (record { frame = frame; index = index; cache = cache; worker = Some worker }))
     with_given-consistent object worker slot unused =
         let held : Held = record { frame = frame; index = index; cache = cache; worker = Some worker } in
         let v : CpuLists = record { current = Some frame; free = rest; partial = (lists_of s cache cpu).partial } in
         let inside = place-inside s cache cpu consistent.shaped cache-within cpu_within in
         record {
-          shaped = shaped-with_given s cache cpu object frame index worker rest (current-live s cache cpu consistent cache-within cpu_within frame current)
+          shaped = shaped-with_given s cache cpu object frame index worker rest slot.0 (current-live s cache cpu consistent cache-within cpu_within frame current)
               (checked-lists s cache cpu cpu_within (apart-current s cache cpu frame cpu_within current) v (set s.board object (Some held)) (set s.live cache (get_or s.live cache 0 + 1)) consistent.shaped.checked)
               consistent.shaped;
-          placed = placed-with_given s cache cpu inside object frame index worker rest slot unused current first consistent.placed;
+          placed = placed-with_given s cache cpu inside object frame index worker rest slot.1 unused current first consistent.placed;
           framed = consistent.framed;
           listed = listed-with_given s cache cpu cpu_within inside object frame rest held current consistent.listed;
-          accounted = accounted-with_held s object held (omega (arith, consistent.shaped.live, cache-within)) slot unused consistent.accounted;
+          accounted = accounted-with_held s object held (omega (arith, consistent.shaped.live, cache-within)) slot.1 unused consistent.accounted;
         }
 
 -- a count is far from its end

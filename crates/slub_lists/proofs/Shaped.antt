@@ -85,6 +85,7 @@ shaped-relisted s slabs frees cpu_lists nodes same_slabs same_frees same_lists s
   aligned = λ f. keeps (IsAligned f) f (IsAligned-marked f) (shaped.aligned f);
   held = λ object. IfSome-weaker (held_under s object) (λ held. IsLiveOf held.cache (slab_of s held.frame)) (λ held. IsLiveOf held.cache (get_or slabs held.frame None))
       (λ held. keeps (IsLiveOf held.cache) held.frame (IsLiveOf-marked held.cache)) (shaped.held object);
+  no_zero = shaped.no_zero;
   bare = bare;
 }
 
@@ -142,6 +143,7 @@ module _ (s : State) (cache cpu : ℕ) where
         aligned = λ f. at_written (IsAligned f) s.slabs run.frame f (Some new) None (λ e. ap (λ n. n % 2 ^ run.order) e ∙ aligned) (shaped.aligned f);
         held = λ object. IfSome-weaker (held_under s object) (λ held. IsLiveOf held.cache (slab_of s held.frame)) (λ held. IsLiveOf held.cache (get_or (set s.slabs run.frame (Some new)) held.frame None))
             (λ held. λ was. at_written (IsLiveOf held.cache) s.slabs run.frame held.frame (Some new) None (λ e. absurd (nobody held.cache (slab_of s held.frame) (ap (slab_of s) e ∙ unused) was)) was) (shaped.held object);
+        no_zero = shaped.no_zero;
         bare = bare-written v (λ e. cc) shaped;
       }
     where
@@ -150,10 +152,10 @@ module _ (s : State) (cache cpu : ℕ) where
       nobody c (Some slab) e h = cc
 
   -- an object of a slab of the cache is given
-  pub shaped-with_given : (object frame index worker : ℕ) (rest : List ℕ) → IsLiveOf cache (slab_of s frame)
+  pub shaped-with_given : (object frame index worker : ℕ) (rest : List ℕ) → 1 ≤ object → IsLiveOf cache (slab_of s frame)
       → AreChecked (with_given s cache cpu (record { current = Some frame; free = rest; partial = (lists_of s cache cpu).partial }) object (record { frame = frame; index = index; cache = cache; worker = Some worker }))
       → IsShaped s → IsShaped (with_given s cache cpu (record { current = Some frame; free = rest; partial = (lists_of s cache cpu).partial }) object (record { frame = frame; index = index; cache = cache; worker = Some worker }))
-  shaped-with_given object frame index worker rest own checked shaped =
+  shaped-with_given object frame index worker rest numbered own checked shaped =
       let v : CpuLists = record { current = Some frame; free = rest; partial = (lists_of s cache cpu).partial } in
       let held : Held = record { frame = frame; index = index; cache = cache; worker = Some worker } in
       record {
@@ -174,6 +176,7 @@ module _ (s : State) (cache cpu : ℕ) where
         slab = shaped.slab;
         aligned = shaped.aligned;
         held = λ number. at_written (λ x. IfSome x (λ h. IsLiveOf h.cache (slab_of s h.frame))) s.board object number (Some held) None (λ e. own) (shaped.held number);
+        no_zero = at_written (λ x. x ≡ None) s.board object 0 (Some held) None (λ e. absurd (omega (arith, e, numbered))) shaped.no_zero;
         bare = bare-written v (λ e. cc) shaped;
       }
 
@@ -197,6 +200,7 @@ shaped-with_pool s pool good same shaped = record {
   slab = shaped.slab;
   aligned = shaped.aligned;
   held = shaped.held;
+  no_zero = shaped.no_zero;
   bare = shaped.bare;
 }
 
@@ -220,9 +224,15 @@ shaped-all_on_board s shaped = record {
   slab = shaped.slab;
   aligned = shaped.aligned;
   held = λ object. held_down s.board object (λ h. IsLiveOf h.cache (slab_of s h.frame)) (λ h down. down) (shaped.held object);
+  no_zero = none_down s.board shaped.no_zero;
   bare = shaped.bare;
 }
   where
+    none_down : (board : List (Option Held)) → get_or board 0 None ≡ None → get_or (map (option_map laid_down) board) 0 None ≡ None
+    none_down [] none = refl
+    none_down (None ∷ board) none = refl
+    none_down (Some x ∷ board) none = cc
+
     held_down : (board : List (Option Held)) (object : ℕ) (P : Held → Type 0) → ((h : Held) → P h → P (laid_down h)) → IfSome (get_or board object None) P → IfSome (get_or (map (option_map laid_down) board) object None) P
     held_down [] object P keeps h = h
     held_down (None ∷ board) zero P keeps h = h
@@ -252,5 +262,6 @@ shaped-opening frames cpus objects names least most one sixteen numbers good sou
       slab = no_slab (λ slab. MatchOption (cache_of s slab.cache) ⊥ (λ live. IsSlabOf live.layout slab));
       aligned = λ f. no_slab (λ slab. f % 2 ^ slab.order ≡ 0) f;
       held = λ object. subst (λ x. IfSome x (λ h. IsLiveOf h.cache (slab_of s h.frame))) (sym (get_or-replicate_any (objects + 1) object None)) tt;
+      no_zero = get_or-replicate_any (objects + 1) 0 None;
       bare = λ place. subst IsBare (sym (get_or-replicate_any (32 * cpus) place no_lists)) (λ e. refl);
     }

@@ -192,6 +192,7 @@ module _ (s : State) (cache : ℕ) (slabs new : CheckedState) (coherent : IsCohe
           slab = shaped.slab;
           aligned = shaped.aligned;
           held = shaped.held;
+          no_zero = shaped.no_zero;
           bare = shaped.bare;
         };
         placed = λ f i. omega (arith, coherent.placed f i, idle-with s cache slabs new was f i, same.objects f i);

@@ -35,6 +35,7 @@ shaped-with_taken s object cache shaped = record {
   slab = shaped.slab;
   aligned = shaped.aligned;
   held = λ number. at_written (λ x. IfSome x (λ h. IsLiveOf h.cache (slab_of s h.frame))) s.board object number None None (λ e. tt) (shaped.held number);
+  no_zero = at_written (λ (x : Option Held). x ≡ None) s.board object 0 None None (λ e. refl) shaped.no_zero;
   bare = shaped.bare;
 }
 
@@ -62,6 +63,7 @@ with_gone-consistent s object worker held consistent =
         slab = shaped.slab;
         aligned = shaped.aligned;
         held = shaped.held;
+        no_zero = shaped.no_zero;
         bare = shaped.bare;
       };
       placed = consistent.placed;

@@ -154,6 +154,8 @@ pub record IsShaped (s : State) : Type 0 where
   pub aligned : (frame : ℕ) → IfSome (slab_of s frame) (λ slab. frame % 2 ^ slab.order ≡ 0)
   -- an object that was given is one of a slab of its cache
   pub held : (object : ℕ) → IfSome (held_under s object) (λ held. MatchOption (slab_of s held.frame) ⊥ (λ slab. slab.cache ≡ held.cache))
+  -- object numbers begin at 1: number 0 names nothing
+  pub no_zero : held_under s 0 ≡ None
   -- a CPU with no slab has no freelist
   pub bare : (place : ℕ) → (slice_index_or s.cpu_lists place no_lists).current ≡ None → (slice_index_or s.cpu_lists place no_lists).free ≡ []
 

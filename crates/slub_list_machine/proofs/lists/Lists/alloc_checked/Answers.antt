@@ -5,7 +5,7 @@ use Rattle.slub_list_machine.proofs.lists.Lists.alloc_checked.Goals as goal
 
 -- an object of a listed slab
 pub hold-requires-clause-object : goal.hold-requires-clause-object
-hold-requires-clause-object c = omega (arith, c.requires.object, (listed-lengths c.args.self.now c.give_in.new.self c.args.cache c.args.layout.now c.requires.consistent c.requires.live c.in-Given.slot c.in-Given.ensures).0)
+hold-requires-clause-object c = omega (arith, c.requires.object.1, (listed-lengths c.args.self.now c.give_in.new.self c.args.cache c.args.layout.now c.requires.consistent c.requires.live c.in-Given.slot c.in-Given.ensures).0)
 
 pub hold-requires-clause-cache : goal.hold-requires-clause-cache
 hold-requires-clause-cache c = omega (arith, cache-live c.args.self.now c.args.cache c.args.layout.now c.requires.live c.requires.consistent, (listed-lengths c.args.self.now c.give_in.new.self c.args.cache c.args.layout.now c.requires.consistent c.requires.live c.in-Given.slot c.in-Given.ensures).1)

@@ -40,7 +40,7 @@ pub enter-requires : goal.enter-requires
 enter-requires c = made-inside c.args.self.now c.find_run_in.new.self c.args.cache c.args.layout.now c.in-Some.run' c.requires.consistent c.requires.live c.in-Some.ensures c.give_new_in.new.self c.in-Ok.slot c.in-Ok.ensures
 
 pub hold-requires-clause-object : goal.hold-requires-clause-object
-hold-requires-clause-object c = omega (arith, c.requires.object, (made-lengths c.args.self.now c.find_run_in.new.self c.args.cache c.args.layout.now c.in-Some.run' c.requires.consistent c.requires.live c.in-Some.ensures c.give_new_in.new.self c.enter.new.self c.in-Ok.slot c.in-Ok.ensures c.enter.ensures).0)
+hold-requires-clause-object c = omega (arith, c.requires.object.1, (made-lengths c.args.self.now c.find_run_in.new.self c.args.cache c.args.layout.now c.in-Some.run' c.requires.consistent c.requires.live c.in-Some.ensures c.give_new_in.new.self c.enter.new.self c.in-Ok.slot c.in-Ok.ensures c.enter.ensures).0)
 
 pub hold-requires-clause-cache : goal.hold-requires-clause-cache
 hold-requires-clause-cache c = omega (arith, cache-live c.args.self.now c.args.cache c.args.layout.now c.requires.live c.requires.consistent, (made-lengths c.args.self.now c.find_run_in.new.self c.args.cache c.args.layout.now c.in-Some.run' c.requires.consistent c.requires.live c.in-Some.ensures c.give_new_in.new.self c.enter.new.self c.in-Ok.slot c.in-Ok.ensures c.enter.ensures).1)

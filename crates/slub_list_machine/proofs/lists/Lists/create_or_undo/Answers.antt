@@ -10,7 +10,7 @@ use Rattle.slub_cache_create.specs.Table.{Table, cache_of as live_cache}
 use Rattle.slub_cache_create.proofs.Noted.{not_live}
 use Rattle.slub_lists.specs.State.{State}
 use Rattle.slub_lists.specs.Create.{CreatesCache, with_new}
-use Rattle.slub_lists.specs.contracts.lists.Lists.{the_view}
+use Rattle.slub_list_machine.specs.contracts.lists.Lists.{the_view}
 use Rattle.slub_lists.proofs.Creating.{failed-unchanged, made-layout, made-there, with_new-table, worked-opened}
 use Rattle.slub_lists.proofs.Giving.{live-match}
 use Rattle.slub_list_machine.proofs.Undoing.{dropped-undone}

@@ -4,7 +4,7 @@ use Rattle.slub_lists.specs.declared.lists.Held.{Held}
 use Rattle.std.specs.Vec.{with_items}
 use Rattle.std.proofs.lemmas.List.{with_items_is}
 use Rattle.slub_lists.specs.Coherent.{IsCoherent, laid_down, all_on_board}
-use Rattle.slub_lists.specs.contracts.lists.Lists.{the_view}
+use Rattle.slub_list_machine.specs.contracts.lists.Lists.{the_view}
 use Rattle.slub_list_machine.proofs.Laying.{laid-next, laid-rest, laid-all, with_board}
 use Rattle.slub_lists.proofs.Coherence.{all_on_board-consistent}
 use Rattle.slub_lists.proofs.Kept.{coherent-of, consistent-of}

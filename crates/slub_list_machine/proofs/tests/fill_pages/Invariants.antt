@@ -1,5 +1,0 @@
-use Rattle.slub_lists.specs.Coherent.{IsCoherent}
-use Rattle.slub_list_machine.proofs.tests.fill_pages.Given as goal
-
-abbrev pub invariant-loop-object : goal.invariant-loop-object
-invariant-loop-object g l = IsCoherent l.lists

@@ -39,3 +39,4 @@ pub mod CheckedFrees
 pub mod ObjectWords
 pub mod Apart
 pub mod Spared
+pub mod Places

@@ -11,6 +11,7 @@ pub mod Shrink
 pub mod Shrinking
 pub mod Destroy
 pub mod Coherent
+pub mod Places
 pub mod Steps
 pub mod CheckedSteps
 pub mod WordSteps

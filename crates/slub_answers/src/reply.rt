@@ -69,11 +69,8 @@ impl Reply {
         match self {
             Reply::Given(_) => Kind::Gives,
             Reply::Freed(_) => Kind::Frees,
-            Reply::Wrote
-            | Reply::Value(_)
-            | Reply::Poked
-            | Reply::Trimmed(_)
-            | Reply::Flushed(_) => Kind::Does,
+            Reply::Wrote | Reply::Value(_) | Reply::Poked | Reply::Trimmed(_) | Reply::Flushed(_) =>
+                Kind::Does,
             Reply::NoFrames => Kind::LacksFrames,
             Reply::NoMemory => Kind::LacksMemory,
             Reply::NoSuchCache

@@ -6,9 +6,9 @@ ghost use Rattle.slub_lists.specs.Alloc.{no_lists};
 ghost use Rattle.slub_lists.specs.Coherent.{IsCoherent, all_on_board, opening};
 ghost use Rattle.slub_lists.specs.Shrink.{is_slab_of};
 
-use slub_common::front_list::FrontList;
 use crate::node::Node;
 use slub_cache_create::caches::Caches;
+use slub_common::front_list::FrontList;
 use slub_common::limits::{CACHES_MAX, FRAME_WORDS};
 use slub_common::no_memory::NoMemory;
 use slub_lists::lists::{CpuLists, FreeList, Held, Slab};

@@ -1,6 +1,6 @@
 -- What a consistent machine says of slabs, and of the places of its words and free pointers.
-use Rattle.std.proofs.Common.{◌≡◌, ℕ, zero, suc, ◌+◌, ◌-◌, ◌*◌, ◌/◌, ◌%◌, ◌^◌, ◌<◌, ◌≤◌, cond, eqb, Bool, true, false, List, [], ◌∷◌, length, get_or, Option, Some, None, inl, inr, refl, ap, sym, ◌∙◌, subst, arith, pow_pos, zero-add}
-use Rattle.std.specs.Prelude.{MatchOption, nat_lt, if◌then◌else◌, is_some, IfSome, IsSome, ◌↔◌, IsTrue}
+use Rattle.std.proofs.Common.{◌≡◌, ℕ, ◌+◌, ◌-◌, ◌*◌, ◌/◌, ◌%◌, ◌^◌, ◌<◌, ◌≤◌, cond, eqb, Bool, true, false, List, [], ◌∷◌, length, get_or, Option, Some, None, inl, inr, refl, ap, sym, ◌∙◌, subst, arith, pow_pos, zero-add}
+use Rattle.std.specs.Prelude.{MatchOption, nat_lt, IsSome, ◌↔◌, IsTrue}
 use Rattle.std.specs.Option.{option_map, option_map_or}
 use Rattle.std.proofs.lemmas.Bool.{cases_eq, eq-eqb, ne_eqb, cond-true, cond-false}
 use Rattle.std.proofs.lemmas.Bool.Decides.{nat_tests}
@@ -15,12 +15,11 @@ use Rattle.slub_lists.specs.declared.lists.Slab.{Slab}
 use Rattle.slub_lists.specs.declared.lists.Held.{Held}
 use Rattle.slub_lists.specs.declared.lists.CpuLists.{CpuLists}
 use Rattle.slub_lists.specs.State.{State}
-use Rattle.slub_lists.specs.Alloc.{slab_of, own_free, cache_of, checked_of, cpu_place, lists_of, node_of, no_lists}
-use Rattle.slub_lists.specs.Coherent.{Agrees, IsCoherent, IsConsistent, IsSlabOf, covers, covered_from, has_object, held_under, times_current, times_partial}
+use Rattle.slub_lists.specs.Alloc.{slab_of, own_free, cache_of, checked_of, cpu_place, lists_of}
+use Rattle.slub_lists.specs.Coherent.{Agrees, IsConsistent, IsSlabOf, covers, covered_from, has_object, held_under, times_current, times_partial}
 use Rattle.slub_lists.specs.Steps.{HasLayout, IsLive}
 use Rattle.slub_lists.specs.Words.{is_word, word_at}
-use Rattle.slub_lists.proofs.Framed.{covered-set, framed-most}
-use Rattle.slub_lists.proofs.Kept.{consistent-of}
+use Rattle.slub_lists.proofs.Framed.{covered-set}
 use Rattle.slub_common.proofs.Writes.{inside-of}
 use Rattle.slub_lists.proofs.CheckedSlabs.{at_some, was-checked}
 use Rattle.slub_lists.proofs.CheckedGiving.{the-value, layout-live, slab-sized}
@@ -84,6 +83,7 @@ pointer-in s f i x consistent is =
   where
     words : (i n : ℕ) → n % 8 ≡ 0 → i * n % 8 ≡ 0
     words i n e = let k : n ≡ 8 * (n / 8) = omega arith in let t : i * n ≡ i * (8 * (n / 8)) = ap (λ z. i * z) k in let u : i * (8 * (n / 8)) ≡ 8 * (i * (n / 8)) = omega arith in omega (arith, t, u)
+
     eight : (f r p o : ℕ) → r % 8 ≡ 0 → p % 8 ≡ 0 → o % 8 ≡ 0 → 8 * ((f * 4096 + r + p + o) / 8) ≡ f * 4096 + r + p + o
     eight f r p o a b c = omega arith
 
@@ -142,6 +142,7 @@ word-in s f i j x held consistent is at_f at_i word =
   where
     words : (i n : ℕ) → n % 8 ≡ 0 → i * n % 8 ≡ 0
     words i n e = let k : n ≡ 8 * (n / 8) = omega arith in let t : i * n ≡ i * (8 * (n / 8)) = ap (λ z. i * z) k in let u : i * (8 * (n / 8)) ≡ 8 * (i * (n / 8)) = omega arith in omega (arith, t, u)
+
     eight : (f r p : ℕ) → r % 8 ≡ 0 → p % 8 ≡ 0 → 8 * ((f * 4096 + r + p) / 8) ≡ f * 4096 + r + p
     eight f r p a b = omega arith
 

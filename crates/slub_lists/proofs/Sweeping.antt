@@ -222,7 +222,6 @@ module _ (s : State) (cache : ℕ) (frames : List ℕ) (promoted : IsPromoted (n
 
   pub promoted-swept : cache < length s.nodes → IsSwept s cache → IsSwept (with_node s cache frames) cache
   promoted-swept slot swept = record {
-    no_zero = swept.no_zero;
     bare = swept.bare;
     used = λ f some. swept.used f (let now : node_of (with_node s cache frames) cache ≡ frames = get_or-set_same s.nodes cache frames [] slot in omega (arith, some, ap (times f) now, same-slabs f));
   }

@@ -13,10 +13,10 @@ use crate::line::Line;
 use crate::place::Place;
 use crate::trace::{Item, Trace};
 use indexmap::IndexSet;
+use slub_common::sequence::Sequence;
 use slub_object_layout::event::{Act, Event, Round};
 use slub_object_layout::layout::{Flags, Spec};
 use slub_object_layout::name::Name;
-use slub_common::sequence::Sequence;
 use std::alloc::{AllocError, Global};
 use std::mem;
 

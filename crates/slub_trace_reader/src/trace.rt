@@ -1,9 +1,9 @@
 //! What a trace has.
 
+use slub_common::sequence::Sequence;
 use slub_object_layout::event::Round;
 use slub_object_layout::layout::{Setting, Spec};
 use slub_object_layout::name::Name;
-use slub_common::sequence::Sequence;
 
 /// What a line of a client of the allocator asks. Sizes are in bytes.
 #[derive(Clone, Copy, Debug)]

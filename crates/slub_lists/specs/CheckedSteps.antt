@@ -24,7 +24,8 @@ pub record Swaps (s : State) (cache : ℕ) (slabs rest : CheckedState) (after : 
   pub sound : IsSound rest
 
 -- a run of frames is looked for
-pub record FindsRunIn (s : State) (layout : Layout) (answer : Option Run) (after : State) : Type 0 where
+pub record FindsRunIn (s : State) (layout : Layout) (answer : Option Run)
+    (after : State) : Type 0 where
   pub pool : FreeFrames
   pub found : FindsRun s.pool layout answer pool
   pub good : IsPool pool
@@ -32,7 +33,8 @@ pub record FindsRunIn (s : State) (layout : Layout) (answer : Option Run) (after
 
 -- the slab of a run, which no CPU owns
 abbrev pub slab_of_run : ℕ → Run → Slab
-slab_of_run cache run = record { cache = cache; order = run.order; objects = run.objects; frozen = false }
+slab_of_run cache run =
+    record { cache = cache; order = run.order; objects = run.objects; frozen = false }
 
 -- the run of a slab, as the cache's slabs have it
 abbrev pub run_of : Run → SlabRun
@@ -47,7 +49,8 @@ pub record GivesIn (s : State) (cache : ℕ) (answer : CheckedGive) (after : Sta
   pub objects : GivesObject slabs answer rest
 
 -- a new slab is made, and gives its first object
-pub record GivesNewIn (s : State) (cache : ℕ) (run : Run) (answer : Result Slot NoMemory) (after : State) : Type 0 where
+pub record GivesNewIn (s : State) (cache : ℕ) (run : Run) (answer : Result Slot NoMemory)
+    (after : State) : Type 0 where
   pub slabs : CheckedState
   pub rest : CheckedState
   pub swaps : Swaps s cache slabs rest after
@@ -55,7 +58,8 @@ pub record GivesNewIn (s : State) (cache : ℕ) (run : Run) (answer : Result Slo
   pub slab : IfOk answer (λ slot. AddsGivenSlab slabs (run_of run) run.objects slot rest)
 
 -- an object is taken back, or found damaged
-pub record TakesBackIn (s : State) (cache : ℕ) (slot : Slot) (answer : Result (Unit {0}) Damage) (after : State) : Type 0 where
+pub record TakesBackIn (s : State) (cache : ℕ) (slot : Slot) (answer : Result (Unit {0}) Damage)
+    (after : State) : Type 0 where
   pub slabs : CheckedState
   pub rest : CheckedState
   pub swaps : Swaps s cache slabs rest after
@@ -63,7 +67,8 @@ pub record TakesBackIn (s : State) (cache : ℕ) (slot : Slot) (answer : Result 
   pub objects : TakesObject slabs slot answer rest
 
 -- a slab is taken out where all of it is free and so many are listed
-pub record TakesEmptyIn (s : State) (cache frame limit : ℕ) (answer : Option SlabRun) (after : State) : Type 0 where
+pub record TakesEmptyIn (s : State) (cache frame limit : ℕ) (answer : Option SlabRun)
+    (after : State) : Type 0 where
   pub slabs : CheckedState
   pub rest : CheckedState
   pub swaps : Swaps s cache slabs rest after

@@ -31,17 +31,20 @@ on_cpu frame index lists = if_current frame (times index lists.free) lists.curre
 abbrev pub idle_in : ℕ → ℕ → Option CheckedState → ℕ
 idle_in frame index slabs = option_map_or (λ slabs. idle slabs frame index) slabs 0
 
--- how many places an object has: with a worker or on the board, on a CPU freelist, on its slab's own freelist, free or set aside in a checked slab
+-- how many places an object has: with a worker or on the board, on a CPU freelist, on its slab's
+-- own freelist, free or set aside in a checked slab
 abbrev pub places : State → ℕ → ℕ → ℕ
 places s frame index =
-    sum_by (held_here frame index) s.board + sum_by (on_cpu frame index) s.cpu_lists + times index (own_free s frame) + sum_by (idle_in frame index) s.checked
+    sum_by (held_here frame index) s.board + sum_by (on_cpu frame index) s.cpu_lists
+    + times index (own_free s frame) + sum_by (idle_in frame index) s.checked
 
 -- 1 where a slab has an object of this index
 abbrev pub has_object : ℕ → Option Slab → ℕ
 has_object index None = 0
 has_object index (Some slab) = if nat_lt index slab.objects then 1 else 0
 
--- each object of a live slab is in exactly one place, and what is no object of a live slab is in none
+-- each object of a live slab is in exactly one place, and what is no object of a live slab is in
+-- none
 abbrev pub IsPlaced : State → Type 0
 IsPlaced s = (frame index : ℕ) → places s frame index ≡ has_object index (slab_of s frame)
 
@@ -50,16 +53,21 @@ IsPlaced s = (frame index : ℕ) → places s frame index ≡ has_object index (
 -- 1 where the slab whose run begins at `first` has the frame
 abbrev pub covers : ℕ → ℕ → Option Slab → ℕ
 covers frame first None = 0
-covers frame first (Some slab) = if nat_le first frame && nat_lt frame (first + 2 ^ slab.order) then 1 else 0
+covers frame first (Some slab) =
+    if nat_le first frame && nat_lt frame (first + 2 ^ slab.order) then 1 else 0
 
 -- how many of these slabs, the first of which would begin at `first`, have the frame
 abbrev pub covered_from : ℕ → ℕ → List (Option Slab) → ℕ
 covered_from frame first [] = 0
-covered_from frame first (slab ∷ slabs) = covers frame first slab + covered_from frame (first + 1) slabs
+covered_from frame first (slab ∷ slabs) =
+    covers frame first slab + covered_from frame (first + 1) slabs
 
 -- each frame but frame 0 is free or in the run of one live slab
 abbrev pub IsFramed : State → Type 0
-IsFramed s = (frame : ℕ) → times frame s.pool.free + covered_from frame 0 s.slabs ≡ (if nat_lt 0 frame && nat_lt frame s.frames then 1 else 0)
+IsFramed s =
+    (frame : ℕ)
+    → times frame s.pool.free + covered_from frame 0 s.slabs
+    ≡ (if nat_lt 0 frame && nat_lt frame s.frames then 1 else 0)
 
 -- ---- each slab on one list at most
 
@@ -69,21 +77,29 @@ times_current s frame = sum_by (λ lists. if_current frame 1 lists.current) s.cp
 
 -- how often a slab is on a partial list of a CPU or of the node
 abbrev pub times_partial : State → ℕ → ℕ
-times_partial s frame = sum_by (λ lists. times frame lists.partial) s.cpu_lists + sum_by (times frame) s.nodes
+times_partial s frame =
+    sum_by (λ lists. times frame lists.partial) s.cpu_lists + sum_by (times frame) s.nodes
 
 pub record IsListed (s : State) : Type 0 where
   -- a slab is current once, on one partial list, or on no list
   pub once : (frame : ℕ) → times_current s frame + times_partial s frame ≤ 1
   -- what is current or on a list is a live slab
-  pub live : (frame : ℕ) → 0 < times_current s frame + times_partial s frame → IsSome (slab_of s frame)
+  pub live : (frame : ℕ) → 0 < times_current s frame + times_partial s frame
+      → IsSome (slab_of s frame)
   -- a slab on a partial list has a free object
   pub stocked : (frame : ℕ) → 0 < times_partial s frame → 0 < length (own_free s frame)
   -- and it is a slab of the cache whose list it is
-  pub of_current : (cache cpu frame : ℕ) → cpu < s.cpus → (lists_of s cache cpu).current ≡ Some frame → IfSome (slab_of s frame) (λ slab. slab.cache ≡ cache)
-  pub of_partial : (cache cpu frame : ℕ) → cpu < s.cpus → 0 < times frame (lists_of s cache cpu).partial → IfSome (slab_of s frame) (λ slab. slab.cache ≡ cache)
-  pub of_node : (cache frame : ℕ) → 0 < times frame (node_of s cache) → IfSome (slab_of s frame) (λ slab. slab.cache ≡ cache)
+  pub of_current : (cache cpu frame : ℕ) → cpu < s.cpus
+      → (lists_of s cache cpu).current ≡ Some frame
+      → IfSome (slab_of s frame) (λ slab. slab.cache ≡ cache)
+  pub of_partial : (cache cpu frame : ℕ) → cpu < s.cpus
+      → 0 < times frame (lists_of s cache cpu).partial
+      → IfSome (slab_of s frame) (λ slab. slab.cache ≡ cache)
+  pub of_node : (cache frame : ℕ) → 0 < times frame (node_of s cache)
+      → IfSome (slab_of s frame) (λ slab. slab.cache ≡ cache)
   -- the frozen slabs are the current ones
-  pub frozen : (frame : ℕ) → IfSome (slab_of s frame) (λ slab. IsTrue slab.frozen ↔ (0 < times_current s frame))
+  pub frozen : (frame : ℕ)
+      → IfSome (slab_of s frame) (λ slab. IsTrue slab.frozen ↔ (0 < times_current s frame))
 
 -- ---- the counts
 
@@ -101,7 +117,8 @@ IsAccounted s = (cache : ℕ) → slice_index_or s.live cache 0 ≡ sum_by (held
 -- the slab's order and number of objects are the layout's, or its least ones
 abbrev pub IsSlabOf : Layout → Slab → Type 0
 IsSlabOf layout slab =
-    ((slab.order ≡ layout.order) × (slab.objects ≡ layout.objects)) ⊎ ((slab.order ≡ layout.min_order) × (slab.objects ≡ layout.min_objects_slab))
+    ((slab.order ≡ layout.order) × (slab.objects ≡ layout.objects))
+    ⊎ ((slab.order ≡ layout.min_order) × (slab.objects ≡ layout.min_objects_slab))
 
 -- what an object number names
 abbrev pub held_under : State → ℕ → Option Held
@@ -109,28 +126,34 @@ held_under s object = slice_index_or s.board object None
 
 -- ---- checked caches
 
--- a slab and what a checked cache has at its frame: a slab of this cache is there, of the same order and number of objects, or neither is
+-- a slab and what a checked cache has at its frame: a slab of this cache is there, of the same
+-- order and number of objects, or neither is
 abbrev pub Agrees : ℕ → Option Slab → Option (ℕ × ℕ) → Type 0
 Agrees cache None None = ⊤
 Agrees cache None (Some shape) = ⊥
 Agrees cache (Some slab) None = slab.cache ≢ cache
-Agrees cache (Some slab) (Some shape) = (slab.cache ≡ cache) × (slab.order ≡ shape.0) × (slab.objects ≡ shape.1)
+Agrees cache (Some slab) (Some shape) =
+    (slab.cache ≡ cache) × (slab.order ≡ shape.0) × (slab.objects ≡ shape.1)
 
--- these are the slabs of the live checked cache of this number; none of them is current or on a list, or has a freelist here
+-- these are the slabs of the live checked cache of this number; none of them is current or on a
+-- list, or has a freelist here
 pub record IsCheckedOf (s : State) (cache : ℕ) (slabs : CheckedState) : Type 0 where
   pub sound : IsSoundChecked slabs
   pub number : slabs.cache ≡ cache
-  pub live : MatchOption (cache_of s cache) ⊥ (λ live. (live.layout ≡ slabs.layout) × (live.flags ≡ slabs.flags))
+  pub live : MatchOption (cache_of s cache) ⊥
+      (λ live. (live.layout ≡ slabs.layout) × (live.flags ≡ slabs.flags))
   pub agrees : (frame : ℕ) → Agrees cache (slab_of s frame) (shape_at slabs frame)
   pub unlisted : (cpu : ℕ) → cpu < s.cpus → lists_of s cache cpu ≡ no_lists
   pub off_node : node_of s cache ≡ []
-  pub unfree : (frame : ℕ) → MatchOption (slab_of s frame) ⊤ (λ slab. slab.cache ≡ cache → own_free s frame ≡ [])
+  pub unfree : (frame : ℕ)
+      → MatchOption (slab_of s frame) ⊤ (λ slab. slab.cache ≡ cache → own_free s frame ≡ [])
 
 -- each live cache with F, Z or P has its slabs there, and no other
 pub record AreChecked (s : State) : Type 0 where
   pub numbers : length s.checked ≡ 32
   pub those : (cache : ℕ) → IfSome (checked_of s cache) (IsCheckedOf s cache)
-  pub all : (cache : ℕ) → IfSome (cache_of s cache) (λ live. is_checked live.flags ≡ is_some (checked_of s cache))
+  pub all : (cache : ℕ)
+      → IfSome (cache_of s cache) (λ live. is_checked live.flags ≡ is_some (checked_of s cache))
 
 -- ---- the numbers of things
 
@@ -150,16 +173,22 @@ pub record IsShaped (s : State) : Type 0 where
   pub board : length s.board < 2 ^ 32
   pub gone : length s.gone ≡ length s.board
   -- a slab is one of its cache, and its run begins at a multiple of its length
-  pub slab : (frame : ℕ) → IfSome (slab_of s frame) (λ slab. MatchOption (cache_of s slab.cache) ⊥ (λ live. IsSlabOf live.layout slab))
+  pub slab : (frame : ℕ)
+      → IfSome (slab_of s frame)
+      (λ slab. MatchOption (cache_of s slab.cache) ⊥ (λ live. IsSlabOf live.layout slab))
   pub aligned : (frame : ℕ) → IfSome (slab_of s frame) (λ slab. frame % 2 ^ slab.order ≡ 0)
   -- an object that was given is one of a slab of its cache
-  pub held : (object : ℕ) → IfSome (held_under s object) (λ held. MatchOption (slab_of s held.frame) ⊥ (λ slab. slab.cache ≡ held.cache))
+  pub held : (object : ℕ)
+      → IfSome (held_under s object)
+      (λ held. MatchOption (slab_of s held.frame) ⊥ (λ slab. slab.cache ≡ held.cache))
   -- object numbers begin at 1: number 0 names nothing
   pub no_zero : held_under s 0 ≡ None
   -- a CPU with no slab has no freelist
-  pub bare : (place : ℕ) → (slice_index_or s.cpu_lists place no_lists).current ≡ None → (slice_index_or s.cpu_lists place no_lists).free ≡ []
+  pub bare : (place : ℕ) → (slice_index_or s.cpu_lists place no_lists).current ≡ None
+      → (slice_index_or s.cpu_lists place no_lists).free ≡ []
 
--- each object in one place, each frame in one role, each slab on one list at most, and the counts true: what holds inside an operation too
+-- each object in one place, each frame in one role, each slab on one list at most, and the counts
+-- true: what holds inside an operation too
 pub record IsConsistent (s : State) : Type 0 where
   pub shaped : IsShaped s
   pub placed : IsPlaced s
@@ -169,7 +198,8 @@ pub record IsConsistent (s : State) : Type 0 where
 
 -- no slab is lost: one with an object on its own freelist is current or on a list
 abbrev pub IsKept : State → Type 0
-IsKept s = (frame : ℕ) → 0 < length (own_free s frame) → 0 < times_current s frame + times_partial s frame
+IsKept s =
+    (frame : ℕ) → 0 < length (own_free s frame) → 0 < times_current s frame + times_partial s frame
 
 -- the whole, between two operations
 pub record IsCoherent (s : State) : Type 0 where
@@ -182,7 +212,8 @@ pub record IsCoherent (s : State) : Type 0 where
 
 -- ---- the opening
 
--- the machine before the first item: free frames 1 to F - 1, no cache, an empty board; the names are the trace's
+-- the machine before the first item: free frames 1 to F - 1, no cache, an empty board; the names
+-- are the trace's
 abbrev pub opening : ℕ → ℕ → ℕ → List (List ℕ) → State
 opening frames cpus objects names = record {
   frames = frames;
@@ -207,7 +238,8 @@ laid_down held = record held { worker = None }
 
 -- every held object is put on the board, and nobody knows a freed one any more
 abbrev pub all_on_board : State → State
-all_on_board s = record s { board = map (option_map laid_down) s.board; gone = map (λ freed. None) s.gone }
+all_on_board s =
+    record s { board = map (option_map laid_down) s.board; gone = map (λ freed. None) s.gone }
 
 -- ---- what one event leaves
 
@@ -228,7 +260,8 @@ pub record KeepsOthers (s : State) (object : ℕ) (after : State) : Type 0 where
   pub cpus : after.cpus ≡ s.cpus
   pub table : after.table ≡ s.table
   pub board_length : length after.board ≡ length s.board
-  pub board : (other : ℕ) → other ≢ object → slice_index_or after.board other None ≡ slice_index_or s.board other None
+  pub board : (other : ℕ) → other ≢ object
+      → slice_index_or after.board other None ≡ slice_index_or s.board other None
   -- reports are added and none goes, and an event lists at most one slab more that may be reported
   pub reports : (cache : ℕ) → AddsReportsOf (checked_of s cache) (checked_of after cache)
   pub findable : findable_in after ≤ findable_in s + 1

@@ -13,14 +13,21 @@ use Rattle.slub_lists.specs.State.{State}
 -- a new cache is checked where F, Z or P is set, and then has no slab yet
 abbrev pub with_new : State → Table → ℕ → Cache → State
 with_new s table cache live =
-    record s { table = table; checked = if is_checked live.flags then slice_set s.checked cache (Some (slabs.opening live.layout live.flags cache)) else s.checked }
+    let new = slabs.opening live.layout live.flags cache in
+    record s {
+      table = table;
+      checked =
+          if is_checked live.flags then slice_set s.checked cache (Some new) else s.checked;
+    }
 
 -- the name becomes one of a live cache, or a cache is made
 abbrev pub IsCreated : State → Created → Table → State → Type 0
 IsCreated s (Merged cache) table after = after ≡ record s { table = table }
-IsCreated s (New cache) table after = MatchOption (live_cache table cache) ⊥ (λ live. after ≡ with_new s table cache live)
+IsCreated s (New cache) table after =
+    MatchOption (live_cache table cache) ⊥ (λ live. after ≡ with_new s table cache live)
 
 -- a name is created as the table of names and caches has it
 abbrev pub CreatesCache : State → List ℕ → Spec → Created → State → Type 0
 CreatesCache s name spec created after =
-    (table : Table) × CreatesName s.table name spec s.cpus created table × IsCreated s created table after
+    (table : Table) × CreatesName s.table name spec s.cpus created table
+    × IsCreated s created table after

@@ -12,10 +12,14 @@ use Rattle.slub_lists.specs.Free.{FreesUnchecked, is_freeable}
 abbrev pub FreesHeld : State → ℕ → ℕ → ℕ → Held → Reply → State → Type 0
 FreesHeld s cpu worker object held reply after =
     MatchOption (cache_of s held.cache) ⊥ (λ live.
-    MatchOption (checked_of s held.cache) (FreesUnchecked s live.layout cpu worker object held reply after) (λ slabs. FreesChecked s live.layout slabs worker object held reply after))
+    MatchOption (checked_of s held.cache)
+    (FreesUnchecked s live.layout cpu worker object held reply after)
+    (λ slabs. FreesChecked s live.layout slabs worker object held reply after))
 
--- a free answers that the number isn't held, exactly where it names nothing that the worker holds or that is on the board
+-- a free answers that the number isn't held, exactly where it names nothing that the worker holds
+-- or that is on the board
 abbrev pub Frees : State → ℕ → ℕ → ℕ → Reply → State → Type 0
 Frees s cpu worker object reply after =
     MatchOption (slice_index_or s.board object None) ((reply ≡ NotHeld) × (after ≡ s)) (λ held.
-    MatchBool (is_freeable worker held.worker) (FreesHeld s cpu worker object held reply after) ((reply ≡ NotHeld) × (after ≡ s)))
+    MatchBool (is_freeable worker held.worker) (FreesHeld s cpu worker object held reply after)
+    ((reply ≡ NotHeld) × (after ≡ s)))

@@ -23,4 +23,5 @@ pub record HasByte (s : State) (object byte : ℕ) : Type 0 where
 -- the words of all objects on the board but one are as before
 abbrev pub KeepsWords : State → ℕ → State → Type 0
 KeepsWords s object after =
-    (other word : ℕ) (held : Held) (layout : Layout) → other ≢ object → Names s other held layout → is_word layout word ≡ true → word_of after layout held word ≡ word_of s layout held word
+    (other word : ℕ) (held : Held) (layout : Layout) → other ≢ object → Names s other held layout
+    → is_word layout word ≡ true → word_of after layout held word ≡ word_of s layout held word

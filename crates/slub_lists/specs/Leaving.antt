@@ -4,7 +4,8 @@ use Rattle.slub_lists.specs.declared.lists.Slab.{Slab}
 use Rattle.slub_lists.specs.State.{State}
 use Rattle.slub_lists.specs.Alloc.{marked, slab_of}
 
--- the numbers of frames and CPUs, the live caches, the board, what was freed and the counts are as before
+-- the numbers of frames and CPUs, the live caches, the board, what was freed and the counts are as
+-- before
 pub record KeepsHeld (old new : State) : Type 0 where
   pub frames : new.frames ≡ old.frames
   pub cpus : new.cpus ≡ old.cpus
@@ -19,7 +20,8 @@ pub record KeepsHeld (old new : State) : Type 0 where
 abbrev pub StaysOrGoes : ℕ → Option Slab → Option Slab → Type 0
 StaysOrGoes cache None after = after ≡ None
 StaysOrGoes cache (Some slab) after =
-    (after ≡ Some slab) ⊎ ((slab.cache ≡ cache) × ((after ≡ Some (marked false slab)) ⊎ (after ≡ None)))
+    (after ≡ Some slab)
+    ⊎ ((slab.cache ≡ cache) × ((after ≡ Some (marked false slab)) ⊎ (after ≡ None)))
 
 -- no slab comes, and none goes but of the cache
 abbrev pub LeavesSlabs : State → ℕ → State → Type 0
@@ -39,8 +41,12 @@ pub record HasFrame (s : State) (cache frame : ℕ) : Type 0 where
 -- the frames that the cache had and has no more come free, and no other does
 abbrev pub FreesLost : State → ℕ → State → Type 0
 FreesLost s cache after =
-    (frame : ℕ) → Contains after.pool.free frame ↔ (Contains s.pool.free frame ⊎ (HasFrame s cache frame × ¬ HasFrame after cache frame))
+    (frame : ℕ)
+    → Contains after.pool.free frame
+    ↔ (Contains s.pool.free frame ⊎ (HasFrame s cache frame × ¬ HasFrame after cache frame))
 
 -- the free frames grow by exactly the frames of the cache
 abbrev pub FreesAll : State → ℕ → State → Type 0
-FreesAll s cache after = (frame : ℕ) → Contains after.pool.free frame ↔ (Contains s.pool.free frame ⊎ HasFrame s cache frame)
+FreesAll s cache after =
+    (frame : ℕ)
+    → Contains after.pool.free frame ↔ (Contains s.pool.free frame ⊎ HasFrame s cache frame)

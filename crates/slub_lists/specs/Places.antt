@@ -1,4 +1,5 @@
--- Where objects, their words and their free pointers stand, and what a slab and a list have of them.
+-- Where objects, their words and their free pointers stand, and what a slab and a list have of
+-- them.
 use Rattle.std.specs.Prelude.{◌≡◌, ℕ, ◌+◌, ◌/◌, ◌^◌, ◌<◌, ◌≤◌, ◌==◌, if◌then◌else◌, [], true, false, Some, None}
 use Rattle.std.specs.Option.{option_map_or}
 use Rattle.slub_object_layout.specs.declared.layout.Layout.{Layout}
@@ -44,7 +45,8 @@ pub record IsByteOf (s : State) (frame index byte : ℕ) : Type 0 where
   pub below : index < slab.objects
   pub inside : IsInSlot frame index (layout_at s slab.cache) byte
 
--- a live slab: its frames are the machine's and none is frame 0, and its order follows from its number of objects
+-- a live slab: its frames are the machine's and none is frame 0, and its order follows from its
+-- number of objects
 pub record IsWithin (s : State) (frame : ℕ) (slab : Slab) : Type 0 where
   pub above : 0 < frame
   pub below : frame + 2 ^ slab.order ≤ s.frames
@@ -57,7 +59,8 @@ pub record IsOff (s : State) (frame : ℕ) (slab : Slab) : Type 0 where
   pub unlisted : times_current s frame + times_partial s frame ≡ 0
   pub unfree : own_free s frame ≡ []
 
--- a slab that a CPU allocates a cache's objects from: a frozen slab of the cache, which is not checked
+-- a slab that a CPU allocates a cache's objects from: a frozen slab of the cache, which is not
+-- checked
 pub record IsCurrent (s : State) (cache frame : ℕ) : Type 0 where
   pub slab : Slab
   pub there : slab_of s frame ≡ Some slab

@@ -1,4 +1,5 @@
--- Shrinking a cache, after `__kmem_cache_do_shrink`, `flush_all` and `deactivate_slab` of Linux 6.1.
+-- Shrinking a cache, after `__kmem_cache_do_shrink`, `flush_all` and `deactivate_slab` of Linux
+-- 6.1.
 use Rattle.std.specs.Prelude.{◌≡◌, ℕ, ◌+◌, ◌==◌, nat_lt, if◌then◌else◌, Bool, false, List, [], ◌∷◌, ◌++◌, length, map, fold, count_by, Option, Some, None, MatchOption, Result, Ok, Err, slice_index_or, slice_set}
 use Rattle.std.specs.List.{range_with_len}
 use Rattle.std.specs.Option.{option_map_or}
@@ -19,9 +20,12 @@ use Rattle.slub_lists.specs.Free.{discarded, inuse_of, is_spare, moved_all, with
 -- its CPU freelist is put before its own freelist, it is unfrozen, and is current no more
 abbrev pub taken_down : State → ℕ → ℕ → ℕ → State
 taken_down s cache cpu frame =
-    with_lists (record (with_frozen s frame false) { frees = slice_set s.frees frame ((lists_of s cache cpu).free ++ own_free s frame) }) cache cpu (record { current = None; free = []; partial = (lists_of s cache cpu).partial })
+    let own = (lists_of s cache cpu).free ++ own_free s frame in
+    with_lists (record (with_frozen s frame false) { frees = slice_set s.frees frame own }) cache
+    cpu (record { current = None; free = []; partial = (lists_of s cache cpu).partial })
 
--- it goes to the head of the node list, or to the tail where its own freelist (`own`) wasn't empty before (profile)
+-- it goes to the head of the node list, or to the tail where its own freelist (`own`) wasn't empty
+-- before (profile)
 abbrev pub put_on_node : State → ℕ → ℕ → List ℕ → State
 put_on_node s cache frame [] = with_node s cache (frame ∷ node_of s cache)
 put_on_node s cache frame (index ∷ own) = with_node s cache (node_of s cache ++ frame ∷ [])
@@ -29,24 +33,29 @@ put_on_node s cache frame (index ∷ own) = with_node s cache (node_of s cache +
 -- a spare slab goes; one with a free object goes to the node list; any other stands on no list
 abbrev pub put_where : State → ℕ → ℕ → ℕ → List ℕ → State
 put_where s min_partial cache frame own =
-    if is_spare s min_partial cache frame then discarded s frame else (if nat_lt 0 (length (own_free s frame)) then put_on_node s cache frame own else s)
+    if is_spare s min_partial cache frame then discarded s frame else
+    (if nat_lt 0 (length (own_free s frame)) then put_on_node s cache frame own else s)
 
 abbrev pub put_away_slab : State → ℕ → ℕ → ℕ → ℕ → State
-put_away_slab s min_partial cache cpu frame = put_where (taken_down s cache cpu frame) min_partial cache frame (own_free s frame)
+put_away_slab s min_partial cache cpu frame =
+    put_where (taken_down s cache cpu frame) min_partial cache frame (own_free s frame)
 
 -- the current slab, if there is one
 abbrev pub put_away : State → ℕ → ℕ → ℕ → State
-put_away s min_partial cache cpu = option_map_or (put_away_slab s min_partial cache cpu) (lists_of s cache cpu).current s
+put_away s min_partial cache cpu =
+    option_map_or (put_away_slab s min_partial cache cpu) (lists_of s cache cpu).current s
 
 -- ---- what CPUs have (`flush_cpu_slab`, `unfreeze_partials`)
 
 -- the CPU's partial list is moved as a set
 abbrev pub moved_partial : State → ℕ → ℕ → ℕ → State
-moved_partial s min_partial cache cpu = moved_all (with_partial s cache cpu []) min_partial cache (lists_of s cache cpu).partial
+moved_partial s min_partial cache cpu =
+    moved_all (with_partial s cache cpu []) min_partial cache (lists_of s cache cpu).partial
 
 -- a CPU has nothing of the cache any more
 abbrev pub flushed : ℕ → ℕ → State → ℕ → State
-flushed min_partial cache s cpu = moved_partial (put_away s min_partial cache cpu) min_partial cache cpu
+flushed min_partial cache s cpu =
+    moved_partial (put_away s min_partial cache cpu) min_partial cache cpu
 
 -- none of the first CPUs has, from CPU 0 on
 abbrev pub flushed_below : State → ℕ → ℕ → ℕ → State
@@ -56,7 +65,8 @@ flushed_below s min_partial cache cpus = fold (flushed min_partial cache) s (ran
 
 -- a slab of which nothing is in use goes
 abbrev pub swept_slab : ℕ → State → ℕ → State
-swept_slab cache s frame = if inuse_of s frame == 0 then discarded (without_slab s cache frame) frame else s
+swept_slab cache s frame =
+    if inuse_of s frame == 0 then discarded (without_slab s cache frame) frame else s
 
 abbrev pub swept : State → ℕ → State
 swept s cache = fold (swept_slab cache) s (node_of s cache)
@@ -67,21 +77,29 @@ node_counts s cache = map (λ frame. length (own_free s frame)) (node_of s cache
 
 -- the node list is put in order, slabs with 1 to 32 free objects first
 abbrev pub Promotes : State → ℕ → State → Type 0
-Promotes s cache after = (frames : List ℕ) × IsPromoted (node_of s cache) (node_counts s cache) frames × (after ≡ with_node s cache frames)
+Promotes s cache after =
+    (frames : List ℕ) × IsPromoted (node_of s cache) (node_counts s cache) frames
+    × (after ≡ with_node s cache frames)
 
--- a cache that is not checked: its CPUs are flushed, from CPU 0 on, its unused slabs go, and the others are put in order
+-- a cache that is not checked: its CPUs are flushed, from CPU 0 on, its unused slabs go, and the
+-- others are put in order
 abbrev pub ShrinksUnchecked : State → ℕ → ℕ → State → Type 0
-ShrinksUnchecked s min_partial cache after = Promotes (swept (flushed_below s min_partial cache s.cpus) cache) cache after
+ShrinksUnchecked s min_partial cache after =
+    Promotes (swept (flushed_below s min_partial cache s.cpus) cache) cache after
 
 -- ---- a checked cache
 
 abbrev pub all_free : CheckedState → ℕ → Bool
-all_free slabs frame = length (checked_slab slabs frame).free == objects_in (checked_slab slabs frame)
+all_free slabs frame =
+    length (checked_slab slabs frame).free == objects_in (checked_slab slabs frame)
 
 -- a slab of which all objects are free goes
 abbrev pub swept_checked_slab : ℕ → State → ℕ → State
 swept_checked_slab cache s frame =
-    option_map_or (λ slabs. if all_free slabs frame then discarded (with_checked s cache (without_checked slabs frame)) frame else s) (checked_of s cache) s
+    option_map_or
+    (λ slabs. if all_free slabs frame then
+    discarded (with_checked s cache (without_checked slabs frame)) frame else s)
+    (checked_of s cache) s
 
 abbrev pub swept_checked : State → ℕ → CheckedState → State
 swept_checked s cache slabs = fold (swept_checked_slab cache) s slabs.listed
@@ -89,7 +107,9 @@ swept_checked s cache slabs = fold (swept_checked_slab cache) s slabs.listed
 -- the listed slabs are put in order, like a node list
 abbrev pub PromotesChecked : State → ℕ → State → Type 0
 PromotesChecked s cache after =
-    MatchOption (checked_of s cache) ⊥ (λ slabs. (frames : List ℕ) × IsPromoted slabs.listed (free_counts slabs) frames × (after ≡ with_checked s cache (record slabs { listed = frames })))
+    MatchOption (checked_of s cache) ⊥
+    (λ slabs. (frames : List ℕ) × IsPromoted slabs.listed (free_counts slabs) frames
+    × (after ≡ with_checked s cache (record slabs { listed = frames })))
 
 -- its unused slabs go, and the listed ones are put in order
 abbrev pub ShrinksChecked : State → ℕ → CheckedState → State → Type 0
@@ -113,7 +133,9 @@ busy_of s cache = slice_index_or s.live cache 0 + option_map_or aside_count (che
 -- a live cache is shrunk by the steps of its kind
 abbrev pub ShrinksByKind : State → ℕ → State → Type 0
 ShrinksByKind s cache after =
-    MatchOption (cache_of s cache) ⊥ (λ live. MatchOption (checked_of s cache) (ShrinksUnchecked s live.layout.min_partial cache after) (λ slabs. ShrinksChecked s cache slabs after))
+    MatchOption (cache_of s cache) ⊥
+    (λ live. MatchOption (checked_of s cache)
+    (ShrinksUnchecked s live.layout.min_partial cache after) (λ slabs. ShrinksChecked s cache slabs after))
 
 -- a live cache is shrunk: the steps, and what they leave
 pub record ShrinksCache (s : State) (cache : ℕ) (after : State) : Type 0 where
@@ -121,11 +143,13 @@ pub record ShrinksCache (s : State) (cache : ℕ) (after : State) : Type 0 where
   pub held : KeepsHeld s after
   pub slabs : LeavesSlabs s cache after
   pub pages : FreesLost s cache after
-  -- where nothing of the cache is held, on the board or set aside, no slab of it is left, and the free frames grow by exactly its frames
+  -- where nothing of the cache is held, on the board or set aside, no slab of it is left, and the
+  -- free frames grow by exactly its frames
   pub emptied : busy_of s cache ≡ 0 → (has_slab after cache ≡ false) × FreesAll s cache after
 
 -- the answer is whether the cache still has a slab; where the name isn't live, nothing changes
 abbrev pub Shrinks : State → List ℕ → Result Bool NoSuchCache → State → Type 0
 Shrinks s name (Err none) after = (number_of s.table name ≡ None) × (after ≡ s)
 Shrinks s name (Ok remain) after =
-    MatchOption (number_of s.table name) ⊥ (λ cache. ShrinksCache s cache after × (remain ≡ has_slab after cache))
+    MatchOption (number_of s.table name) ⊥
+    (λ cache. ShrinksCache s cache after × (remain ≡ has_slab after cache))

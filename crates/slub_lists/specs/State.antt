@@ -13,7 +13,8 @@ pub record State : Type 0 where
   pub frames : ℕ
   pub cpus : ℕ
   pub pool : FreeFrames
-  -- by frame: the live slab whose run begins there, and its own freelist, which a checked slab has not
+  -- by frame: the live slab whose run begins there, and its own freelist, which a checked slab has
+  -- not
   pub slabs : List (Option Slab)
   pub frees : List (List ℕ)
   -- the live names and caches

@@ -16,7 +16,8 @@ HasLayout s cache layout = MatchOption (cache_of s cache) ⊥ (λ live. live.lay
 abbrev pub IsLive : Layout → Type 0
 IsLive layout = (flags : Flags) × IsLiveLayout flags layout
 
--- a slab with a free object that can be made current on a CPU whose freelist is empty: it is current there already, or the CPU has no slab and it is on no list
+-- a slab with a free object that can be made current on a CPU whose freelist is empty: it is
+-- current there already, or the CPU has no slab and it is on no list
 pub record IsTakable (s : State) (cache cpu frame : ℕ) : Type 0 where
   pub live : MatchOption (slab_of s frame) ⊥ (λ slab. slab.cache ≡ cache)
   pub stocked : 0 < length (own_free s frame)
@@ -40,7 +41,8 @@ pub record IsRelisted (old new : State) : Type 0 where
   pub board : new.board ≡ old.board
   pub live : new.live ≡ old.live
 
--- what an operation leaves of the reports of the checked caches: none goes, and at most one slab more is listed that may be reported
+-- what an operation leaves of the reports of the checked caches: none goes, and at most one slab
+-- more is listed that may be reported
 pub record KeepsFound (s after : State) : Type 0 where
   pub reports : (cache : ℕ) → AddsReportsOf (checked_of s cache) (checked_of after cache)
   pub findable : findable_in after ≤ findable_in s + 1
@@ -52,15 +54,20 @@ pub record PopsPartial (old : State) (cache cpu frame : ℕ) (new : State) : Typ
   pub left : new ≡ with_lists old cache cpu (record (lists_of old cache cpu) { partial = rest })
   pub takable : IsTakable new cache cpu frame
 
--- the head of the node list is taken off, and can be taken up; after it `batch` slabs go to the CPU's partial list, which was empty
+-- the head of the node list is taken off, and can be taken up; after it `batch` slabs go to the
+-- CPU's partial list, which was empty
 pub record PopsNode (old : State) (cache cpu batch frame : ℕ) (new : State) : Type 0 where
   pub rest : List ℕ
   pub first : node_of old cache ≡ frame ∷ rest
-  pub left : new ≡ with_lists (with_node old cache (drop batch rest)) cache cpu (record (lists_of old cache cpu) { partial = reverse (take batch rest) })
+  pub left : new
+      ≡ with_lists (with_node old cache (drop batch rest)) cache cpu
+      (record (lists_of old cache cpu) { partial = reverse (take batch rest) })
   pub takable : IsTakable new cache cpu frame
 
 -- the front of the CPU's partial list is moved; nothing is done where that list is empty
 abbrev pub MovesFront : State → ℕ → ℕ → ℕ → Bool → State → Type 0
-MovesFront old min_partial cache cpu false new = ((lists_of old cache cpu).partial ≡ []) × (new ≡ old)
+MovesFront old min_partial cache cpu false new =
+    ((lists_of old cache cpu).partial ≡ []) × (new ≡ old)
 MovesFront old min_partial cache cpu true new =
-    (frame : ℕ) × (rest : List ℕ) × ((lists_of old cache cpu).partial ≡ frame ∷ rest) × (new ≡ moved min_partial cache (with_partial old cache cpu rest) frame)
+    (frame : ℕ) × (rest : List ℕ) × ((lists_of old cache cpu).partial ≡ frame ∷ rest)
+    × (new ≡ moved min_partial cache (with_partial old cache cpu rest) frame)

@@ -20,7 +20,8 @@ abbrev pub KeepsAll : State → State → Type 0
 KeepsAll s after = (object : ℕ) → KeepsOthers s object after
 
 -- a word of an object is written in its slab
-pub record WritesIn (s : State) (cache : ℕ) (slot : Slot) (word value : ℕ) (after : State) : Type 0 where
+pub record WritesIn (s : State) (cache : ℕ) (slot : Slot) (word value : ℕ)
+    (after : State) : Type 0 where
   pub slabs : CheckedState
   pub rest : CheckedState
   pub swaps : Swaps s cache slabs rest after
@@ -28,7 +29,8 @@ pub record WritesIn (s : State) (cache : ℕ) (slot : Slot) (word value : ℕ) (
   pub objects : KeepsObjects slabs rest
 
 -- a byte of a slot is written in its slab
-pub record PokesIn (s : State) (cache : ℕ) (slot : Slot) (offset : ℤ) (byte : ℕ) (answer : Result (Unit {0}) OutOfSlot) (after : State) : Type 0 where
+pub record PokesIn (s : State) (cache : ℕ) (slot : Slot) (offset : ℤ) (byte : ℕ)
+    (answer : Result (Unit {0}) OutOfSlot) (after : State) : Type 0 where
   pub slabs : CheckedState
   pub rest : CheckedState
   pub swaps : Swaps s cache slabs rest after

@@ -47,32 +47,41 @@ word_at layout held word = address_of held.frame held.index layout / 8 + word
 -- an object's word is its holder's; of a checked cache it is eight bytes of the slab
 abbrev pub with_word : State → Layout → Held → ℕ → ℕ → State
 with_word s layout held word value =
-    option_map_or (λ slabs. with_checked s held.cache (slab_word slabs (slot_of_held held) word value)) (checked_of s held.cache) (record s { memory = slice_set s.memory (word_at layout held word) value })
+    option_map_or
+    (λ slabs. with_checked s held.cache (slab_word slabs (slot_of_held held) word value))
+    (checked_of s held.cache)
+    (record s { memory = slice_set s.memory (word_at layout held word) value })
 
 abbrev pub word_of : State → Layout → Held → ℕ → ℕ
 word_of s layout held word =
-    option_map_or (λ slabs. slab_word_of slabs (slot_of_held held) word) (checked_of s held.cache) (slice_index_or s.memory (word_at layout held word) 0)
+    option_map_or (λ slabs. slab_word_of slabs (slot_of_held held) word) (checked_of s held.cache)
+    (slice_index_or s.memory (word_at layout held word) 0)
 
 -- a word is written of an object that the worker holds
 abbrev pub WritesHeld : State → Layout → Held → ℕ → ℕ → Reply → State → Type 0
 WritesHeld s layout held word value reply after =
-    MatchBool (is_word layout word) ((reply ≡ Wrote) × (after ≡ with_word s layout held word value)) ((reply ≡ OutOfObject) × (after ≡ s))
+    MatchBool (is_word layout word) ((reply ≡ Wrote) × (after ≡ with_word s layout held word value))
+    ((reply ≡ OutOfObject) × (after ≡ s))
 
 -- a write answers that the number isn't held, exactly where the worker doesn't hold it
 abbrev pub Writes : State → ℕ → ℕ → ℕ → ℕ → Reply → State → Type 0
 Writes s worker object word value reply after =
     MatchOption (held_by s worker object) ((reply ≡ NotHeld) × (after ≡ s)) (λ held.
-    MatchOption (cache_of s held.cache) ⊥ (λ live. WritesHeld s live.layout held word value reply after))
+    MatchOption (cache_of s held.cache) ⊥
+    (λ live. WritesHeld s live.layout held word value reply after))
 
 -- a word is read of an object that the worker holds
 abbrev pub ReadsHeld : State → Layout → Held → ℕ → Reply → Type 0
 ReadsHeld s layout held word reply =
-    MatchBool (is_word layout word) (reply ≡ Value (word_of s layout held word)) (reply ≡ OutOfObject)
+    MatchBool (is_word layout word) (reply ≡ Value (word_of s layout held word))
+    (reply ≡ OutOfObject)
 
 -- a read answers like a write, and changes nothing
 abbrev pub Reads : State → ℕ → ℕ → ℕ → Reply → Type 0
 Reads s worker object word reply =
-    MatchOption (held_by s worker object) (reply ≡ NotHeld) (λ held. MatchOption (cache_of s held.cache) ⊥ (λ live. ReadsHeld s live.layout held word reply))
+    MatchOption (held_by s worker object) (reply ≡ NotHeld)
+    (λ held. MatchOption (cache_of s held.cache) ⊥
+    (λ live. ReadsHeld s live.layout held word reply))
 
 -- ---- pokes
 
@@ -80,16 +89,22 @@ Reads s worker object word reply =
 abbrev pub PokesSlot : State → CheckedState → Held → ℤ → ℕ → Reply → State → Type 0
 PokesSlot s slabs held offset byte reply after =
     MatchBool (nat_lt held.index (objects_in (checked_slab slabs held.frame)))
-    ((reply ≡ Poked) × (after ≡ with_checked s held.cache (with_byte slabs (slot_of_held held) offset byte)))
+    ((reply ≡ Poked)
+    × (after ≡ with_checked s held.cache (with_byte slabs (slot_of_held held) offset byte)))
     ((reply ≡ NotHeld) × (after ≡ s))
 
 -- the offset is tried before the slab
-pub data PokesChecked (s : State) (slabs : CheckedState) (held : Held) (offset : ℤ) (byte : ℕ) (reply : Reply) (after : State) : Type 0 where
-  outside : ¬ IsOffset slabs.layout offset → reply ≡ OutOfSlot → after ≡ s → PokesChecked s slabs held offset byte reply after
-  inside : IsOffset slabs.layout offset → PokesSlot s slabs held offset byte reply after → PokesChecked s slabs held offset byte reply after
+pub data PokesChecked (s : State) (slabs : CheckedState) (held : Held) (offset : ℤ) (byte : ℕ)
+    (reply : Reply) (after : State) : Type 0 where
+  outside : ¬ IsOffset slabs.layout offset → reply ≡ OutOfSlot → after ≡ s
+      → PokesChecked s slabs held offset byte reply after
+  inside : IsOffset slabs.layout offset → PokesSlot s slabs held offset byte reply after
+      → PokesChecked s slabs held offset byte reply after
 
--- in this order: the worker doesn't know the object, its cache isn't checked, the byte is outside its slot, its slab is gone
+-- in this order: the worker doesn't know the object, its cache isn't checked, the byte is outside
+-- its slot, its slab is gone
 abbrev pub Pokes : State → ℕ → ℕ → ℤ → ℕ → Reply → State → Type 0
 Pokes s worker object offset byte reply after =
     MatchOption (known_to s worker object) ((reply ≡ NotHeld) × (after ≡ s)) (λ held.
-    MatchOption (checked_of s held.cache) ((reply ≡ NotChecked) × (after ≡ s)) (λ slabs. PokesChecked s slabs held offset byte reply after))
+    MatchOption (checked_of s held.cache) ((reply ≡ NotChecked) × (after ≡ s))
+    (λ slabs. PokesChecked s slabs held offset byte reply after))

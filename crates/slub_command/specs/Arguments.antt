@@ -1,4 +1,4 @@
--- The arguments that `clap` is given.
+-- For proofs and private clauses: the arguments that `clap` is given.
 use Rattle.std.specs.Prelude.{Bool, true, not, List, Some, codes}
 use Rattle.std.specs.List.{list_all}
 use Rattle.std.specs.Str.{bytes_eq}

@@ -3,10 +3,10 @@
 ghost use Rattle.std.specs.Prelude.{◌≡◌, ◌<◌, ◌≤◌, length, None, IsSome, IfSome, slice_index_or};
 ghost use Rattle.std.specs.Bool.{OnTrue};
 ghost use Rattle.slub_page_pool.specs.FreeFrames.{IsPool};
-ghost use Rattle.slub_lists.specs.Alloc.{Allocates, AllocatesNew, FindsRun, Gives, MakesSlab, cache_of, checked_of, lists_of};
+ghost use Rattle.slub_lists.specs.Alloc.{Allocates, AllocatesNew, FindsRun, Gives, MakesSlab, cache_of, checked_of, lists_of, HasLayout, IsLive};
 ghost use Rattle.slub_lists.specs.Named.{AllocatesFrom, AllocatesNamed};
 ghost use Rattle.slub_lists.specs.Coherent.{IsCoherent, IsConsistent, KeepsOthers};
-ghost use Rattle.slub_lists.specs.Steps.{HasLayout, IsLive, IsRelisted, KeepsFound};
+ghost use Rattle.slub_lists.specs.Steps.{IsRelisted, KeepsFound};
 
 use crate::lists::Lists;
 use slub_answers::reply::Reply;

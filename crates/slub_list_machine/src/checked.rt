@@ -7,11 +7,11 @@ ghost use Rattle.slub_page_pool.specs.Block.{CanPut, with_run};
 ghost use Rattle.slub_page_pool.specs.FreeFrames.{IsPool};
 ghost use Rattle.slub_red_zone.specs.Sound.{IsSized};
 ghost use Rattle.slub_red_zone.specs.State.{Has, IsUsed};
-ghost use Rattle.slub_lists.specs.Alloc.{checked_of, with_held};
+ghost use Rattle.slub_lists.specs.Alloc.{checked_of, with_held, HasLayout, IsLive};
 ghost use Rattle.slub_lists.specs.Checked.{AllocatesChecked, AllocatesNewChecked, FreesChecked, kept_by, put_back};
 ghost use Rattle.slub_lists.specs.CheckedSteps.{DiscardsSpare, FindsRunIn, GivesIn, GivesNewIn, TakesBackIn, TakesEmptyIn, run_of, slab_of_run};
 ghost use Rattle.slub_lists.specs.Coherent.{IsConsistent};
-ghost use Rattle.slub_lists.specs.Steps.{HasLayout, IsLive, KeepsFound};
+ghost use Rattle.slub_lists.specs.Steps.{KeepsFound};
 
 use crate::alloc::find_run;
 use crate::lists::Lists;

@@ -1,11 +1,11 @@
 //! Freeing, after `do_slab_free` and `__slab_free`.
 
 ghost use Rattle.std.specs.Prelude.{◌≡◌, ◌<◌, length, None, Some, slice_index_or};
-ghost use Rattle.slub_lists.specs.Alloc.{checked_of, lists_of};
+ghost use Rattle.slub_lists.specs.Alloc.{checked_of, lists_of, HasLayout};
 ghost use Rattle.slub_lists.specs.Coherent.{IsCoherent, IsConsistent, KeepsOthers};
 ghost use Rattle.slub_lists.specs.Free.{FreesUnchecked, freed_here, freed_there, is_current, is_freeable, is_frozen, with_freed, with_gone, with_taken};
 ghost use Rattle.slub_lists.specs.Freeing.{Frees, FreesHeld};
-ghost use Rattle.slub_lists.specs.Steps.{HasLayout, KeepsFound};
+ghost use Rattle.slub_lists.specs.Steps.{KeepsFound};
 
 use crate::lists::Lists;
 use slub_answers::reply::Reply;

@@ -4,10 +4,9 @@ ghost use Rattle.std.specs.Prelude.{◌≡◌, ◌<◌, ◌≤◌, ◌+◌, ◌*
 ghost use Rattle.std.specs.Option.{option_and_then};
 ghost use Rattle.slub_red_zone.specs.State.{IsUsed, objects_in, slab_of as checked_slab};
 ghost use Rattle.slub_red_zone.specs.Steps.{IsOffset};
-ghost use Rattle.slub_lists.specs.Alloc.{checked_of};
+ghost use Rattle.slub_lists.specs.Alloc.{checked_of, HasLayout, IsLive};
 ghost use Rattle.slub_lists.specs.Checked.{slot_of_held};
 ghost use Rattle.slub_lists.specs.Coherent.{IsCoherent, KeepsOthers};
-ghost use Rattle.slub_lists.specs.Steps.{HasLayout, IsLive};
 ghost use Rattle.slub_lists.specs.Words.{Pokes, PokesChecked, Reads, Writes, held_by, is_word, is_worker, known_to, own, with_word, word_at, word_of};
 ghost use Rattle.slub_lists.specs.WordSteps.{IsHeld, KeepsAll, PokesIn, WritesIn};
 

@@ -9,9 +9,8 @@ use Rattle.slub_object_layout.specs.Layout.{IsInSlot}
 use Rattle.slub_lists.specs.declared.lists.Slab.{Slab}
 use Rattle.slub_lists.specs.declared.lists.Held.{Held}
 use Rattle.slub_lists.specs.State.{State}
-use Rattle.slub_lists.specs.Alloc.{held_here, slab_of}
+use Rattle.slub_lists.specs.Alloc.{held_here, slab_of, HasLayout}
 use Rattle.slub_lists.specs.Coherent.{IsCoherent, IsConsistent, covers, held_under}
-use Rattle.slub_lists.specs.Steps.{HasLayout}
 use Rattle.slub_lists.specs.Laws.{HasByte}
 use Rattle.slub_lists.proofs.Framed.{covered-set, framed-most}
 use Rattle.slub_lists.proofs.Kept.{consistent-of}

@@ -17,11 +17,10 @@ use Rattle.slub_lists.specs.declared.lists.Slab.{Slab}
 use Rattle.slub_lists.specs.declared.lists.Held.{Held}
 use Rattle.slub_lists.specs.declared.lists.Run.{Run}
 use Rattle.slub_lists.specs.State.{State}
-use Rattle.slub_lists.specs.Alloc.{FindsRun, cache_of, checked_of, cpu_place, held_here, own_free, slab_of, with_held}
+use Rattle.slub_lists.specs.Alloc.{FindsRun, cache_of, checked_of, cpu_place, held_here, own_free, slab_of, with_held, HasLayout, IsLive}
 use Rattle.slub_lists.specs.Checked.{first_slot, put_back}
 use Rattle.slub_lists.specs.CheckedSteps.{run_of, slab_of_run}
 use Rattle.slub_lists.specs.Coherent.{Agrees, AreChecked, IsCheckedOf, IsConsistent, IsFramed, IsListed, IsSlabOf, covers, has_object, idle_in, places, times_current, times_partial}
-use Rattle.slub_lists.specs.Steps.{HasLayout, IsLive}
 use Rattle.slub_common.proofs.Writes.{at_written, at_written_else}
 use Rattle.slub_lists.proofs.Times.{current-same}
 use Rattle.slub_common.proofs.Sums.{element-counted}

@@ -13,12 +13,12 @@ use Rattle.slub_red_zone.specs.Steps.{TakesEmpty}
 use Rattle.slub_lists.specs.declared.lists.Held.{Held}
 use Rattle.slub_answers.specs.declared.reply.Reply.TheVariants.{Corrupt, Freed}
 use Rattle.slub_lists.specs.State.{State}
-use Rattle.slub_lists.specs.Alloc.{checked_of}
+use Rattle.slub_lists.specs.Alloc.{checked_of, HasLayout}
 use Rattle.slub_lists.specs.Checked.{FreesChecked, discarded_where, kept_by, slot_of_held, with_checked}
 use Rattle.slub_lists.specs.CheckedSteps.{DiscardsSpare, TakesBackIn, TakesEmptyIn}
 use Rattle.slub_lists.specs.Coherent.{IsConsistent, held_under}
 use Rattle.slub_lists.specs.Free.{discarded, order_of, with_gone, with_taken}
-use Rattle.slub_lists.specs.Steps.{HasLayout, KeepsFound}
+use Rattle.slub_lists.specs.Steps.{KeepsFound}
 use Rattle.slub_lists.proofs.Found.{found-same}
 use Rattle.slub_lists.proofs.CheckedSlabs.{counted, counted-within, found-with, kept-consistent, on-board, reports-from}
 use Rattle.slub_common.proofs.Writes.{inside-of}

@@ -14,10 +14,9 @@ use Rattle.slub_red_zone.specs.State.{CheckedState, SlabState, no_slab, objects_
 use Rattle.slub_lists.specs.declared.lists.Slab.{Slab}
 use Rattle.slub_lists.specs.declared.lists.Held.{Held}
 use Rattle.slub_lists.specs.State.{State}
-use Rattle.slub_lists.specs.Alloc.{cache_of, checked_of, held_here, slab_of, with_held}
+use Rattle.slub_lists.specs.Alloc.{cache_of, checked_of, held_here, slab_of, with_held, HasLayout, IsLive}
 use Rattle.slub_lists.specs.Checked.{with_checked}
 use Rattle.slub_lists.specs.Coherent.{Agrees, IsConsistent, IsShaped, IsSlabOf, has_object, idle_in}
-use Rattle.slub_lists.specs.Steps.{HasLayout, IsLive}
 use Rattle.slub_common.proofs.Sums.{element-counted}
 use Rattle.slub_lists.proofs.CheckedSlabs.{at_some, held-standing, idle-with, keeps-standing, standing, was-checked, whole}
 use Rattle.slub_common.proofs.Writes.{inside-of}

@@ -15,11 +15,11 @@ use Rattle.slub_lists.specs.declared.lists.Run.{Run}
 use Rattle.slub_answers.specs.declared.reply.Reply.{Reply}
 use Rattle.slub_answers.specs.declared.reply.Reply.TheVariants.{Given, NoFrames, NoMemory as NoMemoryLeft}
 use Rattle.slub_lists.specs.State.{State}
-use Rattle.slub_lists.specs.Alloc.{cache_of, checked_of, held_here, with_held}
+use Rattle.slub_lists.specs.Alloc.{cache_of, checked_of, held_here, with_held, HasLayout}
 use Rattle.slub_lists.specs.Checked.{AllocatesChecked, AllocatesNewChecked, first_slot, new_given, put_back, with_checked}
 use Rattle.slub_lists.specs.CheckedSteps.{FindsRunIn, GivesIn, GivesNewIn, run_of, slab_of_run}
 use Rattle.slub_lists.specs.Coherent.{AddsReportsOf, IsConsistent, findable_in, has_object}
-use Rattle.slub_lists.specs.Steps.{HasLayout, KeepsFound}
+use Rattle.slub_lists.specs.Steps.{KeepsFound}
 use Rattle.slub_lists.proofs.Accounted.{accounted-most}
 use Rattle.slub_lists.proofs.Found.{found-same}
 use Rattle.slub_lists.proofs.Runs.{IsRunFor, run-for}

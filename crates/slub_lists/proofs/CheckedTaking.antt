@@ -21,11 +21,10 @@ use Rattle.slub_lists.specs.declared.lists.Slab.{Slab}
 use Rattle.slub_lists.specs.declared.lists.CpuLists.{CpuLists}
 use Rattle.slub_lists.specs.declared.lists.Held.{Held}
 use Rattle.slub_lists.specs.State.{State}
-use Rattle.slub_lists.specs.Alloc.{cache_of, checked_of, cpu_place, held_here, lists_of, no_lists, node_of, own_free, slab_of}
+use Rattle.slub_lists.specs.Alloc.{cache_of, checked_of, cpu_place, held_here, lists_of, no_lists, node_of, own_free, slab_of, HasLayout}
 use Rattle.slub_lists.specs.Checked.{slot_of_held, with_checked}
 use Rattle.slub_lists.specs.Coherent.{Agrees, AreChecked, IsCheckedOf, IsConsistent, IsFramed, IsListed, IsPlaced, IsSlabOf, covered_from, covers, has_object, held_under, idle_in, if_current, on_cpu, places, times_current, times_partial}
 use Rattle.slub_lists.specs.Free.{discarded, order_of, with_taken}
-use Rattle.slub_lists.specs.Steps.{HasLayout}
 use Rattle.slub_common.proofs.Writes.{at_written, at_written_else, inside-of}
 use Rattle.slub_lists.proofs.Times.{current-other}
 use Rattle.slub_common.proofs.Sums.{element-counted}

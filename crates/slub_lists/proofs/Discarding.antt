@@ -12,7 +12,7 @@ use Rattle.slub_lists.specs.declared.lists.Slab.{Slab}
 use Rattle.slub_cache_create.specs.declared.caches.Cache.{Cache}
 use Rattle.slub_lists.specs.declared.lists.Held.{Held}
 use Rattle.slub_lists.specs.State.{State}
-use Rattle.slub_lists.specs.Alloc.{cache_of, held_here, own_free, slab_of}
+use Rattle.slub_lists.specs.Alloc.{cache_of, held_here, own_free, slab_of, IsLive}
 use Rattle.slub_lists.specs.Coherent.{IsConsistent, IsFramed, IsListed, IsPlaced, IsShaped, IsSlabOf, covers, covered_from, has_object, held_under, idle_in, on_cpu, places, times_current, times_partial}
 use Rattle.slub_lists.specs.Free.{discarded, inuse_of, order_of}
 use Rattle.slub_common.proofs.Writes.{at_written, at_written_else}
@@ -20,7 +20,6 @@ use Rattle.slub_common.proofs.Sums.{element-counted}
 use Rattle.slub_lists.proofs.Counting.{IsOnce, once-all}
 use Rattle.slub_lists.proofs.Framed.{covered-set, framed-most}
 use Rattle.slub_lists.proofs.Listed.{IsOf, IsFrozenBy}
-use Rattle.slub_lists.specs.Steps.{IsLive}
 use Rattle.slub_lists.proofs.Shaped.{IsAligned, IsLiveOf, IsOfItsCache, layouts-live}
 use Rattle.slub_lists.proofs.Unchecked.{IsApart, IsUnfree, checked-discarded}
 use Rattle.slub_lists.proofs.Coherence.{live-inside}

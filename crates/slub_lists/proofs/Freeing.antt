@@ -8,10 +8,9 @@ use Rattle.slub_cache_create.specs.declared.caches.Cache.{Cache}
 use Rattle.slub_lists.specs.declared.lists.CpuLists.{CpuLists}
 use Rattle.slub_lists.specs.declared.lists.Held.{Held}
 use Rattle.slub_lists.specs.State.{State}
-use Rattle.slub_lists.specs.Alloc.{cache_of, checked_of, cpu_place, held_here, lists_of, no_lists, own_free, slab_of, with_lists}
+use Rattle.slub_lists.specs.Alloc.{cache_of, checked_of, cpu_place, held_here, lists_of, no_lists, own_free, slab_of, with_lists, HasLayout, IsLive}
 use Rattle.slub_lists.specs.Coherent.{IsConsistent, IsListed, IsPlaced, IsShaped, IsSlabOf, has_object, held_under, if_current, on_cpu, times_current, times_partial}
 use Rattle.slub_lists.specs.Free.{freed_here, with_freed, with_taken}
-use Rattle.slub_lists.specs.Steps.{HasLayout, IsLive}
 use Rattle.slub_common.proofs.Writes.{at_written, at_written_else}
 use Rattle.slub_lists.proofs.Times.{current-same}
 use Rattle.slub_common.proofs.Times.{times-cons}

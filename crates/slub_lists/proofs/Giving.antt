@@ -12,10 +12,10 @@ use Rattle.slub_cache_create.specs.declared.caches.Cache.{Cache}
 use Rattle.slub_lists.specs.declared.lists.Held.{Held}
 use Rattle.slub_lists.specs.declared.lists.Run.{Run}
 use Rattle.slub_lists.specs.State.{State}
-use Rattle.slub_lists.specs.Alloc.{FindsRun, IsStocked, held_here, no_lists, cpu_place, cache_of, checked_of, slab_of, lists_of, with_new_slab, with_given}
+use Rattle.slub_lists.specs.Alloc.{FindsRun, IsStocked, held_here, no_lists, cpu_place, cache_of, checked_of, slab_of, lists_of, with_new_slab, with_given, HasLayout, IsLive}
 use Rattle.slub_common.specs.Times.{times}
 use Rattle.slub_lists.specs.Coherent.{IsConsistent, IsSlabOf, has_object, if_current, on_cpu}
-use Rattle.slub_lists.specs.Steps.{HasLayout, IsLive, IsRelisted}
+use Rattle.slub_lists.specs.Steps.{IsRelisted}
 use Rattle.slub_lists.proofs.Times.{current-same}
 use Rattle.slub_common.proofs.Times.{times-cons}
 use Rattle.slub_common.proofs.Sums.{element-counted}

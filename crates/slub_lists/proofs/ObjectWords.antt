@@ -17,11 +17,10 @@ use Rattle.slub_lists.specs.declared.lists.Held.{Held}
 use Rattle.slub_lists.specs.declared.lists.Slab.{Slab}
 use Rattle.slub_answers.specs.declared.reply.Reply.TheVariants.{NotHeld, OutOfObject, Value, Wrote}
 use Rattle.slub_lists.specs.State.{State}
-use Rattle.slub_lists.specs.Alloc.{cache_of, checked_of, slab_of}
+use Rattle.slub_lists.specs.Alloc.{cache_of, checked_of, slab_of, HasLayout, IsLive}
 use Rattle.slub_lists.specs.Checked.{slot_of_held, with_checked}
 use Rattle.slub_lists.specs.CheckedSteps.{Swaps}
 use Rattle.slub_lists.specs.Coherent.{IsCoherent, IsConsistent, IsSlabOf, covered_from, covers, held_under}
-use Rattle.slub_lists.specs.Steps.{HasLayout, IsLive}
 use Rattle.slub_lists.specs.Words.{Reads, ReadsHeld, Writes, WritesHeld, held_by, is_word, is_worker, own, with_word, word_at, word_of}
 use Rattle.slub_lists.specs.WordSteps.{IsHeld, KeepsAll, WritesIn}
 use Rattle.slub_lists.proofs.Found.{found-same}

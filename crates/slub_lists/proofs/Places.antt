@@ -15,9 +15,8 @@ use Rattle.slub_lists.specs.declared.lists.Slab.{Slab}
 use Rattle.slub_lists.specs.declared.lists.Held.{Held}
 use Rattle.slub_lists.specs.declared.lists.CpuLists.{CpuLists}
 use Rattle.slub_lists.specs.State.{State}
-use Rattle.slub_lists.specs.Alloc.{slab_of, own_free, cache_of, checked_of, cpu_place, lists_of}
+use Rattle.slub_lists.specs.Alloc.{slab_of, own_free, cache_of, checked_of, cpu_place, lists_of, HasLayout, IsLive}
 use Rattle.slub_lists.specs.Coherent.{Agrees, IsConsistent, IsSlabOf, covers, covered_from, has_object, held_under, times_current, times_partial}
-use Rattle.slub_lists.specs.Steps.{HasLayout, IsLive}
 use Rattle.slub_lists.specs.Words.{is_word, word_at}
 use Rattle.slub_lists.proofs.Framed.{covered-set}
 use Rattle.slub_common.proofs.Writes.{inside-of}

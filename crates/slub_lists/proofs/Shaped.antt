@@ -9,11 +9,10 @@ use Rattle.slub_lists.specs.declared.lists.CpuLists.{CpuLists}
 use Rattle.slub_lists.specs.declared.lists.Held.{Held}
 use Rattle.slub_lists.specs.declared.lists.Run.{Run}
 use Rattle.slub_lists.specs.State.{State}
-use Rattle.slub_lists.specs.Alloc.{marked, no_lists, cpu_place, cache_of, slab_of, lists_of, with_lists, with_node, retired, taken_up, with_new_slab, with_given}
+use Rattle.slub_lists.specs.Alloc.{marked, no_lists, cpu_place, cache_of, slab_of, lists_of, with_lists, with_node, retired, taken_up, with_new_slab, with_given, IsLive}
 use Rattle.slub_cache_create.specs.Sound.{IsLiveCache, IsSound}
 use Rattle.slub_cache_create.specs.Table.{opening as no_caches}
 use Rattle.slub_lists.specs.Coherent.{AreChecked, IsShaped, IsSlabOf, held_under, laid_down, all_on_board, opening}
-use Rattle.slub_lists.specs.Steps.{IsLive}
 use Rattle.slub_lists.proofs.Writes.{at_marked}
 use Rattle.slub_common.proofs.Writes.{at_written, get_or-replicate_any}
 use Rattle.slub_lists.proofs.Unchecked.{checked-opening, checked-rest}

@@ -19,11 +19,10 @@ use Rattle.slub_lists.specs.declared.lists.Held.{Held}
 use Rattle.slub_answers.specs.declared.reply.Reply.{Reply}
 use Rattle.slub_answers.specs.declared.reply.Reply.TheVariants.{NotHeld, OutOfObject, Wrote}
 use Rattle.slub_lists.specs.State.{State}
-use Rattle.slub_lists.specs.Alloc.{cache_of, checked_of}
+use Rattle.slub_lists.specs.Alloc.{cache_of, checked_of, IsLive}
 use Rattle.slub_lists.specs.Checked.{slot_of_held, with_checked}
 use Rattle.slub_lists.specs.Coherent.{IsCoherent, held_under}
 use Rattle.slub_lists.specs.Laws.{HasByte, KeepsWords, Names}
-use Rattle.slub_lists.specs.Steps.{IsLive}
 use Rattle.slub_lists.specs.Words.{Writes, WritesHeld, held_by, is_word, with_word, word_at, word_of}
 use Rattle.slub_lists.proofs.Apart.{held-apart, one-number}
 use Rattle.slub_lists.proofs.Kept.{consistent-of}

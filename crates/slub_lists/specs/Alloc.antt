@@ -4,9 +4,11 @@ use Rattle.std.specs.Option.{option_map}
 use Rattle.std.specs.List.{range_with_len}
 use Rattle.slub_page_pool.specs.FreeFrames.{FreeFrames}
 use Rattle.slub_page_pool.specs.Block.{Takes, TakesOrNotes}
+use Rattle.slub_object_layout.specs.declared.layout.Flags.{Flags}
 use Rattle.slub_object_layout.specs.declared.layout.Layout.{Layout}
 use Rattle.slub_object_layout.specs.Layout.{address_of}
 use Rattle.slub_cache_create.specs.declared.caches.Cache.{Cache}
+use Rattle.slub_cache_create.specs.Sound.{IsLiveLayout}
 use Rattle.slub_cache_create.specs.Table.{name_at, number_of, cache_of as live_cache}
 use Rattle.slub_red_zone.specs.State.{CheckedState}
 use Rattle.slub_lists.specs.declared.lists.Slab.{Slab}
@@ -46,6 +48,14 @@ node_of s cache = slice_index_or s.nodes cache []
 -- the live cache of a number
 abbrev pub cache_of : State → ℕ → Option Cache
 cache_of s cache = live_cache s.table cache
+
+-- the cache is live, and has this layout
+abbrev pub HasLayout : State → ℕ → Layout → Type 0
+HasLayout s cache layout = MatchOption (cache_of s cache) ⊥ (λ live. live.layout ≡ layout)
+
+-- the layout of a live cache
+abbrev pub IsLive : Layout → Type 0
+IsLive layout = (flags : Flags) × IsLiveLayout flags layout
 
 -- the number of the live cache that the name at a place of the trace's names names
 abbrev pub named : State → ℕ → Option ℕ

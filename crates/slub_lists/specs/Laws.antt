@@ -5,7 +5,7 @@ use Rattle.slub_object_layout.specs.Layout.{IsInSlot}
 use Rattle.slub_lists.specs.declared.lists.Held.{Held}
 use Rattle.slub_lists.specs.State.{State}
 use Rattle.slub_lists.specs.Coherent.{held_under}
-use Rattle.slub_lists.specs.Steps.{HasLayout}
+use Rattle.slub_lists.specs.Alloc.{HasLayout}
 use Rattle.slub_lists.specs.Words.{is_word, word_of}
 
 -- a number on the board names an object of a cache with this layout

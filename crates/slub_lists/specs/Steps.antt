@@ -1,20 +1,9 @@
--- What the steps of an operation hand to one another.
+-- For proofs and private clauses: what the steps of an operation hand to one another.
 use Rattle.std.specs.Prelude.{◌≡◌, ℕ, ◌+◌, ◌<◌, ◌≤◌, Bool, true, false, length, List, [], ◌∷◌, take, drop, reverse, Some, None, MatchOption, ◌⊎◌}
-use Rattle.slub_object_layout.specs.declared.layout.Flags.{Flags}
-use Rattle.slub_object_layout.specs.declared.layout.Layout.{Layout}
-use Rattle.slub_cache_create.specs.Sound.{IsLiveLayout}
 use Rattle.slub_lists.specs.State.{State}
-use Rattle.slub_lists.specs.Alloc.{cache_of, checked_of, lists_of, node_of, own_free, slab_of, with_lists, with_node}
+use Rattle.slub_lists.specs.Alloc.{checked_of, lists_of, node_of, own_free, slab_of, with_lists, with_node}
 use Rattle.slub_lists.specs.Free.{moved, with_partial}
 use Rattle.slub_lists.specs.Coherent.{AddsReportsOf, findable_in, times_current, times_partial, if_current}
-
--- the cache is live, and has this layout
-abbrev pub HasLayout : State → ℕ → Layout → Type 0
-HasLayout s cache layout = MatchOption (cache_of s cache) ⊥ (λ live. live.layout ≡ layout)
-
--- the layout of a live cache
-abbrev pub IsLive : Layout → Type 0
-IsLive layout = (flags : Flags) × IsLiveLayout flags layout
 
 -- a slab with a free object that can be made current on a CPU whose freelist is empty: it is
 -- current there already, or the CPU has no slab and it is on no list

@@ -1,4 +1,4 @@
--- The two kinds of slabs that promotion parts.
+-- For proofs and private clauses: the two kinds of slabs that promotion parts.
 use Rattle.std.specs.Prelude.{Bool, cond, not}
 use Rattle.slub_node_partial.specs.declared.promotion.Slab.{Slab}
 use Rattle.slub_node_partial.specs.Promotion.{is_promoted}

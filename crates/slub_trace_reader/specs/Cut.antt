@@ -1,4 +1,5 @@
--- A line as it is read: a number that 64 bits don't hold is as great as the least of those.
+-- For proofs and private clauses: a line as it is read. A number that 64 bits don't hold is as
+-- great as the least of those.
 use Rattle.std.specs.Prelude.{ℕ, ◌^◌, min, option_map}
 use Rattle.slub_trace_reader.specs.declared.line.Line.{Line}
 use Rattle.slub_trace_reader.specs.declared.line.Line.TheVariants.{Passed, Slubtrace, Machine, Cache, Shrink, Destroy, Slabinfo, Round, Alloc, Free, Write, Read, Poke, Done, End}

@@ -1,4 +1,4 @@
--- What comes of parsing, and of a fault of reading.
+-- For proofs and private clauses: what comes of parsing, and of a fault of reading.
 use Rattle.std.specs.Prelude.{◌≡◌, ℕ, ◌+◌, List, ⊤}
 use Rattle.slub_edges.specs.declared.reading.ReadAllFault.{ReadAllFault}
 use Rattle.slub_edges.specs.declared.reading.ReadAllFault.TheVariants.{Failed, TooLong as too_long, NoMemory as no_memory}

@@ -1,4 +1,4 @@
--- What the reader keeps of the lines above.
+-- For proofs and private clauses: what the reader keeps of the lines above.
 use Rattle.std.specs.Prelude.{◌≡◌, ◌≤◌, length, fold, max, Option, Some, None, ⊤}
 use Rattle.slub_trace_reader.specs.declared.line.Line.{Line}
 use Rattle.slub_trace_reader.specs.declared.line.Line.TheVariants.{Slubtrace, Machine, Alloc, Free, Write, Read, Poke}

@@ -11,7 +11,13 @@
 //! most, and none that has objects on its own freelist is lost.
 //!
 //! No machine is here: the calls that do this stand in `slub_list_machine`. `laws` has what follows
-//! from the definitions, and `proofs/` the lemmas that the crates above cite.
+//! from the definitions.
+//!
+//! Of `proofs/` the crates above cite these: all of `Places`, on slabs, words, free pointers and lists of a
+//! consistent machine; `one-slab` and `one-number` (`Apart`); `consistent-of` (`Kept`); `once-length`
+//! (`Counting`); `at_some`, `was-checked` and `held-once` (`CheckedSlabs`); `the-value`, `layout-live` and
+//! `slab-sized` (`CheckedGiving`); `held-slab` and `going-unlisted` (`CheckedTaking`); `slots-fit` and
+//! `word-ends` (`ObjectWords`).
 #![tactic(auto)]
 
 pub mod laws;

@@ -1,4 +1,4 @@
--- For proofs and private clauses: the arguments that `clap` is given.
+-- The arguments that `clap` is given.
 use Rattle.std.specs.Prelude.{Bool, true, not, List, Some, codes}
 use Rattle.std.specs.List.{list_all}
 use Rattle.std.specs.Str.{bytes_eq}
@@ -12,8 +12,7 @@ no_dashes words = list_all (λ w. not (bytes_eq w (codes "--"))) words
 
 -- a command of this name that has no `--help`, and whose words don't begin with a program's name
 abbrev pub plain_app : Text → App
-plain_app name =
-    on_top (λ s. record s { no_binary_name = true; disable_help_flag = true }) (new_app name)
+plain_app name = on_top (λ s. record s { no_binary_name = true; disable_help_flag = true }) (new_app name)
 
 -- an option with a value
 abbrev pub option_rule : Text → Rule
@@ -29,19 +28,12 @@ place_rule id = record (new_rule id) { required = true }
 
 -- `replay [--how HOW] [--seed SEED] [--replies]`
 abbrev pub replay_app : App
-replay_app =
-    with_rule (with_rule (with_rule (plain_app (codes "replay")) (option_rule (codes "how")))
-    (option_rule (codes "seed"))) (flag_rule (codes "replies"))
+replay_app = with_rule (with_rule (with_rule (plain_app (codes "replay")) (option_rule (codes "how"))) (option_rule (codes "seed"))) (flag_rule (codes "replies"))
 
 -- `layout SIZE ALIGN FLAGS CPUS`
 abbrev pub layout_app : App
-layout_app =
-    with_rule (with_rule (with_rule (with_rule (plain_app (codes "layout"))
-    (place_rule (codes "size"))) (place_rule (codes "align"))) (place_rule (codes "flags")))
-    (place_rule (codes "cpus"))
+layout_app = with_rule (with_rule (with_rule (with_rule (plain_app (codes "layout")) (place_rule (codes "size"))) (place_rule (codes "align"))) (place_rule (codes "flags"))) (place_rule (codes "cpus"))
 
 -- `load SEED EVENTS WORKERS`
 abbrev pub load_app : App
-load_app =
-    with_rule (with_rule (with_rule (plain_app (codes "load")) (place_rule (codes "seed")))
-    (place_rule (codes "events"))) (place_rule (codes "workers"))
+load_app = with_rule (with_rule (with_rule (plain_app (codes "load")) (place_rule (codes "seed"))) (place_rule (codes "events"))) (place_rule (codes "workers"))

@@ -1,4 +1,5 @@
--- For proofs and private clauses: what the steps of an operation on a checked cache hand to one another.
+-- For proofs and private clauses: what the steps of an operation on a checked cache hand to one
+-- another.
 use Rattle.std.specs.Prelude.{◌≡◌, ℕ, ◌≤◌, false, Option, Some, Result, IfOk, OnSome}
 use Rattle.slub_page_pool.specs.FreeFrames.{FreeFrames, IsPool}
 use Rattle.slub_object_layout.specs.declared.layout.Layout.{Layout}

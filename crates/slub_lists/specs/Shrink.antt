@@ -135,7 +135,8 @@ abbrev pub ShrinksByKind : State → ℕ → State → Type 0
 ShrinksByKind s cache after =
     MatchOption (cache_of s cache) ⊥
     (λ live. MatchOption (checked_of s cache)
-    (ShrinksUnchecked s live.layout.min_partial cache after) (λ slabs. ShrinksChecked s cache slabs after))
+    (ShrinksUnchecked s live.layout.min_partial cache after)
+    (λ slabs. ShrinksChecked s cache slabs after))
 
 -- a live cache is shrunk: the steps, and what they leave
 pub record ShrinksCache (s : State) (cache : ℕ) (after : State) : Type 0 where

@@ -1,5 +1,5 @@
 -- The commands, and the words that spell them.
-use Rattle.std.specs.Prelude.{◌≡◌, ℕ, List, [], ◌∷◌, codes}
+use Rattle.std.specs.Prelude.{◌≡◌, ◌⊎◌, ℕ, List, [], ◌∷◌, codes}
 use Rattle.slub_object_layout.specs.declared.layout.Spec.{Spec}
 use Rattle.slub_command.specs.declared.command.Command.{Command}
 use Rattle.slub_command.specs.declared.command.Command.TheVariants.{Replay, Layout, Load}
@@ -42,3 +42,8 @@ IsCommand [] command = ⊥
 IsCommand (name ∷ words) (Replay how seed replies) = (name ≡ codes "replay") × IsReplay words how seed replies
 IsCommand (name ∷ words) (Layout spec cpus) = (name ≡ codes "layout") × IsLayout words spec cpus
 IsCommand (name ∷ words) (Load seed events workers) = (name ≡ codes "load") × IsLoad words seed events workers
+
+-- the first word is the name of a command
+abbrev pub IsNamed : List Word → Type 0
+IsNamed [] = ⊥
+IsNamed (name ∷ words) = (name ≡ codes "replay") ⊎ (name ≡ codes "layout") ⊎ (name ≡ codes "load")

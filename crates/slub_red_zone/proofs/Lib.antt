@@ -1,3 +1,5 @@
+pub mod SlotBytes
+pub mod Parts
 pub mod Times
 pub mod Asides
 pub mod Counting

@@ -21,6 +21,7 @@
 
 mod bytes;
 pub mod checked;
+pub mod laws;
 pub mod slab;
 mod slabs;
 mod supply;

@@ -1,0 +1,40 @@
+//! What follows from the definitions, for the crates above. None of these does anything.
+
+ghost use Rattle.std.specs.Prelude.{◌≡◌, ◌↔◌, ℕ, ◌<◌, ◌≤◌, length, IsTrue, None, Some, Ok};
+ghost use Rattle.slub_object_layout.specs.Layout.{IsWithinBounds};
+ghost use Rattle.slub_red_zone.specs.Zones as spec;
+ghost use Rattle.slub_red_zone.specs.declared.zones.Damage.{Damage};
+ghost use Rattle.slub_red_zone.specs.Bytes.{AreWhole, IsWritten, Tells};
+ghost use Rattle.slub_red_zone.specs.Sound.{IsLayoutFor};
+
+use slub_object_layout::layout::{Flags, Layout};
+
+/// Nothing keeps an object from being given exactly where F isn't set or every byte of each examined part is the
+/// wanted one, and so it is with taking back.
+pub fn no_damage_where_whole(layout: &Layout, flags: &Flags, slot: &[u8])
+    requires bounds { IsWithinBounds layout.now }
+    requires slot { length slot.now ≡ layout.now.size }
+    ensures given { spec.damage_when_given layout.now flags.now slot.now ≡ None ↔ (IsTrue flags.now.checks → AreWhole slot.now (spec.examined_free layout.now flags.now)) }
+    ensures taken { spec.damage_when_taken layout.now flags.now slot.now ≡ None ↔ (IsTrue flags.now.checks → AreWhole slot.now (spec.examined_used layout.now flags.now)) }
+{}
+
+/// What is told is a byte of an examined part, as it stands in the slot, and not the wanted one.
+pub fn damage_tells(layout: &Layout, flags: &Flags, slot: &[u8])
+    requires bounds { IsWithinBounds layout.now }
+    requires slot { length slot.now ≡ layout.now.size }
+    ensures given { (damage : Damage) → spec.damage_when_given layout.now flags.now slot.now ≡ Some damage → Tells layout.now slot.now (spec.examined_free layout.now flags.now) damage }
+    ensures taken { (damage : Damage) → spec.damage_when_taken layout.now flags.now slot.now ≡ Some damage → Tells layout.now slot.now (spec.examined_used layout.now flags.now) damage }
+{}
+
+/// Setting an object up writes its parts, and leaves every other byte of its slot.
+pub fn setting_up_writes_its_parts(layout: &Layout, flags: &Flags, byte: u8, slot: &[u8])
+    requires bounds { IsWithinBounds layout.now }
+    requires slot { length slot.now ≡ layout.now.size }
+    ensures { IsWritten slot.now (spec.written layout.now flags.now byte) (spec.set_up layout.now flags.now byte slot.now) }
+{}
+
+/// Every byte of a new slab's slots that is examined before an object is given is the wanted one.
+pub fn new_slots_are_whole(layout: &Layout, flags: &Flags)
+    requires { IsLayoutFor flags.now layout.now }
+    ensures { AreWhole (spec.new_slot layout.now flags.now) (spec.examined_free layout.now flags.now) }
+{}

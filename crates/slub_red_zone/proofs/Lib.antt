@@ -1,3 +1,4 @@
+pub mod Splices
 pub mod SlotBytes
 pub mod Parts
 pub mod Times
@@ -13,3 +14,4 @@ pub mod Taken
 pub mod Comings
 pub mod Idle
 pub mod Objects
+pub mod NewSlabs

@@ -17,6 +17,7 @@ use Rattle.slub_red_zone.specs.declared.zones.Damage.{Damage}
 use Rattle.slub_red_zone.specs.declared.zones.Part.{Part}
 use Rattle.slub_red_zone.specs.Zones.{damage_at, damage_in, first_damage, with_part}
 use Rattle.slub_red_zone.specs.Bytes.{IsIn, IsInSome, IsWhole, AreWhole, IsWritten, Tells}
+use Rattle.slub_red_zone.proofs.Splices.{spliced-long, spliced-in, spliced-before, spliced-behind}
 
 -- the part lies in a slot of so many bytes
 abbrev pub IsInside : ℕ → Part → Type 0
@@ -144,43 +145,29 @@ told-first layout slot (part ∷ parts) damage inside some =
 
 -- ---- writing
 
--- a part is written: what stands before it, it, and what stands behind
-with-is : (slot : List ℕ) (part : Part) → with_part slot part ≡ take part.from slot ++ (replicate (part.to - part.from) part.wanted ++ drop part.to slot)
-with-is slot part = append_assoc (take part.from slot) (replicate (part.to - part.from) part.wanted) (drop part.to slot)
+-- a part is written
+module _ (slot : List ℕ) (part : Part) (inside : IsInside (length slot) part) where
+  wide : length (replicate (part.to - part.from) part.wanted) ≡ part.to - part.from
+  wide = length-replicate (part.to - part.from) part.wanted
 
-long-with : (slot : List ℕ) (part : Part) → IsInside (length slot) part → length (with_part slot part) ≡ length slot
-long-with slot part inside =
-    let is = ap (λ (xs : List ℕ). length xs) (with-is slot part) in
-    omega (arith, is, length-append (take part.from slot) (replicate (part.to - part.from) part.wanted ++ drop part.to slot),
-    length-append (replicate (part.to - part.from) part.wanted) (drop part.to slot), length-replicate (part.to - part.from) part.wanted, length-take part.from slot, length-drop part.to slot, inside)
+  long-with : length (with_part slot part) ≡ length slot
+  long-with = spliced-long slot (replicate (part.to - part.from) part.wanted) part.from part.to inside.0 inside.1 wide
 
-written-in : (slot : List ℕ) (part : Part) → IsInside (length slot) part → IsWhole (with_part slot part) part
-written-in slot part inside place in_part =
-    let front : length (take part.from slot) ≡ part.from = omega (arith, length-take part.from slot, inside) in
-    let wide : length (replicate (part.to - part.from) part.wanted) ≡ part.to - part.from = length-replicate (part.to - part.from) part.wanted in
-    ap (λ (xs : List ℕ). get_or xs place 0) (with-is slot part)
-    ∙ get_or-append_right (take part.from slot) (replicate (part.to - part.from) part.wanted ++ drop part.to slot) part.from place 0 front in_part.0
-    ∙ get_or_append_left (replicate (part.to - part.from) part.wanted) (drop part.to slot) 0 (place - part.from) (omega (arith, wide, in_part))
-    ∙ get_or-replicate (part.to - part.from) (place - part.from) part.wanted 0 (omega (arith, in_part))
+  written-in : IsWhole (with_part slot part) part
+  written-in place in_part =
+      spliced-in slot (replicate (part.to - part.from) part.wanted) part.from part.to inside.0 inside.1 wide place in_part.0 in_part.1
+      ∙ get_or-replicate (part.to - part.from) (place - part.from) part.wanted 0 (omega (arith, in_part))
 
-stays-out : (slot : List ℕ) (part : Part) → IsInside (length slot) part → (place : ℕ) → ¬ IsIn part place → slice_index (with_part slot part) place ≡ slice_index slot place
-stays-out slot part inside place out =
-    let front : length (take part.from slot) ≡ part.from = omega (arith, length-take part.from slot, inside) in
-    let wide : length (replicate (part.to - part.from) part.wanted) ≡ part.to - part.from = length-replicate (part.to - part.from) part.wanted in
-    ap (λ (xs : List ℕ). get_or xs place 0) (with-is slot part)
-    ∙ elim (cases_lt place part.from) [
-      | inl before ↦
-          get_or_append_left (take part.from slot) (replicate (part.to - part.from) part.wanted ++ drop part.to slot) 0 place (omega (arith, front, before)) ∙ get_or-take part.from slot place 0 before
-      | inr from ↦
-          elim (cases_lt place part.to) [
-            | inl inner ↦ absurd (out (from, inner))
-            | inr past ↦
-                let back : part.to + (place - part.from - (part.to - part.from)) ≡ place = omega (arith, past, from, inside) in
-                get_or-append_right (take part.from slot) (replicate (part.to - part.from) part.wanted ++ drop part.to slot) part.from place 0 front from
-                ∙ get_or-append_right (replicate (part.to - part.from) part.wanted) (drop part.to slot) (part.to - part.from) (place - part.from) 0 wide (omega (arith, past))
-                ∙ get_or-drop part.to slot (place - part.from - (part.to - part.from)) 0 ∙ ap (λ (p : ℕ). get_or slot p 0) back
-          ]
-    ]
+  stays-out : (place : ℕ) → ¬ IsIn part place → slice_index (with_part slot part) place ≡ slice_index slot place
+  stays-out place out =
+      elim (cases_lt place part.from) [
+        | inl before ↦ spliced-before slot (replicate (part.to - part.from) part.wanted) part.from part.to inside.0 inside.1 wide place before
+        | inr from ↦
+            elim (cases_lt place part.to) [
+              | inl inner ↦ absurd (out (from, inner))
+              | inr past ↦ spliced-behind slot (replicate (part.to - part.from) part.wanted) part.from part.to inside.0 inside.1 wide place past
+            ]
+      ]
 
 -- the part has no byte of the other
 abbrev pub IsApart : Part → Part → Type 0

@@ -5,7 +5,13 @@ ghost use Rattle.slub_object_layout.specs.Layout.{IsWithinBounds};
 ghost use Rattle.slub_red_zone.specs.Zones as spec;
 ghost use Rattle.slub_red_zone.specs.declared.zones.Damage.{Damage};
 ghost use Rattle.slub_red_zone.specs.Bytes.{AreWhole, IsWritten, Tells};
-ghost use Rattle.slub_red_zone.specs.Sound.{IsLayoutFor};
+ghost use Rattle.slub_red_zone.specs.Sound.{IsLayoutFor, IsSized, IsSound};
+ghost use Rattle.slub_red_zone.specs.State.{CheckedState};
+ghost use Rattle.slub_red_zone.specs.Steps as step;
+ghost use Rattle.slub_red_zone.specs.Told.{bytes_of};
+ghost use Rattle.slub_red_zone.specs.declared.checked.Run.{Run};
+ghost use Rattle.slub_red_zone.specs.declared.checked.Slot.{Slot};
+ghost use Rattle.slub_red_zone.specs.declared.checked.CheckedGive.TheVariants.{Given};
 
 use slub_object_layout::layout::{Flags, Layout};
 
@@ -37,4 +43,18 @@ pub fn setting_up_writes_its_parts(layout: &Layout, flags: &Flags, byte: u8, slo
 pub fn new_slots_are_whole(layout: &Layout, flags: &Flags)
     requires { IsLayoutFor flags.now layout.now }
     ensures { AreWhole (spec.new_slot layout.now flags.now) (spec.examined_free layout.now flags.now) }
+{}
+
+/// Each object of a new slab is set up as free, and nothing keeps it from being given.
+pub fn objects_of_a_new_slab_are_whole()
+    ensures bytes { (s : CheckedState) (run : Run) (objects index : ℕ) → IsSound s → run.frame < 4096 → index < objects
+        → bytes_of (step.with_new_slab s run objects) (record { frame = run.frame; index = index }) ≡ spec.new_slot s.layout s.flags }
+    ensures undamaged { (s : CheckedState) (run : Run) (objects index : ℕ) → IsSound s → run.frame < 4096 → index < objects
+        → step.damage_of_free (step.with_new_slab s run objects) (record { frame = run.frame; index = index }) ≡ None }
+{}
+
+/// To give the first object of a new slab, and not to examine it, is to give.
+pub fn giving_from_a_new_slab_is_giving()
+    ensures { (s : CheckedState) (run : Run) (objects : ℕ) (slot : Slot) (after : CheckedState) → IsSound s → run.frame < 4096 → IsSized s.layout run.order objects
+        → step.GivesNew s run objects (Ok slot) after → step.Gives (step.with_new_slab s run objects) (Given slot) after }
 {}

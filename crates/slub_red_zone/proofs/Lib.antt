@@ -15,3 +15,5 @@ pub mod Comings
 pub mod Idle
 pub mod Objects
 pub mod NewSlabs
+pub mod Written
+pub mod Telling

@@ -8,9 +8,10 @@ ghost use Rattle.slub_red_zone.specs.Bytes.{AreWhole, IsWritten, Tells};
 ghost use Rattle.slub_red_zone.specs.Sound.{IsLayoutFor, IsSized, IsSound};
 ghost use Rattle.slub_red_zone.specs.State.{CheckedState};
 ghost use Rattle.slub_red_zone.specs.Steps as step;
-ghost use Rattle.slub_red_zone.specs.Told.{bytes_of};
+ghost use Rattle.slub_red_zone.specs.Told.{bytes_of, TellsOfSlabs};
 ghost use Rattle.slub_red_zone.specs.declared.checked.Run.{Run};
 ghost use Rattle.slub_red_zone.specs.declared.checked.Slot.{Slot};
+ghost use Rattle.slub_red_zone.specs.declared.checked.CheckedGive.{CheckedGive};
 ghost use Rattle.slub_red_zone.specs.declared.checked.CheckedGive.TheVariants.{Given};
 
 use slub_object_layout::layout::{Flags, Layout};
@@ -57,4 +58,10 @@ pub fn objects_of_a_new_slab_are_whole()
 pub fn giving_from_a_new_slab_is_giving()
     ensures { (s : CheckedState) (run : Run) (objects : ℕ) (slot : Slot) (after : CheckedState) → IsSound s → run.frame < 4096 → IsSized s.layout run.order objects
         → step.GivesNew s run objects (Ok slot) after → step.Gives (step.with_new_slab s run objects) (Given slot) after }
+{}
+
+/// What giving reports is a byte of an examined part of an object that was free, as it stood there, and objects of a
+/// slab are set aside only with a report of one of them.
+pub fn giving_tells_of_slabs()
+    ensures { (s : CheckedState) (answer : CheckedGive) (after : CheckedState) → IsSound s → step.Gives s answer after → TellsOfSlabs s after }
 {}

@@ -17,3 +17,4 @@ pub mod Objects
 pub mod NewSlabs
 pub mod Written
 pub mod Telling
+pub mod Changed

@@ -1,7 +1,7 @@
 -- What giving tells, and in which slabs objects are set aside.
 use Rattle.std.proofs.Common.{◌≡◌, ◌≢◌, ℕ, zero, suc, ◌+◌, ◌<◌, ◌≤◌, ◌++◌, List, [], ◌∷◌, length, get_or, set, map, All, Any, Option, None, Some, unwrap_or, slice_get, refl, ap, arith, subst, sym, ◌∙◌, append_assoc, append-nil, inl, inr}
 use Rattle.std.proofs.lemmas.Bool.{cases_eq}
-use Rattle.std.proofs.lemmas.List.{get_or-set_other}
+use Rattle.std.proofs.lemmas.List.{get_or-set_other, length-map}
 use Rattle.std.proofs.lemmas.List.Elements.{All-nil, All-cons, All-weaker}
 use Rattle.std.proofs.lemmas.Option.{slice_get-get_or}
 use Rattle.slub_red_zone.specs.declared.zones.Damage.{Damage}
@@ -10,7 +10,7 @@ use Rattle.slub_red_zone.specs.declared.slab.ObjectState.{ObjectState}
 use Rattle.slub_red_zone.specs.declared.slab.ObjectState.TheVariants.{Free, Used, Aside}
 use Rattle.slub_red_zone.specs.declared.checked.CheckedGive.{CheckedGive}
 use Rattle.slub_red_zone.specs.declared.checked.Slot.{Slot}
-use Rattle.slub_red_zone.specs.State.{SlabState, CheckedState, no_slab, slab_at, slab_of, state_of, slot_of, aside_in}
+use Rattle.slub_red_zone.specs.State.{SlabState, CheckedState, no_slab, slab_at, slab_of, state_of, slot_of, aside_in, objects_in}
 use Rattle.slub_red_zone.specs.Steps.{Gives, nothing_listed, next_is_whole, next_is_damaged, IsNext, slab_with_given, slab_set_aside, set_aside, with_given, with_damaged, report_of, damage_of_free}
 use Rattle.slub_red_zone.specs.Sound.{IsSound}
 use Rattle.slub_red_zone.specs.Zones.{examined_free}
@@ -71,7 +71,7 @@ module _ (s : CheckedState) (slot : Slot) (sound : IsSound s) (next : IsNext s s
         }
 
     -- the bytes stay
-    damaged-bytes : (other : Slot) → bytes_of (with_damaged s slot damage) other ≡ bytes_of s other
+    pub damaged-bytes : (other : Slot) → bytes_of (with_damaged s slot damage) other ≡ bytes_of s other
     damaged-bytes other =
         let now : SlabState = slab_set_aside (slab_of s slot.frame) in
         let same_bytes : (slab_of (with_damaged s slot damage) other.frame).bytes ≡ (slab_of s other.frame).bytes =
@@ -82,6 +82,17 @@ module _ (s : CheckedState) (slot : Slot) (sound : IsSound s) (next : IsNext s s
           | inr ne ↦ ap (λ (slab : SlabState). slab.bytes) (slab_at-other s.slabs slot.frame other.frame (Some now) ne)
         ] in
         ap (λ (bytes : List ℕ). slot_of s.layout bytes other.index) same_bytes
+
+    pub damaged-objects : (frame : ℕ) → objects_in (slab_of (with_damaged s slot damage) frame) ≡ objects_in (slab_of s frame)
+    damaged-objects frame =
+        let now : SlabState = slab_set_aside (slab_of s slot.frame) in
+        elim (cases_eq frame slot.frame) [
+          | inl same ↦
+              ap (λ (f : ℕ). objects_in (slab_at (set s.slabs slot.frame (Some now)) f)) same
+              ∙ ap (λ (slab : SlabState). objects_in slab) (slab_at-set s.slabs slot.frame now (next-frame s slot sound next)) ∙ length-map (slab_of s slot.frame).states set_aside
+              ∙ sym (ap (λ (f : ℕ). objects_in (slab_of s f)) same)
+          | inr ne ↦ ap (λ (slab : SlabState). objects_in slab) (slab_at-other s.slabs slot.frame frame (Some now) ne)
+        ]
 
     -- what is told of a free object later was free before
     later-report : (report : Report) (other : Slot) → IsReportOf (with_damaged s slot damage) report other → IsReportOf s report other

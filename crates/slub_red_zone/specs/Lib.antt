@@ -6,3 +6,4 @@ pub mod Sound
 pub mod Kept
 pub mod Bytes
 pub mod Told
+pub mod Changes

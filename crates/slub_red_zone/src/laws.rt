@@ -1,12 +1,13 @@
 //! What follows from the definitions, for the crates above. None of these does anything.
 
-ghost use Rattle.std.specs.Prelude.{◌≡◌, ◌↔◌, ℕ, ◌<◌, ◌≤◌, length, IsTrue, None, Some, Ok};
+ghost use Rattle.std.specs.Prelude.{◌≡◌, ◌↔◌, ℕ, Result, ◌<◌, ◌≤◌, length, IsTrue, None, Some, Ok};
 ghost use Rattle.slub_object_layout.specs.Layout.{IsWithinBounds};
 ghost use Rattle.slub_red_zone.specs.Zones as spec;
 ghost use Rattle.slub_red_zone.specs.declared.zones.Damage.{Damage};
 ghost use Rattle.slub_red_zone.specs.Bytes.{AreWhole, IsWritten, Tells};
 ghost use Rattle.slub_red_zone.specs.Sound.{IsLayoutFor, IsSized, IsSound};
-ghost use Rattle.slub_red_zone.specs.State.{CheckedState};
+ghost use Rattle.slub_red_zone.specs.State.{CheckedState, IsUsed};
+ghost use Rattle.slub_red_zone.specs.Changes.{GivesBytes, TakesBytes};
 ghost use Rattle.slub_red_zone.specs.Steps as step;
 ghost use Rattle.slub_red_zone.specs.Told.{bytes_of, TellsOfSlabs};
 ghost use Rattle.slub_red_zone.specs.declared.checked.Run.{Run};
@@ -64,4 +65,11 @@ pub fn giving_from_a_new_slab_is_giving()
 /// slab are set aside only with a report of one of them.
 pub fn giving_tells_of_slabs()
     ensures { (s : CheckedState) (answer : CheckedGive) (after : CheckedState) → IsSound s → step.Gives s answer after → TellsOfSlabs s after }
+{}
+
+/// Giving writes the parts of the object that is given, and no other byte of any object's slot; taking back those of
+/// the object that is taken back.
+pub fn giving_and_taking_write_one_object()
+    ensures given { (s : CheckedState) (answer : CheckedGive) (after : CheckedState) → IsSound s → step.Gives s answer after → GivesBytes s answer after }
+    ensures taken { (s : CheckedState) (slot : Slot) (answer : Result (Unit {0}) Damage) (after : CheckedState) → IsSound s → IsUsed s slot → step.TakesBack s slot answer after → TakesBytes s slot answer after }
 {}

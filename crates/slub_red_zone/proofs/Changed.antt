@@ -37,7 +37,7 @@ module _ (s : CheckedState) (slot : Slot) (sound : IsSound s) (object : IsObject
 
   -- the bytes of the object's slab are others: what another object's slot has then
   module _ (slab : SlabState) (listed : List ℕ) (others_stay : (index : ℕ) → index ≢ slot.index → index < objects_in (slab_of s slot.frame) → slot_of s.layout slab.bytes index ≡ slot_of s.layout (slab_of s slot.frame).bytes index) where
-    other-bytes : KeepsOtherBytes s slot (record s { slabs = set s.slabs slot.frame (Some slab); listed = listed })
+    pub other-bytes : KeepsOtherBytes s slot (record s { slabs = set s.slabs slot.frame (Some slab); listed = listed })
     other-bytes other ne is =
         elim (cases_eq other.frame slot.frame) [
           | inl same ↦
@@ -49,7 +49,7 @@ module _ (s : CheckedState) (slot : Slot) (sound : IsSound s) (object : IsObject
           | inr apart ↦ ap (λ (slab : SlabState). slot_of s.layout slab.bytes other.index) (slab_at-other s.slabs slot.frame other.frame (Some slab) apart)
         ]
 
-  this-bytes : (slab : SlabState) → slot_of s.layout (slab_at (set s.slabs slot.frame (Some slab)) slot.frame).bytes slot.index ≡ slot_of s.layout slab.bytes slot.index
+  pub this-bytes : (slab : SlabState) → slot_of s.layout (slab_at (set s.slabs slot.frame (Some slab)) slot.frame).bytes slot.index ≡ slot_of s.layout slab.bytes slot.index
   this-bytes slab = ap (λ (slab : SlabState). slot_of s.layout slab.bytes slot.index) (slab_at-set s.slabs slot.frame slab within)
 
   -- the object is set up

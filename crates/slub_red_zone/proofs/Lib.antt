@@ -18,3 +18,4 @@ pub mod NewSlabs
 pub mod Written
 pub mod Telling
 pub mod Changed
+pub mod Pokes

@@ -1,5 +1,5 @@
 -- The objects of a new slab are whole.
-use Rattle.std.proofs.Common.{◌≡◌, ℕ, zero, suc, ◌+◌, ◌*◌, ◌-◌, ◌<◌, ◌≤◌, ◌++◌, List, length, take, drop, replicate, None, Ok, refl, ap, arith, subst, sym, ◌∙◌, inl, inr}
+use Rattle.std.proofs.Common.{◌≡◌, ℕ, zero, suc, ◌+◌, ◌*◌, ◌-◌, ◌<◌, ◌≤◌, ◌++◌, List, length, take, drop, replicate, None, Ok, refl, ap, arith, subst, sym, ◌∙◌, length-append, inl, inr}
 use Rattle.std.specs.Prelude.{slice_range}
 use Rattle.std.specs.List.{concat}
 use Rattle.std.proofs.Math.Seq.{take-append_seam, drop-append-add}
@@ -8,12 +8,13 @@ use Rattle.slub_red_zone.specs.declared.checked.CheckedGive.TheVariants.{Given}
 use Rattle.slub_red_zone.specs.declared.checked.Run.{Run}
 use Rattle.slub_red_zone.specs.declared.checked.Slot.{Slot}
 use Rattle.slub_red_zone.specs.Zones.{new_slot, damage_when_given}
-use Rattle.slub_red_zone.specs.State.{SlabState, CheckedState, slab_of, slot_of}
+use Rattle.slub_red_zone.specs.State.{SlabState, CheckedState, Has, slot_of}
 use Rattle.slub_red_zone.specs.Steps.{Gives, next_is_whole, GivesNew, IsNext, new_slab, with_new_slab, with_given, first_of, damage_of_free}
 use Rattle.slub_red_zone.specs.Sound.{IsSound, IsSized}
 use Rattle.slub_red_zone.specs.Told.{bytes_of}
 use Rattle.slub_red_zone.proofs.Sums.{slab_at-set}
 use Rattle.slub_red_zone.proofs.Parts.{new-long, new-given}
+use Rattle.slub_red_zone.proofs.Comings.{new-sound}
 use Rattle.slub_red_zone.proofs.Objects.{first-is-next}
 
 -- one of some copies, which stand one after the other
@@ -32,6 +33,17 @@ copy-slot layout xs i n long inside =
     let wide : i * layout.size + layout.size - i * layout.size ≡ length xs = omega (arith, long) in
     let at : i * layout.size ≡ i * length xs = ap (λ (size : ℕ). i * size) (sym long) in
     rw (wide, at) (copy-at xs i n inside)
+
+-- so many copies are so many times as long
+copies-long : (n : ℕ) (xs : List ℕ) → length (concat (replicate n xs)) ≡ n * length xs
+copies-long zero xs = omega arith
+copies-long (suc n) xs = omega (arith, length-append xs (concat (replicate n xs)), copies-long n xs)
+
+-- the slabs with a new one hold together
+pub with-new-sound : (s : CheckedState) (run : Run) (objects : ℕ) → IsSound s → ¬ Has s run.frame → 1 ≤ run.frame → run.frame < 4096 → IsSized s.layout run.order objects → IsSound (with_new_slab s run objects)
+with-new-sound s run objects sound new first last sized =
+    new-sound s run objects sound new first last sized
+    (copies-long objects (new_slot s.layout s.flags) ∙ ap (λ (n : ℕ). objects * n) (new-long s.layout s.flags sound.layout))
 
 module _ (s : CheckedState) (run : Run) (objects : ℕ) (sound : IsSound s) (last : run.frame < 4096) where
   place : run.frame < length s.slabs

@@ -18,7 +18,7 @@ module _ (layout : Layout) (bytes : List ℕ) (index : ℕ) (inside : index * la
       get_or-take (index * layout.size + layout.size - index * layout.size) (drop (index * layout.size) bytes) place 0 (omega (arith, less)) ∙ get_or-drop (index * layout.size) bytes place 0
 
 -- the slots of two objects have no byte in common
-slots-apart : (size i j place : ℕ) → place < size → i ≢ j → (j * size + place < i * size) ⊎ (i * size + size ≤ j * size + place)
+pub slots-apart : (size i j place : ℕ) → place < size → i ≢ j → (j * size + place < i * size) ⊎ (i * size + size ≤ j * size + place)
 slots-apart size i j place less ne =
     elim (cases_lt j i) [
       | inl before ↦ let more : suc j * size ≤ i * size = mul-le-mul_right size before in inl (omega (arith, more, less))

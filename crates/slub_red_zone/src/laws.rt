@@ -1,15 +1,16 @@
 //! What follows from the definitions, for the crates above. None of these does anything.
 
-ghost use Rattle.std.specs.Prelude.{◌≡◌, ◌↔◌, ℕ, Result, ◌<◌, ◌≤◌, length, IsTrue, None, Some, Ok};
+ghost use Rattle.std.specs.Prelude.{◌≡◌, ◌↔◌, ℕ, ℤ, ◌+◌, ◌*◌, ◌<◌, ◌≤◌, length, IsTrue, Option, None, Some, Result, Ok};
 ghost use Rattle.slub_object_layout.specs.Layout.{IsWithinBounds};
 ghost use Rattle.slub_red_zone.specs.Zones as spec;
 ghost use Rattle.slub_red_zone.specs.declared.zones.Damage.{Damage};
 ghost use Rattle.slub_red_zone.specs.Bytes.{AreWhole, IsWritten, Tells};
 ghost use Rattle.slub_red_zone.specs.Sound.{IsLayoutFor, IsSized, IsSound};
-ghost use Rattle.slub_red_zone.specs.State.{CheckedState, IsUsed};
-ghost use Rattle.slub_red_zone.specs.Changes.{GivesBytes, TakesBytes};
+ghost use Rattle.slub_red_zone.specs.State.{CheckedState, Has, IsUsed};
+ghost use Rattle.slub_red_zone.specs.Changes.{IsObject, KeepsBytes, GivesBytes, TakesBytes, PokesBytes, WritesWord};
 ghost use Rattle.slub_red_zone.specs.Steps as step;
 ghost use Rattle.slub_red_zone.specs.Told.{bytes_of, TellsOfSlabs};
+ghost use Rattle.slub_red_zone.specs.declared.checked.OutOfSlot.{OutOfSlot};
 ghost use Rattle.slub_red_zone.specs.declared.checked.Run.{Run};
 ghost use Rattle.slub_red_zone.specs.declared.checked.Slot.{Slot};
 ghost use Rattle.slub_red_zone.specs.declared.checked.CheckedGive.{CheckedGive};
@@ -49,6 +50,8 @@ pub fn new_slots_are_whole(layout: &Layout, flags: &Flags)
 
 /// Each object of a new slab is set up as free, and nothing keeps it from being given.
 pub fn objects_of_a_new_slab_are_whole()
+    ensures sound { (s : CheckedState) (run : Run) (objects : ℕ) → IsSound s → ¬ Has s run.frame → 1 ≤ run.frame → run.frame < 4096 → IsSized s.layout run.order objects
+        → IsSound (step.with_new_slab s run objects) }
     ensures bytes { (s : CheckedState) (run : Run) (objects index : ℕ) → IsSound s → run.frame < 4096 → index < objects
         → bytes_of (step.with_new_slab s run objects) (record { frame = run.frame; index = index }) ≡ spec.new_slot s.layout s.flags }
     ensures undamaged { (s : CheckedState) (run : Run) (objects index : ℕ) → IsSound s → run.frame < 4096 → index < objects
@@ -72,4 +75,18 @@ pub fn giving_tells_of_slabs()
 pub fn giving_and_taking_write_one_object()
     ensures given { (s : CheckedState) (answer : CheckedGive) (after : CheckedState) → IsSound s → step.Gives s answer after → GivesBytes s answer after }
     ensures taken { (s : CheckedState) (slot : Slot) (answer : Result (Unit {0}) Damage) (after : CheckedState) → IsSound s → IsUsed s slot → step.TakesBack s slot answer after → TakesBytes s slot answer after }
+{}
+
+/// A poke writes one byte of one object's slot, and a write of a word no byte but the eight of that word.
+pub fn poking_and_writing_write_one_place()
+    ensures poked { (s : CheckedState) (slot : Slot) (offset : ℤ) (byte : ℕ) (answer : Result (Unit {0}) OutOfSlot) (after : CheckedState) → IsSound s → IsObject s slot
+        → step.Pokes s slot offset byte answer after → PokesBytes s slot offset byte answer after }
+    ensures written { (s : CheckedState) (slot : Slot) (word value : ℕ) → IsSound s → IsUsed s slot → 8 * (word + 1) ≤ s.layout.object_size → WritesWord s slot word (step.with_word s slot word value) }
+{}
+
+/// A slab that comes or goes leaves the bytes of the objects of every other.
+pub fn slabs_come_and_go_alone()
+    ensures come { (s : CheckedState) (run : Run) (objects : ℕ) → ¬ Has s run.frame → KeepsBytes s (step.with_new_slab s run objects) }
+    ensures gone { (s : CheckedState) (frame limit : ℕ) (answer : Option Run) (after : CheckedState) → IsSound s → step.TakesEmpty s frame limit answer after
+        → (slot : Slot) → IsObject after slot → bytes_of after slot ≡ bytes_of s slot }
 {}

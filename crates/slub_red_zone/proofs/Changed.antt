@@ -1,22 +1,22 @@
 -- Which bytes each call changes.
-use Rattle.std.proofs.Common.{◌≡◌, ◌≢◌, ℕ, ◌+◌, ◌*◌, ◌<◌, ◌≤◌, List, length, get_or, set, Option, None, Some, Result, Ok, Err, unwrap_or, refl, ap, arith, subst, sym, ◌∙◌, inl, inr}
+use Rattle.std.proofs.Common.{◌≡◌, ◌≢◌, ℕ, ◌+◌, ◌*◌, ◌<◌, ◌≤◌, List, length, set, Some, Result, Ok, Err, refl, ap, arith, subst, sym, ◌∙◌, inl, inr}
 use Rattle.std.proofs.lemmas.Bool.{cases_eq}
 use Rattle.slub_red_zone.specs.declared.zones.Damage.{Damage}
 use Rattle.slub_red_zone.specs.declared.checked.CheckedGive.{CheckedGive}
 use Rattle.slub_red_zone.specs.declared.checked.CheckedGive.TheVariants.{Given, Empty}
 use Rattle.slub_red_zone.specs.declared.checked.Slot.{Slot}
-use Rattle.slub_red_zone.specs.State.{SlabState, CheckedState, IsUsed, slab_at, slab_of, slot_of, with_slot, with_slab, objects_in}
+use Rattle.slub_red_zone.specs.State.{SlabState, CheckedState, IsUsed, slab_at, slab_of, slot_of, with_slot, objects_in}
 use Rattle.slub_red_zone.specs.Zones.{red_active, red_inactive, written, set_up}
-use Rattle.slub_red_zone.specs.Steps.{Gives, nothing_listed, next_is_whole, next_is_damaged, IsNext, TakesBack, slab_with_given, slab_with_taken, with_given, with_damaged, with_taken}
-use Rattle.slub_red_zone.specs.Sound.{IsSound, IsSlab}
+use Rattle.slub_red_zone.specs.Steps.{Gives, nothing_listed, next_is_whole, next_is_damaged, TakesBack, slab_with_given, slab_with_taken, with_damaged}
+use Rattle.slub_red_zone.specs.Sound.{IsSound}
 use Rattle.slub_red_zone.specs.Bytes.{IsWritten}
 use Rattle.slub_red_zone.specs.Told.{bytes_of}
 use Rattle.slub_red_zone.specs.Changes.{IsObject, KeepsBytes, KeepsOtherBytes, SetsUp, GivesBytes, TakesBytes}
 use Rattle.slub_red_zone.proofs.OneSlab.{slot-inside}
 use Rattle.slub_red_zone.proofs.Sums.{slab_at-set}
 use Rattle.slub_red_zone.proofs.Whole.{slab-sound}
-use Rattle.slub_red_zone.proofs.Given.{next-slab, next-object, next-frame, next-inside, damaged-sound}
-use Rattle.slub_red_zone.proofs.Taken.{used-object, used-some, used-inside, frame-within}
+use Rattle.slub_red_zone.proofs.Given.{next-object, damaged-sound}
+use Rattle.slub_red_zone.proofs.Taken.{used-object, frame-within}
 use Rattle.slub_red_zone.proofs.Parts.{set_up-writes}
 use Rattle.slub_red_zone.proofs.Written.{slot-long, with_slot-this, with_slot-other}
 use Rattle.slub_red_zone.proofs.Telling.{slab_at-other, damaged-bytes, damaged-objects}

@@ -19,3 +19,4 @@ pub mod Written
 pub mod Telling
 pub mod Changed
 pub mod Pokes
+pub mod NoneAside

@@ -1,6 +1,5 @@
 -- The objects of a new slab are whole.
-use Rattle.std.proofs.Common.{◌≡◌, ℕ, zero, suc, ◌+◌, ◌*◌, ◌-◌, ◌<◌, ◌≤◌, ◌++◌, List, length, take, drop, replicate, None, Ok, refl, ap, arith, subst, sym, ◌∙◌, length-append, inl, inr}
-use Rattle.std.specs.Prelude.{slice_range}
+use Rattle.std.proofs.Common.{◌≡◌, ℕ, zero, suc, ◌+◌, ◌*◌, ◌-◌, ◌<◌, ◌≤◌, List, length, take, drop, replicate, None, Ok, refl, ap, arith, subst, sym, ◌∙◌, length-append, inl, inr}
 use Rattle.std.specs.List.{concat}
 use Rattle.std.proofs.Math.Seq.{take-append_seam, drop-append-add}
 use Rattle.slub_object_layout.specs.declared.layout.Layout.{Layout}
@@ -9,7 +8,7 @@ use Rattle.slub_red_zone.specs.declared.checked.Run.{Run}
 use Rattle.slub_red_zone.specs.declared.checked.Slot.{Slot}
 use Rattle.slub_red_zone.specs.Zones.{new_slot, damage_when_given}
 use Rattle.slub_red_zone.specs.State.{SlabState, CheckedState, Has, slot_of}
-use Rattle.slub_red_zone.specs.Steps.{Gives, next_is_whole, GivesNew, IsNext, new_slab, with_new_slab, with_given, first_of, damage_of_free}
+use Rattle.slub_red_zone.specs.Steps.{Gives, next_is_whole, GivesNew, new_slab, with_new_slab, with_given, first_of, damage_of_free}
 use Rattle.slub_red_zone.specs.Sound.{IsSound, IsSized}
 use Rattle.slub_red_zone.specs.Told.{bytes_of}
 use Rattle.slub_red_zone.proofs.Sums.{slab_at-set}

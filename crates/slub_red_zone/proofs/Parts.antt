@@ -1,12 +1,12 @@
 -- The parts of a slot: where they lie, and what follows for what is examined and written.
-use Rattle.std.proofs.Common.{◌≡◌, ℕ, ◌+◌, ◌-◌, ◌<◌, ◌≤◌, ◌++◌, ◌↔◌, ◌||◌, Bool, true, false, IsTrue, List, [], ◌∷◌, length, get_or, replicate, All, Option, None, Some, refl, ap, arith, subst, sym, ◌∙◌, append_assoc, if◌then◌else◌}
+use Rattle.std.proofs.Common.{◌≡◌, ℕ, ◌+◌, ◌≤◌, ◌++◌, ◌↔◌, Bool, true, false, IsTrue, List, [], ◌∷◌, length, replicate, All, Option, None, Some, refl, ap, arith, subst, sym, ◌∙◌, if◌then◌else◌}
 use Rattle.std.proofs.lemmas.Bool.{false≢true}
 use Rattle.std.proofs.lemmas.List.{get_or-replicate, length-replicate}
-use Rattle.std.proofs.lemmas.List.Elements.{All-nil, All-cons, All-append, All-same}
+use Rattle.std.proofs.lemmas.List.Elements.{All-nil, All-cons, All-append}
 use Rattle.slub_object_layout.specs.declared.layout.Flags.{Flags}
 use Rattle.slub_object_layout.specs.declared.layout.Layout.{Layout}
 use Rattle.slub_object_layout.specs.declared.layout.Spec.{Spec}
-use Rattle.slub_object_layout.specs.Layout.{IsWithinBounds, has_pointer_behind, offset_of, inuse_of}
+use Rattle.slub_object_layout.specs.Layout.{IsWithinBounds, offset_of, inuse_of}
 use Rattle.slub_red_zone.specs.declared.zones.Damage.{Damage}
 use Rattle.slub_red_zone.specs.declared.zones.Part.{Part}
 use Rattle.slub_red_zone.specs.Zones.{red_inactive, red_active, padding_byte, left_zone, right_zone, poison_but_end, poison_last, padding_part, red_zones, poison, padding, written, examined_free, examined_used, first_damage, damage_when_given, damage_when_taken, set_up, fill_byte, new_slot}

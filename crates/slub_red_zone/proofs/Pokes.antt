@@ -1,22 +1,24 @@
 -- Which bytes a poke and a write change, and which a slab that comes or goes.
-use Rattle.std.proofs.Common.{◌≡◌, ◌≢◌, ℕ, ◌+◌, ◌*◌, ◌-◌, ◌<◌, ◌≤◌, ◌++◌, not, ◌==◌, List, ◌∷◌, [], length, get_or, take, drop, set, filter, Option, None, Some, IsSome, Result, Ok, Err, ℤ, pos, negsuc, ◌<ℤ◌, ◌≤ℤ◌, nat_abs, w64, unwrap_or, refl, ap, arith, subst, sym, ◌∙◌, length-set, inl, inr}
-use Rattle.std.specs.Int.{to_le_bytes}
+use Rattle.std.proofs.Common.{◌≡◌, ◌≢◌, ℕ, ◌+◌, ◌*◌, ◌-◌, ◌<◌, ◌≤◌, ◌++◌, List, length, get_or, take, drop, set, Option, None, Some, IsSome, Result, Ok, Err, ℤ, pos, negsuc, ◌<ℤ◌, ◌≤ℤ◌, nat_abs, w64, unwrap_or, refl, ap, arith, subst, sym, ◌∙◌, length-set, length-take, length-drop, inl, inr}
+use Rattle.std.specs.Int.{from_le_bytes, to_le_bytes}
+use Rattle.std.specs.Prelude.{slice_range, ◌^◌}
+use Rattle.std.proofs.lemmas.Nat.{from_le_bytes-to_le_bytes_8}
 use Rattle.std.proofs.lemmas.Bool.{cases_eq, cases_lt}
 use Rattle.std.proofs.lemmas.Int.{ints}
-use Rattle.std.proofs.lemmas.List.{ext_get_or, get_or-set_same, get_or-set_other, get_or_past}
-use Rattle.slub_object_layout.specs.declared.layout.Layout.{Layout}
+use Rattle.std.proofs.lemmas.List.{ext_get_or, get_or-take, get_or-drop, get_or-set_same, get_or-set_other, get_or_past}
 use Rattle.slub_red_zone.specs.declared.checked.OutOfSlot.{OutOfSlot}
 use Rattle.slub_red_zone.specs.declared.checked.Run.{Run}
 use Rattle.slub_red_zone.specs.declared.checked.Slot.{Slot}
 use Rattle.slub_red_zone.specs.State.{SlabState, CheckedState, Has, IsUsed, no_slab, slab_at, slab_of, slot_of, objects_in}
-use Rattle.slub_red_zone.specs.Steps.{IsOffset, place_of, with_byte, Pokes, word_place, with_word, new_slab, with_new_slab, without_slab, TakesEmpty}
+use Rattle.slub_red_zone.specs.Steps.{place_of, Pokes, word_place, word_of, with_word, new_slab, with_new_slab, TakesEmpty}
 use Rattle.slub_red_zone.specs.Sound.{IsSound}
 use Rattle.slub_red_zone.specs.Told.{bytes_of}
 use Rattle.slub_red_zone.specs.Changes.{IsObject, KeepsBytes, IsOffWord, PokesByte, PokesBytes, WritesWord}
 use Rattle.slub_red_zone.proofs.OneSlab.{slot-inside}
 use Rattle.slub_red_zone.proofs.Whole.{slab-sound}
-use Rattle.slub_red_zone.proofs.Taken.{used-object, used-inside, word-inside}
-use Rattle.slub_red_zone.proofs.Splices.{spliced-long, spliced-before, spliced-behind}
+use Rattle.slub_red_zone.proofs.Taken.{used-object, used-some, frame-within, word-inside}
+use Rattle.slub_red_zone.proofs.Sums.{slab_at-set}
+use Rattle.slub_red_zone.proofs.Splices.{spliced-long, spliced-in, spliced-before, spliced-behind}
 use Rattle.slub_red_zone.proofs.Written.{slot-long, slot-read, slots-apart}
 use Rattle.slub_red_zone.proofs.Telling.{slab_at-other}
 use Rattle.slub_red_zone.proofs.Changed.{other-bytes, this-bytes}
@@ -27,9 +29,6 @@ place-below (pos n) size from below = omega (arith, ints, below)
 place-below (negsuc n) size from below = absurd (omega (arith, ints, from))
 
 module _ (s : CheckedState) (slot : Slot) (sound : IsSound s) (object : IsObject s slot) where
-  bytes : List ℕ
-  bytes = (slab_of s slot.frame).bytes
-
   inside : slot.index * s.layout.size + s.layout.size ≤ length (slab_of s slot.frame).bytes
   inside = slot-inside s.layout (slab_of s slot.frame) (slab-sound s slot.frame sound (omega (arith, object))) slot.index object
 
@@ -37,7 +36,7 @@ module _ (s : CheckedState) (slot : Slot) (sound : IsSound s) (object : IsObject
   other-inside index less = slot-inside s.layout (slab_of s slot.frame) (slab-sound s slot.frame sound (omega (arith, object))) index less
 
   -- one byte is written
-  pub pokes-byte : (place byte : ℕ) → place < s.layout.size
+  pokes-byte : (place byte : ℕ) → place < s.layout.size
       → let slab = record (slab_of s slot.frame) { bytes = set (slab_of s slot.frame).bytes (slot.index * s.layout.size + place) byte } in
       slot_of s.layout slab.bytes slot.index ≡ set (bytes_of s slot) place byte
   pokes-byte place byte few =
@@ -186,3 +185,53 @@ takes-empty-bytes s frame limit (Some run) after sound takes slot is =
           | inl inside ↦ let e = ap (λ (x : Option SlabState). objects_in (unwrap_or x no_slab)) (get_or-set_same s.slabs frame None None inside) in omega (arith, e, less)
           | inr past ↦ let e = ap (λ (x : Option SlabState). objects_in (unwrap_or x no_slab)) (get_or_past (set s.slabs frame None) frame None (omega (arith, past, length-set s.slabs frame None))) in omega (arith, e, less)
         ]
+
+-- ---- words
+
+-- a run of a run
+run-of-run : (xs : List ℕ) (from size at : ℕ) → from + size ≤ length xs → at + 8 ≤ size → slice_range (slice_range xs from (from + size)) at (at + 8) ≡ slice_range xs (from + at) (from + at + 8)
+run-of-run xs from size at inside within =
+    let wide : from + size - from ≡ size = omega arith in
+    let eight : at + 8 - at ≡ 8 = omega arith in
+    let eight_more : from + at + 8 - (from + at) ≡ 8 = omega arith in
+    let run = take (from + size - from) (drop from xs) in
+    let long : length run ≡ size = omega (arith, length-take (from + size - from) (drop from xs), length-drop from xs, inside) in
+    ext_get_or 0 (take (at + 8 - at) (drop at run)) (take (from + at + 8 - (from + at)) (drop (from + at) xs))
+    (omega (arith, length-take (at + 8 - at) (drop at run), length-drop at run, long, length-take (from + at + 8 - (from + at)) (drop (from + at) xs), length-drop (from + at) xs, inside, within))
+    (λ k less.
+        let few : k < 8 = omega (arith, less, length-take (at + 8 - at) (drop at run), length-drop at run, long) in
+        let same : from + (at + k) ≡ from + at + k = omega arith in
+        get_or-take (at + 8 - at) (drop at run) k 0 (omega (arith, few)) ∙ get_or-drop at run k 0 ∙ get_or-take (from + size - from) (drop from xs) (at + k) 0 (omega (arith, few, within))
+        ∙ get_or-drop from xs (at + k) 0 ∙ ap (λ (p : ℕ). get_or xs p 0) same
+        ∙ sym (get_or-take (from + at + 8 - (from + at)) (drop (from + at) xs) k 0 (omega (arith, few)) ∙ get_or-drop (from + at) xs k 0))
+
+-- a word of an object is eight bytes of its slot
+pub word-in-slot : (s : CheckedState) (slot : Slot) (word : ℕ) → IsSound s → IsObject s slot → 8 * (word + 1) ≤ s.layout.object_size
+    → word_of s slot word ≡ from_le_bytes w64 (slice_range (bytes_of s slot) (s.layout.left_pad + 8 * word) (s.layout.left_pad + 8 * word + 8))
+word-in-slot s slot word sound object inner =
+    let was = (slab_of s slot.frame).bytes in
+    let b = sound.layout.bounds in
+    let at : slot.index * s.layout.size + s.layout.left_pad + 8 * word ≡ slot.index * s.layout.size + (s.layout.left_pad + 8 * word) = omega arith in
+    ap (λ (at : ℕ). from_le_bytes w64 (slice_range was at (at + 8))) at
+    ∙ sym (ap (from_le_bytes w64) (run-of-run was (slot.index * s.layout.size) s.layout.size (s.layout.left_pad + 8 * word) (inside s slot sound object) (omega (arith, inner, b.inuse, b.left_pad))))
+
+-- what was written is read
+pub word-written : (s : CheckedState) (slot : Slot) (word value : ℕ) → IsSound s → IsUsed s slot → 8 * (word + 1) ≤ s.layout.object_size → value < 2 ^ 64 → word_of (with_word s slot word value) slot word ≡ value
+word-written s slot word value sound used inner small =
+    let at = word_place s.layout slot.index word in
+    let was = (slab_of s slot.frame).bytes in
+    let slab : SlabState = record (slab_of s slot.frame) { bytes = take at was ++ to_le_bytes w64 value ++ drop (at + 8) was } in
+    let fits : at + 8 ≤ length was = omega (arith, word-inside s slot sound used word inner) in
+    let long : length (to_le_bytes w64 value) ≡ at + 8 - at = omega arith in
+    let eight : at + 8 - at ≡ length (to_le_bytes w64 value) = omega arith in
+    let front : length (take at was) ≡ at = omega (arith, length-take at was, fits) in
+    let there : slice_range slab.bytes at (at + 8) ≡ to_le_bytes w64 value =
+    ext_get_or 0 (take (at + 8 - at) (drop at slab.bytes)) (to_le_bytes w64 value)
+    (omega (arith, length-take (at + 8 - at) (drop at slab.bytes), length-drop at slab.bytes, spliced-long was (to_le_bytes w64 value) at (at + 8) (omega arith) fits long, fits, long))
+    (λ k less.
+        let few : k < 8 = omega (arith, less, length-take (at + 8 - at) (drop at slab.bytes)) in
+        let back : at + k - at ≡ k = omega arith in
+        get_or-take (at + 8 - at) (drop at slab.bytes) k 0 (omega (arith, few)) ∙ get_or-drop at slab.bytes k 0
+        ∙ spliced-in was (to_le_bytes w64 value) at (at + 8) (omega arith) fits long (at + k) (omega arith) (omega (arith, few)) ∙ ap (λ (p : ℕ). get_or (to_le_bytes w64 value) p 0) back) in
+    ap (λ (slab : SlabState). from_le_bytes w64 (slice_range slab.bytes at (at + 8))) (slab_at-set s.slabs slot.frame slab (frame-within s slot.frame sound (used-some s slot sound used)))
+    ∙ ap (from_le_bytes w64) there ∙ from_le_bytes-to_le_bytes_8 value small

@@ -1,22 +1,20 @@
 -- The bytes of one slot: what is whole, what is told, and what is written.
-use Rattle.std.proofs.Common.{◌≡◌, ◌≢◌, ℕ, zero, suc, ◌+◌, ◌-◌, ◌<◌, ◌≤◌, ◌++◌, ◌==◌, not, Bool, true, false, List, [], ◌∷◌, length, get_or, take, drop, replicate, fold, All, Contains, Option, None, Some, option_map, pos, ◌-ℤ◌, refl, ap, arith, subst, sym, ◌∙◌, append_assoc, length-append, length-take, length-drop, if◌then◌else◌, inl, inr}
+use Rattle.std.proofs.Common.{◌≡◌, ◌≢◌, ℕ, suc, ◌+◌, ◌-◌, ◌<◌, ◌≤◌, ◌==◌, not, Bool, true, false, List, [], ◌∷◌, length, get_or, drop, replicate, fold, All, Option, None, Some, option_map, refl, ap, arith, subst, sym, ◌∙◌, length-take, length-drop, inl, inr}
 use Rattle.std.specs.Prelude.{position, slice_range, slice_index}
 use Rattle.std.specs.Option.{option_or}
 use Rattle.std.specs.List.{prefix_len}
 use Rattle.std.proofs.lemmas.Bool.Decides.{nat_tests}
 use Rattle.std.proofs.lemmas.Bool.{cases_lt, false≢true}
 use Rattle.std.proofs.lemmas.Int.{ints}
-use Rattle.std.proofs.lemmas.List.{get_or-take, get_or-drop, get_or-replicate, length-replicate, get_or_append_left, get_or-append_right}
-use Rattle.std.proofs.lemmas.List.Elements.{All-nil, All-cons, All-head, All-tail, All-append}
+use Rattle.std.proofs.lemmas.List.{get_or-take, get_or-drop, get_or-replicate, length-replicate}
+use Rattle.std.proofs.lemmas.List.Elements.{All-nil, All-cons, All-head, All-tail}
 use Rattle.std.proofs.lemmas.List.Quantifiers.{position-Some}
 use Rattle.std.proofs.lemmas.List.Sums.{prefix_len_passes}
-use Rattle.slub_object_layout.specs.declared.layout.Flags.{Flags}
 use Rattle.slub_object_layout.specs.declared.layout.Layout.{Layout}
-use Rattle.slub_object_layout.specs.Layout.{IsWithinBounds}
 use Rattle.slub_red_zone.specs.declared.zones.Damage.{Damage}
 use Rattle.slub_red_zone.specs.declared.zones.Part.{Part}
 use Rattle.slub_red_zone.specs.Zones.{damage_at, damage_in, first_damage, with_part}
-use Rattle.slub_red_zone.specs.Bytes.{IsIn, IsInSome, IsWhole, AreWhole, IsWritten, Tells}
+use Rattle.slub_red_zone.specs.Bytes.{IsIn, IsWhole, AreWhole, IsWritten, Tells}
 use Rattle.slub_red_zone.proofs.Splices.{spliced-long, spliced-in, spliced-before, spliced-behind}
 
 -- the part lies in a slot of so many bytes

@@ -1,6 +1,5 @@
 -- A run of a list is written, and the rest stays.
-use Rattle.std.proofs.Common.{◌≡◌, ℕ, ◌+◌, ◌-◌, ◌<◌, ◌≤◌, ◌++◌, List, length, get_or, take, drop, ap, arith, ◌∙◌, append_assoc, length-append, length-take, length-drop, inl, inr}
-use Rattle.std.proofs.lemmas.Bool.{cases_lt}
+use Rattle.std.proofs.Common.{◌≡◌, ℕ, ◌+◌, ◌-◌, ◌<◌, ◌≤◌, ◌++◌, List, length, get_or, take, drop, ap, arith, ◌∙◌, append_assoc, length-append, length-take, length-drop}
 use Rattle.std.proofs.lemmas.List.{get_or-take, get_or-drop, get_or_append_left, get_or-append_right}
 
 module _ (xs new : List ℕ) (from to : ℕ) (rising : from ≤ to) (inside : to ≤ length xs) (wide : length new ≡ to - from) where

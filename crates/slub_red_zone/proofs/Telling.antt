@@ -1,5 +1,5 @@
 -- What giving tells, and in which slabs objects are set aside.
-use Rattle.std.proofs.Common.{◌≡◌, ◌≢◌, ℕ, zero, suc, ◌+◌, ◌<◌, ◌≤◌, ◌++◌, List, [], ◌∷◌, length, get_or, set, map, All, Any, Option, None, Some, unwrap_or, slice_get, refl, ap, arith, subst, sym, ◌∙◌, append_assoc, append-nil, inl, inr}
+use Rattle.std.proofs.Common.{◌≡◌, ◌≢◌, ℕ, zero, suc, List, [], ◌∷◌, set, map, Option, None, Some, unwrap_or, slice_get, refl, ap, arith, subst, sym, ◌∙◌, append_assoc, append-nil, inl, inr}
 use Rattle.std.proofs.lemmas.Bool.{cases_eq}
 use Rattle.std.proofs.lemmas.List.{get_or-set_other, length-map}
 use Rattle.std.proofs.lemmas.List.Elements.{All-nil, All-cons, All-weaker}
@@ -15,7 +15,7 @@ use Rattle.slub_red_zone.specs.Steps.{Gives, nothing_listed, next_is_whole, next
 use Rattle.slub_red_zone.specs.Sound.{IsSound}
 use Rattle.slub_red_zone.specs.Zones.{examined_free}
 use Rattle.slub_red_zone.specs.Bytes.{Tells}
-use Rattle.slub_red_zone.specs.Told.{bytes_of, IsReportOf, IsReport, IsOfSlab, TellsOfSlabs}
+use Rattle.slub_red_zone.specs.Told.{bytes_of, IsReportOf, IsReport, TellsOfSlabs}
 use Rattle.slub_red_zone.proofs.OneSlab.{first-is-free, given-counts}
 use Rattle.slub_red_zone.proofs.Sums.{slab_at-set}
 use Rattle.slub_red_zone.proofs.Given.{next-slab, next-object, next-frame, next-inside, damaged-sound}

@@ -1,6 +1,7 @@
 //! What follows from the definitions, for the crates above. None of these does anything.
 
-ghost use Rattle.std.specs.Prelude.{◌≡◌, ◌↔◌, ℕ, ℤ, ◌+◌, ◌*◌, ◌<◌, ◌≤◌, length, IsTrue, Option, None, Some, Result, Ok};
+ghost use Rattle.std.specs.Prelude.{◌≡◌, ◌↔◌, ℕ, ℤ, ◌+◌, ◌*◌, ◌^◌, ◌<◌, ◌≤◌, length, slice_range, IsTrue, Option, None, Some, Result, Ok};
+ghost use Rattle.std.specs.Int.{w64, from_le_bytes};
 ghost use Rattle.slub_object_layout.specs.Layout.{IsWithinBounds};
 ghost use Rattle.slub_red_zone.specs.Zones as spec;
 ghost use Rattle.slub_red_zone.specs.declared.zones.Damage.{Damage};
@@ -9,7 +10,7 @@ ghost use Rattle.slub_red_zone.specs.Sound.{IsLayoutFor, IsSized, IsSound};
 ghost use Rattle.slub_red_zone.specs.State.{CheckedState, Has, IsUsed};
 ghost use Rattle.slub_red_zone.specs.Changes.{IsObject, KeepsBytes, GivesBytes, TakesBytes, PokesBytes, WritesWord};
 ghost use Rattle.slub_red_zone.specs.Steps as step;
-ghost use Rattle.slub_red_zone.specs.Told.{bytes_of, TellsOfSlabs};
+ghost use Rattle.slub_red_zone.specs.Told.{bytes_of, SetsNoneAside, TellsOfSlabs};
 ghost use Rattle.slub_red_zone.specs.declared.checked.OutOfSlot.{OutOfSlot};
 ghost use Rattle.slub_red_zone.specs.declared.checked.Run.{Run};
 ghost use Rattle.slub_red_zone.specs.declared.checked.Slot.{Slot};
@@ -70,6 +71,15 @@ pub fn giving_tells_of_slabs()
     ensures { (s : CheckedState) (answer : CheckedGive) (after : CheckedState) → IsSound s → step.Gives s answer after → TellsOfSlabs s after }
 {}
 
+/// No call but giving sets objects aside.
+pub fn only_giving_sets_aside()
+    ensures taken { (s : CheckedState) (slot : Slot) (answer : Result (Unit {0}) Damage) (after : CheckedState) → IsSound s → IsUsed s slot → step.TakesBack s slot answer after → SetsNoneAside s after }
+    ensures poked { (s : CheckedState) (slot : Slot) (offset : ℤ) (byte : ℕ) (answer : Result (Unit {0}) OutOfSlot) (after : CheckedState) → step.Pokes s slot offset byte answer after → SetsNoneAside s after }
+    ensures written { (s : CheckedState) (slot : Slot) (word value : ℕ) → SetsNoneAside s (step.with_word s slot word value) }
+    ensures come { (s : CheckedState) (run : Run) (objects : ℕ) → SetsNoneAside s (step.with_new_slab s run objects) }
+    ensures gone { (s : CheckedState) (frame limit : ℕ) (answer : Option Run) (after : CheckedState) → step.TakesEmpty s frame limit answer after → SetsNoneAside s after }
+{}
+
 /// Giving writes the parts of the object that is given, and no other byte of any object's slot; taking back those of
 /// the object that is taken back.
 pub fn giving_and_taking_write_one_object()
@@ -82,6 +92,14 @@ pub fn poking_and_writing_write_one_place()
     ensures poked { (s : CheckedState) (slot : Slot) (offset : ℤ) (byte : ℕ) (answer : Result (Unit {0}) OutOfSlot) (after : CheckedState) → IsSound s → IsObject s slot
         → step.Pokes s slot offset byte answer after → PokesBytes s slot offset byte answer after }
     ensures written { (s : CheckedState) (slot : Slot) (word value : ℕ) → IsSound s → IsUsed s slot → 8 * (word + 1) ≤ s.layout.object_size → WritesWord s slot word (step.with_word s slot word value) }
+{}
+
+/// A word of an object is eight bytes of its slot, and what is written there is read there.
+pub fn words_stand_in_slots()
+    ensures bytes { (s : CheckedState) (slot : Slot) (word : ℕ) → IsSound s → IsObject s slot → 8 * (word + 1) ≤ s.layout.object_size
+        → step.word_of s slot word ≡ from_le_bytes w64 (slice_range (bytes_of s slot) (s.layout.left_pad + 8 * word) (s.layout.left_pad + 8 * word + 8)) }
+    ensures written { (s : CheckedState) (slot : Slot) (word value : ℕ) → IsSound s → IsUsed s slot → 8 * (word + 1) ≤ s.layout.object_size → value < 2 ^ 64
+        → step.word_of (step.with_word s slot word value) slot word ≡ value }
 {}
 
 /// A slab that comes or goes leaves the bytes of the objects of every other.

@@ -35,7 +35,7 @@ align_up x a = (x + (a - 1)) / a * a
 abbrev pub align_down : ℕ → ℕ → ℕ
 align_down x a = x / a * a
 
--- the least of 8, 16, 32 and 64 that an object of this size fits in, and 64 for a larger one
+-- the least of 8, 16, 32 and 64 that an object of this size fits in, and 64 for a larger one (`calculate_alignment`)
 abbrev pub line_of : ℕ → ℕ
 line_of size =
     if nat_lt 32 size then 64 else (if nat_lt 16 size then 32 else (if nat_lt 8 size then 16 else 8))
@@ -124,7 +124,7 @@ pub data IsOrder (size cpus order : ℕ) : Type 0 where
 
 -- ---- the lists
 
--- the slabs that the node list keeps: half the binary logarithm of the slot size, from 5 to 10 (`set_min_partial`)
+-- the slabs that the node list keeps: half the binary logarithm of the slot size, from 5 to 10 (`kmem_cache_open`)
 unfoldable pub min_partial_of : ℕ → ℕ
 min_partial_of size = max 5 (min 10 ((fls size - 1) / 2))
 
@@ -181,7 +181,7 @@ pub record IsWithinBounds (layout : Layout) : Type 0 where
 
 -- ---- places in a slab
 
--- the address of an object of the slab that begins at this frame, in bytes: past the left red zone of its slot
+-- the address of an object of the slab that begins at this frame, in bytes: past the left red zone of its slot (`fixup_red_left`)
 abbrev pub address_of : ℕ → ℕ → Layout → ℕ
 address_of frame index layout = frame * 4096 + index * layout.size + layout.left_pad
 

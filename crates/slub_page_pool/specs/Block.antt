@@ -14,7 +14,7 @@ pub record IsBlock (free : List ℕ) (frame order : ℕ) : Type 0 where
   pub run : IsFreeRun free frame order
   pub maximal : (e p : ℕ) → order < p → p ≤ 10 → IsFreeRun free e p → e ≤ frame → ¬ (frame < e + 2 ^ p)
 
--- what a take of `order` chooses: of the blocks of that order or a greater one, the least order, and then the lowest
+-- what a take of `order` chooses: of the blocks of that order or a greater one, the least order (`__rmqueue_smallest`), and then the lowest (profile)
 pub record IsTaken (free : List ℕ) (order frame : ℕ) : Type 0 where
   pub found : ℕ
   pub enough : order ≤ found

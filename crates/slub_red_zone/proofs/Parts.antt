@@ -163,7 +163,7 @@ module _ (layout : Layout) (flags : Flags) (is : IsLayoutFor flags layout) where
       let place_is : layout.offset ≡ layout.inuse = is.solved.offset ∙ behind is.spec poisoned ∙ sym is.solved.inuse in
       one_part (IsWhole (new_slot layout flags)) (padding_part layout)
       (λ place in_part.
-          w.others place (past place (omega (arith, place_is, in_part))) ∙ get_or-replicate layout.size place (fill_byte flags) 0 in_part.1 ∙ fill)
+      w.others place (past place (omega (arith, place_is, in_part))) ∙ get_or-replicate layout.size place (fill_byte flags) 0 in_part.1 ∙ fill)
 
   -- every byte that is examined before an object is given is the wanted one
   pub new-whole : AreWhole (new_slot layout flags) (examined_free layout flags)

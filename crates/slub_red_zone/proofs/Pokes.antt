@@ -48,16 +48,16 @@ module _ (s : CheckedState) (slot : Slot) (sound : IsSound s) (object : IsObject
       ext_get_or 0 (slot_of s.layout now slot.index) (set (bytes_of s slot) place byte)
       (slot-long s.layout now slot.index room ∙ sym (length-set (bytes_of s slot) place byte ∙ long))
       (λ k less.
-          let small : k < s.layout.size = omega (arith, less, slot-long s.layout now slot.index room) in
-          slot-read s.layout now slot.index room k small
-          ∙ elim (cases_eq k place) [
-            | inl same ↦
-                ap (λ (k : ℕ). get_or now (slot.index * s.layout.size + k) 0) same ∙ get_or-set_same was at byte 0 (omega (arith, few, inside))
-                ∙ sym (ap (λ (k : ℕ). get_or (set (bytes_of s slot) place byte) k 0) same ∙ get_or-set_same (bytes_of s slot) place byte 0 (omega (arith, few, long)))
-            | inr ne ↦
-                get_or-set_other was at (slot.index * s.layout.size + k) byte 0 (λ same. ne (omega (arith, same)))
-                ∙ sym (slot-read s.layout was slot.index inside k small) ∙ sym (get_or-set_other (bytes_of s slot) place k byte 0 ne)
-          ])
+      let small : k < s.layout.size = omega (arith, less, slot-long s.layout now slot.index room) in
+      slot-read s.layout now slot.index room k small
+      ∙ elim (cases_eq k place) [
+        | inl same ↦
+            ap (λ (k : ℕ). get_or now (slot.index * s.layout.size + k) 0) same ∙ get_or-set_same was at byte 0 (omega (arith, few, inside))
+            ∙ sym (ap (λ (k : ℕ). get_or (set (bytes_of s slot) place byte) k 0) same ∙ get_or-set_same (bytes_of s slot) place byte 0 (omega (arith, few, long)))
+        | inr ne ↦
+            get_or-set_other was at (slot.index * s.layout.size + k) byte 0 (λ same. ne (omega (arith, same)))
+            ∙ sym (slot-read s.layout was slot.index inside k small) ∙ sym (get_or-set_other (bytes_of s slot) place k byte 0 ne)
+      ])
 
   -- and none of another slot
   pokes-others : (place byte : ℕ) → place < s.layout.size → (index : ℕ) → index ≢ slot.index → index < objects_in (slab_of s slot.frame)
@@ -70,12 +70,12 @@ module _ (s : CheckedState) (slot : Slot) (sound : IsSound s) (object : IsObject
       let room : index * s.layout.size + s.layout.size ≤ length now = omega (arith, length-set was at byte, within) in
       ext_get_or 0 (slot_of s.layout now index) (slot_of s.layout was index) (slot-long s.layout now index room ∙ sym (slot-long s.layout was index within))
       (λ k small_k.
-          let small : k < s.layout.size = omega (arith, small_k, slot-long s.layout now index room) in
-          let apart : index * s.layout.size + k ≢ at = λ same. elim (slots-apart s.layout.size slot.index index k small (λ e. ne (sym e))) [
-            | inl before ↦ omega (arith, before, same)
-            | inr past ↦ omega (arith, past, same, few)
-          ] in
-          slot-read s.layout now index room k small ∙ get_or-set_other was at (index * s.layout.size + k) byte 0 apart ∙ sym (slot-read s.layout was index within k small))
+      let small : k < s.layout.size = omega (arith, small_k, slot-long s.layout now index room) in
+      let apart : index * s.layout.size + k ≢ at = λ same. elim (slots-apart s.layout.size slot.index index k small (λ e. ne (sym e))) [
+        | inl before ↦ omega (arith, before, same)
+        | inr past ↦ omega (arith, past, same, few)
+      ] in
+      slot-read s.layout now index room k small ∙ get_or-set_other was at (index * s.layout.size + k) byte 0 apart ∙ sym (slot-read s.layout was index within k small))
 
   pub pokes-bytes : (offset : ℤ) (byte : ℕ) (answer : Result (Unit {0}) OutOfSlot) (after : CheckedState) → Pokes s slot offset byte answer after → PokesBytes s slot offset byte answer after
   pokes-bytes offset byte (Ok _) after pokes =
@@ -199,11 +199,11 @@ run-of-run xs from size at inside within =
     ext_get_or 0 (take (at + 8 - at) (drop at run)) (take (from + at + 8 - (from + at)) (drop (from + at) xs))
     (omega (arith, length-take (at + 8 - at) (drop at run), length-drop at run, long, length-take (from + at + 8 - (from + at)) (drop (from + at) xs), length-drop (from + at) xs, inside, within))
     (λ k less.
-        let few : k < 8 = omega (arith, less, length-take (at + 8 - at) (drop at run), length-drop at run, long) in
-        let same : from + (at + k) ≡ from + at + k = omega arith in
-        get_or-take (at + 8 - at) (drop at run) k 0 (omega (arith, few)) ∙ get_or-drop at run k 0 ∙ get_or-take (from + size - from) (drop from xs) (at + k) 0 (omega (arith, few, within))
-        ∙ get_or-drop from xs (at + k) 0 ∙ ap (λ (p : ℕ). get_or xs p 0) same
-        ∙ sym (get_or-take (from + at + 8 - (from + at)) (drop (from + at) xs) k 0 (omega (arith, few)) ∙ get_or-drop (from + at) xs k 0))
+    let few : k < 8 = omega (arith, less, length-take (at + 8 - at) (drop at run), length-drop at run, long) in
+    let same : from + (at + k) ≡ from + at + k = omega arith in
+    get_or-take (at + 8 - at) (drop at run) k 0 (omega (arith, few)) ∙ get_or-drop at run k 0 ∙ get_or-take (from + size - from) (drop from xs) (at + k) 0 (omega (arith, few, within))
+    ∙ get_or-drop from xs (at + k) 0 ∙ ap (λ (p : ℕ). get_or xs p 0) same
+    ∙ sym (get_or-take (from + at + 8 - (from + at)) (drop (from + at) xs) k 0 (omega (arith, few)) ∙ get_or-drop (from + at) xs k 0))
 
 -- a word of an object is eight bytes of its slot
 pub word-in-slot : (s : CheckedState) (slot : Slot) (word : ℕ) → IsSound s → IsObject s slot → 8 * (word + 1) ≤ s.layout.object_size
@@ -229,9 +229,9 @@ word-written s slot word value sound used inner small =
     ext_get_or 0 (take (at + 8 - at) (drop at slab.bytes)) (to_le_bytes w64 value)
     (omega (arith, length-take (at + 8 - at) (drop at slab.bytes), length-drop at slab.bytes, spliced-long was (to_le_bytes w64 value) at (at + 8) (omega arith) fits long, fits, long))
     (λ k less.
-        let few : k < 8 = omega (arith, less, length-take (at + 8 - at) (drop at slab.bytes)) in
-        let back : at + k - at ≡ k = omega arith in
-        get_or-take (at + 8 - at) (drop at slab.bytes) k 0 (omega (arith, few)) ∙ get_or-drop at slab.bytes k 0
-        ∙ spliced-in was (to_le_bytes w64 value) at (at + 8) (omega arith) fits long (at + k) (omega arith) (omega (arith, few)) ∙ ap (λ (p : ℕ). get_or (to_le_bytes w64 value) p 0) back) in
+    let few : k < 8 = omega (arith, less, length-take (at + 8 - at) (drop at slab.bytes)) in
+    let back : at + k - at ≡ k = omega arith in
+    get_or-take (at + 8 - at) (drop at slab.bytes) k 0 (omega (arith, few)) ∙ get_or-drop at slab.bytes k 0
+    ∙ spliced-in was (to_le_bytes w64 value) at (at + 8) (omega arith) fits long (at + k) (omega arith) (omega (arith, few)) ∙ ap (λ (p : ℕ). get_or (to_le_bytes w64 value) p 0) back) in
     ap (λ (slab : SlabState). from_le_bytes w64 (slice_range slab.bytes at (at + 8))) (slab_at-set s.slabs slot.frame slab (frame-within s slot.frame sound (used-some s slot sound used)))
     ∙ ap (from_le_bytes w64) there ∙ from_le_bytes-to_le_bytes_8 value small

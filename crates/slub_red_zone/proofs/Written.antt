@@ -40,11 +40,11 @@ module _ (layout : Layout) (bytes slot : List ℕ) (index : ℕ) (inside : index
       let room : index * layout.size + layout.size ≤ length new = omega (arith, with_slot-long, inside) in
       ext_get_or 0 (slot_of layout new index) slot (slot-long layout new index room ∙ sym long)
       (λ place less.
-          let few : place < layout.size = omega (arith, less, slot-long layout new index room) in
-          let back : index * layout.size + place - index * layout.size ≡ place = omega arith in
-          slot-read layout new index room place few
-          ∙ spliced-in bytes slot (index * layout.size) (index * layout.size + layout.size) (omega arith) inside as-long (index * layout.size + place) (omega arith) (omega (arith, few))
-          ∙ ap (λ (p : ℕ). get_or slot p 0) back)
+      let few : place < layout.size = omega (arith, less, slot-long layout new index room) in
+      let back : index * layout.size + place - index * layout.size ≡ place = omega arith in
+      slot-read layout new index room place few
+      ∙ spliced-in bytes slot (index * layout.size) (index * layout.size + layout.size) (omega arith) inside as-long (index * layout.size + place) (omega arith) (omega (arith, few))
+      ∙ ap (λ (p : ℕ). get_or slot p 0) back)
 
   -- each other
   pub with_slot-other : (other : ℕ) → other ≢ index → other * layout.size + layout.size ≤ length bytes → slot_of layout (with_slot layout bytes index slot) other ≡ slot_of layout bytes other
@@ -53,10 +53,10 @@ module _ (layout : Layout) (bytes slot : List ℕ) (index : ℕ) (inside : index
       let room : other * layout.size + layout.size ≤ length new = omega (arith, with_slot-long, within) in
       ext_get_or 0 (slot_of layout new other) (slot_of layout bytes other) (slot-long layout new other room ∙ sym (slot-long layout bytes other within))
       (λ place less.
-          let few : place < layout.size = omega (arith, less, slot-long layout new other room) in
-          let at : get_or new (other * layout.size + place) 0 ≡ get_or bytes (other * layout.size + place) 0 =
-          elim (slots-apart layout.size index other place few (λ same. ne (sym same))) [
-            | inl before ↦ spliced-before bytes slot (index * layout.size) (index * layout.size + layout.size) (omega arith) inside as-long (other * layout.size + place) before
-            | inr past ↦ spliced-behind bytes slot (index * layout.size) (index * layout.size + layout.size) (omega arith) inside as-long (other * layout.size + place) past
-          ] in
-          slot-read layout new other room place few ∙ at ∙ sym (slot-read layout bytes other within place few))
+      let few : place < layout.size = omega (arith, less, slot-long layout new other room) in
+      let at : get_or new (other * layout.size + place) 0 ≡ get_or bytes (other * layout.size + place) 0 =
+      elim (slots-apart layout.size index other place few (λ same. ne (sym same))) [
+        | inl before ↦ spliced-before bytes slot (index * layout.size) (index * layout.size + layout.size) (omega arith) inside as-long (other * layout.size + place) before
+        | inr past ↦ spliced-behind bytes slot (index * layout.size) (index * layout.size + layout.size) (omega arith) inside as-long (other * layout.size + place) past
+      ] in
+      slot-read layout new other room place few ∙ at ∙ sym (slot-read layout bytes other within place few))

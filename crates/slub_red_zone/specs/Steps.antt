@@ -44,7 +44,7 @@ set_aside Free = Aside
 set_aside Used = Used
 set_aside Aside = Aside
 
--- every free object is set aside
+-- every free object is set aside (`alloc_debug_processing`)
 abbrev pub slab_set_aside : SlabState → SlabState
 slab_set_aside slab = record slab { states = map set_aside slab.states; free = [] }
 
@@ -76,7 +76,7 @@ pub record IsNext (s : CheckedState) (slot : Slot) : Type 0 where
 abbrev pub damage_of_free : CheckedState → Slot → Option Damage
 damage_of_free s slot = damage_when_given s.layout s.flags (slot_of s.layout (slab_of s slot.frame).bytes slot.index)
 
--- one object is given, after each slab whose first free object was found damaged before it (`alloc_debug_processing`)
+-- one object is given, after each slab whose first free object was found damaged before it (`alloc_single_from_partial`)
 pub data Gives : CheckedState → CheckedGive → CheckedState → Type 0 where
   nothing_listed : (s : CheckedState) → s.listed ≡ [] → Gives s Empty s
   next_is_whole : (s : CheckedState) (slot : Slot) → IsNext s slot → damage_of_free s slot ≡ None → Gives s (Given slot) (with_given s slot)
@@ -112,7 +112,7 @@ abbrev pub TakesBack : CheckedState → Slot → Result (Unit {0}) Damage → Ch
 TakesBack s slot (Ok _) after = (damage_of_used s slot ≡ None) × (after ≡ with_taken s slot)
 TakesBack s slot (Err damage) after = (damage_of_used s slot ≡ Some damage) × (after ≡ s)
 
--- ---- single bytes and words
+-- ---- single bytes and words (profile)
 
 -- the place in the slot of the byte at an offset from the object's address
 abbrev pub place_of : Layout → ℤ → ℤ
@@ -128,7 +128,7 @@ with_byte s slot offset byte =
     let slab = slab_of s slot.frame in
     with_slab s slot.frame (record slab { bytes = slice_set slab.bytes (slot.index * s.layout.size + nat_abs (place_of s.layout offset)) byte })
 
--- a byte of the slot is written, or the offset lies outside and nothing changes
+-- a byte of the slot is written, or the offset lies outside and nothing changes (profile)
 abbrev pub Pokes : CheckedState → Slot → ℤ → ℕ → Result (Unit {0}) OutOfSlot → CheckedState → Type 0
 Pokes s slot offset byte (Ok _) after = IsOffset s.layout offset × (after ≡ with_byte s slot offset byte)
 Pokes s slot offset byte (Err _) after = (¬ IsOffset s.layout offset) × (after ≡ s)
@@ -182,7 +182,7 @@ pub record IsSpare (s : CheckedState) (frame limit : ℕ) : Type 0 where
 abbrev pub without_slab : CheckedState → ℕ → CheckedState
 without_slab s frame = record s { slabs = slice_set s.slabs frame None; listed = filter (λ other. not (other == frame)) s.listed }
 
--- a slab with no object in use is taken out, its run is the answer; any other stays
+-- a slab with no object in use is taken out, its run is the answer; any other stays (`free_debug_processing`)
 abbrev pub TakesEmpty : CheckedState → ℕ → ℕ → Option Run → CheckedState → Type 0
 TakesEmpty s frame limit None after = (¬ IsSpare s frame limit) × (after ≡ s)
 TakesEmpty s frame limit (Some run) after = IsSpare s frame limit × (run ≡ record { frame = frame; order = (slab_of s frame).order }) × (after ≡ without_slab s frame)

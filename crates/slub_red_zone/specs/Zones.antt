@@ -1,4 +1,4 @@
--- The checked bytes of a slot, and the first that is damaged: the table above `object_err`, `check_object` and `init_object` of Linux 6.1.
+-- The checked bytes of a slot, and the first that is damaged: the table above `check_pad_bytes`, `check_object` and `init_object` of Linux 6.1.
 use Rattle.std.specs.Prelude.{ℕ, ◌+◌, ◌-◌, List, [], ◌∷◌, ◌++◌, take, drop, replicate, fold, position, slice_index, slice_range, Option, None, option_map, not, ◌==◌, if◌then◌else◌, pos, ◌-ℤ◌}
 use Rattle.std.specs.Option.{option_or}
 use Rattle.slub_object_layout.specs.declared.layout.Flags.{Flags}
@@ -47,7 +47,7 @@ poison_but_end layout = record { zone = Poison; from = layout.left_pad; to = lay
 abbrev pub poison_last : Layout → Part
 poison_last layout = record { zone = End; from = layout.left_pad + layout.object_size - 1; to = layout.left_pad + layout.object_size; wanted = poison_end }
 
--- what is left of the slot behind the free pointer
+-- what is left of the slot behind the free pointer (`check_pad_bytes`)
 abbrev pub padding_part : Layout → Part
 padding_part layout = record { zone = Padding; from = layout.left_pad + layout.offset + 8; to = layout.size; wanted = padding_byte }
 

@@ -12,6 +12,7 @@ pub struct SlabWord {
     pub head: u16,
     /// The objects that are not on that freelist.
     pub inuse: u16,
+    /// The objects of the slab.
     pub objects: u16,
     /// The slab is some CPU's current one, or in a worker's hand.
     pub frozen: bool,

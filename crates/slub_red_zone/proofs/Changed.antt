@@ -5,12 +5,11 @@ use Rattle.slub_red_zone.specs.declared.zones.Damage.{Damage}
 use Rattle.slub_red_zone.specs.declared.checked.CheckedGive.{CheckedGive}
 use Rattle.slub_red_zone.specs.declared.checked.CheckedGive.TheVariants.{Given, Empty}
 use Rattle.slub_red_zone.specs.declared.checked.Slot.{Slot}
-use Rattle.slub_red_zone.specs.State.{SlabState, CheckedState, IsUsed, slab_at, slab_of, slot_of, with_slot, objects_in}
+use Rattle.slub_red_zone.specs.State.{SlabState, CheckedState, IsUsed, slab_at, slab_of, slot_of, with_slot, objects_in, bytes_of}
 use Rattle.slub_red_zone.specs.Zones.{red_active, red_inactive, written, set_up}
 use Rattle.slub_red_zone.specs.Steps.{Gives, nothing_listed, next_is_whole, next_is_damaged, TakesBack, slab_with_given, slab_with_taken, with_damaged}
 use Rattle.slub_red_zone.specs.Sound.{IsSound}
 use Rattle.slub_red_zone.specs.Bytes.{IsWritten}
-use Rattle.slub_red_zone.specs.Told.{bytes_of}
 use Rattle.slub_red_zone.specs.Changes.{IsObject, KeepsBytes, KeepsOtherBytes, SetsUp, GivesBytes, TakesBytes}
 use Rattle.slub_red_zone.proofs.OneSlab.{slot-inside}
 use Rattle.slub_red_zone.proofs.Sums.{slab_at-set}

@@ -9,10 +9,9 @@ use Rattle.std.proofs.lemmas.List.{ext_get_or, get_or-take, get_or-drop, get_or-
 use Rattle.slub_red_zone.specs.declared.checked.OutOfSlot.{OutOfSlot}
 use Rattle.slub_red_zone.specs.declared.checked.Run.{Run}
 use Rattle.slub_red_zone.specs.declared.checked.Slot.{Slot}
-use Rattle.slub_red_zone.specs.State.{SlabState, CheckedState, Has, IsUsed, no_slab, slab_at, slab_of, slot_of, objects_in}
+use Rattle.slub_red_zone.specs.State.{SlabState, CheckedState, Has, IsUsed, no_slab, slab_at, slab_of, slot_of, objects_in, bytes_of}
 use Rattle.slub_red_zone.specs.Steps.{place_of, Pokes, word_place, word_of, with_word, new_slab, with_new_slab, TakesEmpty}
 use Rattle.slub_red_zone.specs.Sound.{IsSound}
-use Rattle.slub_red_zone.specs.Told.{bytes_of}
 use Rattle.slub_red_zone.specs.Changes.{IsObject, KeepsBytes, IsOffWord, PokesByte, PokesBytes, WritesWord}
 use Rattle.slub_red_zone.proofs.OneSlab.{slot-inside}
 use Rattle.slub_red_zone.proofs.Whole.{slab-sound}

@@ -10,12 +10,12 @@ use Rattle.slub_red_zone.specs.declared.slab.ObjectState.{ObjectState}
 use Rattle.slub_red_zone.specs.declared.slab.ObjectState.TheVariants.{Free, Used, Aside}
 use Rattle.slub_red_zone.specs.declared.checked.CheckedGive.{CheckedGive}
 use Rattle.slub_red_zone.specs.declared.checked.Slot.{Slot}
-use Rattle.slub_red_zone.specs.State.{SlabState, CheckedState, no_slab, slab_at, slab_of, state_of, slot_of, aside_in, objects_in}
+use Rattle.slub_red_zone.specs.State.{SlabState, CheckedState, no_slab, slab_at, slab_of, state_of, slot_of, aside_in, objects_in, bytes_of}
 use Rattle.slub_red_zone.specs.Steps.{Gives, nothing_listed, next_is_whole, next_is_damaged, IsNext, slab_with_given, slab_set_aside, set_aside, with_given, with_damaged, report_of, damage_of_free}
 use Rattle.slub_red_zone.specs.Sound.{IsSound}
 use Rattle.slub_red_zone.specs.Zones.{examined_free}
 use Rattle.slub_red_zone.specs.Bytes.{Tells}
-use Rattle.slub_red_zone.specs.Told.{bytes_of, IsReportOf, IsReport, TellsOfSlabs}
+use Rattle.slub_red_zone.specs.Told.{IsReportOf, IsReport, TellsOfSlabs}
 use Rattle.slub_red_zone.proofs.OneSlab.{first-is-free, given-counts}
 use Rattle.slub_red_zone.proofs.Sums.{slab_at-set}
 use Rattle.slub_red_zone.proofs.Given.{next-slab, next-object, next-frame, next-inside, damaged-sound}

@@ -28,7 +28,8 @@ pub record IsWritten (old : List ℕ) (parts : List Part) (new : List ℕ) : Typ
   pub as_long : length new ≡ length old
 
 -- the damage is a byte of one of these parts, as it stands in the slot, and it isn't the wanted one
-pub record Tells (layout : Layout) (slot : List ℕ) (parts : List Part) (damage : Damage) : Type 0 where
+pub record Tells (layout : Layout) (slot : List ℕ) (parts : List Part) (damage : Damage)
+    : Type 0 where
   pub part : Part
   pub place : ℕ
   pub of_these : Contains parts part

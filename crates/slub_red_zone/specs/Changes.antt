@@ -5,11 +5,10 @@ use Rattle.slub_red_zone.specs.declared.checked.CheckedGive.{CheckedGive}
 use Rattle.slub_red_zone.specs.declared.checked.CheckedGive.TheVariants.{Given, Empty}
 use Rattle.slub_red_zone.specs.declared.checked.OutOfSlot.{OutOfSlot}
 use Rattle.slub_red_zone.specs.declared.checked.Slot.{Slot}
-use Rattle.slub_red_zone.specs.State.{CheckedState, slab_of, objects_in}
+use Rattle.slub_red_zone.specs.State.{CheckedState, slab_of, objects_in, bytes_of}
 use Rattle.slub_red_zone.specs.Zones.{red_active, red_inactive, written}
 use Rattle.slub_red_zone.specs.Steps.{place_of}
 use Rattle.slub_red_zone.specs.Bytes.{IsWritten}
-use Rattle.slub_red_zone.specs.Told.{bytes_of}
 
 -- there is this object
 abbrev pub IsObject : CheckedState → Slot → Type 0
@@ -21,7 +20,8 @@ KeepsBytes old new = (slot : Slot) → IsObject old slot → bytes_of new slot �
 
 -- every other object's
 abbrev pub KeepsOtherBytes : CheckedState → Slot → CheckedState → Type 0
-KeepsOtherBytes old slot new = (other : Slot) → other ≢ slot → IsObject old other → bytes_of new other ≡ bytes_of old other
+KeepsOtherBytes old slot new =
+    (other : Slot) → other ≢ slot → IsObject old other → bytes_of new other ≡ bytes_of old other
 
 -- the parts of the object's slot are written, with this byte in its red zones, and no other byte is
 pub record SetsUp (old : CheckedState) (slot : Slot) (byte : ℕ) (new : CheckedState) : Type 0 where
@@ -39,19 +39,26 @@ TakesBytes old slot (Ok _) new = SetsUp old slot red_inactive new
 TakesBytes old slot (Err _) new = KeepsBytes old new
 
 -- one byte of the slot is another
-pub record PokesByte (old : CheckedState) (slot : Slot) (offset : ℤ) (byte : ℕ) (new : CheckedState) : Type 0 where
-  pub this : bytes_of new slot ≡ slice_set (bytes_of old slot) (nat_abs (place_of old.layout offset)) byte
+pub record PokesByte (old : CheckedState) (slot : Slot) (offset : ℤ) (byte : ℕ) (new : CheckedState)
+    : Type 0 where
+  pub this :
+      let place = nat_abs (place_of old.layout offset) in
+      bytes_of new slot ≡ slice_set (bytes_of old slot) place byte
   pub others : KeepsOtherBytes old slot new
 
-abbrev pub PokesBytes : CheckedState → Slot → ℤ → ℕ → Result (Unit {0}) OutOfSlot → CheckedState → Type 0
+abbrev pub PokesBytes : CheckedState → Slot → ℤ → ℕ → Result (Unit {0}) OutOfSlot → CheckedState
+    → Type 0
 PokesBytes old slot offset byte (Ok _) new = PokesByte old slot offset byte new
 PokesBytes old slot offset byte (Err _) new = KeepsBytes old new
 
 -- the place of a slot is none of those of a word of its object
 abbrev pub IsOffWord : CheckedState → ℕ → ℕ → Type 0
-IsOffWord s word place = (place < s.layout.left_pad + 8 * word) ⊎ (s.layout.left_pad + 8 * word + 8 ≤ place)
+IsOffWord s word place =
+    let from = s.layout.left_pad + 8 * word in (place < from) ⊎ (from + 8 ≤ place)
 
 -- no byte is written but those of the word
-pub record WritesWord (old : CheckedState) (slot : Slot) (word : ℕ) (new : CheckedState) : Type 0 where
-  pub this : (place : ℕ) → IsOffWord old word place → slice_index (bytes_of new slot) place ≡ slice_index (bytes_of old slot) place
+pub record WritesWord (old : CheckedState) (slot : Slot) (word : ℕ) (new : CheckedState)
+    : Type 0 where
+  pub this : (place : ℕ) → IsOffWord old word place
+      → slice_index (bytes_of new slot) place ≡ slice_index (bytes_of old slot) place
   pub others : KeepsOtherBytes old slot new

@@ -13,7 +13,9 @@ faults_after (Err e) faults = min (faults + 1) (2 ^ 64 - 1)
 
 -- known bytes grow by a front of bs that isn't the whole, of at least so many bytes
 abbrev pub AppendsFront : Option (List ℕ) → Option (List ℕ) → ℕ → List ℕ → Type 0
-AppendsFront old new least bs = (front rest : List ℕ) × (bs ≡ front ++ rest) × (least ≤ length front) × (0 < length rest) × Appends old new front
+AppendsFront old new least bs =
+    (front rest : List ℕ) × (bs ≡ front ++ rest) × (least ≤ length front) × (0 < length rest)
+    × Appends old new front
 
 -- of known bytes a read gives none exactly where none is left
 abbrev pub EndsExactly : {E : Type 0} → Option (List ℕ) → Result ℕ E → Type 0

@@ -11,9 +11,13 @@ use Rattle.slub_edges.specs.Edges.{Rose}
 abbrev pub ReadsFront : Option (List ℕ) → Option (List ℕ) → ℕ → Type 0
 ReadsFront told left most = (bs : List ℕ) × Consumes told left bs × (length bs ≤ most)
 
--- what comes of reading at most so many bytes: told and left are the bytes to come before and after, old and new the counts of faults
-abbrev pub ReadsAll : Option (List ℕ) → Option (List ℕ) → ℕ → ℕ → ℕ → Result (Vec ℕ Global) ReadAllFault → Type 0
-ReadsAll told left old new most (Ok bytes) = Consumes told left bytes.items × IsAtEnd left × (length bytes.items ≤ most) × (new ≡ old)
+-- what comes of reading at most so many bytes: told and left are the bytes to come before and
+-- after, old and new the counts of faults
+abbrev pub ReadsAll : Option (List ℕ) → Option (List ℕ) → ℕ → ℕ → ℕ
+    → Result (Vec ℕ Global) ReadAllFault → Type 0
+ReadsAll told left old new most (Ok bytes) =
+    Consumes told left bytes.items × IsAtEnd left × (length bytes.items ≤ most) × (new ≡ old)
 ReadsAll told left old new most (Err Failed) = ReadsFront told left most × Rose old new
-ReadsAll told left old new most (Err TooLong) = (bs : List ℕ) × Consumes told left bs × (most < length bs) × (new ≡ old)
+ReadsAll told left old new most (Err TooLong) =
+    (bs : List ℕ) × Consumes told left bs × (most < length bs) × (new ≡ old)
 ReadsAll told left old new most (Err NoMemory) = ReadsFront told left most × (new ≡ old)

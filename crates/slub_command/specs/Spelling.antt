@@ -38,7 +38,8 @@ stands_in c word = list_any (λ b. b == c) word
 
 -- H, R, F, Z, P, U, T or A
 abbrev pub is_letter : ℕ → Bool
-is_letter c = c == 72 || (c == 82 || (c == 70 || (c == 90 || (c == 80 || (c == 85 || (c == 84 || c == 65))))))
+is_letter c =
+    c == 72 || (c == 82 || (c == 70 || (c == 90 || (c == 80 || (c == 85 || (c == 84 || c == 65))))))
 
 -- the byte stands in the word once
 abbrev pub stands_once : Word → ℕ → Bool
@@ -46,7 +47,8 @@ stands_once word c = count_by (λ b. b == c) word == 1
 
 -- some of the letters, in any order and none twice
 abbrev pub are_letters : Word → Bool
-are_letters word = not (length word == 0) && (list_all is_letter word && list_all (stands_once word) word)
+are_letters word =
+    not (length word == 0) && (list_all is_letter word && list_all (stands_once word) word)
 
 -- `-`, or letters
 abbrev pub is_flag_word : Word → Bool

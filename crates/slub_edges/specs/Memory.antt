@@ -13,8 +13,8 @@ pub record Supply : Type 0 where
 abbrev pub supply_of : List ℕ → List ℕ → Supply
 supply_of bytes failing = record { rest = bytes; call = 0; failing = failing; faults = 0 }
 
--- a sink in memory: the bytes taken, the pieces of which some was taken, the most that a call takes,
--- the number of the next call, the calls that are to fail, how many failed
+-- a sink in memory: the bytes taken, the pieces of which some was taken, the most that a call
+-- takes, the number of the next call, the calls that are to fail, how many failed
 pub record Store : Type 0 where
   pub taken : List ℕ
   pub pieces : List (List ℕ)

@@ -1,4 +1,5 @@
--- The bits of the packed words. All of it is profile, but for the hardened free pointers, which are those of Linux 6.1.
+-- The bits of the packed words. All of it is profile, but for the hardened free pointers, which are
+-- those of Linux 6.1.
 use Rattle.std.specs.Prelude.{◌≡◌, ℕ, zero, suc, ◌+◌, ◌-◌, ◌*◌, ◌/◌, ◌%◌, ◌^◌, ◌<◌, ◌≤◌, Bool, bit_xor, if◌then◌else◌}
 use Rattle.std.specs.Int.{swap_bytes, w64}
 use Rattle.slub_words.specs.declared.board.BoardWord.{BoardWord}
@@ -13,10 +14,12 @@ cpu_bits word = word.head + word.frame * 2 ^ 16 + word.tid * 2 ^ 32
 abbrev pub bit_if : Bool → ℕ → ℕ
 bit_if set k = if set then 2 ^ k else 0
 
--- the head in bits 0 to 15, inuse in 16 to 31, objects in 32 to 47, frozen in 48, listed in 49, the cache in 56 to 63
+-- the head in bits 0 to 15, inuse in 16 to 31, objects in 32 to 47, frozen in 48, listed in 49, the
+-- cache in 56 to 63
 abbrev pub slab_bits : SlabWord → ℕ
 slab_bits word =
-    word.head + word.inuse * 2 ^ 16 + word.objects * 2 ^ 32 + bit_if word.frozen 48 + bit_if word.listed 49 + word.cache * 2 ^ 56
+    word.head + word.inuse * 2 ^ 16 + word.objects * 2 ^ 32 + bit_if word.frozen 48
+    + bit_if word.listed 49 + word.cache * 2 ^ 56
 
 -- bits 50 to 55 are 0
 abbrev pub IsSlabWord : ℕ → Type 0
@@ -30,8 +33,8 @@ board_bits word = (word.index + 1) + word.frame * 2 ^ 16 + word.cache * 2 ^ 32
 abbrev pub IsBoardWord : ℕ → Type 0
 IsBoardWord word = (word < 2 ^ 40) × (1 ≤ word % 2 ^ 16)
 
--- a free pointer as it is stored, and one that is stored as it is: the pointer xor the cache's random number xor the
--- byte-swapped place (`freelist_ptr`)
+-- a free pointer as it is stored, and one that is stored as it is: the pointer xor the cache's
+-- random number xor the byte-swapped place (`freelist_ptr`)
 unfoldable pub freelist_ptr : ℕ → ℕ → ℕ → ℕ
 freelist_ptr pointer random place = bit_xor (bit_xor pointer random) (swap_bytes w64 place)
 

@@ -12,7 +12,8 @@ no_dashes words = list_all (λ w. not (bytes_eq w (codes "--"))) words
 
 -- a command of this name that has no `--help`, and whose words don't begin with a program's name
 abbrev pub plain_app : Text → App
-plain_app name = on_top (λ s. record s { no_binary_name = true; disable_help_flag = true }) (new_app name)
+plain_app name =
+    on_top (λ s. record s { no_binary_name = true; disable_help_flag = true }) (new_app name)
 
 -- an option with a value
 abbrev pub option_rule : Text → Rule
@@ -28,12 +29,22 @@ place_rule id = record (new_rule id) { required = true }
 
 -- `replay [--how HOW] [--seed SEED] [--replies]`
 abbrev pub replay_app : App
-replay_app = with_rule (with_rule (with_rule (plain_app (codes "replay")) (option_rule (codes "how"))) (option_rule (codes "seed"))) (flag_rule (codes "replies"))
+replay_app =
+    let how = with_rule (plain_app (codes "replay")) (option_rule (codes "how")) in
+    let seed = with_rule how (option_rule (codes "seed")) in
+    with_rule seed (flag_rule (codes "replies"))
 
 -- `layout SIZE ALIGN FLAGS CPUS`
 abbrev pub layout_app : App
-layout_app = with_rule (with_rule (with_rule (with_rule (plain_app (codes "layout")) (place_rule (codes "size"))) (place_rule (codes "align"))) (place_rule (codes "flags"))) (place_rule (codes "cpus"))
+layout_app =
+    let size = with_rule (plain_app (codes "layout")) (place_rule (codes "size")) in
+    let align = with_rule size (place_rule (codes "align")) in
+    let flags = with_rule align (place_rule (codes "flags")) in
+    with_rule flags (place_rule (codes "cpus"))
 
 -- `load SEED EVENTS WORKERS`
 abbrev pub load_app : App
-load_app = with_rule (with_rule (with_rule (plain_app (codes "load")) (place_rule (codes "seed"))) (place_rule (codes "events"))) (place_rule (codes "workers"))
+load_app =
+    let seed = with_rule (plain_app (codes "load")) (place_rule (codes "seed")) in
+    let events = with_rule seed (place_rule (codes "events")) in
+    with_rule events (place_rule (codes "workers"))

@@ -24,7 +24,9 @@ IsGiven replies_given words = words ≡ codes "--replies" ∷ []
 -- the words give these options, one after the other
 abbrev pub AreGiven : List Given → List Word → Type 0
 AreGiven [] words = words ≡ []
-AreGiven (g ∷ gs) words = (front : List Word) × (rest : List Word) × (words ≡ front ++ rest) × IsGiven g front × AreGiven gs rest
+AreGiven (g ∷ gs) words =
+    (front : List Word) × (rest : List Word) × (words ≡ front ++ rest) × IsGiven g front
+    × AreGiven gs rest
 
 -- the values of `--how`
 abbrev pub hows : List Given → List Word
@@ -59,7 +61,8 @@ listed None = []
 listed (Some value) = value ∷ []
 
 -- the words are options in any order, each at most once, with these values
-pub record AreOptions (words : List Word) (how_text seed_text : Option Word) (replies : Bool) : Type 0 where
+pub record AreOptions (words : List Word) (how_text seed_text : Option Word) (replies : Bool)
+    : Type 0 where
   pub given : List Given
   pub spelled : AreGiven given words
   pub how_once : hows given ≡ listed how_text

@@ -4,7 +4,7 @@ ghost use Rattle.std.specs.Prelude.{codes, ◌≡◌, ◌∷◌, true, map, stri
 ghost use Rattle.std.specs.Str.{bytes_eq};
 ghost use Rattle.slub_command.specs.declared.command.Command.{Command};
 ghost use Rattle.slub_command.specs.Arguments.{no_dashes};
-ghost use Rattle.slub_command.specs.Command.{IsCommand};
+ghost use Rattle.slub_command.specs.Command.{IsCommand, IsNamed};
 
 use crate::options::read_replay;
 use crate::places::{read_layout, read_load};
@@ -79,6 +79,7 @@ fn read_named(alloc: Global, name: &str, words: &[String]) -> Result<Command, Co
     requires { no_dashes (map string_bytes words.now) ≡ true }
     ensures spells { IfOk result (IsCommand (name.now ∷ map string_bytes words.now)) }
     ensures none { IsErrOf result CommandFault.BadWords → (command : Command) → ¬ IsCommand (name.now ∷ map string_bytes words.now) command }
+    ensures memory { IsErrOf result CommandFault.NoMemory → IsNamed (name.now ∷ map string_bytes words.now) }
 {
     match name {
         "replay" => read_replay(alloc, words),
@@ -90,10 +91,12 @@ fn read_named(alloc: Global, name: &str, words: &[String]) -> Result<Command, Co
 
 /// The command that words spell, the program's own name left out.
 ///
-/// `BadWords` comes exactly where they spell none. Want of memory is told as `NoMemory`.
+/// `BadWords` comes exactly where they spell none. Want of memory is told as `NoMemory`, and only behind the name of a
+/// command, where no word is `--`: other words take none.
 pub fn read(alloc: Global, words: &[String]) -> Result<Command, CommandFault>
     ensures spells { IfOk result (λ command. IsCommand (map string_bytes words.now) command) }
     ensures none { IsErrOf result CommandFault.BadWords → (command : Command) → ¬ IsCommand (map string_bytes words.now) command }
+    ensures memory { IsErrOf result CommandFault.NoMemory → IsNamed (map string_bytes words.now) × (no_dashes (map string_bytes words.now) ≡ true) }
 {
     if !has_no_dashes(words) {
         return Err(CommandFault::BadWords);

@@ -1,8 +1,7 @@
 -- Strings of frames.
-use Rattle.std.proofs.Common.{◌≡◌, ◌≢◌, ℕ, zero, suc, ◌+◌, ◌-◌, ◌<◌, ◌≤◌, List, [], ◌∷◌, ◌++◌, length, get_or, take, set, refl, sym, ◌∙◌, ap, subst, arith, append_assoc}
+use Rattle.std.proofs.Common.{◌≡◌, ◌≢◌, ℕ, zero, suc, ◌+◌, ◌-◌, ◌<◌, ◌≤◌, List, [], ◌∷◌, ◌++◌, length, get_or, take, set, refl, sym, ◌∙◌, ap, subst, arith}
 use Rattle.std.specs.Prelude.{slice_index, Contains}
-use Rattle.std.proofs.Math.Seq.{get_or-append_seam}
-use Rattle.std.proofs.lemmas.List.{length-append, take_more_set, get_or-set_other}
+use Rattle.std.proofs.lemmas.List.{take_more_set, get_or-set_other}
 use Rattle.std.proofs.lemmas.List.Elements.{Contains-append_right}
 use Rattle.slub_cpu_partial.specs.Strings.{string_of, frame_after, AreLinked}
 
@@ -43,30 +42,37 @@ stays links front count frame next apart =
     same_links (λ f. slice_index links f) (λ f. slice_index (set links frame next) f) front count
     (λ f on. let other : f ≢ frame = λ same. apart (subst (λ (x : ℕ). Contains (string_of (λ g. slice_index links g) front count) x) same on) in rw get_or-set_other refl)
 
--- the frame at the end of what is written has a link
-linked_here : (links done rest whole : List ℕ) (frame : ℕ) → AreLinked links whole → done ++ frame ∷ rest ≡ whole → frame < length links
-linked_here links done rest whole frame linked same =
-    let within : length done < length whole = omega (arith, ap length same, length-append done (frame ∷ rest)) in
-    let is : get_or whole (length done) 0 ≡ frame = ap (λ (xs : List ℕ). get_or xs (length done) 0) (sym same) ∙ get_or-append_seam done frame rest 0 in
-    let here : get_or whole (length done) 0 < length links = (linked (length done) 0 within).1 in
-    rw is at here
+-- one link more
+frame_after-more : (next : ℕ → ℕ) (front n : ℕ) → frame_after next front (suc n) ≡ next (frame_after next front n)
+frame_after-more next front zero = refl
+frame_after-more next front (suc n) = frame_after-more next (next front) n
 
--- a string that is not at its end begins with its frame
-string_of-more : (next : ℕ → ℕ) (frame n i : ℕ) → i < n → string_of next frame (n - i) ≡ frame ∷ string_of next (next frame) (n - (i + 1))
-string_of-more next frame n i less = let one_more : n - i ≡ suc (n - (i + 1)) = omega arith in rw one_more refl
+-- the frame at a place of a string is the one that as many links lead to
+string_of-at : (next : ℕ → ℕ) (front n i : ℕ) → i < n → get_or (string_of next front n) i 0 ≡ frame_after next front i
+string_of-at next front zero i less = absurd (omega arith)
+string_of-at next front (suc n) zero less = refl
+string_of-at next front (suc n) (suc i) less = string_of-at next (next front) n i (omega arith)
 
--- the frame to be written has a link
-pub has_link : (links room whole : List ℕ) (i n frame : ℕ) → i < n → AreLinked links whole → take i room ++ string_of (λ f. slice_index links f) frame (n - i) ≡ whole → frame < length links
-has_link links room whole i n frame less linked so_far =
-    linked_here links (take i room) (string_of (λ f. slice_index links f) (slice_index links frame) (n - (i + 1))) whole frame linked
-    (ap (λ (xs : List ℕ). take i room ++ xs) (sym (string_of-more (λ f. slice_index links f) frame n i less)) ∙ so_far)
+-- a frame before the last has a link
+pub has_link : (links : List ℕ) (front n at frame : ℕ) → 0 < at → at < n
+    → AreLinked links (string_of (λ f. slice_index links f) front (n - 1)) → frame ≡ frame_after (λ f. slice_index links f) front (at - 1) → frame < length links
+has_link links front n at frame some less linked is =
+    let within : at - 1 < length (string_of (λ f. slice_index links f) front (n - 1)) = rw length-string_of (omega arith) in
+    let below = linked (at - 1) 0 within in
+    let here = string_of-at (λ f. slice_index links f) front (n - 1) (at - 1) (omega arith) in
+    omega (arith, below, here, is)
 
--- one more frame is written, and the next one is found
-pub written : (links room whole : List ℕ) (i n frame next : ℕ) → i < length room → i < n → next ≡ slice_index links frame
-    → take i room ++ string_of (λ f. slice_index links f) frame (n - i) ≡ whole
-    → take (i + 1) (set room i frame) ++ string_of (λ f. slice_index links f) next (n - (i + 1)) ≡ whole
-written links room whole i n frame next inside less found so_far =
-    let rest = string_of (λ f. slice_index links f) (slice_index links frame) (n - (i + 1)) in
-    rw (found, take_more_set)
-    (append_assoc (take i room) (frame ∷ []) rest
-    ∙ ap (λ (xs : List ℕ). take i room ++ xs) (sym (string_of-more (λ f. slice_index links f) frame n i less)) ∙ so_far)
+-- the frame behind it is found by its link
+pub followed : (links : List ℕ) (front at frame next : ℕ) → 0 < at → frame ≡ frame_after (λ f. slice_index links f) front (at - 1)
+    → next ≡ slice_index links frame → next ≡ frame_after (λ f. slice_index links f) front at
+followed links front zero frame next some is found = absurd (omega arith)
+followed links front (suc n) frame next some is found =
+    let back : suc n - 1 ≡ n = omega arith in
+    let same : frame ≡ frame_after (λ f. slice_index links f) front n = is ∙ ap (frame_after (λ f. slice_index links f) front) back in
+    found ∙ ap (λ (f : ℕ). slice_index links f) same ∙ sym (frame_after-more (λ f. slice_index links f) front n)
+
+-- one more frame is written
+pub written : (next : ℕ → ℕ) (room : List ℕ) (front at frame : ℕ) → at < length room → take at room ≡ string_of next front at → frame ≡ frame_after next front at
+    → take (at + 1) (set room at frame) ≡ string_of next front (at + 1)
+written next room front at frame inside so_far is =
+    rw (take_more_set, string_of-add next front at 1) (ap (λ (xs : List ℕ). xs ++ frame ∷ []) so_far ∙ ap (λ (f : ℕ). string_of next front at ++ f ∷ []) is)

@@ -37,6 +37,6 @@ frame_after next front (suc count) = frame_after next (next front) count
 abbrev pub string_in : List ℕ → ℕ → ℕ → List ℕ
 string_in links front count = string_of (λ frame. slice_index links frame) front count
 
--- each frame of a string is one that has a link
+-- each of these frames has a link
 abbrev pub AreLinked : List ℕ → List ℕ → Type 0
-AreLinked links frames = All (λ frame. (1 ≤ frame) × (frame < length links)) frames
+AreLinked links frames = All (λ frame. frame < length links) frames

@@ -16,10 +16,13 @@ fn words(rt: HostRuntime) {
     assert_eq!(rt; longer, ListWord { front: 9, count: 5 });
 }
 
-/// The list of frame 3, then 1, then 2.
+/// The list of frame 3, then 1, then 2, and that of frame 3 alone.
 #[test]
 fn frames(rt: HostRuntime) {
     let mut room = [0; 3];
     frames_of(ListWord { front: 3, count: 3 }, &[0, 2, 0, 1], &mut room);
     assert_eq!(rt; room, [3, 1, 2]);
+    let mut alone = [0; 1];
+    frames_of(ListWord { front: 3, count: 1 }, &[], &mut alone);
+    assert_eq!(rt; alone, [3]);
 }

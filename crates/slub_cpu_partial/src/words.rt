@@ -1,6 +1,6 @@
 //! The words of a partial list, and the frames that they lead to.
 
-ghost use Rattle.std.specs.Prelude.{◌≡◌, ◌+◌, ◌≤◌, length, MatchOption};
+ghost use Rattle.std.specs.Prelude.{◌≡◌, ◌+◌, ◌-◌, ◌≤◌, length, MatchOption};
 ghost use Rattle.slub_cpu_partial.specs.Strings.{list_bits, link_bits, IsList, IsListWord, IsLinkWord, AreLinked, string_in};
 
 /// The partial list of a cache and a CPU.
@@ -79,15 +79,18 @@ impl LinkWord {
     }
 }
 
-/// Writes the frames of a list into `room`, front first. `links[f]` is the next of frame f.
+/// Writes the frames of a list into `room`, front first. `links[f]` is the next of frame f; that of the last is not
+/// asked for.
 pub fn frames_of(word: ListWord, links: &[u16], room: &mut [u16])
     requires as_long { length room.old ≡ word.count }
-    requires linked { AreLinked links.now (string_in links.now word.front word.count) }
+    requires linked { AreLinked links.now (string_in links.now word.front (word.count - 1)) }
     ensures { room.new ≡ string_in links.now word.front word.count }
 {
     let mut frame = word.front;
-    for place in room.iter_mut() {
+    for (at, place) in room.iter_mut().enumerate() {
+        if at > 0 {
+            frame = links[usize::from(frame)];
+        }
         *place = frame;
-        frame = links[usize::from(frame)];
     }
 }

@@ -2,3 +2,4 @@ pub mod Edges
 pub mod Memory
 pub mod Adapters
 pub mod Reading
+pub mod Pieces

@@ -1,6 +1,6 @@
 //! Readers and writers of std as sources and sinks.
 
-ghost use Rattle.std.specs.Prelude.{◌≡◌, ◌<◌, ◌≤◌, length, IfOk, OnErr};
+ghost use Rattle.std.specs.Prelude.{◌≡◌, ◌<◌, ◌≤◌, length, IfOk, OnErr, None};
 ghost use Rattle.std.specs.Io.{ReadsAtMost};
 ghost use Rattle.std.specs.Io.KnownBytes.{ReadConsumes, WriteAppends};
 ghost use Rattle.slub_edges.specs.Edges.{Rose, EndsExactly, faults_after};
@@ -88,6 +88,8 @@ impl<W: Write + Drop> WriteSink<W> {
 
 impl<W: Write + Drop> Sink for WriteSink<W> {
     ghost taken = { λ sink. W.contents (writer_of sink) };
+
+    ghost pieces = { λ _. None };
 
     ghost faults = { λ sink. write_faults sink };
 

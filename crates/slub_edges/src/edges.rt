@@ -4,6 +4,7 @@ ghost use Rattle.std.specs.Prelude.{◌≡◌, ℕ, ◌<◌, ◌≤◌, List, le
 ghost use Rattle.std.specs.Io.{ReadsAtMost};
 ghost use Rattle.std.specs.Io.KnownBytes.{ReadConsumes, WriteAppends};
 ghost use Rattle.slub_edges.specs.Edges.{Rose, EndsExactly};
+ghost use Rattle.slub_edges.specs.Pieces.{Gains, piece_of};
 
 /// A read or a write failed. The end that answers this counted it, and counts nothing else.
 #[derive(Clone, Copy, Debug, PartialEq, Eq)]
@@ -34,6 +35,9 @@ pub trait Sink {
     // the bytes taken so far, where the sink tells them
     ghost taken: { Self → Option (List ℕ) };
 
+    // the pieces of which it took some, where the sink tells them
+    ghost pieces: { Self → Option (List (List ℕ)) };
+
     // how many calls failed, at most 2 ^ 64 - 1
     ghost faults: { Self → ℕ };
 
@@ -44,6 +48,7 @@ pub trait Sink {
         ensures some { IfOk result (λ n. 0 < n) }
         ensures bound { IfOk result (λ n. n ≤ length piece.now) }
         ensures bytes { WriteAppends (taken self.old) (taken self.new) result piece.now }
+        ensures piece { Gains (pieces self.old) (pieces self.new) (piece_of result piece.now) }
         ensures counts { faults self.old ≤ faults self.new }
         ensures still { OnOk result (faults self.new ≡ faults self.old) }
         ensures failed { OnErr result (Rose (faults self.old) (faults self.new)) };

@@ -74,6 +74,8 @@ impl FaultlessSink {
 impl Sink for FaultlessSink {
     ghost taken = { λ _. None };
 
+    ghost pieces = { λ _. None };
+
     ghost faults = { λ _. 0 };
 
     fn write(&mut self, piece: &[u8]) -> Result<usize, Failed>

@@ -6,11 +6,11 @@
 //! to, ends that never fail, adapters over the readers and writers of std, and what is built on
 //! the traits alone: writing a whole piece, writing a text line by line, reading to the end.
 //!
-//! Contracts cite `Rose` and `AppendsFront` (`specs/Edges.antt`), the states of the ends in memory
-//! (`specs/Memory.antt`), what an adapter holds (`specs/Adapters.antt`), what comes of reading to
-//! the end (`specs/Reading.antt`), and std's words on known bytes: `Appends`, `Consumes`,
-//! `IsAtEnd`, which claim nothing where an end tells nothing. `proofs/Told.antt` has the lemmas on
-//! them for the crates above.
+//! Contracts cite `Rose` and `AppendsFront` (`specs/Edges.antt`), the pieces that a sink is given
+//! (`specs/Pieces.antt`), the states of the ends in memory (`specs/Memory.antt`), what an adapter
+//! holds (`specs/Adapters.antt`), what comes of reading to the end (`specs/Reading.antt`), and std's
+//! words on known bytes: `Appends`, `Consumes`, `IsAtEnd`, which claim nothing where an end tells
+//! nothing. `proofs/Told.antt` has the lemmas on them for the crates above.
 #![tactic(auto)]
 
 pub mod adapters;

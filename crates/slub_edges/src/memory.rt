@@ -1,15 +1,16 @@
 //! A source and a sink in memory.
 
-ghost use Rattle.std.specs.Prelude.{◌≡◌, ◌<◌, ◌≤◌, ◌↔◌, ◌+◌, ◌-◌, ◌^◌, min, Some, length, Contains, IsErr, IfOk, OnErr};
+ghost use Rattle.std.specs.Prelude.{◌≡◌, ◌<◌, ◌≤◌, ◌↔◌, ◌+◌, ◌-◌, ◌^◌, ◌++◌, [], ◌∷◌, min, map, take, Some, length, Contains, IsErr, IfOk, OnOk, OnErr};
 ghost use Rattle.std.specs.Io.{ReadsAtMost};
 ghost use Rattle.std.specs.Io.KnownBytes.{ReadConsumes, WriteAppends};
 ghost use Rattle.slub_edges.specs.Edges.{Rose, EndsExactly, faults_after};
 ghost use Rattle.slub_edges.specs.Memory.{supply_of, store_of};
+ghost use Rattle.slub_edges.specs.Pieces.{piece_of};
 
 use crate::edges::{Failed, Sink, Source};
 use crate::faultless::FaultlessSource;
 use slub_common::no_memory::NoMemory;
-use std::alloc::Global;
+use std::alloc::{AllocError, Global};
 use std::marker::Model;
 
 /// A source of given bytes. Its calls are numbered from 0, and those that are named fail.
@@ -82,6 +83,8 @@ impl Source for MemSource {
 #[derive(Debug, Drop)]
 pub struct MemSink {
     bytes: Vec<u8>,
+    /// The pieces of which some was taken.
+    pieces: Vec<Vec<u8>>,
     most: usize,
     call: u64,
     failing: Vec<u64>,
@@ -89,13 +92,14 @@ pub struct MemSink {
 }
 
 impl Model for MemSink {
-    ghost use Rattle.std.specs.Prelude.{◌<◌};
+    ghost use Rattle.std.specs.Prelude.{◌<◌, map};
     ghost use Rattle.slub_edges.specs.Memory.{Store};
 
     ghost Value = { Store };
 
     ghost view = { λ s. record {
       taken = s.bytes.items;
+      pieces = map (λ piece. piece.items) s.pieces.items;
       most = s.most;
       call = s.call;
       failing = s.failing.items;
@@ -113,6 +117,7 @@ impl MemSink {
     {
         Ok(MemSink {
             bytes: Vec::new(alloc),
+            pieces: Vec::new(alloc),
             most,
             call: 0,
             failing: failing.to_vec(alloc)?,
@@ -126,10 +131,36 @@ impl MemSink {
     {
         self.bytes.as_slice()
     }
+
+    /// The pieces of which some was taken, each as it was given.
+    pub fn pieces(&self) -> &[Vec<u8>]
+        ensures { map (λ piece. piece.items) result.now ≡ self.now.pieces }
+    {
+        self.pieces.as_slice()
+    }
+
+    /// Keeps a piece of which `n` bytes are taken.
+    fn keep(&mut self, piece: &[u8], n: usize) -> Result<(), AllocError>
+        requires { n ≤ length piece.now }
+        ensures kept { OnOk result (self.new ≡ record self.old {
+          taken = self.old.taken ++ take n piece.now;
+          pieces = self.old.pieces ++ piece.now ∷ [];
+        }) }
+        ensures none { OnErr result (self.new ≡ self.old) }
+    {
+        let alloc = *self.bytes.allocator();
+        let kept = piece.to_vec(alloc)?;
+        self.pieces.reserve(1)?;
+        self.bytes.extend_from_slice(&piece[..n])?;
+        self.pieces.push_reserved(kept);
+        Ok(())
+    }
 }
 
 impl Sink for MemSink {
     ghost taken = { λ s. Some s.taken };
+
+    ghost pieces = { λ s. Some s.pieces };
 
     ghost faults = { λ s. s.faults };
 
@@ -138,6 +169,7 @@ impl Sink for MemSink {
         ensures some { IfOk result (λ n. 0 < n) }
         ensures bound { IfOk result (λ n. n ≤ length piece.now) }
         ensures bytes { WriteAppends (Some self.old.taken) (Some self.new.taken) result piece.now }
+        ensures piece { self.new.pieces ≡ self.old.pieces ++ piece_of result piece.now }
         ensures counts { self.old.faults ≤ self.new.faults }
         ensures failed { OnErr result (Rose self.old.faults self.new.faults) }
 
@@ -154,7 +186,7 @@ impl Sink for MemSink {
         self.call = call.saturating_add(1);
         let n = self.most.min(piece.len());
         let failing = self.failing.contains(&call);
-        if failing || self.bytes.extend_from_slice(&piece[..n]).is_err() {
+        if failing || self.keep(piece, n).is_err() {
             self.faults = self.faults.saturating_add(1);
             return Err(Failed);
         }

@@ -4,14 +4,17 @@ ghost use Rattle.std.specs.Prelude.{◌≡◌, ◌<◌, ◌≤◌, ◌==◌, len
 ghost use Rattle.std.specs.Io.BufRead.{take_through};
 ghost use Rattle.std.specs.Io.KnownBytes.{Appends};
 ghost use Rattle.slub_edges.specs.Edges.{Rose, AppendsFront};
+ghost use Rattle.slub_edges.specs.Pieces.{AreOf, IsGiven, AreOfLines, AreOfFirstLines, Gives, lines_of};
 
 use crate::edges::{Failed, Sink};
 
-/// Writes a piece. Where a part of it was taken, it is written on from there. At `Failed` a byte of
-/// it or more was not taken.
+/// Writes a piece, whole at the first call. Where a part of it was taken, it is written on from
+/// there. At `Failed` a byte of it or more was not taken.
 pub fn write_all<K: Sink>(sink: &mut K, piece: &[u8]) -> Result<(), Failed>
     ensures ok { OnOk result (Appends (K.taken sink.old) (K.taken sink.new) piece.now) }
     ensures err { OnErr result (AppendsFront (K.taken sink.old) (K.taken sink.new) 0 piece.now) }
+    ensures given { OnOk result (Gives (K.pieces sink.old) (K.pieces sink.new) (IsGiven piece.now)) }
+    ensures begun { OnErr result (Gives (K.pieces sink.old) (K.pieces sink.new) (AreOf piece.now)) }
     ensures counts { K.faults sink.old ≤ K.faults sink.new }
     ensures still { OnOk result (K.faults sink.new ≡ K.faults sink.old) }
     ensures failed { OnErr result (Rose (K.faults sink.old) (K.faults sink.new)) }
@@ -29,6 +32,10 @@ pub fn write_all<K: Sink>(sink: &mut K, piece: &[u8]) -> Result<(), Failed>
 pub fn write_lines<K: Sink>(sink: &mut K, text: &[u8]) -> Result<(), Failed>
     ensures ok { OnOk result (Appends (K.taken sink.old) (K.taken sink.new) text.now) }
     ensures err { OnErr result (AppendsFront (K.taken sink.old) (K.taken sink.new) 0 text.now) }
+    ensures lines { OnOk result (Gives (K.pieces sink.old) (K.pieces sink.new)
+        (AreOfLines (lines_of text.now))) }
+    ensures begun { OnErr result (Gives (K.pieces sink.old) (K.pieces sink.new)
+        (AreOfFirstLines (lines_of text.now))) }
     ensures counts { K.faults sink.old ≤ K.faults sink.new }
     ensures still { OnOk result (K.faults sink.new ≡ K.faults sink.old) }
     ensures failed { OnErr result (Rose (K.faults sink.old) (K.faults sink.new)) }

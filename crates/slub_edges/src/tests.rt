@@ -90,6 +90,19 @@ fn texts_go_line_by_line(rt: HostRuntime) -> Result<(), Fail> {
     Ok(())
 }
 
+/// A line is given whole, and then what is left of it where a part was taken.
+#[test]
+fn lines_are_pieces(rt: HostRuntime) -> Result<(), Fail> {
+    let mut sink = MemSink::of(rt.alloc(), &[], 3)?;
+    assert_eq!(rt; write_lines(&mut sink, b"one\nno\nend"), Ok(()));
+    let pieces: [&[u8]; 4] = [b"one\n", b"\n", b"no\n", b"end"];
+    assert_eq!(rt; sink.pieces().len(), pieces.len());
+    for (piece, want) in sink.pieces().iter().zip(pieces) {
+        assert_eq!(rt; piece.as_slice(), want);
+    }
+    Ok(())
+}
+
 #[test]
 fn sources_are_read_to_their_end(rt: HostRuntime) -> Result<(), Fail> {
     let alloc = rt.alloc();

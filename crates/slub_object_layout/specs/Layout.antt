@@ -1,4 +1,5 @@
--- The layout of a cache: the equations of `calculate_sizes`, `calculate_alignment` and `calculate_order` of Linux 6.1.
+-- The layout of a cache: the equations of `calculate_sizes`, `calculate_alignment` and
+-- `calculate_order` of Linux 6.1.
 use Rattle.std.specs.Prelude.{◌≡◌, ℕ, ◌+◌, ◌-◌, ◌*◌, ◌/◌, ◌%◌, ◌^◌, ◌<◌, ◌≤◌, min, max, ◌⊎◌, ◌≢◌, Bool, false, ◌||◌, ◌&&◌, ◌==◌, nat_lt, if◌then◌else◌}
 use Rattle.std.specs.Int.{IsPowerOfTwo, div_ceil, leading_zeros, w32}
 use Rattle.slub_object_layout.specs.declared.layout.Flags.{Flags}
@@ -36,18 +37,22 @@ abbrev pub align_down : ℕ → ℕ → ℕ
 align_down x a = x / a * a
 
 -- the least of 8, 16, 32 and 64 that an object of this size fits in, and 64 for a larger one
+-- (`calculate_alignment`)
 abbrev pub line_of : ℕ → ℕ
 line_of size =
-    if nat_lt 32 size then 64 else (if nat_lt 16 size then 32 else (if nat_lt 8 size then 16 else 8))
+    if nat_lt 32 size then 64
+    else (if nat_lt 16 size then 32 else (if nat_lt 8 size then 16 else 8))
 
 -- the greatest of what is asked for, the line where H is set, and a word (`calculate_alignment`)
 unfoldable pub alignment_of : Spec → ℕ
-alignment_of spec = align_up (max (max spec.align (if spec.flags.line then line_of spec.size else 8)) 8) 8
+alignment_of spec =
+    align_up (max (max spec.align (if spec.flags.line then line_of spec.size else 8)) 8) 8
 
 -- up to the end of the right red zone: an object that ends with its last word gets a word more
 unfoldable pub inuse_of : Spec → ℕ
 inuse_of spec =
-    align_up spec.size 8 + (if spec.flags.zones && (align_up spec.size 8 == spec.size) then 8 else 0)
+    align_up spec.size 8
+    + (if spec.flags.zones && (align_up spec.size 8 == spec.size) then 8 else 0)
 
 -- the free pointer stands behind the object, which is never written while it is free
 abbrev pub has_pointer_behind : Spec → Bool
@@ -61,10 +66,12 @@ offset_of spec = if has_pointer_behind spec then inuse_of spec else align_down (
 unfoldable pub left_pad_of : Spec → ℕ
 left_pad_of spec = if spec.flags.zones then align_up 8 (alignment_of spec) else 0
 
--- the object with its right red zone, a free pointer behind it, and a word and the left red zone where Z is set
+-- the object with its right red zone, a free pointer behind it, and a word and the left red zone
+-- where Z is set
 unfoldable pub used_of : Spec → ℕ
 used_of spec =
-    inuse_of spec + (if has_pointer_behind spec then 8 else 0) + (if spec.flags.zones then 8 else 0) + left_pad_of spec
+    inuse_of spec + (if has_pointer_behind spec then 8 else 0)
+    + (if spec.flags.zones then 8 else 0) + left_pad_of spec
 
 -- the size of a slot (`calculate_sizes`)
 unfoldable pub slot_of : Spec → ℕ
@@ -85,7 +92,8 @@ fls x = 32 - leading_zeros w32 x
 abbrev pub most_objects : ℕ → ℕ → ℕ
 most_objects size cpus = min (4 * (fls cpus + 1)) (32768 / size)
 
--- 2 ^ order frames, at most 8, hold these objects, and what is left over is at most this part of them (profile)
+-- 2 ^ order frames, at most 8, hold these objects, and what is left over is at most this part of
+-- them (profile)
 pub record Fits (size objects fraction order : ℕ) : Type 0 where
   pub holds : objects * size ≤ 4096 * 2 ^ order
   pub small : order ≤ 3
@@ -107,8 +115,10 @@ HasOrder size objects = SomeFits size objects 16 ⊎ SomeFits size objects 8 ⊎
 -- the least order of the first of the fractions 16, 8 and 4 that has one
 pub data IsFirstFit (size objects order : ℕ) : Type 0 where
   sixteenth : IsLeastFit size objects 16 order → IsFirstFit size objects order
-  eighth : ¬ SomeFits size objects 16 → IsLeastFit size objects 8 order → IsFirstFit size objects order
-  quarter : ¬ SomeFits size objects 16 → ¬ SomeFits size objects 8 → IsLeastFit size objects 4 order → IsFirstFit size objects order
+  eighth : ¬ SomeFits size objects 16 → IsLeastFit size objects 8 order
+      → IsFirstFit size objects order
+  quarter : ¬ SomeFits size objects 16 → ¬ SomeFits size objects 8
+      → IsLeastFit size objects 4 order → IsFirstFit size objects order
 
 -- the greatest number of objects, above 1 and at most `most`, that has an order
 pub record IsGreatest (size most objects : ℕ) : Type 0 where
@@ -117,21 +127,27 @@ pub record IsGreatest (size most objects : ℕ) : Type 0 where
   pub some : HasOrder size objects
   pub greatest : (m : ℕ) → 1 < m → m ≤ most → HasOrder size m → m ≤ objects
 
--- the order of a slab: that of the greatest number of objects that has one, else the least for one object (`calculate_order`)
+-- the order of a slab: that of the greatest number of objects that has one, else the least for one
+-- object (`calculate_order`)
 pub data IsOrder (size cpus order : ℕ) : Type 0 where
-  greatest : (objects : ℕ) → IsGreatest size (most_objects size cpus) objects → IsFirstFit size objects order → IsOrder size cpus order
-  single : ((m : ℕ) → 1 < m → m ≤ most_objects size cpus → ¬ HasOrder size m) → IsLeastOrder size order → IsOrder size cpus order
+  greatest : (objects : ℕ) → IsGreatest size (most_objects size cpus) objects
+      → IsFirstFit size objects order → IsOrder size cpus order
+  single : ((m : ℕ) → 1 < m → m ≤ most_objects size cpus → ¬ HasOrder size m)
+      → IsLeastOrder size order → IsOrder size cpus order
 
 -- ---- the lists
 
--- the slabs that the node list keeps: half the binary logarithm of the slot size, from 5 to 10 (`set_min_partial`)
+-- the slabs that the node list keeps: half the binary logarithm of the slot size, from 5 to 10
+-- (`kmem_cache_open`)
 unfoldable pub min_partial_of : ℕ → ℕ
 min_partial_of size = max 5 (min 10 ((fls size - 1) / 2))
 
--- the objects that a CPU's partial list is to hold (`set_cpu_partial`; the numbers as the profile has them)
+-- the objects that a CPU's partial list is to hold (`set_cpu_partial`; the numbers as the profile
+-- has them)
 unfoldable pub cpu_partial_of : ℕ → ℕ
 cpu_partial_of size =
-    if nat_lt size 256 then 120 else (if nat_lt size 1024 then 52 else (if nat_lt size 4096 then 24 else 6))
+    if nat_lt size 256 then 120
+    else (if nat_lt size 1024 then 52 else (if nat_lt size 4096 then 24 else 6))
 
 -- as many slabs, each taken as half full (`slub_set_cpu_partial`)
 abbrev pub cpu_partial_slabs_of : ℕ → ℕ → ℕ
@@ -156,7 +172,9 @@ pub record IsLayout (spec : Spec) (cpus : ℕ) (layout : Layout) : Type 0 where
   pub min_order : IsLeastOrder layout.size layout.min_order
   pub min_objects_slab : layout.min_objects_slab ≡ 4096 * 2 ^ layout.min_order / layout.size
   pub min_partial : layout.min_partial ≡ min_partial_of layout.size
-  pub cpu_partial_slabs : layout.cpu_partial_slabs ≡ (if is_checked spec.flags then 0 else cpu_partial_slabs_of (cpu_partial_of layout.size) layout.objects)
+  pub cpu_partial_slabs :
+      layout.cpu_partial_slabs ≡ (if is_checked spec.flags then 0
+      else cpu_partial_slabs_of (cpu_partial_of layout.size) layout.objects)
 
 -- what holds of every layout
 pub record IsWithinBounds (layout : Layout) : Type 0 where
@@ -181,11 +199,13 @@ pub record IsWithinBounds (layout : Layout) : Type 0 where
 
 -- ---- places in a slab
 
--- the address of an object of the slab that begins at this frame, in bytes: past the left red zone of its slot
+-- the address of an object of the slab that begins at this frame, in bytes: past the left red zone
+-- of its slot (`fixup_red_left`)
 abbrev pub address_of : ℕ → ℕ → Layout → ℕ
 address_of frame index layout = frame * 4096 + index * layout.size + layout.left_pad
 
--- the byte at this address lies in the object's slot: from its left red zone to the end of its padding
+-- the byte at this address lies in the object's slot: from its left red zone to the end of its
+-- padding
 pub record IsInSlot (frame index : ℕ) (layout : Layout) (byte : ℕ) : Type 0 where
   pub from : address_of frame index layout ≤ byte + layout.left_pad
   pub below : byte + layout.left_pad < address_of frame index layout + layout.size

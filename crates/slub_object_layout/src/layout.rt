@@ -265,7 +265,7 @@ pub fn alignment_of(spec: &Spec) -> u32
     align_up(spec.align.max(line).max(WORD), WORD)
 }
 
-/// The cache line, halved while the object fits into the half.
+/// The cache line, halved while the object fits into the half (`calculate_alignment`).
 fn line_of(size: u32) -> u32
     requires { 1 ≤ size }
     ensures line { max result 8 ≡ line_of size }
@@ -363,7 +363,7 @@ fn fls(x: u32) -> u32
     u32::BITS - x.leading_zeros()
 }
 
-/// How many slabs the node list keeps (`set_min_partial`).
+/// How many slabs the node list keeps (`min_partial`, as `kmem_cache_open` sets it).
 #[tactic(auto, unfolding(crate::specs::Layout::min_partial_of))]
 fn min_partial_of(size: u32) -> u32
     requires { 1 ≤ size }
@@ -390,7 +390,8 @@ fn cpu_partial_slabs(flags: &Flags, size: u32, objects: u32) -> u32
     (2 * held).div_ceil(objects)
 }
 
-/// The address of an object, in bytes: slot `index` of the slab that begins at `frame`.
+/// The address of an object, in bytes: slot `index` of the slab that begins at `frame`, past the left
+/// red zone (`fixup_red_left`).
 pub fn address(frame: u32, index: u32, layout: &Layout) -> u32
     requires frame { frame < 4096 }
     requires index { index < layout.now.objects }

@@ -11,10 +11,12 @@ pub data Act : Type 0 where
   noted : (order : ℕ) (answer : Option ℕ) → Act
   returned : (frame order : ℕ) → Act
 
--- the call may be made, and it leaves the new pool; a noted take is one whose count has not come to its end
+-- the call may be made, and it leaves the new pool; a noted take is one whose count has not come
+-- to its end
 abbrev pub Does : FreeFrames → Act → FreeFrames → Type 0
 Does old (took order answer) new = (order ≤ 10) × Takes old order answer new
-Does old (noted order answer) new = (order ≤ 10) × (slice_index old.dry order < 2 ^ 64 - 1) × TakesOrNotes old order answer new
+Does old (noted order answer) new =
+    (order ≤ 10) × (slice_index old.dry order < 2 ^ 64 - 1) × TakesOrNotes old order answer new
 Does old (returned frame order) new = CanPut old frame order × Puts old frame order new
 
 -- the calls, one after another, lead to the new pool
@@ -45,11 +47,15 @@ pub record IsPartition (frames : ℕ) (free out : List ℕ) : Type 0 where
 
 -- every history of a pool of so many frames keeps its frames, each free or out
 abbrev pub KeepsFrames : ℕ → Type 0
-KeepsFrames frames = (acts : List Act) (pool : FreeFrames) → Reaches (opening frames) acts pool → IsPartition frames pool.free (frames_out [] acts)
+KeepsFrames frames =
+    (acts : List Act) (pool : FreeFrames) → Reaches (opening frames) acts pool
+    → IsPartition frames pool.free (frames_out [] acts)
 
 -- and where no frame is out, the pool is as it was opened, but for its counts
 abbrev pub ReopensWhenAllBack : ℕ → Type 0
-ReopensWhenAllBack frames = (acts : List Act) (pool : FreeFrames) → Reaches (opening frames) acts pool → frames_out [] acts ≡ [] → pool ≡ record (opening frames) { dry = pool.dry }
+ReopensWhenAllBack frames =
+    (acts : List Act) (pool : FreeFrames) → Reaches (opening frames) acts pool
+    → frames_out [] acts ≡ [] → pool ≡ record (opening frames) { dry = pool.dry }
 
 -- a take of this order that found no block and was noted
 abbrev pub is_dry : ℕ → Act → Bool
@@ -60,4 +66,6 @@ is_dry order (returned frame asked) = false
 
 -- the counts are of the noted takes that found no block, and of nothing else
 abbrev pub CountsDryTakes : ℕ → Type 0
-CountsDryTakes frames = (acts : List Act) (pool : FreeFrames) (order : ℕ) → Reaches (opening frames) acts pool → slice_index pool.dry order ≡ count_by (is_dry order) acts
+CountsDryTakes frames =
+    (acts : List Act) (pool : FreeFrames) (order : ℕ) → Reaches (opening frames) acts pool
+    → slice_index pool.dry order ≡ count_by (is_dry order) acts

@@ -73,8 +73,9 @@ impl Pool {
     }
 
     /// Takes 2^order frames (`alloc_pages`) and answers with the first of them: the front of the
-    /// least block that is large enough, and of the lowest such block where there are several. None
-    /// comes exactly where no block is large enough, and then nothing changes.
+    /// least block that is large enough (`__rmqueue_smallest`), and of the lowest such block where
+    /// there are several (*profile*). None comes exactly where no block is large enough, and then
+    /// nothing changes.
     pub fn take(&mut self, order: u32) -> Option<u32>
         requires { order ≤ 10 }
         ensures takes { Takes self.old order result self.new }

@@ -51,12 +51,21 @@ module _ (s : CheckedState) (run : Run) (objects : ℕ) (sound : IsSound s) (new
       stocked = stock-one (new_slab s.layout s.flags run.order objects) (omega (arith, length-range_with_len 0 objects, some-objects))
 
   module _ (whole : length (new_slab s.layout s.flags run.order objects).bytes ≡ objects * s.layout.size) where
-    pub new-kept : {t : Totals} {a b c c' : ℕ} → IsKept s t a b c → t.free + t.used + t.aside + objects ≤ c' → IsKept (with_new_slab s run objects) (record { free = t.free + objects; used = t.used; aside = t.aside; slabs = t.slabs + 1 }) a b c'
-    new-kept kept room =
+    pub new-sound : IsSound (with_new_slab s run objects)
+    new-sound =
         let slab = new_slab s.layout s.flags run.order objects in
         let kinds = new-kinds objects in
         let one = stock-one slab (omega (arith, length-range_with_len 0 objects, some-objects)) in
         let none = ap stock none-there in
+        let aside_was = ap (each aside_in) none-there in
+        let aside = sum-with aside_in s.slabs run.frame (Some slab) place-inside in
+        sound-with s run.frame (Some slab) (run.frame ∷ s.listed) s.reports sound (omega (arith, first)) last (new-slab s.layout s.flags run.order objects sized whole)
+        (relisted-front s run.frame (Some slab) sound none one) (omega (arith, none, one)) (omega (arith, sound.reported, aside, aside_was, kinds))
+
+    pub new-kept : {t : Totals} {a b c c' : ℕ} → IsKept s t a b c → t.free + t.used + t.aside + objects ≤ c' → IsKept (with_new_slab s run objects) (record { free = t.free + objects; used = t.used; aside = t.aside; slabs = t.slabs + 1 }) a b c'
+    new-kept kept room =
+        let slab = new_slab s.layout s.flags run.order objects in
+        let kinds = new-kinds objects in
         let free_was = ap (each free_in) none-there in
         let used_was = ap (each used_in) none-there in
         let aside_was = ap (each aside_in) none-there in
@@ -66,8 +75,7 @@ module _ (s : CheckedState) (run : Run) (objects : ℕ) (sound : IsSound s) (new
         let slabs = count-set is_some s.slabs run.frame (Some slab) None place-inside in
         let was : one_if (is_some (get_or s.slabs run.frame None)) ≡ 0 = ap (λ x. one_if (is_some x)) none-there in
         record {
-          sound = sound-with s run.frame (Some slab) (run.frame ∷ s.listed) s.reports sound (omega (arith, first)) last (new-slab s.layout s.flags run.order objects sized whole)
-              (relisted-front s run.frame (Some slab) sound none one) (omega (arith, none, one)) (omega (arith, sound.reported, aside, aside_was, kinds));
+          sound = new-sound;
           are_totals = record { free = omega (arith, kept.are_totals, kinds, free, free_was); used = omega (arith, kept.are_totals, kinds, used, used_was); aside = omega (arith, kept.are_totals, kinds, aside, aside_was); slabs = omega (arith, kept.are_totals, slabs, was) };
           list_room = kept.list_room;
           counts_room = kept.counts_room;

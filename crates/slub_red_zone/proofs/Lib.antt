@@ -1,3 +1,6 @@
+pub mod Splices
+pub mod SlotBytes
+pub mod Parts
 pub mod Times
 pub mod Asides
 pub mod Counting
@@ -11,3 +14,9 @@ pub mod Taken
 pub mod Comings
 pub mod Idle
 pub mod Objects
+pub mod NewSlabs
+pub mod Written
+pub mod Telling
+pub mod Changed
+pub mod Pokes
+pub mod NoneAside

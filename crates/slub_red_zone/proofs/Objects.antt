@@ -208,7 +208,7 @@ adds-slab s run objects inside =
     }
 
 -- the first object of a new slab is the next
-first-is-next : (s : CheckedState) (run : Run) (objects : ℕ) (slot : Slot) → slot ≡ first_of run → run.frame < length s.slabs → 1 ≤ objects → IsNext (with_new_slab s run objects) slot
+pub first-is-next : (s : CheckedState) (run : Run) (objects : ℕ) (slot : Slot) → slot ≡ first_of run → run.frame < length s.slabs → 1 ≤ objects → IsNext (with_new_slab s run objects) slot
 first-is-next s run objects slot first inside some = let P : Slot → Type 0 = IsNext (with_new_slab s run objects) in subst P (sym first) (record { listed = refl; free = front })
   where
     rising : (n : ℕ) → 1 ≤ n → range_with_len 0 n ≡ 0 ∷ drop 1 (range_with_len 0 n)

@@ -11,7 +11,8 @@ pub record AreTotals (s : CheckedState) (totals : Totals) : Type 0 where
   pub aside : totals.aside ≡ aside_count s
   pub slabs : totals.slabs ≡ slab_count s
 
--- the list has room for a slab of each frame, so have the counts for a promotion, and each object can be reported
+-- the list has room for a slab of each frame, so have the counts for a promotion, and each object
+-- can be reported
 pub record IsKept (s : CheckedState) (totals : Totals) (frames counts reports : ℕ) : Type 0 where
   pub sound : IsSound s
   pub are_totals : AreTotals s totals

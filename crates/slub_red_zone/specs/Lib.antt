@@ -4,3 +4,6 @@ pub mod State
 pub mod Steps
 pub mod Sound
 pub mod Kept
+pub mod Bytes
+pub mod Told
+pub mod Changes

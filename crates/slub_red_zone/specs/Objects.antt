@@ -39,7 +39,8 @@ shape_of slab = (slab.order, objects_in slab)
 abbrev pub shape_at : CheckedState → ℕ → Option (ℕ × ℕ)
 shape_at s frame = option_map shape_of (slice_index_or s.slabs frame None)
 
--- how many reports there are and slabs listed: each give that finds damage makes a report of a listed slab
+-- how many reports there are and slabs listed: giving makes a report of each listed slab that it
+-- finds damaged
 abbrev pub findable : CheckedState → ℕ
 findable s = length s.reports + length s.listed
 
@@ -89,7 +90,8 @@ GivesOne old (Given slot) new = IsGivenNow old slot new
 GivesOne old Empty new = KeepsIdle old new
 
 -- what a give leaves
-pub record GivesObject (old : CheckedState) (answer : CheckedGive) (new : CheckedState) : Type 0 where
+pub record GivesObject (old : CheckedState) (answer : CheckedGive) (new : CheckedState)
+    : Type 0 where
   pub slabs : KeepsSlabs old new
   pub objects : GivesOne old answer new
   pub reports : AddsReports old new
@@ -99,11 +101,13 @@ pub record GivesObject (old : CheckedState) (answer : CheckedGive) (new : Checke
 
 -- one more object is idle, or the same are
 abbrev pub TakesOne : CheckedState → Slot → Result (Unit {0}) Damage → CheckedState → Type 0
-TakesOne old slot (Ok _) new = (frame index : ℕ) → idle new frame index ≡ idle old frame index + here slot frame index
+TakesOne old slot (Ok _) new =
+    (frame index : ℕ) → idle new frame index ≡ idle old frame index + here slot frame index
 TakesOne old slot (Err _) new = KeepsIdle old new
 
 -- what taking an object back leaves
-pub record TakesObject (old : CheckedState) (slot : Slot) (answer : Result (Unit {0}) Damage) (new : CheckedState) : Type 0 where
+pub record TakesObject (old : CheckedState) (slot : Slot) (answer : Result (Unit {0}) Damage)
+    (new : CheckedState) : Type 0 where
   pub slabs : KeepsSlabs old new
   pub objects : TakesOne old slot answer new
   pub reports : new.reports ≡ old.reports
@@ -120,10 +124,12 @@ pub record AddsSlab (old : CheckedState) (run : Run) (count : ℕ) (new : Checke
   pub bounded : findable new ≤ findable old + 1
 
 -- a slab is there that wasn't, all its objects but a used one are idle
-pub record AddsGivenSlab (old : CheckedState) (run : Run) (count : ℕ) (slot : Slot) (new : CheckedState) : Type 0 where
+pub record AddsGivenSlab (old : CheckedState) (run : Run) (count : ℕ) (slot : Slot)
+    (new : CheckedState) : Type 0 where
   pub others : KeepsOthers old run.frame new
   pub shape : shape_at new run.frame ≡ Some (run.order, count)
-  pub objects : (index : ℕ) → idle new run.frame index + here slot run.frame index ≡ one_of count index
+  pub objects : (index : ℕ)
+      → idle new run.frame index + here slot run.frame index ≡ one_of count index
   pub used : IsUsed new slot
   pub reports : new.reports ≡ old.reports
   pub bounded : findable new ≤ findable old + 1

@@ -21,11 +21,14 @@ pub record IsLayoutFor (flags : Flags) (layout : Layout) : Type 0 where
 
 -- the order and the number of objects are the layout's, or its least ones
 abbrev pub IsSized : Layout → ℕ → ℕ → Type 0
-IsSized layout order objects = ((order ≡ layout.order) × (objects ≡ layout.objects)) ⊎ ((order ≡ layout.min_order) × (objects ≡ layout.min_objects_slab))
+IsSized layout order objects =
+    ((order ≡ layout.order) × (objects ≡ layout.objects))
+    ⊎ ((order ≡ layout.min_order) × (objects ≡ layout.min_objects_slab))
 
 -- each free object is in the list of free objects once, and nothing else is
 pub record IsFreeList (states : List ObjectState) (free : List ℕ) : Type 0 where
-  pub once : (index : ℕ) → times index free ≡ (if is_free (slice_index_or states index Aside) then 1 else 0)
+  pub once : (index : ℕ)
+      → times index free ≡ (if is_free (slice_index_or states index Aside) then 1 else 0)
   pub count : length free ≡ count_by is_free states
 
 -- what holds of each slab
@@ -47,7 +50,8 @@ pub record IsSound (s : CheckedState) : Type 0 where
   pub first_frame : ¬ Has s 0
   pub slab : (frame : ℕ) → IfSome (slice_index_or s.slabs frame None) (IsSlab s.layout)
   -- each slab with a free object is listed once, and nothing else is
-  pub listed : (frame : ℕ) → times frame s.listed ≡ (if is_stocked (slice_index_or s.slabs frame None) then 1 else 0)
+  pub listed : (frame : ℕ)
+      → times frame s.listed ≡ (if is_stocked (slice_index_or s.slabs frame None) then 1 else 0)
   pub listed_count : length s.listed ≡ count_by is_stocked s.slabs
   -- each report came with an object that was set aside
   pub reported : length s.reports ≤ aside_count s

@@ -66,11 +66,13 @@ aside_in slab = count_by is_aside slab.states
 
 -- the bytes of an object's slot
 abbrev pub slot_of : Layout → List ℕ → ℕ → List ℕ
-slot_of layout bytes index = slice_range bytes (index * layout.size) (index * layout.size + layout.size)
+slot_of layout bytes index =
+    slice_range bytes (index * layout.size) (index * layout.size + layout.size)
 
 -- the bytes with these in the place of a slot's
 abbrev pub with_slot : Layout → List ℕ → ℕ → List ℕ → List ℕ
-with_slot layout bytes index slot = take (index * layout.size) bytes ++ slot ++ drop (index * layout.size + layout.size) bytes
+with_slot layout bytes index slot =
+    take (index * layout.size) bytes ++ slot ++ drop (index * layout.size + layout.size) bytes
 
 -- ---- the cache
 
@@ -84,6 +86,10 @@ slab_at slabs frame = unwrap_or (slice_index_or slabs frame None) no_slab
 
 abbrev pub slab_of : CheckedState → ℕ → SlabState
 slab_of s frame = slab_at s.slabs frame
+
+-- the bytes of an object's slot
+abbrev pub bytes_of : CheckedState → Slot → List ℕ
+bytes_of s slot = slot_of s.layout (slab_of s slot.frame).bytes slot.index
 
 -- what an object is, None where there is no such object
 abbrev pub state_of : CheckedState → Slot → Option ObjectState

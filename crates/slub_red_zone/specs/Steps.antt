@@ -16,7 +16,7 @@ use Rattle.slub_red_zone.specs.declared.checked.Run.{Run}
 use Rattle.slub_red_zone.specs.declared.checked.Slot.{Slot}
 use Rattle.slub_common.specs.declared.no_memory.NoMemory.{NoMemory}
 use Rattle.slub_red_zone.specs.Zones.{red_inactive, red_active, damage_when_given, damage_when_taken, set_up, new_slot}
-use Rattle.slub_red_zone.specs.State.{SlabState, CheckedState, slab_of, slot_of, with_slab, with_slot, objects_in}
+use Rattle.slub_red_zone.specs.State.{SlabState, CheckedState, slab_of, slot_of, bytes_of, with_slab, with_slot, objects_in}
 
 -- ---- the opening
 
@@ -26,14 +26,23 @@ no_slabs = replicate 4096 None
 
 -- there is no slab, and nothing was found
 abbrev pub opening : Layout → Flags → ℕ → CheckedState
-opening layout flags cache = record { layout = layout; flags = flags; cache = cache; slabs = no_slabs; listed = []; reports = [] }
+opening layout flags cache = record {
+  layout = layout;
+  flags = flags;
+  cache = cache;
+  slabs = no_slabs;
+  listed = [];
+  reports = [];
+}
 
 -- ---- giving
 
 -- an object is set up as used, and is the front of its slab's free objects no more
 abbrev pub slab_with_given : Layout → Flags → SlabState → ℕ → SlabState
 slab_with_given layout flags slab index = record slab {
-  bytes = with_slot layout slab.bytes index (set_up layout flags red_active (slot_of layout slab.bytes index));
+  bytes =
+      let slot = slot_of layout slab.bytes index in
+      with_slot layout slab.bytes index (set_up layout flags red_active slot);
   states = slice_set slab.states index Used;
   free = drop 1 slab.free;
 }
@@ -44,7 +53,7 @@ set_aside Free = Aside
 set_aside Used = Used
 set_aside Aside = Aside
 
--- every free object is set aside
+-- every free object is set aside (`alloc_debug_processing`)
 abbrev pub slab_set_aside : SlabState → SlabState
 slab_set_aside slab = record slab { states = map set_aside slab.states; free = [] }
 
@@ -60,12 +69,18 @@ with_given s slot =
 
 -- what is told of a damaged object
 abbrev pub report_of : CheckedState → Slot → Damage → Report
-report_of s slot damage = record { cache = s.cache; address = address_of slot.frame slot.index s.layout; damage = damage }
+report_of s slot damage =
+    let address = address_of slot.frame slot.index s.layout in
+    record { cache = s.cache; address = address; damage = damage }
 
--- the front slab's first free object is reported, all its free objects are set aside for good, and it is listed no more (profile: the damaged bytes stay)
+-- the front slab's first free object is reported, all its free objects are set aside for good, and
+-- it is listed no more (profile: the damaged bytes stay)
 abbrev pub with_damaged : CheckedState → Slot → Damage → CheckedState
 with_damaged s slot damage =
-    record (with_slab s slot.frame (slab_set_aside (slab_of s slot.frame))) { listed = drop 1 s.listed; reports = s.reports ++ report_of s slot damage ∷ [] }
+    record (with_slab s slot.frame (slab_set_aside (slab_of s slot.frame))) {
+      listed = drop 1 s.listed;
+      reports = s.reports ++ report_of s slot damage ∷ [];
+    }
 
 -- the first free object of the first listed slab
 pub record IsNext (s : CheckedState) (slot : Slot) : Type 0 where
@@ -74,13 +89,16 @@ pub record IsNext (s : CheckedState) (slot : Slot) : Type 0 where
 
 -- the damage for which the object of a slot can't be given
 abbrev pub damage_of_free : CheckedState → Slot → Option Damage
-damage_of_free s slot = damage_when_given s.layout s.flags (slot_of s.layout (slab_of s slot.frame).bytes slot.index)
+damage_of_free s slot = damage_when_given s.layout s.flags (bytes_of s slot)
 
--- one object is given, after each slab whose first free object was found damaged before it (`alloc_debug_processing`)
+-- one object is given, after each slab whose first free object was found damaged before it
+-- (`alloc_single_from_partial`)
 pub data Gives : CheckedState → CheckedGive → CheckedState → Type 0 where
   nothing_listed : (s : CheckedState) → s.listed ≡ [] → Gives s Empty s
-  next_is_whole : (s : CheckedState) (slot : Slot) → IsNext s slot → damage_of_free s slot ≡ None → Gives s (Given slot) (with_given s slot)
-  next_is_damaged : (s : CheckedState) (slot : Slot) (damage : Damage) (answer : CheckedGive) (after : CheckedState) → IsNext s slot → damage_of_free s slot ≡ Some damage
+  next_is_whole : (s : CheckedState) (slot : Slot) → IsNext s slot → damage_of_free s slot ≡ None
+      → Gives s (Given slot) (with_given s slot)
+  next_is_damaged : (s : CheckedState) (slot : Slot) (damage : Damage) (answer : CheckedGive)
+      (after : CheckedState) → IsNext s slot → damage_of_free s slot ≡ Some damage
       → Gives (with_damaged s slot damage) answer after → Gives s answer after
 
 -- ---- taking back
@@ -88,7 +106,9 @@ pub data Gives : CheckedState → CheckedGive → CheckedState → Type 0 where
 -- an object is set up as free, and is the front of its slab's free objects
 abbrev pub slab_with_taken : Layout → Flags → SlabState → ℕ → SlabState
 slab_with_taken layout flags slab index = record slab {
-  bytes = with_slot layout slab.bytes index (set_up layout flags red_inactive (slot_of layout slab.bytes index));
+  bytes =
+      let slot = slot_of layout slab.bytes index in
+      with_slot layout slab.bytes index (set_up layout flags red_inactive slot);
   states = slice_set slab.states index Free;
   free = index ∷ slab.free;
 }
@@ -101,18 +121,20 @@ listed_with listed frame slab = if length slab.free == 0 then listed ++ frame �
 abbrev pub with_taken : CheckedState → Slot → CheckedState
 with_taken s slot =
     let slab = slab_of s slot.frame in
-    record (with_slab s slot.frame (slab_with_taken s.layout s.flags slab slot.index)) { listed = listed_with s.listed slot.frame slab }
+    record (with_slab s slot.frame (slab_with_taken s.layout s.flags slab slot.index)) {
+      listed = listed_with s.listed slot.frame slab;
+    }
 
 -- the damage for which the object of a slot can't be taken back
 abbrev pub damage_of_used : CheckedState → Slot → Option Damage
-damage_of_used s slot = damage_when_taken s.layout s.flags (slot_of s.layout (slab_of s slot.frame).bytes slot.index)
+damage_of_used s slot = damage_when_taken s.layout s.flags (bytes_of s slot)
 
 -- a used object is taken back, or its damage is told and nothing changes (`free_debug_processing`)
 abbrev pub TakesBack : CheckedState → Slot → Result (Unit {0}) Damage → CheckedState → Type 0
 TakesBack s slot (Ok _) after = (damage_of_used s slot ≡ None) × (after ≡ with_taken s slot)
 TakesBack s slot (Err damage) after = (damage_of_used s slot ≡ Some damage) × (after ≡ s)
 
--- ---- single bytes and words
+-- ---- single bytes and words (profile)
 
 -- the place in the slot of the byte at an offset from the object's address
 abbrev pub place_of : Layout → ℤ → ℤ
@@ -120,17 +142,20 @@ place_of layout offset = pos layout.left_pad +ℤ offset
 
 -- the byte at an offset lies in the object's slot
 abbrev pub IsOffset : Layout → ℤ → Type 0
-IsOffset layout offset = (pos 0 ≤ℤ place_of layout offset) × (place_of layout offset <ℤ pos layout.size)
+IsOffset layout offset =
+    (pos 0 ≤ℤ place_of layout offset) × (place_of layout offset <ℤ pos layout.size)
 
 -- one byte of a slot is written
 abbrev pub with_byte : CheckedState → Slot → ℤ → ℕ → CheckedState
 with_byte s slot offset byte =
     let slab = slab_of s slot.frame in
-    with_slab s slot.frame (record slab { bytes = slice_set slab.bytes (slot.index * s.layout.size + nat_abs (place_of s.layout offset)) byte })
+    let at = slot.index * s.layout.size + nat_abs (place_of s.layout offset) in
+    with_slab s slot.frame (record slab { bytes = slice_set slab.bytes at byte })
 
--- a byte of the slot is written, or the offset lies outside and nothing changes
+-- a byte of the slot is written, or the offset lies outside and nothing changes (profile)
 abbrev pub Pokes : CheckedState → Slot → ℤ → ℕ → Result (Unit {0}) OutOfSlot → CheckedState → Type 0
-Pokes s slot offset byte (Ok _) after = IsOffset s.layout offset × (after ≡ with_byte s slot offset byte)
+Pokes s slot offset byte (Ok _) after =
+    IsOffset s.layout offset × (after ≡ with_byte s slot offset byte)
 Pokes s slot offset byte (Err _) after = (¬ IsOffset s.layout offset) × (after ≡ s)
 
 -- where a word of an object begins among the bytes of its slab
@@ -148,7 +173,9 @@ abbrev pub with_word : CheckedState → Slot → ℕ → ℕ → CheckedState
 with_word s slot word value =
     let slab = slab_of s slot.frame in
     let at = word_place s.layout slot.index word in
-    with_slab s slot.frame (record slab { bytes = take at slab.bytes ++ to_le_bytes w64 value ++ drop (at + 8) slab.bytes })
+    with_slab s slot.frame (record slab {
+      bytes = take at slab.bytes ++ to_le_bytes w64 value ++ drop (at + 8) slab.bytes;
+    })
 
 -- how many objects of each listed slab are free
 abbrev pub free_counts : CheckedState → List ℕ
@@ -158,19 +185,28 @@ free_counts s = map (λ frame. length (slab_of s frame).free) s.listed
 
 -- a new slab: every object set up as free, in rising order (`setup_object_debug`)
 abbrev pub new_slab : Layout → Flags → ℕ → ℕ → SlabState
-new_slab layout flags order objects = record { order = order; bytes = concat (replicate objects (new_slot layout flags)); states = replicate objects Free; free = range_with_len 0 objects }
+new_slab layout flags order objects = record {
+  order = order;
+  bytes = concat (replicate objects (new_slot layout flags));
+  states = replicate objects Free;
+  free = range_with_len 0 objects;
+}
 
 -- it stands at the head of the listed slabs
 abbrev pub with_new_slab : CheckedState → Run → ℕ → CheckedState
-with_new_slab s run objects = record (with_slab s run.frame (new_slab s.layout s.flags run.order objects)) { listed = run.frame ∷ s.listed }
+with_new_slab s run objects =
+    let slab = new_slab s.layout s.flags run.order objects in
+    record (with_slab s run.frame slab) { listed = run.frame ∷ s.listed }
 
 -- the first object of a run's slab
 abbrev pub first_of : Run → Slot
 first_of run = record { frame = run.frame; index = 0 }
 
--- a new slab is added and its first object is given, or nothing changes (`alloc_single_from_new_slab`)
+-- a new slab is added and its first object is given, or nothing changes
+-- (`alloc_single_from_new_slab`)
 abbrev pub GivesNew : CheckedState → Run → ℕ → Result Slot NoMemory → CheckedState → Type 0
-GivesNew s run objects (Ok slot) after = (slot ≡ first_of run) × (after ≡ with_given (with_new_slab s run objects) slot)
+GivesNew s run objects (Ok slot) after =
+    (slot ≡ first_of run) × (after ≡ with_given (with_new_slab s run objects) slot)
 GivesNew s run objects (Err _) after = after ≡ s
 
 -- all objects of the slab are free, and so many slabs are listed
@@ -180,9 +216,15 @@ pub record IsSpare (s : CheckedState) (frame limit : ℕ) : Type 0 where
 
 -- a slab is there no more
 abbrev pub without_slab : CheckedState → ℕ → CheckedState
-without_slab s frame = record s { slabs = slice_set s.slabs frame None; listed = filter (λ other. not (other == frame)) s.listed }
+without_slab s frame = record s {
+  slabs = slice_set s.slabs frame None;
+  listed = filter (λ other. not (other == frame)) s.listed;
+}
 
 -- a slab with no object in use is taken out, its run is the answer; any other stays
+-- (`free_debug_processing`)
 abbrev pub TakesEmpty : CheckedState → ℕ → ℕ → Option Run → CheckedState → Type 0
 TakesEmpty s frame limit None after = (¬ IsSpare s frame limit) × (after ≡ s)
-TakesEmpty s frame limit (Some run) after = IsSpare s frame limit × (run ≡ record { frame = frame; order = (slab_of s frame).order }) × (after ≡ without_slab s frame)
+TakesEmpty s frame limit (Some run) after =
+    IsSpare s frame limit × (run ≡ record { frame = frame; order = (slab_of s frame).order })
+    × (after ≡ without_slab s frame)

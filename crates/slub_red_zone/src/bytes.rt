@@ -12,7 +12,7 @@ use crate::slabs;
 use slub_object_layout::layout::Layout;
 
 impl CheckedSlabs {
-    /// Writes one byte of an object's slot, whatever the object is; `offset` counts in bytes from the
+    /// Writes one byte of an object's slot, whatever the object is (*profile*); `offset` counts in bytes from the
     /// object's address. OutOfSlot comes exactly where it is below `-left_pad` or at least
     /// `size - left_pad`, and nothing changes.
     pub fn poke(&mut self, slot: Slot, offset: i32, byte: u8) -> Result<(), OutOfSlot>
@@ -38,7 +38,7 @@ impl CheckedSlabs {
         place_of(&self.layout, offset).is_some()
     }
 
-    /// Word number `word` of a used object: its eight bytes, little endian.
+    /// Word number `word` of a used object: its eight bytes, little endian (*profile*).
     pub fn word(&self, slot: Slot, word: u32) -> u64
         requires used { IsUsed self.now slot }
         requires inside { 8 * (word + 1) ≤ self.now.layout.object_size }
@@ -52,7 +52,7 @@ impl CheckedSlabs {
         )
     }
 
-    /// Writes word number `word` of a used object, little endian.
+    /// Writes word number `word` of a used object, little endian (*profile*).
     pub fn set_word(&mut self, slot: Slot, word: u32, value: u64)
         requires used { IsUsed self.old slot }
         requires inside { 8 * (word + 1) ≤ self.old.layout.object_size }

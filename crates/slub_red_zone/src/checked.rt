@@ -110,11 +110,11 @@ impl CheckedSlabs {
         })
     }
 
-    /// Gives an object: the first free object of the first listed slab (`alloc_debug_processing`).
+    /// Gives an object: the first free object of the first listed slab (`alloc_single_from_partial`).
     ///
-    /// With F it is examined first. Where a byte is damaged, the first is reported, all free objects
-    /// of that slab are set aside for good, and the next listed slab is tried. Empty comes exactly
-    /// where no listed slab is left.
+    /// With F it is examined first (`alloc_debug_processing`). Where a byte is damaged, the first is
+    /// reported, all free objects of that slab are set aside for good, and the next listed slab is
+    /// tried. Empty comes exactly where no listed slab is left.
     pub fn give(&mut self) -> CheckedGive
         ensures gives { step.Gives self.old result self.new }
         ensures objects { GivesObject self.old result self.new }
@@ -184,7 +184,7 @@ impl CheckedSlabs {
         self.totals.free -= 1;
     }
 
-    /// Reports the next object, and sets all free objects of its slab aside.
+    /// Reports the next object, and sets all free objects of its slab aside (`alloc_debug_processing`).
     fn set_aside_next(&mut self, slot: Slot, damage: Damage)
         requires next { step.IsNext self.old slot }
         ensures { self.new ≡ step.with_damaged self.old slot damage }

@@ -13,6 +13,10 @@
 //! reports, whatever their bytes are, says `specs/Objects.antt`. `specs/Kept.antt` has what is
 //! private: counts that are kept, and room.
 //!
+//! `laws` says what these definitions come to, in words of single bytes: `specs/Bytes.antt` has when
+//! a slot is whole, what is written and what a damage tells, `specs/Told.antt` what reports tell of
+//! the slabs, and `specs/Changes.antt` which bytes each call changes.
+//!
 //! `zones` has the bytes of one slot, `slab` one slab, `slabs` the table of slabs by frame, and
 //! `checked`, `bytes` and `supply` the calls. Only `open`, `add_slab` and `give_new` take memory, and
 //! the last two take all of it before anything changes. Giving and taking back cost the bytes of one
@@ -21,6 +25,7 @@
 
 mod bytes;
 pub mod checked;
+pub mod laws;
 pub mod slab;
 mod slabs;
 mod supply;

@@ -63,7 +63,7 @@ impl CheckedSlabs {
 
     /// Takes a slab out where all its objects are free and at least `limit` slabs are listed, this one
     /// counted, and answers with its run; else None, and nothing changes (the discard of
-    /// `free_to_partial_list`).
+    /// `free_debug_processing`).
     pub fn take_empty(&mut self, frame: u16, limit: u32) -> Option<Run>
         requires { Has self.old frame }
         ensures taken { step.TakesEmpty self.old frame limit result self.new }

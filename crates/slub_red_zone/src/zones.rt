@@ -134,7 +134,7 @@ fn damage_in_poison(layout: &Layout, flags: &Flags, slot: &[u8]) -> Option<Damag
     damage_in(layout, slot, poison_end(layout))
 }
 
-/// The first damage in the padding.
+/// The first damage in the padding (`check_pad_bytes`).
 fn damage_in_padding(layout: &Layout, flags: &Flags, slot: &[u8]) -> Option<Damage>
     requires bounds { IsWithinBounds layout.now }
     requires slot { length slot.now ≡ layout.now.size }

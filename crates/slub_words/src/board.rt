@@ -5,7 +5,7 @@ ghost use Rattle.slub_words.specs.Words.{board_bits, IsBoardWord};
 
 use crate::parts::{join, part};
 
-/// Where a held object stands. The word 0 is no object.
+/// Where a held object stands (*profile*). The word 0 is no object.
 #[derive(Clone, Copy, Debug, PartialEq, Eq)]
 pub struct BoardWord {
     /// The first frame of the slab.

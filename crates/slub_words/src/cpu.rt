@@ -36,7 +36,7 @@ impl CpuWord {
     }
 }
 
-/// The tid after one step; None where tids end before it.
+/// The tid after one step (`next_tid`); None where tids end before it (*profile*).
 pub fn next_tid(tid: u32, step: u32) -> Option<u32>
     ensures sum { SomeIff result (tid + step ≤ 4294967295) (tid + step) }
     ensures later { 1 ≤ step → IfSome result (λ next. tid < next) }
@@ -44,8 +44,8 @@ pub fn next_tid(tid: u32, step: u32) -> Option<u32>
     tid.checked_add(step)
 }
 
-/// Whether pop, push and install have to leave a word of this tid alone, so that a detach still has its step.
-/// The step is 1 to 16.
+/// Whether pop, push and install have to leave a word of this tid alone, so that a detach still has its step
+/// (*profile*). The step is 1 to 16.
 pub fn spent(tid: u32, step: u32) -> bool
     requires some { 1 ≤ step }
     requires few { step ≤ 16 }

@@ -12,10 +12,11 @@ pub struct SlabWord {
     pub head: u16,
     /// The objects that are not on that freelist.
     pub inuse: u16,
+    /// The objects of the slab.
     pub objects: u16,
-    /// The slab is some CPU's current one.
+    /// The slab is some CPU's current one, or in a worker's hand.
     pub frozen: bool,
-    /// The slab stands on a list.
+    /// The slab stands on its node's list.
     pub listed: bool,
     /// The number of the slab's cache.
     pub cache: u8,

@@ -19,8 +19,8 @@ use Rattle.slub_trace_reader.specs.declared.trace.Trace.{Trace}
 use Rattle.slub_trace_reader.specs.declared.reading.Why.{Why}
 use Rattle.slub_trace_reader.specs.Grammar.{IsTrace}
 use Rattle.slub_trace_reader.specs.Reads.{IsBadIn, Spells}
-use Rattle.slub_engine.specs.Lawful.{IsBuilt}
-use Rattle.slub_engine.specs.declared.journal.Journal.{Journal}
+use Rattle.slub_journal.specs.Lawful.{IsBuilt}
+use Rattle.slub_journal.specs.declared.journal.Journal.{Journal}
 use Rattle.slub_cli.specs.declared.stop.Stop.{Stop}
 use Rattle.slub_cli.specs.declared.stop.Stop.TheVariants as stop
 use Rattle.slub_cli.specs.declared.status.Status.{Status}

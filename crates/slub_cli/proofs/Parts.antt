@@ -11,7 +11,7 @@ use Rattle.slub_trace_reader.specs.declared.trace.Trace.{Trace}
 use Rattle.slub_trace_reader.specs.declared.reading.TraceFault.{TraceFault}
 use Rattle.slub_trace_reader.specs.declared.reading.TraceFault.TheVariants as fault
 use Rattle.slub_trace_reader.specs.Reads.{Reads}
-use Rattle.slub_engine.specs.declared.journal.Journal.{Journal}
+use Rattle.slub_journal.specs.declared.journal.Journal.{Journal}
 use Rattle.slub_cli.specs.declared.stop.Stop.{Stop}
 use Rattle.slub_cli.specs.declared.stop.Stop.TheVariants.{BadWords, BadLine, NotBuilt, TooLong, ReadFault, WriteFault, NoMemory}
 use Rattle.slub_cli.specs.Run.{IsLayoutAnswer}

@@ -20,14 +20,14 @@ use Rattle.slub_trace_reader.specs.Grammar.{IsTrace}
 use Rattle.slub_trace_reader.specs.declared.reading.Why.{Why}
 use Rattle.slub_trace_reader.specs.Faults.{why_text}
 use Rattle.slub_trace_reader.specs.Reads.{IsBadIn, IsNoTrace, IsTooLong, Spells}
-use Rattle.slub_engine.specs.declared.journal.Done.{Done}
-use Rattle.slub_engine.specs.declared.journal.Done.TheVariants as done
-use Rattle.slub_engine.specs.declared.journal.Found.{Found}
-use Rattle.slub_engine.specs.declared.journal.Total.{Total}
-use Rattle.slub_engine.specs.declared.journal.Journal.{Journal}
-use Rattle.slub_engine.specs.Journal.{IsEmpty}
-use Rattle.slub_engine.specs.Lawful.{IsBuilt, IsLawful}
-use Rattle.slub_engine.specs.Text.{text_of, items_text}
+use Rattle.slub_journal.specs.declared.journal.Done.{Done}
+use Rattle.slub_journal.specs.declared.journal.Done.TheVariants as done
+use Rattle.slub_journal.specs.declared.journal.Found.{Found}
+use Rattle.slub_journal.specs.declared.journal.Total.{Total}
+use Rattle.slub_journal.specs.declared.journal.Journal.{Journal}
+use Rattle.slub_journal.specs.Journal.{IsEmpty}
+use Rattle.slub_journal.specs.Lawful.{IsBuilt, IsLawful}
+use Rattle.slub_journal.specs.Text.{text_of, items_text}
 use Rattle.slub_cli.specs.declared.status.Status.{Status}
 use Rattle.slub_cli.specs.declared.status.Status.TheVariants.{Fine, Refused, BadWords, BadTrace, ReadFault, WriteFault, NoMemory}
 

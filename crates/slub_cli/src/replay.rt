@@ -4,9 +4,9 @@
 
 ghost use Rattle.std.specs.Prelude.{Bool, ◌≡◌, ◌<◌, ◌≤◌, [], None, Some, length, IfErr, IfOk, OnOk, IsSome};
 ghost use Rattle.slub_lists.specs.Coherent.{IsCoherent};
-ghost use Rattle.slub_engine.specs.Journal.{IsEmpty};
+ghost use Rattle.slub_journal.specs.Journal.{IsEmpty};
 ghost use Rattle.slub_trace_reader.specs.Sound.{IsSound};
-ghost use Rattle.slub_engine.specs.Lawful.{IsBuilt, IsLawful, IsReady, RunsItems, opening_of};
+ghost use Rattle.slub_journal.specs.Lawful.{IsBuilt, IsLawful, IsReady, RunsItems, opening_of};
 ghost use Rattle.slub_cli.specs.Inner.{DoesItem, IsItemStop, IsMachineOf, StopsAtWriteFault, Tells, TookText, Totals};
 
 use crate::stop::Stop;
@@ -14,8 +14,8 @@ use slub_common::no_memory::NoMemory;
 use slub_edges::edges::Sink;
 use slub_edges::pieces::write_lines;
 use slub_engine::item::{item, total};
-use slub_engine::journal::Journal;
-use slub_engine::text::{text_of_item, text_of_total};
+use slub_journal::journal::Journal;
+use slub_journal::text::{text_of_item, text_of_total};
 use slub_list_machine::lists::Lists;
 use slub_trace_reader::trace::Trace;
 use std::alloc::Global;

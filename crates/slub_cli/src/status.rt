@@ -2,11 +2,11 @@
 
 ghost use Rattle.std.specs.Prelude.{◌≡◌, not};
 ghost use Rattle.std.specs.List.{list_any};
-ghost use Rattle.slub_answers.specs.Kinds.{is_ok_reply, is_no_memory};
+ghost use Rattle.slub_answers.specs.Kinds.{is_no_memory, is_ok_reply};
 ghost use Rattle.slub_cli.specs.Run.{answer_status, done_status, has_refused, lacks_memory};
 
-use slub_engine::journal::{Done, Journal};
-use slub_answers::reply::{Kind, Reply};
+use slub_journal::journal::{Done, Journal};
+use slub_answers::reply::Reply;
 use slub_object_layout::layout::{Layout, LayoutRefusal};
 use slub_slabinfo_text::text::is_ok_reply;
 use slub_trace_reader::trace::Trace;
@@ -45,7 +45,7 @@ pub struct Outcome {
 fn is_no_memory(reply: &Reply) -> bool
     ensures { result ≡ is_no_memory reply.now }
 {
-    matches!(reply.kind(), Kind::LacksMemory)
+    matches!(reply, Reply::NoMemory)
 }
 
 /// Whether one of the replies is that no memory was there.

@@ -3,11 +3,11 @@
 ghost use Rattle.std.specs.Prelude.{◌≡◌, ℕ, ◌+◌, ◌^◌, ◌<◌, ◌≤◌, ◌++◌, [], length, map, slice_index_or, vec_capacity, IfOk};
 ghost use Rattle.std.specs.Option.{option_map_or};
 ghost use Rattle.slub_lists.specs.Coherent.{IsCoherent};
-ghost use Rattle.slub_engine.specs.Lawful.{reports_of};
+ghost use Rattle.slub_journal.specs.Lawful.{reports_of};
 ghost use Rattle.slub_engine.specs.Steps.{found_past, found_since, found_with, listed_in, told_in};
 
-use crate::journal::Found;
 use slub_common::no_memory::NoMemory;
+use slub_journal::journal::Found;
 use slub_list_machine::lists::Lists;
 use slub_object_layout::name::Name;
 use slub_red_zone::checked::CheckedSlabs;

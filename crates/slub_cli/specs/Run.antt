@@ -88,7 +88,7 @@ has_refused (done.Slabinfo rows) = false
 abbrev pub done_status : Journal → Status
 done_status journal =
     cond (list_any lacks_memory journal.items) NoMemory
-      (cond (list_any has_refused journal.items) Refused Fine)
+    (cond (list_any has_refused journal.items) Refused Fine)
 
 -- the number with which the program ends
 abbrev pub number_of : Status → ℕ
@@ -160,7 +160,8 @@ answer_status (Err why) = Refused
 
 -- a source that told these bytes was read to its end, its bytes spell this trace and no other, the
 -- trace is sound and one that is replayed today, and the journal is lawful for it
-pub record IsReplayOf (told left : Option (List ℕ)) (trace : Trace) (journal : Journal) : Type 0 where
+pub record IsReplayOf (told left : Option (List ℕ)) (trace : Trace)
+    (journal : Journal) : Type 0 where
   pub at_end : IsAtEnd left
   pub spelled : Spells told trace
   pub sound : IsSound trace

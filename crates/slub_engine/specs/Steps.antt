@@ -15,7 +15,8 @@ use Rattle.slub_answers.specs.Kinds.{is_freed, is_given}
 
 -- an act under a number that the machine has, an allocation of a name of it; no trim and no flush
 abbrev pub IsKnownAct : State → Act → Type 0
-IsKnownAct s (Alloc place object) = (place < length s.table.kept) × (1 ≤ object) × (object < length s.board)
+IsKnownAct s (Alloc place object) =
+    (place < length s.table.kept) × (1 ≤ object) × (object < length s.board)
 IsKnownAct s (Free object) = object < length s.board
 IsKnownAct s (Write object word value) = (object < length s.board) × (word ≤ 4095)
 IsKnownAct s (Read object word) = (object < length s.board) × (word ≤ 4095)
@@ -54,7 +55,8 @@ pub record KeepsCaches (s after : State) : Type 0 where
 
 -- a number that no object has stays so, but for these
 abbrev pub KeepsUnheld : State → List ℕ → State → Type 0
-KeepsUnheld s objects after = (object : ℕ) → IsUnheld s object → ¬ Contains objects object → IsUnheld after object
+KeepsUnheld s objects after =
+    (object : ℕ) → IsUnheld s object → ¬ Contains objects object → IsUnheld after object
 
 -- nothing is counted yet
 pub record IsBlank (ledger : Ledger) : Type 0 where
@@ -70,7 +72,8 @@ pub record Notes (s : State) (event : Event) (reply : Reply) (before after : Led
       ≡ slice_index before.no_frames order + (if lacks s order (event, reply) then 1 else 0)
 
 -- one more reply is counted in the ledger of the event's worker, and in no other
-pub record NotesOwn (s : State) (event : Event) (reply : Reply) (before after : List Ledger) : Type 0 where
+pub record NotesOwn (s : State) (event : Event) (reply : Reply)
+    (before after : List Ledger) : Type 0 where
   pub ledger : Ledger
   pub noted : Notes s event reply (slice_index_or before event.worker ledger) ledger
   pub after_is : after ≡ slice_set before event.worker ledger

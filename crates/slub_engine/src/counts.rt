@@ -23,7 +23,8 @@ use std::alloc::Global;
 pub fn cache_counts(lists: &Lists, cache: u8) -> Counts
     requires coherent { IsCoherent lists.now }
     requires live { IsSome (cache_of lists.now cache) }
-    ensures { IfSome (cache_of lists.now cache) (λ live. result ≡ counts_of lists.now cache live.layout) }
+    ensures { IfSome (cache_of lists.now cache) (λ live.
+        result ≡ counts_of lists.now cache live.layout) }
 {
     counts_with(lists, cache, lists.caches().layout(cache))
 }
@@ -53,7 +54,8 @@ fn counts_with(lists: &Lists, cache: u8, layout: &Layout) -> Counts
 
 /// The slabs of a cache, if it is checked.
 fn checked(lists: &Lists, cache: u8) -> Option<&CheckedSlabs>
-    ensures { MatchOption result (checked_of lists.now cache ≡ None) (λ slabs. checked_of lists.now cache ≡ Some slabs.now) }
+    ensures { MatchOption result (checked_of lists.now cache ≡ None)
+        (λ slabs. checked_of lists.now cache ≡ Some slabs.now) }
 {
     lists.checked().get(cache as usize)?.as_ref()
 }

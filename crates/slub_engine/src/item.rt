@@ -66,7 +66,8 @@ fn create(
     spec: &Spec,
 ) -> Result<Result<Created, CreateRefusal>, NoMemory>
     requires coherent { IsCoherent lists.old }
-    ensures creates { IfOk result (λ answer. CreatesName lists.old name.now spec.now answer lists.new) }
+    ensures creates { IfOk result (λ answer.
+        CreatesName lists.old name.now spec.now answer lists.new) }
     ensures coherent { IsCoherent lists.new }
     ensures kept { KeepsMachine lists.old lists.new }
     ensures board { lists.new.board ≡ lists.old.board }
@@ -140,10 +141,12 @@ fn run_events(lists: &mut Lists, events: &[Event], replies: &mut Vec<Reply>, led
     ensures runs { RunsEvents lists.old events.now replies.new.items lists.new }
     ensures coherent { IsCoherent lists.new }
     ensures caches { KeepsCaches lists.old lists.new }
-    ensures reports { (cache : ℕ) → AddsReportsOf (checked_of lists.old cache) (checked_of lists.new cache) }
+    ensures reports { (cache : ℕ) →
+        AddsReportsOf (checked_of lists.old cache) (checked_of lists.new cache) }
     ensures findable { findable_in lists.new ≤ findable_in lists.old + length events.now }
     ensures unheld { KeepsUnheld lists.old (objects_of events.now) lists.new }
-    ensures ledgers { AreLedgers lists.old (zip events.now replies.new.items) (length ledgers.old) ledgers.new }
+    ensures ledgers { AreLedgers lists.old (zip events.now replies.new.items)
+        (length ledgers.old) ledgers.new }
 {
     for event in events {
         let reply = answer(lists, event);

@@ -56,7 +56,11 @@ fn main(rt: HostRuntime) -> io::Result<()> {
     for line in rt.lines(rt.alloc()) {
         let line = line?;
         let replayed = replay_line(&rt, &line)?;
-        let output = if replayed.is_stored { "as stored" } else { "another output" };
+        let output = if replayed.is_stored {
+            "as stored"
+        } else {
+            "another output"
+        };
         println!(rt; "{line}: {}, {output}", replayed.status)?;
     }
     Ok(())

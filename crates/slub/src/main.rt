@@ -25,10 +25,10 @@ fn words(rt: &(impl Env + AllocGlobal)) -> Result<Vec<String>, AllocError> {
 fn main(rt: HostRuntime) -> ExitCode {
     let Ok(words) = words(&rt) else {
         let _ = println!(rt; "slub: out of memory");
-        return ExitCode::from(Status::NoMemory as u8);
+        return ExitCode::from(Status::NoMemory.number());
     };
     let mut source = ReadSource::of(rt.stdin());
     let mut sink = WriteSink::of(rt.stdout());
     let outcome = run(rt.alloc(), &words, &mut source, &mut sink);
-    ExitCode::from(outcome.status as u8)
+    ExitCode::from(outcome.status.number())
 }

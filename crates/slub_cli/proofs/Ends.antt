@@ -19,13 +19,14 @@ use Rattle.slub_trace_reader.specs.declared.trace.Trace.{Trace}
 use Rattle.slub_trace_reader.specs.declared.reading.Why.{Why}
 use Rattle.slub_trace_reader.specs.Grammar.{IsTrace}
 use Rattle.slub_trace_reader.specs.Reads.{IsBadIn, Spells}
-use Rattle.slub_engine.specs.Lawful.{IsBuilt}
-use Rattle.slub_engine.specs.declared.journal.Journal.{Journal}
+use Rattle.slub_journal.specs.Lawful.{IsBuilt}
+use Rattle.slub_journal.specs.declared.journal.Journal.{Journal}
 use Rattle.slub_cli.specs.declared.stop.Stop.{Stop}
 use Rattle.slub_cli.specs.declared.stop.Stop.TheVariants as stop
 use Rattle.slub_cli.specs.declared.status.Status.{Status}
-use Rattle.slub_cli.specs.declared.status.Status.TheVariants.{Fine, Refused, BadWords, BadTrace, ReadFault, WriteFault, NoMemory}
-use Rattle.slub_cli.specs.Run.{AreBadWords, AsksReplay, Call, IsAsked, IsBadInput, IsCause, IsCauseOf, IsFaultLine, IsBadBytes, IsDone, IsJournalOf, IsLayoutAnswer, IsLayoutCause, IsLayoutText, IsReplayCause, IsSomeTrace, IsTextOf, IsWant, TellsFaults, TookAll, TookFront, answer_status, done_status, has_refused, lacks_memory, last_in, text_in}
+use Rattle.slub_cli.specs.declared.status.Status.TheVariants.{Fine, Refused, BadWords, BadTrace, ReadFault, WriteFault, NoMemory, TurnsSpent}
+use Rattle.slub_cli.specs.declared.status.Outcome.{Outcome}
+use Rattle.slub_cli.specs.Run.{AreBadWords, AsksReplay, Call, Ends, IsAsked, IsBadInput, IsBadBytes, IsCauseOf, IsDone, IsFaultLine, IsJournalOf, IsLayoutAnswer, IsLayoutCause, IsLayoutText, IsReplayCause, IsRunOf, IsSomeTrace, IsTextOf, IsWant, NoFault, TellsReads, TookAll, TookFront, Wrote, answer_status, done_status, has_refused, lacks_memory, last_in, text_in}
 use Rattle.slub_cli.specs.Inner.{Finishes, StopsAtReadFault, StopsAtWriteFault, Worked, Works, stop_line, stop_status}
 use Rattle.slub_cli.proofs.Words.{one_layout, replay_apart}
 
@@ -67,6 +68,16 @@ answer_cause : (c : Call) (spec : Spec) (cpus : ℕ) (answer : Result SlabLayout
 answer_cause c spec cpus (Ok layout) is = (layout, is)
 answer_cause c spec cpus (Err why) is = (why, is)
 
+-- and tells no read that failed
+done_reads : (c : Call) (lacks refused : Bool) → c.read.1 ≡ c.read.0 → TellsReads c (cond lacks NoMemory (cond refused Refused Fine))
+done_reads c true refused same = same
+done_reads c false true same = same
+done_reads c false false same = same
+
+answer_reads : (c : Call) (answer : Result SlabLayout LayoutRefusal) → c.read.1 ≡ c.read.0 → TellsReads c (answer_status answer)
+answer_reads c (Ok layout) same = same
+answer_reads c (Err why) same = same
+
 -- ---- counts
 
 -- a count that rose and then did not fall rose
@@ -87,161 +98,199 @@ rose_from a b c before (inr greatest) = inr greatest
 
 -- only a write fault ends as one
 only_write_fault : (e : Stop) → stop_status e ≡ WriteFault → e ≡ stop.WriteFault
+only_write_fault stop.WriteFault h = refl
 only_write_fault stop.BadWords h = cc
 only_write_fault (stop.BadLine text) h = cc
 only_write_fault stop.NotBuilt h = cc
 only_write_fault stop.TooLong h = cc
 only_write_fault stop.ReadFault h = cc
-only_write_fault stop.WriteFault h = refl
 only_write_fault stop.NoMemory h = cc
 
--- ---- the counts of faults
-
--- where neither rose, no call failed, whatever the status
-tells_faults : (c : Call) (status : Status) → c.read.1 ≡ c.read.0 → c.write.1 ≡ c.write.0 → TellsFaults c status
-tells_faults c Fine reads writes = (reads, writes)
-tells_faults c Refused reads writes = (reads, writes)
-tells_faults c BadWords reads writes = (reads, writes)
-tells_faults c BadTrace reads writes = (reads, writes)
-tells_faults c ReadFault reads writes = writes
-tells_faults c WriteFault reads writes = tt
-tells_faults c NoMemory reads writes = (reads, writes)
+-- what was written where no write failed
+whole : (c : Call) (asked : Option Command) (trace : Option Trace) (j : Journal) (status : Status) → status ≢ WriteFault → TookAll c asked trace j status → Wrote c asked trace j status
+whole c asked trace j WriteFault apart took = absurd (apart refl)
+whole c asked trace j Fine apart took = took
+whole c asked trace j Refused apart took = took
+whole c asked trace j BadWords apart took = took
+whole c asked trace j BadTrace apart took = took
+whole c asked trace j ReadFault apart took = took
+whole c asked trace j NoMemory apart took = took
+whole c asked trace j TurnsSpent apart took = took
 
 -- ---- at the end of the work, and at the end of the run
 module _ (words : List (List ℕ)) (told left old mid new : Option (List ℕ)) (read write after : ℕ × ℕ) (trace : Option Trace) (j : Journal) where
   abbrev pub worked : Call
-  worked = record { words = words; told = told; left = left; read = read; write = write }
+  worked = record { words = words; told = told; left = left; old = old; new = mid; read = read; write = write }
 
   abbrev pub ran : Call
-  ran = record { words = words; told = told; left = left; read = read; write = (write.0, after.1) }
+  ran = record { words = words; told = told; left = left; old = old; new = new; read = read; write = (write.0, after.1) }
 
   -- the line of a stop is that of its status
-  stop_has_line : (asked : Option Command) (e : Stop) → stop_status e ≢ WriteFault → Works worked asked old mid trace j (Err e) → IsFaultLine ran j (stop_status e) (stop_line e)
+  stop_has_line : (asked : Option Command) (e : Stop) → stop_status e ≢ WriteFault → Works worked asked trace j (Err e) → IsFaultLine ran j (stop_status e) (stop_line e)
+  stop_has_line asked stop.WriteFault apart h = absurd (apart refl)
   stop_has_line None stop.BadWords apart h = refl
-  stop_has_line None (stop.BadLine text) apart h = absurd h.0
-  stop_has_line None stop.NotBuilt apart h = absurd h.0
-  stop_has_line None stop.TooLong apart h = absurd h.0
-  stop_has_line None stop.ReadFault apart h = absurd h.0
-  stop_has_line None stop.WriteFault apart h = absurd h.0
   stop_has_line None stop.NoMemory apart h = inl (h.0.1, refl)
-  stop_has_line (Some (Replay how seed replies)) stop.BadWords apart h = absurd h.0
+  stop_has_line None _ apart h = absurd h.0
   stop_has_line (Some (Replay how seed replies)) (stop.BadLine text) apart h = inl (h.0.1, h.0.2, h.0.3, h.0.4)
   stop_has_line (Some (Replay how seed replies)) stop.NotBuilt apart h = inr (inr (refl, h.0.1))
   stop_has_line (Some (Replay how seed replies)) stop.TooLong apart h = inr (inl (refl, h.0.1))
   stop_has_line (Some (Replay how seed replies)) stop.ReadFault apart h = refl
-  stop_has_line (Some (Replay how seed replies)) stop.WriteFault apart h = absurd (apart refl)
   stop_has_line (Some (Replay how seed replies)) stop.NoMemory apart h = inl (h.0, refl)
-  stop_has_line (Some (Layout spec cpus)) stop.BadWords apart h = absurd h.0
-  stop_has_line (Some (Layout spec cpus)) (stop.BadLine text) apart h = absurd h.0
-  stop_has_line (Some (Layout spec cpus)) stop.NotBuilt apart h = absurd h.0
-  stop_has_line (Some (Layout spec cpus)) stop.TooLong apart h = absurd h.0
-  stop_has_line (Some (Layout spec cpus)) stop.ReadFault apart h = absurd h.0
-  stop_has_line (Some (Layout spec cpus)) stop.WriteFault apart h = absurd (apart refl)
+  stop_has_line (Some (Replay how seed replies)) _ apart h = absurd h.0
   stop_has_line (Some (Layout spec cpus)) stop.NoMemory apart h = inl (h.2, refl)
-  stop_has_line (Some (Load m events workers)) e apart h = absurd h
+  stop_has_line (Some (Layout spec cpus)) _ apart h = absurd h.0
+  stop_has_line (Some (Load m events workers)) _ apart h = absurd h
 
   -- the text before the line of a stop was taken
-  stop_text : (asked : Option Command) (e : Stop) → stop_status e ≢ WriteFault → Works worked asked old mid trace j (Err e) → (text : List ℕ) × IsTextOf asked trace j (stop_status e) text × Appends old mid text
+  stop_text : (asked : Option Command) (e : Stop) → stop_status e ≢ WriteFault → Works worked asked trace j (Err e) → (text : List ℕ) × IsTextOf asked trace j (stop_status e) text × Appends old mid text
+  stop_text asked stop.WriteFault apart h = absurd (apart refl)
   stop_text None stop.BadWords apart h = ([], (refl, h.0.1), rw h.1 (Appends-nil old))
-  stop_text None (stop.BadLine text) apart h = absurd h.0
-  stop_text None stop.NotBuilt apart h = absurd h.0
-  stop_text None stop.TooLong apart h = absurd h.0
-  stop_text None stop.ReadFault apart h = absurd h.0
-  stop_text None stop.WriteFault apart h = absurd h.0
   stop_text None stop.NoMemory apart h = ([], (refl, h.0.0), rw h.1 (Appends-nil old))
+  stop_text None _ apart h = absurd h.0
   stop_text (Some (Replay how seed replies)) stop.BadWords apart h = absurd h.0
-  stop_text (Some (Replay how seed replies)) (stop.BadLine text) apart h = (text_in replies trace j, refl, h.1)
-  stop_text (Some (Replay how seed replies)) stop.NotBuilt apart h = (text_in replies trace j, refl, h.1)
-  stop_text (Some (Replay how seed replies)) stop.TooLong apart h = (text_in replies trace j, refl, h.1)
-  stop_text (Some (Replay how seed replies)) stop.ReadFault apart h = (text_in replies trace j, refl, h.1)
-  stop_text (Some (Replay how seed replies)) stop.WriteFault apart h = absurd (apart refl)
-  stop_text (Some (Replay how seed replies)) stop.NoMemory apart h = (text_in replies trace j, refl, h.1)
-  stop_text (Some (Layout spec cpus)) stop.BadWords apart h = absurd h.0
-  stop_text (Some (Layout spec cpus)) (stop.BadLine text) apart h = absurd h.0
-  stop_text (Some (Layout spec cpus)) stop.NotBuilt apart h = absurd h.0
-  stop_text (Some (Layout spec cpus)) stop.TooLong apart h = absurd h.0
-  stop_text (Some (Layout spec cpus)) stop.ReadFault apart h = absurd h.0
-  stop_text (Some (Layout spec cpus)) stop.WriteFault apart h = absurd (apart refl)
+  stop_text (Some (Replay how seed replies)) _ apart h = (text_in replies trace j, refl, h.1)
   stop_text (Some (Layout spec cpus)) stop.NoMemory apart h = ([], refl, rw h.0 (Appends-nil old))
-  stop_text (Some (Load m events workers)) e apart h = absurd h
-
-  pub run_text : (r : Result Status Stop) (status : Status) → Worked worked old mid trace j r → Finishes mid new after r status → status ≢ WriteFault → TookAll ran old new trace j status
-  run_text (Ok done) status (None, is, works) ends apart = absurd works.0
-  run_text (Ok done) status (Some (Replay how seed replies), is, works) ends apart =
-      (Some (Replay how seed replies), text_in replies trace j, [], is, refl, rw (ends.0, works.0.1) (done_line ran j (list_any lacks_memory j.items) (list_any has_refused j.items) works.0.0.1), rw (ends.1, append-nil (text_in replies trace j)) works.1)
-  run_text (Ok done) status (Some (Layout spec cpus), is, works) ends apart =
-      let p = works.0 in
-      (Some (Layout spec cpus), layout_lines p.0, [], is, rw (ends.0, p.2) (answer_text spec cpus p.0 p.1), rw (ends.0, p.2) (answer_line ran j p.0), rw (ends.1, append-nil (layout_lines p.0)) p.3)
-  run_text (Ok done) status (Some (Load m events workers), is, works) ends apart = absurd works
-  run_text (Err e) status (asked, is, works) (inl (same, wrote, still)) apart =
-      let named : stop_status e ≢ WriteFault = λ h. apart (same ∙ h) in
-      let p = stop_text asked e named works in
-      (asked, p.0, stop_line e, is, subst (λ s. IsTextOf asked trace j s p.0) (sym same) p.1, subst (λ s. IsFaultLine ran j s (stop_line e)) (sym same) (stop_has_line asked e named works), Appends-trans old mid new p.0 (stop_line e) p.2 wrote)
-  run_text (Err e) status (asked, is, works) (inr (same, rose, wrote)) apart = absurd (apart same)
+  stop_text (Some (Layout spec cpus)) _ apart h = absurd h.0
+  stop_text (Some (Load m events workers)) _ apart h = absurd h
 
   -- the status that a stop means has its cause
-  stop_cause : (asked : Option Command) (e : Stop) → stop_status e ≢ WriteFault → Works worked asked old mid trace j (Err e) → IsCauseOf ran asked trace j (stop_status e)
+  stop_cause : (asked : Option Command) (e : Stop) → stop_status e ≢ WriteFault → Works worked asked trace j (Err e) → IsCauseOf ran asked trace j (stop_status e)
+  stop_cause asked stop.WriteFault apart h = absurd (apart refl)
   stop_cause None stop.BadWords apart h = h.0
-  stop_cause None (stop.BadLine text) apart h = absurd h.0
-  stop_cause None stop.NotBuilt apart h = absurd h.0
-  stop_cause None stop.TooLong apart h = absurd h.0
-  stop_cause None stop.ReadFault apart h = absurd h.0
-  stop_cause None stop.WriteFault apart h = absurd h.0
   stop_cause None stop.NoMemory apart h = (tt, h.0.0)
-  stop_cause (Some (Replay how seed replies)) stop.BadWords apart h = absurd h.0
+  stop_cause None _ apart h = absurd h.0
   stop_cause (Some (Replay how seed replies)) (stop.BadLine text) apart h = (inl (h.0.1, h.0.2, h.0.4), h.0.0)
   stop_cause (Some (Replay how seed replies)) stop.NotBuilt apart h = (inr (inr h.0.1), h.0.0)
   stop_cause (Some (Replay how seed replies)) stop.TooLong apart h = (inr (inl h.0.1), h.0.0)
   stop_cause (Some (Replay how seed replies)) stop.ReadFault apart h = (h.0.1, h.0.0)
-  stop_cause (Some (Replay how seed replies)) stop.WriteFault apart h = absurd (apart refl)
   stop_cause (Some (Replay how seed replies)) stop.NoMemory apart h = inl h.0
-  stop_cause (Some (Layout spec cpus)) stop.BadWords apart h = absurd h.0
-  stop_cause (Some (Layout spec cpus)) (stop.BadLine text) apart h = absurd h.0
-  stop_cause (Some (Layout spec cpus)) stop.NotBuilt apart h = absurd h.0
-  stop_cause (Some (Layout spec cpus)) stop.TooLong apart h = absurd h.0
-  stop_cause (Some (Layout spec cpus)) stop.ReadFault apart h = absurd h.0
-  stop_cause (Some (Layout spec cpus)) stop.WriteFault apart h = absurd (apart refl)
+  stop_cause (Some (Replay how seed replies)) _ apart h = absurd h.0
   stop_cause (Some (Layout spec cpus)) stop.NoMemory apart h = (tt, h.1)
-  stop_cause (Some (Load m events workers)) e apart h = absurd h
+  stop_cause (Some (Layout spec cpus)) _ apart h = absurd h.0
+  stop_cause (Some (Load m events workers)) _ apart h = absurd h
+
+  -- and tells the reads
+  stop_reads : (asked : Option Command) (e : Stop) → Works worked asked trace j (Err e) → StopsAtReadFault {A = Status} read.0 read.1 (Err e) → TellsReads ran (stop_status e)
+  stop_reads None stop.ReadFault h reads = absurd h.0
+  stop_reads (Some (Replay how seed replies)) stop.ReadFault h reads = h.0.1
+  stop_reads (Some (Layout spec cpus)) stop.ReadFault h reads = absurd h.0
+  stop_reads (Some (Load m events workers)) stop.ReadFault h reads = absurd h
+  stop_reads asked stop.BadWords h reads = reads
+  stop_reads asked (stop.BadLine text) h reads = reads
+  stop_reads asked stop.NotBuilt h reads = reads
+  stop_reads asked stop.TooLong h reads = reads
+  stop_reads asked stop.WriteFault h reads = reads
+  stop_reads asked stop.NoMemory h reads = reads
+
+  -- a stop whose line was written
+  stop_told : (asked : Option Command) (e : Stop) (status : Status) → status ≡ stop_status e → status ≢ WriteFault → Works worked asked trace j (Err e)
+      → StopsAtReadFault {A = Status} read.0 read.1 (Err e) → after.1 ≡ write.0 → Appends mid new (stop_line e) → TookAll ran asked trace j status
+  stop_told asked e status same apart works reads writes wrote =
+      let named : stop_status e ≢ WriteFault = λ h. apart (same ∙ h) in
+      let p = stop_text asked e named works in
+      rw same (record {
+        text = p.0;
+        line = stop_line e;
+        text_is = p.1;
+        line_is = stop_has_line asked e named works;
+        taken = Appends-trans old mid new p.0 (stop_line e) p.2 wrote;
+        reads = stop_reads asked e works reads;
+        writes = writes;
+      })
 
   -- the write of a stop's line failed
-  cut_line : (asked : Option Command) (e : Stop) → stop_status e ≢ WriteFault → IsAsked words asked → Works worked asked old mid trace j (Err e) → AppendsFront mid new 0 (stop_line e) → TookFront ran old new trace j
-  cut_line asked e named is works wrote =
+  cut_line : (asked : Option Command) (e : Stop) → stop_status e ≢ WriteFault → Works worked asked trace j (Err e) → StopsAtReadFault {A = Status} read.0 read.1 (Err e) → AppendsFront mid new 0 (stop_line e) → Wrote ran asked trace j WriteFault
+  cut_line asked e named works reads wrote =
       let p = stop_text asked e named works in
-      (asked, is, inr (stop_status e, p.0, stop_line e, stop_cause asked e named works, p.1, stop_has_line asked e named works, AppendsFront-past old new (length p.0) _ (p.0 ++ stop_line e) (omega arith) (AppendsFront-after old mid new 0 p.0 (stop_line e) p.2 wrote)))
+      inr (record {
+        meant = stop_status e;
+        cause = stop_cause asked e named works;
+        text = p.0;
+        line = stop_line e;
+        text_is = p.1;
+        line_is = stop_has_line asked e named works;
+        taken = AppendsFront-past old new (length p.0) _ (p.0 ++ stop_line e) (omega arith) (AppendsFront-after old mid new 0 p.0 (stop_line e) p.2 wrote);
+        reads = stop_reads asked e works reads;
+      })
 
   -- a write of the text failed, and nothing was taken after it
-  cut_text : (asked : Option Command) → IsAsked words asked → Works worked asked old mid trace j (Err stop.WriteFault) → Appends mid new [] → TookFront ran old new trace j
-  cut_text None is works none = absurd works.0
-  cut_text (Some (Replay how seed replies)) is works none =
-      (Some (Replay how seed replies), is, inl (works.0.0, AppendsFront-then old mid new (last_in replies trace j) (text_in replies trace j) works.1 none))
-  cut_text (Some (Layout spec cpus)) is works none =
-      let p = works.0 in
-      (Some (Layout spec cpus), is, inl (p.0, p.1, AppendsFront-then old mid new 0 (layout_lines p.0) p.3 none))
-  cut_text (Some (Load m events workers)) is works none = absurd works
+  cut_front : (asked : Option Command) → Works worked asked trace j (Err stop.WriteFault) → Appends mid new [] → TookFront ran asked trace j
+  cut_front None works none = absurd works.0
+  cut_front (Some (Replay how seed replies)) works none = (works.0.0, AppendsFront-then old mid new (last_in replies trace j) (text_in replies trace j) works.1 none)
+  cut_front (Some (Layout spec cpus)) works none = let p = works.0 in (p.0, p.1, AppendsFront-then old mid new 0 (layout_lines p.0) p.3 none)
+  cut_front (Some (Load m events workers)) works none = absurd works
+
+  cut_text : (asked : Option Command) (e : Stop) → e ≡ stop.WriteFault → Works worked asked trace j (Err e) → StopsAtReadFault {A = Status} read.0 read.1 (Err e) → Appends mid new (stop_line e) → Wrote ran asked trace j WriteFault
+  cut_text asked stop.WriteFault is works reads wrote = inl (record { taken = cut_front asked works wrote; reads = reads })
+  cut_text asked stop.BadWords is works reads wrote = absurd (let never : ⊥ = cc in never)
+  cut_text asked (stop.BadLine text) is works reads wrote = absurd (let never : ⊥ = cc in never)
+  cut_text asked stop.NotBuilt is works reads wrote = absurd (let never : ⊥ = cc in never)
+  cut_text asked stop.TooLong is works reads wrote = absurd (let never : ⊥ = cc in never)
+  cut_text asked stop.ReadFault is works reads wrote = absurd (let never : ⊥ = cc in never)
+  cut_text asked stop.NoMemory is works reads wrote = absurd (let never : ⊥ = cc in never)
 
   -- the line of a stop was cut; a write fault has none
-  cut : (e : Stop) → Worked worked old mid trace j (Err e) → AppendsFront mid new 0 (stop_line e) → TookFront ran old new trace j
-  cut stop.WriteFault (asked, is, works) wrote = absurd (AppendsFront-none mid new 0 wrote)
-  cut stop.BadWords (asked, is, works) wrote = cut_line asked stop.BadWords (λ h. cc) is works wrote
-  cut (stop.BadLine text) (asked, is, works) wrote = cut_line asked (stop.BadLine text) (λ h. cc) is works wrote
-  cut stop.NotBuilt (asked, is, works) wrote = cut_line asked stop.NotBuilt (λ h. cc) is works wrote
-  cut stop.TooLong (asked, is, works) wrote = cut_line asked stop.TooLong (λ h. cc) is works wrote
-  cut stop.ReadFault (asked, is, works) wrote = cut_line asked stop.ReadFault (λ h. cc) is works wrote
-  cut stop.NoMemory (asked, is, works) wrote = cut_line asked stop.NoMemory (λ h. cc) is works wrote
+  cut : (asked : Option Command) (e : Stop) → Works worked asked trace j (Err e) → StopsAtReadFault {A = Status} read.0 read.1 (Err e) → AppendsFront mid new 0 (stop_line e) → Wrote ran asked trace j WriteFault
+  cut asked stop.WriteFault works reads wrote = absurd (AppendsFront-none mid new 0 wrote)
+  cut asked stop.BadWords works reads wrote = cut_line asked stop.BadWords (λ h. cc) works reads wrote
+  cut asked (stop.BadLine text) works reads wrote = cut_line asked (stop.BadLine text) (λ h. cc) works reads wrote
+  cut asked stop.NotBuilt works reads wrote = cut_line asked stop.NotBuilt (λ h. cc) works reads wrote
+  cut asked stop.TooLong works reads wrote = cut_line asked stop.TooLong (λ h. cc) works reads wrote
+  cut asked stop.ReadFault works reads wrote = cut_line asked stop.ReadFault (λ h. cc) works reads wrote
+  cut asked stop.NoMemory works reads wrote = cut_line asked stop.NoMemory (λ h. cc) works reads wrote
 
-  pub run_prefix : (r : Result Status Stop) (status : Status) → Worked worked old mid trace j r → Finishes mid new after r status → status ≡ WriteFault → TookFront ran old new trace j
-  run_prefix (Ok done) status (None, asked, works) ends is = absurd works.0
-  run_prefix (Ok done) status (Some (Replay how seed replies), asked, works) ends is =
-      absurd (done_apart (list_any lacks_memory j.items) (list_any has_refused j.items) (sym (ends.0 ∙ works.0.1) ∙ is))
-  run_prefix (Ok done) status (Some (Layout spec cpus), asked, works) ends is = let p = works.0 in absurd (answer_apart p.0 (sym (ends.0 ∙ p.2) ∙ is))
-  run_prefix (Ok done) status (Some (Load m events workers), asked, works) ends is = absurd works
-  run_prefix (Err e) status (asked, named, works) (inl (same, wrote, still)) is =
-      let fault = only_write_fault e (sym same ∙ is) in
-      cut_text asked named (subst (λ s. Works worked asked old mid trace j (Err s)) fault works) (subst (λ s. Appends mid new (stop_line s)) fault wrote)
-  run_prefix (Err e) status w (inr (same, rose, wrote)) is = cut e w wrote
+  -- ---- what was written
 
-  write_cause : (asked : Option Command) (e : Stop) → write.0 ≤ write.1 → write.1 ≤ after.1 → Works worked asked old mid trace j (Err e) → IsCauseOf ran asked trace j (stop_status e)
+  -- where the work came to its end
+  done_wrote : (asked : Option Command) (done : Status) → Works worked asked trace j (Ok done) → read.1 ≡ read.0 → after.1 ≡ write.0 → new ≡ mid → Wrote ran asked trace j done
+  done_wrote None done works reads writes same = absurd works.0
+  done_wrote (Some (Replay how seed replies)) done works reads writes same =
+      let lacks = list_any lacks_memory j.items in
+      let has = list_any has_refused j.items in
+      let took : TookAll ran (Some (Replay how seed replies)) trace j (done_status j) = record {
+        text = text_in replies trace j;
+        line = [];
+        text_is = refl;
+        line_is = done_line ran j lacks has works.0.0.1;
+        taken = rw (same, append-nil (text_in replies trace j)) works.1;
+        reads = done_reads ran lacks has reads;
+        writes = writes;
+      } in
+      rw works.0.1 (whole ran (Some (Replay how seed replies)) trace j (done_status j) (done_apart lacks has) took)
+  done_wrote (Some (Layout spec cpus)) done works reads writes same =
+      let p = works.0 in
+      let took : TookAll ran (Some (Layout spec cpus)) trace j (answer_status p.0) = record {
+        text = layout_lines p.0;
+        line = [];
+        text_is = answer_text spec cpus p.0 p.1;
+        line_is = answer_line ran j p.0;
+        taken = rw (same, append-nil (layout_lines p.0)) p.3;
+        reads = answer_reads ran p.0 reads;
+        writes = writes;
+      } in
+      rw p.2 (whole ran (Some (Layout spec cpus)) trace j (answer_status p.0) (answer_apart p.0) took)
+  done_wrote (Some (Load m events workers)) done works reads writes same = absurd works
+
+  -- where a stop's line was written; the stop may be a write fault
+  line_wrote : (asked : Option Command) (e : Stop) (status : Status) → status ≡ stop_status e → Works worked asked trace j (Err e)
+      → StopsAtReadFault {A = Status} read.0 read.1 (Err e) → StopsAtWriteFault {A = Status} write.0 write.1 (Err e) → after.1 ≡ write.1 → Appends mid new (stop_line e) → Wrote ran asked trace j status
+  line_wrote asked stop.WriteFault status same works reads writes still wrote = rw same (cut_text asked stop.WriteFault refl works reads wrote)
+  line_wrote asked stop.BadWords status same works reads writes still wrote =
+      rw same (whole ran asked trace j BadWords (λ h. cc) (stop_told asked stop.BadWords BadWords refl (λ h. cc) works reads (still ∙ writes) wrote))
+  line_wrote asked (stop.BadLine text) status same works reads writes still wrote =
+      rw same (whole ran asked trace j BadTrace (λ h. cc) (stop_told asked (stop.BadLine text) BadTrace refl (λ h. cc) works reads (still ∙ writes) wrote))
+  line_wrote asked stop.NotBuilt status same works reads writes still wrote =
+      rw same (whole ran asked trace j BadTrace (λ h. cc) (stop_told asked stop.NotBuilt BadTrace refl (λ h. cc) works reads (still ∙ writes) wrote))
+  line_wrote asked stop.TooLong status same works reads writes still wrote =
+      rw same (whole ran asked trace j BadTrace (λ h. cc) (stop_told asked stop.TooLong BadTrace refl (λ h. cc) works reads (still ∙ writes) wrote))
+  line_wrote asked stop.ReadFault status same works reads writes still wrote =
+      rw same (whole ran asked trace j ReadFault (λ h. cc) (stop_told asked stop.ReadFault ReadFault refl (λ h. cc) works reads (still ∙ writes) wrote))
+  line_wrote asked stop.NoMemory status same works reads writes still wrote =
+      rw same (whole ran asked trace j NoMemory (λ h. cc) (stop_told asked stop.NoMemory NoMemory refl (λ h. cc) works reads (still ∙ writes) wrote))
+
+  -- ---- the cause
+
+  write_cause : (asked : Option Command) (e : Stop) → write.0 ≤ write.1 → write.1 ≤ after.1 → Works worked asked trace j (Err e) → IsCauseOf ran asked trace j (stop_status e)
   write_cause None stop.WriteFault counts more h = absurd h.0
   write_cause (Some (Replay how seed replies)) stop.WriteFault counts more h = rose_then write.0 write.1 after.1 counts more h.0.1
   write_cause (Some (Layout spec cpus)) stop.WriteFault counts more h = let p = h.0 in (rose_then write.0 write.1 after.1 counts more p.2, h.1)
@@ -254,43 +303,44 @@ module _ (words : List (List ℕ)) (told left old mid new : Option (List ℕ)) (
   write_cause asked stop.NoMemory counts more h = stop_cause asked stop.NoMemory (λ h. cc) h
 
   -- a write fault after a stop has its row
-  faulted : (asked : Option Command) (e : Stop) → Rose write.0 after.1 → Works worked asked old mid trace j (Err e) → IsCauseOf ran asked trace j WriteFault
+  faulted : (asked : Option Command) (e : Stop) → Rose write.0 after.1 → Works worked asked trace j (Err e) → IsCauseOf ran asked trace j WriteFault
   faulted None stop.BadWords rose h = (rose, h.0.1)
-  faulted None (stop.BadLine text) rose h = absurd h.0
-  faulted None stop.NotBuilt rose h = absurd h.0
-  faulted None stop.TooLong rose h = absurd h.0
-  faulted None stop.ReadFault rose h = absurd h.0
-  faulted None stop.WriteFault rose h = absurd h.0
   faulted None stop.NoMemory rose h = (rose, h.0.0)
+  faulted None _ rose h = absurd h.0
   faulted (Some (Replay how seed replies)) e rose h = rose
   faulted (Some (Layout spec cpus)) e rose h = (rose, h.1)
   faulted (Some (Load m events workers)) e rose h = absurd h
 
-  -- the status of a run has its row; after.0 is the count of write faults after the work
-  pub run_cause : (r : Result Status Stop) (status : Status) → write.0 ≤ write.1 → after.0 ≡ write.1 → after.0 ≤ after.1
-      → Worked worked old mid trace j r → Finishes mid new after r status → IsCause ran trace j status
-  run_cause (Ok done) status counts same more (None, asked, works) ends = absurd works.0
-  run_cause (Ok done) status counts same more (Some (Replay how seed replies), asked, works) ends =
-      (Some (Replay how seed replies), asked, rw (ends.0, works.0.1) (done_cause ran trace j (list_any lacks_memory j.items) (list_any has_refused j.items) refl works.0.0))
-  run_cause (Ok done) status counts same more (Some (Layout spec cpus), asked, works) ends =
-      let p = works.0 in
-      (Some (Layout spec cpus), asked, (rw (ends.0, p.2) (answer_cause ran spec cpus p.0 p.1), works.1))
-  run_cause (Ok done) status counts same more (Some (Load m events workers), asked, works) ends = absurd works
-  run_cause (Err e) status counts same more (asked, is, works) (inl (stopped, wrote, still)) = (asked, is, rw stopped (write_cause asked e counts (omega arith) works))
-  run_cause (Err e) status counts same more (asked, is, works) (inr (stopped, rose, wrote)) =
-      (asked, is, rw stopped (faulted asked e (rose_from write.0 after.0 after.1 (omega arith) rose) works))
+  done_has_cause : (asked : Option Command) (done : Status) → Works worked asked trace j (Ok done) → IsCauseOf ran asked trace j done
+  done_has_cause None done works = absurd works.0
+  done_has_cause (Some (Replay how seed replies)) done works =
+      rw works.0.1 (done_cause ran trace j (list_any lacks_memory j.items) (list_any has_refused j.items) refl works.0.0)
+  done_has_cause (Some (Layout spec cpus)) done works = let p = works.0 in (rw p.2 (answer_cause ran spec cpus p.0 p.1), works.1)
+  done_has_cause (Some (Load m events workers)) done works = absurd works
 
-  -- a call that failed is told; after.0 is the count of write faults after the work
-  pub run_faults : (r : Result Status Stop) (status : Status) → StopsAtReadFault read.0 read.1 r → StopsAtWriteFault write.0 write.1 r → after.0 ≡ write.1 → Finishes mid new after r status → TellsFaults ran status
-  run_faults (Ok done) status reads writes same ends = tells_faults ran status reads (ends.2 ∙ same ∙ writes)
-  run_faults (Err stop.BadWords) status reads writes same (inl (is, wrote, still)) = tells_faults ran status reads (still ∙ same ∙ writes)
-  run_faults (Err (stop.BadLine text)) status reads writes same (inl (is, wrote, still)) = tells_faults ran status reads (still ∙ same ∙ writes)
-  run_faults (Err stop.NotBuilt) status reads writes same (inl (is, wrote, still)) = tells_faults ran status reads (still ∙ same ∙ writes)
-  run_faults (Err stop.TooLong) status reads writes same (inl (is, wrote, still)) = tells_faults ran status reads (still ∙ same ∙ writes)
-  run_faults (Err stop.ReadFault) status reads writes same (inl (is, wrote, still)) = rw is (still ∙ same ∙ writes)
-  run_faults (Err stop.WriteFault) status reads writes same (inl (is, wrote, still)) = rw is tt
-  run_faults (Err stop.NoMemory) status reads writes same (inl (is, wrote, still)) = tells_faults ran status reads (still ∙ same ∙ writes)
-  run_faults (Err e) status reads writes same (inr (is, rose, wrote)) = rw is tt
+  -- ---- the run
+
+  -- how it ended; after.0 is the count of write faults after the work
+  pub run_ends : (r : Result Status Stop) (status : Status) → write.0 ≤ write.1 → after.0 ≡ write.1 → after.0 ≤ after.1
+      → StopsAtReadFault read.0 read.1 r → StopsAtWriteFault write.0 write.1 r → Worked worked trace j r → Finishes mid new after r status → Ends ran trace j status
+  run_ends (Ok done) status counts same more reads writes all ends = record {
+    asked = all.asked;
+    is_asked = all.is_asked;
+    cause = rw ends.0 (done_has_cause all.asked done all.works);
+    wrote = rw ends.0 (done_wrote all.asked done all.works reads (ends.2 ∙ same ∙ writes) ends.1);
+  }
+  run_ends (Err e) status counts same more reads writes all (inl (is, wrote, still)) = record {
+    asked = all.asked;
+    is_asked = all.is_asked;
+    cause = rw is (write_cause all.asked e counts (omega arith) all.works);
+    wrote = line_wrote all.asked e status is all.works reads writes (still ∙ same) wrote;
+  }
+  run_ends (Err e) status counts same more reads writes all (inr (is, rose, wrote)) = record {
+    asked = all.asked;
+    is_asked = all.is_asked;
+    cause = rw is (faulted all.asked e (rose_from write.0 after.0 after.1 (omega arith) rose) all.works);
+    wrote = rw is (cut all.asked e all.works reads wrote);
+  }
 
 -- ---- corollaries of the table
 
@@ -337,7 +387,7 @@ told_apart (Some bytes) trace bad spells built = bad_apart bytes bad trace spell
 -- where a trace was read, the bytes are no bad ones
 read_bad : (c : Call) (trace : Option Trace) (j : Journal) → IsJournalOf c trace j → IsSome trace → IsSomeAnd c.told IsBadBytes → ⊥
 read_bad c None j law some bad = false≢true some
-read_bad c (Some trace) j law some bad = told_apart c.told trace bad law.1 law.2
+read_bad c (Some trace) j law some bad = told_apart c.told trace bad law.spelled law.built
 
 -- a replay whose status is that something was refused did not lack memory
 not_wanting : (trace : Option Trace) (j : Journal) → IsWant trace j → IsDone trace j → done_status j ≡ Refused → ⊥
@@ -351,131 +401,90 @@ moved words spec want cpus on answer asked asks is =
     subst (λ n. IsLayoutAnswer want n answer) p.1 (subst (λ s. IsLayoutAnswer s cpus answer) p.0 is)
 
 -- a replay whose input is bad, and neither of whose ends failed, ends so
-pub bad_trace : (c : Call) (trace : Option Trace) (j : Journal) (status : Status) → IsCause c trace j status → IsJournalOf c trace j
-    → AsksReplay c.words → IsSomeAnd c.told IsBadBytes → (Rose c.read.0 c.read.1 → ⊥) → (Rose c.write.0 c.write.1 → ⊥) → (status ≡ BadTrace) ⊎ (status ≡ NoMemory)
-bad_trace c trace j Fine (None, asked, cause) law asks bad no_read no_write = absurd cause.0
-bad_trace c trace j Refused (None, asked, cause) law asks bad no_read no_write = absurd cause.0
-bad_trace c trace j BadWords (None, asked, cause) law asks bad no_read no_write = absurd (cause.0 (Replay Serial asks.0 asks.1) (asks.2, refl))
-bad_trace c trace j BadTrace (None, asked, cause) law asks bad no_read no_write = absurd cause.0
-bad_trace c trace j ReadFault (None, asked, cause) law asks bad no_read no_write = absurd cause.0
-bad_trace c trace j WriteFault (None, asked, cause) law asks bad no_read no_write = absurd (no_write cause.0)
-bad_trace c trace j NoMemory (None, asked, cause) law asks bad no_read no_write = inr refl
-bad_trace c trace j Fine (Some (Replay how seed replies), asked, cause) law asks bad no_read no_write = absurd (read_bad c trace j law cause.0.0 bad)
-bad_trace c trace j Refused (Some (Replay how seed replies), asked, cause) law asks bad no_read no_write = absurd (read_bad c trace j law cause.0.0 bad)
-bad_trace c trace j BadWords (Some (Replay how seed replies), asked, cause) law asks bad no_read no_write = absurd cause
-bad_trace c trace j BadTrace (Some (Replay how seed replies), asked, cause) law asks bad no_read no_write = inl refl
-bad_trace c trace j ReadFault (Some (Replay how seed replies), asked, cause) law asks bad no_read no_write = absurd (no_read cause.0)
-bad_trace c trace j WriteFault (Some (Replay how seed replies), asked, cause) law asks bad no_read no_write = absurd (no_write cause)
-bad_trace c trace j NoMemory (Some (Replay how seed replies), asked, cause) law asks bad no_read no_write = inr refl
-bad_trace c trace j Fine (Some (Layout spec cpus), asked, cause) law asks bad no_read no_write = absurd (replay_apart c.words Serial asks.0 asks.1 spec cpus asks.2 asked.0)
-bad_trace c trace j Refused (Some (Layout spec cpus), asked, cause) law asks bad no_read no_write = absurd (replay_apart c.words Serial asks.0 asks.1 spec cpus asks.2 asked.0)
-bad_trace c trace j BadWords (Some (Layout spec cpus), asked, cause) law asks bad no_read no_write = absurd (replay_apart c.words Serial asks.0 asks.1 spec cpus asks.2 asked.0)
-bad_trace c trace j BadTrace (Some (Layout spec cpus), asked, cause) law asks bad no_read no_write = absurd (replay_apart c.words Serial asks.0 asks.1 spec cpus asks.2 asked.0)
-bad_trace c trace j ReadFault (Some (Layout spec cpus), asked, cause) law asks bad no_read no_write = absurd (replay_apart c.words Serial asks.0 asks.1 spec cpus asks.2 asked.0)
-bad_trace c trace j WriteFault (Some (Layout spec cpus), asked, cause) law asks bad no_read no_write = absurd (replay_apart c.words Serial asks.0 asks.1 spec cpus asks.2 asked.0)
-bad_trace c trace j NoMemory (Some (Layout spec cpus), asked, cause) law asks bad no_read no_write = absurd (replay_apart c.words Serial asks.0 asks.1 spec cpus asks.2 asked.0)
-bad_trace c trace j status (Some (Load m events workers), asked, cause) law asks bad no_read no_write = absurd cause
+bad_trace : (c : Call) (trace : Option Trace) (j : Journal) (asked : Option Command) (status : Status) → IsAsked c.words asked → IsCauseOf c asked trace j status → IsJournalOf c trace j
+    → AsksReplay c.words → IsSomeAnd c.told IsBadBytes → NoFault c → (status ≡ BadTrace) ⊎ (status ≡ NoMemory)
+bad_trace c trace j None BadWords asked cause law asks bad sound = absurd (cause.0 (Replay Serial asks.0 asks.1) (asks.2, refl))
+bad_trace c trace j None WriteFault asked cause law asks bad sound = absurd (sound.writes cause.0)
+bad_trace c trace j None NoMemory asked cause law asks bad sound = inr refl
+bad_trace c trace j None _ asked cause law asks bad sound = absurd cause.0
+bad_trace c trace j (Some (Replay how seed replies)) Fine asked cause law asks bad sound = absurd (read_bad c trace j law cause.0.0 bad)
+bad_trace c trace j (Some (Replay how seed replies)) Refused asked cause law asks bad sound = absurd (read_bad c trace j law cause.0.0 bad)
+bad_trace c trace j (Some (Replay how seed replies)) BadTrace asked cause law asks bad sound = inl refl
+bad_trace c trace j (Some (Replay how seed replies)) ReadFault asked cause law asks bad sound = absurd (sound.reads cause.0)
+bad_trace c trace j (Some (Replay how seed replies)) WriteFault asked cause law asks bad sound = absurd (sound.writes cause)
+bad_trace c trace j (Some (Replay how seed replies)) NoMemory asked cause law asks bad sound = inr refl
+bad_trace c trace j (Some (Replay how seed replies)) _ asked cause law asks bad sound = absurd cause
+bad_trace c trace j (Some (Layout spec cpus)) status asked cause law asks bad sound = absurd (replay_apart c.words Serial asks.0 asks.1 spec cpus asks.2 asked.0)
+bad_trace c trace j (Some (Load m events workers)) status asked cause law asks bad sound = absurd cause
 
 -- where everything of a replay was done, the status is that of what was done
-pub refused : (c : Call) (trace : Option Trace) (j : Journal) (status : Status) → IsCause c trace j status
+refused : (c : Call) (trace : Option Trace) (j : Journal) (asked : Option Command) (status : Status) → IsCauseOf c asked trace j status
     → IsDone trace j → done_status j ≡ Refused → (Rose c.write.0 c.write.1 → ⊥) → status ≡ Refused
-refused c trace j Fine (None, asked, cause) done is no_write = absurd (none_some trace cause.1 done.0)
-refused c trace j Refused (None, asked, cause) done is no_write = absurd (none_some trace cause.1 done.0)
-refused c trace j BadWords (None, asked, cause) done is no_write = absurd (none_some trace cause.1 done.0)
-refused c trace j BadTrace (None, asked, cause) done is no_write = absurd (none_some trace cause.1 done.0)
-refused c trace j ReadFault (None, asked, cause) done is no_write = absurd (none_some trace cause.1 done.0)
-refused c trace j WriteFault (None, asked, cause) done is no_write = absurd (none_some trace cause.1 done.0)
-refused c trace j NoMemory (None, asked, cause) done is no_write = absurd (none_some trace cause.1 done.0)
-refused c trace j Fine (Some (Replay how seed replies), asked, cause) done is no_write = sym cause.1 ∙ is
-refused c trace j Refused (Some (Replay how seed replies), asked, cause) done is no_write = refl
-refused c trace j BadWords (Some (Replay how seed replies), asked, cause) done is no_write = absurd cause
-refused c trace j BadTrace (Some (Replay how seed replies), asked, cause) done is no_write = absurd (none_some trace cause.1 done.0)
-refused c trace j ReadFault (Some (Replay how seed replies), asked, cause) done is no_write = absurd (none_some trace cause.1 done.0)
-refused c trace j WriteFault (Some (Replay how seed replies), asked, cause) done is no_write = absurd (no_write cause)
-refused c trace j NoMemory (Some (Replay how seed replies), asked, cause) done is no_write = absurd (not_wanting trace j cause done is)
-refused c trace j Fine (Some (Layout spec cpus), asked, cause) done is no_write = absurd (none_some trace cause.1 done.0)
-refused c trace j Refused (Some (Layout spec cpus), asked, cause) done is no_write = absurd (none_some trace cause.1 done.0)
-refused c trace j BadWords (Some (Layout spec cpus), asked, cause) done is no_write = absurd (none_some trace cause.1 done.0)
-refused c trace j BadTrace (Some (Layout spec cpus), asked, cause) done is no_write = absurd (none_some trace cause.1 done.0)
-refused c trace j ReadFault (Some (Layout spec cpus), asked, cause) done is no_write = absurd (none_some trace cause.1 done.0)
-refused c trace j WriteFault (Some (Layout spec cpus), asked, cause) done is no_write = absurd (none_some trace cause.1 done.0)
-refused c trace j NoMemory (Some (Layout spec cpus), asked, cause) done is no_write = absurd (none_some trace cause.1 done.0)
-refused c trace j status (Some (Load m events workers), asked, cause) done is no_write = absurd cause
+refused c trace j None status cause done is no_write = absurd (none_some trace cause.1 done.0)
+refused c trace j (Some (Replay how seed replies)) Fine cause done is no_write = sym cause.1 ∙ is
+refused c trace j (Some (Replay how seed replies)) Refused cause done is no_write = refl
+refused c trace j (Some (Replay how seed replies)) BadTrace cause done is no_write = absurd (none_some trace cause.1 done.0)
+refused c trace j (Some (Replay how seed replies)) ReadFault cause done is no_write = absurd (none_some trace cause.1 done.0)
+refused c trace j (Some (Replay how seed replies)) WriteFault cause done is no_write = absurd (no_write cause)
+refused c trace j (Some (Replay how seed replies)) NoMemory cause done is no_write = absurd (not_wanting trace j cause done is)
+refused c trace j (Some (Replay how seed replies)) _ cause done is no_write = absurd cause
+refused c trace j (Some (Layout spec cpus)) status cause done is no_write = absurd (none_some trace cause.1 done.0)
+refused c trace j (Some (Load m events workers)) status cause done is no_write = absurd cause
 
 -- a replay of a trace, neither of whose ends failed, did everything or lacked memory
-pub complete : (c : Call) (trace : Option Trace) (j : Journal) (status : Status) → IsCause c trace j status
-    → AsksReplay c.words → IsSomeAnd c.told IsSomeTrace → (Rose c.read.0 c.read.1 → ⊥) → (Rose c.write.0 c.write.1 → ⊥) → (status ≡ done_status j) ⊎ (status ≡ NoMemory)
-complete c trace j Fine (None, asked, cause) asks good no_read no_write = absurd cause.0
-complete c trace j Refused (None, asked, cause) asks good no_read no_write = absurd cause.0
-complete c trace j BadWords (None, asked, cause) asks good no_read no_write = absurd (cause.0 (Replay Serial asks.0 asks.1) (asks.2, refl))
-complete c trace j BadTrace (None, asked, cause) asks good no_read no_write = absurd cause.0
-complete c trace j ReadFault (None, asked, cause) asks good no_read no_write = absurd cause.0
-complete c trace j WriteFault (None, asked, cause) asks good no_read no_write = absurd (no_write cause.0)
-complete c trace j NoMemory (None, asked, cause) asks good no_read no_write = inr refl
-complete c trace j Fine (Some (Replay how seed replies), asked, cause) asks good no_read no_write = inl (sym cause.1)
-complete c trace j Refused (Some (Replay how seed replies), asked, cause) asks good no_read no_write = inl (sym cause.1)
-complete c trace j BadWords (Some (Replay how seed replies), asked, cause) asks good no_read no_write = absurd cause
-complete c trace j BadTrace (Some (Replay how seed replies), asked, cause) asks good no_read no_write = absurd (good_input c good cause.0)
-complete c trace j ReadFault (Some (Replay how seed replies), asked, cause) asks good no_read no_write = absurd (no_read cause.0)
-complete c trace j WriteFault (Some (Replay how seed replies), asked, cause) asks good no_read no_write = absurd (no_write cause)
-complete c trace j NoMemory (Some (Replay how seed replies), asked, cause) asks good no_read no_write = inr refl
-complete c trace j Fine (Some (Layout spec cpus), asked, cause) asks good no_read no_write = absurd (replay_apart c.words Serial asks.0 asks.1 spec cpus asks.2 asked.0)
-complete c trace j Refused (Some (Layout spec cpus), asked, cause) asks good no_read no_write = absurd (replay_apart c.words Serial asks.0 asks.1 spec cpus asks.2 asked.0)
-complete c trace j BadWords (Some (Layout spec cpus), asked, cause) asks good no_read no_write = absurd (replay_apart c.words Serial asks.0 asks.1 spec cpus asks.2 asked.0)
-complete c trace j BadTrace (Some (Layout spec cpus), asked, cause) asks good no_read no_write = absurd (replay_apart c.words Serial asks.0 asks.1 spec cpus asks.2 asked.0)
-complete c trace j ReadFault (Some (Layout spec cpus), asked, cause) asks good no_read no_write = absurd (replay_apart c.words Serial asks.0 asks.1 spec cpus asks.2 asked.0)
-complete c trace j WriteFault (Some (Layout spec cpus), asked, cause) asks good no_read no_write = absurd (replay_apart c.words Serial asks.0 asks.1 spec cpus asks.2 asked.0)
-complete c trace j NoMemory (Some (Layout spec cpus), asked, cause) asks good no_read no_write = absurd (replay_apart c.words Serial asks.0 asks.1 spec cpus asks.2 asked.0)
-complete c trace j status (Some (Load m events workers), asked, cause) asks good no_read no_write = absurd cause
+complete : (c : Call) (trace : Option Trace) (j : Journal) (asked : Option Command) (status : Status) → IsAsked c.words asked → IsCauseOf c asked trace j status
+    → AsksReplay c.words → IsSomeAnd c.told IsSomeTrace → NoFault c → (status ≡ done_status j) ⊎ (status ≡ NoMemory)
+complete c trace j None BadWords asked cause asks good sound = absurd (cause.0 (Replay Serial asks.0 asks.1) (asks.2, refl))
+complete c trace j None WriteFault asked cause asks good sound = absurd (sound.writes cause.0)
+complete c trace j None NoMemory asked cause asks good sound = inr refl
+complete c trace j None _ asked cause asks good sound = absurd cause.0
+complete c trace j (Some (Replay how seed replies)) Fine asked cause asks good sound = inl (sym cause.1)
+complete c trace j (Some (Replay how seed replies)) Refused asked cause asks good sound = inl (sym cause.1)
+complete c trace j (Some (Replay how seed replies)) BadTrace asked cause asks good sound = absurd (good_input c good cause.0)
+complete c trace j (Some (Replay how seed replies)) ReadFault asked cause asks good sound = absurd (sound.reads cause.0)
+complete c trace j (Some (Replay how seed replies)) WriteFault asked cause asks good sound = absurd (sound.writes cause)
+complete c trace j (Some (Replay how seed replies)) NoMemory asked cause asks good sound = inr refl
+complete c trace j (Some (Replay how seed replies)) _ asked cause asks good sound = absurd cause
+complete c trace j (Some (Layout spec cpus)) status asked cause asks good sound = absurd (replay_apart c.words Serial asks.0 asks.1 spec cpus asks.2 asked.0)
+complete c trace j (Some (Load m events workers)) status asked cause asks good sound = absurd cause
 
 -- but for a write fault and want of memory, a run ends as one of bad words exactly where the words are no command that is run
-pub bad_words : (c : Call) (trace : Option Trace) (j : Journal) (status : Status) → IsCause c trace j status
+bad_words : (c : Call) (trace : Option Trace) (j : Journal) (asked : Option Command) (status : Status) → IsAsked c.words asked → IsCauseOf c asked trace j status
     → status ≢ WriteFault → status ≢ NoMemory → (status ≡ BadWords → AreBadWords c.words) × (AreBadWords c.words → status ≡ BadWords)
-bad_words c trace j Fine (None, asked, cause) apart wanting = absurd cause.0
-bad_words c trace j Refused (None, asked, cause) apart wanting = absurd cause.0
-bad_words c trace j BadWords (None, asked, cause) apart wanting = (λ h. cause.0, λ h. refl)
-bad_words c trace j BadTrace (None, asked, cause) apart wanting = absurd cause.0
-bad_words c trace j ReadFault (None, asked, cause) apart wanting = absurd cause.0
-bad_words c trace j WriteFault (None, asked, cause) apart wanting = absurd (apart refl)
-bad_words c trace j NoMemory (None, asked, cause) apart wanting = absurd (wanting refl)
-bad_words c trace j Fine (Some (Replay how seed replies), asked, cause) apart wanting = (λ h. absurd (let e : Fine ≡ BadWords = h in cc), λ h. absurd (h (Replay how seed replies) asked))
-bad_words c trace j Refused (Some (Replay how seed replies), asked, cause) apart wanting = (λ h. absurd (let e : Refused ≡ BadWords = h in cc), λ h. absurd (h (Replay how seed replies) asked))
-bad_words c trace j BadWords (Some (Replay how seed replies), asked, cause) apart wanting = absurd cause
-bad_words c trace j BadTrace (Some (Replay how seed replies), asked, cause) apart wanting = (λ h. absurd (let e : BadTrace ≡ BadWords = h in cc), λ h. absurd (h (Replay how seed replies) asked))
-bad_words c trace j ReadFault (Some (Replay how seed replies), asked, cause) apart wanting = (λ h. absurd (let e : ReadFault ≡ BadWords = h in cc), λ h. absurd (h (Replay how seed replies) asked))
-bad_words c trace j WriteFault (Some (Replay how seed replies), asked, cause) apart wanting = absurd (apart refl)
-bad_words c trace j NoMemory (Some (Replay how seed replies), asked, cause) apart wanting = absurd (wanting refl)
-bad_words c trace j Fine (Some (Layout spec cpus), asked, cause) apart wanting = (λ h. absurd (let e : Fine ≡ BadWords = h in cc), λ h. absurd (h (Layout spec cpus) asked))
-bad_words c trace j Refused (Some (Layout spec cpus), asked, cause) apart wanting = (λ h. absurd (let e : Refused ≡ BadWords = h in cc), λ h. absurd (h (Layout spec cpus) asked))
-bad_words c trace j BadWords (Some (Layout spec cpus), asked, cause) apart wanting = absurd cause.0
-bad_words c trace j BadTrace (Some (Layout spec cpus), asked, cause) apart wanting = (λ h. absurd (let e : BadTrace ≡ BadWords = h in cc), λ h. absurd (h (Layout spec cpus) asked))
-bad_words c trace j ReadFault (Some (Layout spec cpus), asked, cause) apart wanting = (λ h. absurd (let e : ReadFault ≡ BadWords = h in cc), λ h. absurd (h (Layout spec cpus) asked))
-bad_words c trace j WriteFault (Some (Layout spec cpus), asked, cause) apart wanting = absurd (apart refl)
-bad_words c trace j NoMemory (Some (Layout spec cpus), asked, cause) apart wanting = absurd (wanting refl)
-bad_words c trace j status (Some (Load m events workers), asked, cause) apart wanting = absurd cause
+bad_words c trace j None BadWords asked cause apart wanting = (λ h. cause.0, λ h. refl)
+bad_words c trace j None WriteFault asked cause apart wanting = absurd (apart refl)
+bad_words c trace j None NoMemory asked cause apart wanting = absurd (wanting refl)
+bad_words c trace j None _ asked cause apart wanting = absurd cause.0
+bad_words c trace j (Some (Replay how seed replies)) BadWords asked cause apart wanting = absurd cause
+bad_words c trace j (Some (Replay how seed replies)) _ asked cause apart wanting = (λ h. absurd (let never : ⊥ = cc in never), λ bad. absurd (bad (Replay how seed replies) asked))
+bad_words c trace j (Some (Layout spec cpus)) BadWords asked cause apart wanting = absurd cause.0
+bad_words c trace j (Some (Layout spec cpus)) _ asked cause apart wanting = (λ h. absurd (let never : ⊥ = cc in never), λ bad. absurd (bad (Layout spec cpus) asked))
+bad_words c trace j (Some (Load m events workers)) status asked cause apart wanting = absurd cause
 
 -- a layout that did not fail to be written ends with the status of its answer, or lacked memory
-pub layout : (c : Call) (trace : Option Trace) (j : Journal) (status : Status) → IsCause c trace j status → (want : Spec) (on : ℕ)
+layout : (c : Call) (trace : Option Trace) (j : Journal) (asked : Option Command) (status : Status) → IsAsked c.words asked → IsCauseOf c asked trace j status → (want : Spec) (on : ℕ)
     → IsCommand c.words (Layout want on) → (Rose c.write.0 c.write.1 → ⊥) → (status ≡ NoMemory) ⊎ ((answer : Result SlabLayout LayoutRefusal) × IsLayoutAnswer want on answer × (status ≡ answer_status answer))
-layout c trace j Fine (None, asked, cause) want on asks no_write = absurd cause.0
-layout c trace j Refused (None, asked, cause) want on asks no_write = absurd cause.0
-layout c trace j BadWords (None, asked, cause) want on asks no_write = absurd (cause.0 (Layout want on) (asks, tt))
-layout c trace j BadTrace (None, asked, cause) want on asks no_write = absurd cause.0
-layout c trace j ReadFault (None, asked, cause) want on asks no_write = absurd cause.0
-layout c trace j WriteFault (None, asked, cause) want on asks no_write = absurd (no_write cause.0)
-layout c trace j NoMemory (None, asked, cause) want on asks no_write = inl refl
-layout c trace j Fine (Some (Replay how seed replies), asked, cause) want on asks no_write = absurd (replay_apart c.words how seed replies want on asked.0 asks)
-layout c trace j Refused (Some (Replay how seed replies), asked, cause) want on asks no_write = absurd (replay_apart c.words how seed replies want on asked.0 asks)
-layout c trace j BadWords (Some (Replay how seed replies), asked, cause) want on asks no_write = absurd (replay_apart c.words how seed replies want on asked.0 asks)
-layout c trace j BadTrace (Some (Replay how seed replies), asked, cause) want on asks no_write = absurd (replay_apart c.words how seed replies want on asked.0 asks)
-layout c trace j ReadFault (Some (Replay how seed replies), asked, cause) want on asks no_write = absurd (replay_apart c.words how seed replies want on asked.0 asks)
-layout c trace j WriteFault (Some (Replay how seed replies), asked, cause) want on asks no_write = absurd (replay_apart c.words how seed replies want on asked.0 asks)
-layout c trace j NoMemory (Some (Replay how seed replies), asked, cause) want on asks no_write = absurd (replay_apart c.words how seed replies want on asked.0 asks)
-layout c trace j Fine (Some (Layout spec cpus), asked, cause) want on asks no_write = inr (Ok cause.0.0, moved c.words spec want cpus on (Ok cause.0.0) asked.0 asks cause.0.1, refl)
-layout c trace j Refused (Some (Layout spec cpus), asked, cause) want on asks no_write = inr (Err cause.0.0, moved c.words spec want cpus on (Err cause.0.0) asked.0 asks cause.0.1, refl)
-layout c trace j BadWords (Some (Layout spec cpus), asked, cause) want on asks no_write = absurd cause.0
-layout c trace j BadTrace (Some (Layout spec cpus), asked, cause) want on asks no_write = absurd cause.0
-layout c trace j ReadFault (Some (Layout spec cpus), asked, cause) want on asks no_write = absurd cause.0
-layout c trace j WriteFault (Some (Layout spec cpus), asked, cause) want on asks no_write = absurd (no_write cause.0)
-layout c trace j NoMemory (Some (Layout spec cpus), asked, cause) want on asks no_write = inl refl
-layout c trace j status (Some (Load m events workers), asked, cause) want on asks no_write = absurd cause
+layout c trace j None BadWords asked cause want on asks no_write = absurd (cause.0 (Layout want on) (asks, tt))
+layout c trace j None WriteFault asked cause want on asks no_write = absurd (no_write cause.0)
+layout c trace j None NoMemory asked cause want on asks no_write = inl refl
+layout c trace j None _ asked cause want on asks no_write = absurd cause.0
+layout c trace j (Some (Replay how seed replies)) status asked cause want on asks no_write = absurd (replay_apart c.words how seed replies want on asked.0 asks)
+layout c trace j (Some (Layout spec cpus)) Fine asked cause want on asks no_write = inr (Ok cause.0.0, moved c.words spec want cpus on (Ok cause.0.0) asked.0 asks cause.0.1, refl)
+layout c trace j (Some (Layout spec cpus)) Refused asked cause want on asks no_write = inr (Err cause.0.0, moved c.words spec want cpus on (Err cause.0.0) asked.0 asks cause.0.1, refl)
+layout c trace j (Some (Layout spec cpus)) WriteFault asked cause want on asks no_write = absurd (no_write cause.0)
+layout c trace j (Some (Layout spec cpus)) NoMemory asked cause want on asks no_write = inl refl
+layout c trace j (Some (Layout spec cpus)) _ asked cause want on asks no_write = absurd cause.0
+layout c trace j (Some (Load m events workers)) status asked cause want on asks no_write = absurd cause
+
+-- ---- the whole promise
+
+pub promise : (c : Call) (outcome : Outcome) → Ends c outcome.trace outcome.journal outcome.status → IsJournalOf c outcome.trace outcome.journal → IsRunOf c outcome
+promise c outcome ends law = record {
+  ends = ends;
+  lawful = law;
+  bad_words = λ apart wanting. bad_words c outcome.trace outcome.journal ends.asked outcome.status ends.is_asked ends.cause apart wanting;
+  bad_trace = λ asks bad sound. bad_trace c outcome.trace outcome.journal ends.asked outcome.status ends.is_asked ends.cause law asks bad sound;
+  complete = λ asks good sound. complete c outcome.trace outcome.journal ends.asked outcome.status ends.is_asked ends.cause asks good sound;
+  refused = λ asks done is no_write. refused c outcome.trace outcome.journal ends.asked outcome.status ends.cause done is no_write;
+  layout = λ spec cpus asks no_write. layout c outcome.trace outcome.journal ends.asked outcome.status ends.is_asked ends.cause spec cpus asks no_write;
+}

@@ -6,22 +6,13 @@ use Rattle.slub_lists.specs.State.{State}
 use Rattle.slub_lists.specs.Coherent.{IsCoherent}
 use Rattle.slub_trace_reader.specs.declared.trace.Item.{Item}
 use Rattle.slub_trace_reader.specs.declared.trace.Trace.{Trace}
-use Rattle.slub_engine.specs.declared.journal.Done.{Done}
-use Rattle.slub_engine.specs.declared.journal.Journal.{Journal}
-use Rattle.slub_engine.specs.Lawful.{Does, IsLawful, IsReady, RunsItems, opening_of}
-use Rattle.slub_engine.proofs.Laws.{opened_ready}
+use Rattle.slub_journal.specs.declared.journal.Done.{Done}
+use Rattle.slub_journal.specs.declared.journal.Journal.{Journal}
+use Rattle.slub_journal.specs.Lawful.{Does, IsLawful, IsReady, RunsItems, opening_of}
+use Rattle.slub_journal.proofs.Laws.{opened_ready, run_more}
 use Rattle.slub_cli.specs.declared.stop.Stop.{Stop}
-use Rattle.slub_cli.specs.declared.stop.Stop.TheVariants.{BadWords, BadLine, NotBuilt, TooLong, ReadFault, WriteFault, NoMemory}
+use Rattle.slub_cli.specs.declared.stop.Stop.TheVariants.{WriteFault, NoMemory}
 use Rattle.slub_cli.specs.Inner.{Adds, AddsTotal, DoesItem, IsMachineOf, SameMachine, Totals}
-
--- a run goes on by one item
-RunsItems-more : (s : State) (trace : Trace) (items : List Item) (dones : List Done) (mid : State) (item : Item) (d : Done) (after : State)
-    → RunsItems s trace items dones mid → Does mid trace item d after → IsCoherent after → RunsItems s trace (items ++ item ∷ []) (dones ++ d ∷ []) after
-RunsItems-more s trace [] [] mid item d after run does coherent = (after, subst (λ x. Does x trace item d after) run does, coherent, refl)
-RunsItems-more s trace (i ∷ items) (e ∷ dones) mid item d after (next, first, sound, run) does coherent =
-    (next, first, sound, RunsItems-more next trace items dones mid item d after run does coherent)
-RunsItems-more s trace [] (e ∷ dones) mid item d after run does coherent = absurd run
-RunsItems-more s trace (i ∷ items) [] mid item d after run does coherent = absurd run
 
 -- each item has one answer
 RunsItems-length : (s : State) (trace : Trace) (items : List Item) (dones : List Done) (after : State) → RunsItems s trace items dones after → length dones ≡ length items
@@ -38,14 +29,6 @@ pub record Reached (trace : Trace) (number : ℕ) (s : State) (journal : Journal
   pub ready : IsReady s trace number
   pub machine : IsMachineOf trace journal
 
--- the item of a number, where there is one
-take_next : (items : List Item) (number : ℕ) (P : Item → Type 0) → MatchOption (slice_get items number) ⊥ P → (item : Item) × (take (number + 1) items ≡ take number items ++ item ∷ []) × P item
-take_next [] number P there = absurd there
-take_next (item ∷ items) zero P there = (item, refl, there)
-take_next (item ∷ items) (suc number) P there =
-    let next = take_next items number P there in
-    (next.0, ap (λ n. take n (item ∷ items)) (let e : suc number + 1 ≡ suc (number + 1) = omega arith in e) ∙ ap (λ l. item ∷ l) next.1, next.2)
-
 -- a journal stays one for the machine of the trace
 same_machine : (trace : Trace) (old new : Journal) → IsMachineOf trace old → SameMachine old new → IsMachineOf trace new
 same_machine trace old new machine same = record {
@@ -55,16 +38,14 @@ same_machine trace old new machine same = record {
 }
 
 -- one item more is done
-pub Reached-more : (trace : Trace) (number : ℕ) (s after : State) (old new : Journal) → Reached trace number s old → Adds s trace number after old new → Reached trace (number + 1) after new
-Reached-more trace number s after old new so_far adds =
-    let next = take_next trace.items number (λ item. Does s trace item adds.answer after) adds.does in
-    record {
-      run = rw (next.1, adds.items) (RunsItems-more (opening_of trace) trace (take number trace.items) old.items s next.0 adds.answer after so_far.run next.2 adds.ready.coherent);
-      length_is = ap length adds.items ∙ length-append old.items _ ∙ ap (λ n. n + 1) so_far.length_is;
-      no_total = adds.total ∙ so_far.no_total;
-      ready = adds.ready;
-      machine = same_machine trace old new so_far.machine adds.machine;
-    }
+pub Reached-more : (trace : Trace) (number : ℕ) (s after : State) (old new : Journal) → number < length trace.items → Reached trace number s old → Adds s trace number after old new → Reached trace (number + 1) after new
+Reached-more trace number s after old new within so_far adds = record {
+  run = rw adds.items (run_more (opening_of trace) trace number old.items s after adds.answer within so_far.run adds.does adds.ready.coherent);
+  length_is = ap length adds.items ∙ length-append old.items _ ∙ ap (λ n. n + 1) so_far.length_is;
+  no_total = adds.total ∙ so_far.no_total;
+  ready = adds.ready;
+  machine = same_machine trace old new so_far.machine adds.machine;
+}
 
 -- what was done so far is lawful
 pub Reached-lawful : (trace : Trace) (number : ℕ) (s : State) (journal : Journal) → IsCoherent (opening_of trace) → number ≤ length trace.items → Reached trace number s journal → IsLawful trace journal
@@ -82,14 +63,10 @@ Reached-lawful trace number s journal coherent within so_far = record {
 -- what an item that stopped leaves is lawful
 pub stopped_lawful : (trace : Trace) (number : ℕ) (s after : State) (old new : Journal) (e : Stop) → IsCoherent (opening_of trace) → number < length trace.items → Reached trace number s old → DoesItem s trace number after old new (Err e) → IsLawful trace new
 stopped_lawful trace number s after old new WriteFault coherent within so_far adds =
-    Reached-lawful trace (number + 1) after new coherent (omega arith) (Reached-more trace number s after old new so_far adds)
+    Reached-lawful trace (number + 1) after new coherent (omega arith) (Reached-more trace number s after old new within so_far adds)
 stopped_lawful trace number s after old new NoMemory coherent within so_far same =
     Reached-lawful trace number s new coherent (omega arith) (record { run = rw same.items so_far.run; length_is = rw same.items so_far.length_is; no_total = same.total ∙ so_far.no_total; ready = so_far.ready; machine = same_machine trace old new so_far.machine same.machine })
-stopped_lawful trace number s after old new BadWords coherent within so_far h = absurd h
-stopped_lawful trace number s after old new (BadLine line) coherent within so_far h = absurd h
-stopped_lawful trace number s after old new NotBuilt coherent within so_far h = absurd h
-stopped_lawful trace number s after old new TooLong coherent within so_far h = absurd h
-stopped_lawful trace number s after old new ReadFault coherent within so_far h = absurd h
+stopped_lawful trace number s after old new _ coherent within so_far h = absurd h
 
 -- with its total a journal of all items is lawful
 total_lawful : (trace : Trace) (s : State) (old new : Journal) → RunsItems (opening_of trace) trace trace.items old.items s → IsLawful trace old → AddsTotal s old new → IsLawful trace new
@@ -120,11 +97,7 @@ totals_lawful trace s old new (Err NoMemory) run lawful same = record {
   run = rw same.items lawful.run;
   total = rw (same.items, same.total) lawful.total;
 }
-totals_lawful trace s old new (Err BadWords) run lawful h = absurd h
-totals_lawful trace s old new (Err (BadLine line)) run lawful h = absurd h
-totals_lawful trace s old new (Err NotBuilt) run lawful h = absurd h
-totals_lawful trace s old new (Err TooLong) run lawful h = absurd h
-totals_lawful trace s old new (Err ReadFault) run lawful h = absurd h
+totals_lawful trace s old new _ run lawful h = absurd h
 
 -- nothing is done yet
 pub Reached-begins : (trace : Trace) (s : State) (journal : Journal) → IsCoherent (opening_of trace) → s ≡ opening_of trace → IsMachineOf trace journal → journal.items ≡ [] → journal.total ≡ None → Reached trace 0 s journal

@@ -1,5 +1,5 @@
 -- How the text of a journal grows.
-use Rattle.std.proofs.Common.{◌≡◌, ℕ, List, [], ◌∷◌, ◌++◌, Some, None, Ok, Err, Result, refl, sym, ap, ◌∙◌, length, append-nil, append_assoc, add-zero, arith, length-append}
+use Rattle.std.proofs.Common.{◌≡◌, ℕ, List, [], ◌∷◌, ◌++◌, Some, None, Err, Result, refl, sym, ap, ◌∙◌, length, append-nil, append_assoc, add-zero, arith, length-append}
 use Rattle.std.specs.Prelude.{Bool, Option, slice_get}
 use Rattle.std.specs.Option.{option_map_or}
 use Rattle.std.specs.Io.KnownBytes.{Appends}
@@ -9,14 +9,14 @@ use Rattle.slub_edges.specs.Edges.{AppendsFront}
 use Rattle.slub_edges.proofs.Told.{AppendsFront-after}
 use Rattle.slub_trace_reader.specs.declared.trace.Item.{Item}
 use Rattle.slub_trace_reader.specs.declared.trace.Trace.{Trace}
-use Rattle.slub_engine.specs.declared.journal.Done.{Done}
-use Rattle.slub_engine.specs.declared.journal.Total.{Total}
-use Rattle.slub_engine.specs.declared.journal.Journal.{Journal}
-use Rattle.slub_engine.specs.Text.{text_of, text_at, done_text, items_text, total_text}
+use Rattle.slub_journal.specs.declared.journal.Done.{Done}
+use Rattle.slub_journal.specs.declared.journal.Total.{Total}
+use Rattle.slub_journal.specs.declared.journal.Journal.{Journal}
+use Rattle.slub_journal.specs.Text.{text_of, text_at, done_text, items_text, total_text}
 use Rattle.slub_cli.specs.Run.{last_begins}
 use Rattle.slub_cli.specs.Inner.{GrowsText, GrowsFront, IsSame, Tells, TookText}
 use Rattle.slub_cli.specs.declared.stop.Stop.{Stop}
-use Rattle.slub_cli.specs.declared.stop.Stop.TheVariants.{BadWords, BadLine, NotBuilt, TooLong, ReadFault, WriteFault, NoMemory}
+use Rattle.slub_cli.specs.declared.stop.Stop.TheVariants.{WriteFault}
 
 -- no items done have no text
 pub items_text-none : (replies : Bool) (trace : Trace) (items : List Item) → items_text replies trace items [] ≡ []
@@ -73,22 +73,10 @@ empty_text replies trace journal no_items no_total = rw (no_items, no_total, ite
 
 -- more was told after more was told
 pub tells_then : (replies : Bool) (old mid new : Option (List ℕ)) (trace : Trace) (before middle after : Journal) (r : Result (Unit {0}) Stop) → GrowsText replies old mid trace before middle → Tells replies mid new trace middle after r → Tells replies old new trace before after r
-tells_then replies old mid new trace before middle after (Ok x) first more = λ start h. more start (first start h)
-tells_then replies old mid new trace before middle after (Err BadWords) first more = λ start h. more start (first start h)
-tells_then replies old mid new trace before middle after (Err (BadLine line)) first more = λ start h. more start (first start h)
-tells_then replies old mid new trace before middle after (Err NotBuilt) first more = λ start h. more start (first start h)
-tells_then replies old mid new trace before middle after (Err TooLong) first more = λ start h. more start (first start h)
-tells_then replies old mid new trace before middle after (Err ReadFault) first more = λ start h. more start (first start h)
 tells_then replies old mid new trace before middle after (Err WriteFault) first more = λ start h. more start (first start h)
-tells_then replies old mid new trace before middle after (Err NoMemory) first more = λ start h. more start (first start h)
+tells_then replies old mid new trace before middle after _ first more = λ start h. more start (first start h)
 
 -- since a journal with nothing in it, all of the text was told
 pub took_of : (replies : Bool) (old new : Option (List ℕ)) (trace : Trace) (before after : Journal) (r : Result (Unit {0}) Stop) → text_of replies trace before ≡ [] → Tells replies old new trace before after r → TookText replies old new (Some trace) after r
-took_of replies old new trace before after (Ok x) none tells = tells old (rw none (Appends-nil old))
-took_of replies old new trace before after (Err BadWords) none tells = tells old (rw none (Appends-nil old))
-took_of replies old new trace before after (Err (BadLine line)) none tells = tells old (rw none (Appends-nil old))
-took_of replies old new trace before after (Err NotBuilt) none tells = tells old (rw none (Appends-nil old))
-took_of replies old new trace before after (Err TooLong) none tells = tells old (rw none (Appends-nil old))
-took_of replies old new trace before after (Err ReadFault) none tells = tells old (rw none (Appends-nil old))
 took_of replies old new trace before after (Err WriteFault) none tells = tells old (rw none (Appends-nil old))
-took_of replies old new trace before after (Err NoMemory) none tells = tells old (rw none (Appends-nil old))
+took_of replies old new trace before after _ none tells = tells old (rw none (Appends-nil old))

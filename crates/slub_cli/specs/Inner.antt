@@ -12,54 +12,47 @@ use Rattle.slub_lists.specs.State.{State}
 use Rattle.slub_trace_reader.specs.declared.trace.Trace.{Trace}
 use Rattle.slub_trace_reader.specs.declared.reading.Why.{Why}
 use Rattle.slub_trace_reader.specs.Reads.{IsBadIn, IsTooLong, Spells}
-use Rattle.slub_engine.specs.declared.journal.Done.{Done}
-use Rattle.slub_engine.specs.declared.journal.Total.{Total}
-use Rattle.slub_engine.specs.declared.journal.Journal.{Journal}
-use Rattle.slub_engine.specs.Lawful.{DoesAt, IsBuilt, IsReady, IsTotal}
-use Rattle.slub_engine.specs.Text.{text_of}
+use Rattle.slub_journal.specs.declared.journal.Done.{Done}
+use Rattle.slub_journal.specs.declared.journal.Total.{Total}
+use Rattle.slub_journal.specs.declared.journal.Journal.{Journal}
+use Rattle.slub_journal.specs.Lawful.{DoesAt, IsBuilt, IsReady, IsTotal}
+use Rattle.slub_journal.specs.Text.{text_of}
 use Rattle.slub_cli.specs.declared.stop.Stop.{Stop}
 use Rattle.slub_cli.specs.declared.stop.Stop.TheVariants.{BadWords, BadLine, NotBuilt, TooLong, ReadFault, WriteFault, NoMemory}
 use Rattle.slub_cli.specs.declared.status.Status.{Status}
 use Rattle.slub_cli.specs.declared.status.Status.TheVariants as ends
-use Rattle.slub_cli.specs.Run.{AreBadWords, Call, IsAsked, IsBadLine, IsDone, IsLayoutAnswer, IsUnbuilt, answer_status, bad_line, done_status, fault_line, last_begins, last_in, text_in}
+use Rattle.slub_cli.specs.Run.{AreBadWords, Call, IsAsked, IsBadLine, IsDone, IsJournalOf, IsLayoutAnswer, IsUnbuilt, answer_status, bad_line, done_status, fault_line, last_begins, last_in, text_in}
 
 -- ---- what the sink tells
 
 -- if the sink told the text of the journal before, since whenever, it tells the text after
 abbrev pub GrowsText : Bool → Option (List ℕ) → Option (List ℕ) → Trace → Journal → Journal → Type 0
 GrowsText replies old new trace before after =
-    (start : Option (List ℕ)) → Appends start old (text_of replies trace before) → Appends start new (text_of replies trace after)
+    (start : Option (List ℕ)) → Appends start old (text_of replies trace before) →
+    Appends start new (text_of replies trace after)
 
 -- the same up to a front of the last entry, which isn't the whole
-abbrev pub GrowsFront : Bool → Option (List ℕ) → Option (List ℕ) → Trace → Journal → Journal → Type 0
+abbrev pub GrowsFront : Bool → Option (List ℕ) → Option (List ℕ) → Trace → Journal → Journal
+    → Type 0
 GrowsFront replies old new trace before after =
-    (start : Option (List ℕ)) → Appends start old (text_of replies trace before) → AppendsFront start new (last_begins replies trace after) (text_of replies trace after)
+    (start : Option (List ℕ)) → Appends start old (text_of replies trace before) →
+    AppendsFront start new (last_begins replies trace after) (text_of replies trace after)
 
--- what the sink tells after doing stopped: at a write fault a front of the last entry, which isn't the whole
-abbrev pub TellsStopped : Bool → Option (List ℕ) → Option (List ℕ) → Trace → Journal → Journal → Stop → Type 0
-TellsStopped replies old new trace before after WriteFault = GrowsFront replies old new trace before after
-TellsStopped replies old new trace before after BadWords = GrowsText replies old new trace before after
-TellsStopped replies old new trace before after (BadLine line) = GrowsText replies old new trace before after
-TellsStopped replies old new trace before after NotBuilt = GrowsText replies old new trace before after
-TellsStopped replies old new trace before after TooLong = GrowsText replies old new trace before after
-TellsStopped replies old new trace before after ReadFault = GrowsText replies old new trace before after
-TellsStopped replies old new trace before after NoMemory = GrowsText replies old new trace before after
+-- what the sink tells after doing that may have stopped: at a write fault a front of the last
+-- entry, which isn't the whole
+abbrev pub Tells : {A : Type 0} → Bool → Option (List ℕ) → Option (List ℕ) → Trace
+    → Journal → Journal → Result A Stop → Type 0
+Tells replies old new trace before after (Err WriteFault) =
+    GrowsFront replies old new trace before after
+Tells replies old new trace before after _ = GrowsText replies old new trace before after
 
--- what the sink tells after doing that may have stopped
-abbrev pub Tells : {A : Type 0} → Bool → Option (List ℕ) → Option (List ℕ) → Trace → Journal → Journal → Result A Stop → Type 0
-Tells replies old new trace before after (Ok x) = GrowsText replies old new trace before after
-Tells replies old new trace before after (Err stop) = TellsStopped replies old new trace before after stop
-
--- the text of what was done was taken, or at a write fault a front of it, past where the last entry's text begins and not the whole
-abbrev pub TookText : {A : Type 0} → Bool → Option (List ℕ) → Option (List ℕ) → Option Trace → Journal → Result A Stop → Type 0
-TookText replies old new trace journal (Ok x) = Appends old new (text_in replies trace journal)
-TookText replies old new trace journal (Err WriteFault) = AppendsFront old new (last_in replies trace journal) (text_in replies trace journal)
-TookText replies old new trace journal (Err BadWords) = Appends old new (text_in replies trace journal)
-TookText replies old new trace journal (Err (BadLine line)) = Appends old new (text_in replies trace journal)
-TookText replies old new trace journal (Err NotBuilt) = Appends old new (text_in replies trace journal)
-TookText replies old new trace journal (Err TooLong) = Appends old new (text_in replies trace journal)
-TookText replies old new trace journal (Err ReadFault) = Appends old new (text_in replies trace journal)
-TookText replies old new trace journal (Err NoMemory) = Appends old new (text_in replies trace journal)
+-- the text of what was done was taken, or at a write fault a front of it, past where the last
+-- entry's text begins and not the whole
+abbrev pub TookText : {A : Type 0} → Bool → Option (List ℕ) → Option (List ℕ) → Option Trace
+    → Journal → Result A Stop → Type 0
+TookText replies old new trace journal (Err WriteFault) =
+    AppendsFront old new (last_in replies trace journal) (text_in replies trace journal)
+TookText replies old new trace journal _ = Appends old new (text_in replies trace journal)
 
 -- ---- what was done
 
@@ -76,7 +69,8 @@ pub record SameMachine (old new : Journal) : Type 0 where
   pub tid : new.tid ≡ old.tid
 
 -- the journal has one item more, which was done from this state to that
-pub record Adds (s : State) (trace : Trace) (number : ℕ) (after : State) (old new : Journal) : Type 0 where
+pub record Adds (s : State) (trace : Trace) (number : ℕ) (after : State)
+    (old new : Journal) : Type 0 where
   pub answer : Done
   pub does : DoesAt s trace number answer after
   pub items : new.items ≡ old.items ++ answer ∷ []
@@ -91,15 +85,12 @@ pub record IsSame (old new : Journal) : Type 0 where
   pub machine : SameMachine old new
 
 -- doing an item adds it, but for want of memory
-abbrev pub DoesItem : State → Trace → ℕ → State → Journal → Journal → Result (Unit {0}) Stop → Type 0
+abbrev pub DoesItem : State → Trace → ℕ → State → Journal → Journal → Result (Unit {0}) Stop
+    → Type 0
 DoesItem s trace number after old new (Ok x) = Adds s trace number after old new
 DoesItem s trace number after old new (Err WriteFault) = Adds s trace number after old new
 DoesItem s trace number after old new (Err NoMemory) = IsSame old new
-DoesItem s trace number after old new (Err BadWords) = ⊥
-DoesItem s trace number after old new (Err (BadLine line)) = ⊥
-DoesItem s trace number after old new (Err NotBuilt) = ⊥
-DoesItem s trace number after old new (Err TooLong) = ⊥
-DoesItem s trace number after old new (Err ReadFault) = ⊥
+DoesItem s trace number after old new _ = ⊥
 
 -- the total is put in
 pub record AddsTotal (s : State) (old new : Journal) : Type 0 where
@@ -114,56 +105,38 @@ abbrev pub Totals : State → Journal → Journal → Result (Unit {0}) Stop →
 Totals s old new (Ok x) = AddsTotal s old new
 Totals s old new (Err WriteFault) = AddsTotal s old new
 Totals s old new (Err NoMemory) = IsSame old new
-Totals s old new (Err BadWords) = ⊥
-Totals s old new (Err (BadLine line)) = ⊥
-Totals s old new (Err NotBuilt) = ⊥
-Totals s old new (Err TooLong) = ⊥
-Totals s old new (Err ReadFault) = ⊥
+Totals s old new _ = ⊥
 
 -- ---- why it ended
 
 -- a read that failed stopped it, or else the source's count of faults is as it was
 abbrev pub StopsAtReadFault : {A : Type 0} → ℕ → ℕ → Result A Stop → Type 0
-StopsAtReadFault old new (Ok x) = new ≡ old
-StopsAtReadFault old new (Err BadWords) = new ≡ old
-StopsAtReadFault old new (Err (BadLine line)) = new ≡ old
-StopsAtReadFault old new (Err NotBuilt) = new ≡ old
-StopsAtReadFault old new (Err TooLong) = new ≡ old
 StopsAtReadFault old new (Err ReadFault) = ⊤
-StopsAtReadFault old new (Err WriteFault) = new ≡ old
-StopsAtReadFault old new (Err NoMemory) = new ≡ old
+StopsAtReadFault old new _ = new ≡ old
 
 -- a write that failed stopped it, or else the sink's count of faults is as it was
 abbrev pub StopsAtWriteFault : {A : Type 0} → ℕ → ℕ → Result A Stop → Type 0
-StopsAtWriteFault old new (Ok x) = new ≡ old
-StopsAtWriteFault old new (Err BadWords) = new ≡ old
-StopsAtWriteFault old new (Err (BadLine line)) = new ≡ old
-StopsAtWriteFault old new (Err NotBuilt) = new ≡ old
-StopsAtWriteFault old new (Err TooLong) = new ≡ old
-StopsAtWriteFault old new (Err ReadFault) = new ≡ old
 StopsAtWriteFault old new (Err WriteFault) = ⊤
-StopsAtWriteFault old new (Err NoMemory) = new ≡ old
+StopsAtWriteFault old new _ = new ≡ old
 
 -- doing items stops for two causes
 abbrev pub IsItemStop : ℕ → ℕ → Journal → Stop → Type 0
 IsItemStop old new journal WriteFault = Rose old new
 IsItemStop old new journal NoMemory = journal.total ≡ None
-IsItemStop old new journal BadWords = ⊥
-IsItemStop old new journal (BadLine line) = ⊥
-IsItemStop old new journal NotBuilt = ⊥
-IsItemStop old new journal TooLong = ⊥
-IsItemStop old new journal ReadFault = ⊥
+IsItemStop old new journal _ = ⊥
 
--- why no trace was read that is replayed today: what the source told before, what it tells after, and its counts of faults
+-- why no trace was read that is replayed today: what the source told before, what it tells after,
+-- and its counts of faults
 abbrev pub IsReadStop : Option (List ℕ) → Option (List ℕ) → ℕ × ℕ → Stop → Type 0
-IsReadStop told left read BadWords = ⊥
 IsReadStop told left read (BadLine text) =
-    (line : ℕ) × (why : Why) × (text.items ≡ bad_line line why) × IsAtEnd left × IsBadIn told line why
-IsReadStop told left read NotBuilt = IsAtEnd left × (trace : Trace) × Spells told trace × ¬ IsBuilt trace
+    (line : ℕ) × (why : Why) × (text.items ≡ bad_line line why)
+    × IsAtEnd left × IsBadIn told line why
+IsReadStop told left read NotBuilt =
+    IsAtEnd left × (trace : Trace) × Spells told trace × ¬ IsBuilt trace
 IsReadStop told left read TooLong = IfSome told IsTooLong
 IsReadStop told left read ReadFault = Rose read.0 read.1
-IsReadStop told left read WriteFault = ⊥
 IsReadStop told left read NoMemory = ⊤
+IsReadStop told left read _ = ⊥
 
 -- a trace was read that is replayed today, and no other is spelt; or why none was
 abbrev pub ReadsBuilt : Option (List ℕ) → Option (List ℕ) → ℕ × ℕ → Result Trace Stop → Type 0
@@ -171,52 +144,59 @@ ReadsBuilt told left read (Ok trace) = IsAtEnd left × Spells told trace × IsBu
 ReadsBuilt told left read (Err stop) = IsReadStop told left read stop
 
 -- a layout was printed, or its refusal; at a write fault a front of it was, and not the whole
-abbrev pub PrintsLayout : Option (List ℕ) → Option (List ℕ) → ℕ × ℕ → Spec → ℕ → Result Status Stop → Type 0
+abbrev pub PrintsLayout : Option (List ℕ) → Option (List ℕ) → ℕ × ℕ → Spec → ℕ
+    → Result Status Stop → Type 0
 PrintsLayout old new write spec cpus (Ok status) =
-    (answer : Result SlabLayout LayoutRefusal) × IsLayoutAnswer spec cpus answer × (status ≡ answer_status answer) × Appends old new (layout_lines answer)
+    (answer : Result SlabLayout LayoutRefusal) × IsLayoutAnswer spec cpus answer
+    × (status ≡ answer_status answer) × Appends old new (layout_lines answer)
 PrintsLayout old new write spec cpus (Err WriteFault) =
-    (answer : Result SlabLayout LayoutRefusal) × IsLayoutAnswer spec cpus answer × Rose write.0 write.1 × AppendsFront old new 0 (layout_lines answer)
+    (answer : Result SlabLayout LayoutRefusal) × IsLayoutAnswer spec cpus answer
+    × Rose write.0 write.1 × AppendsFront old new 0 (layout_lines answer)
 PrintsLayout old new write spec cpus (Err NoMemory) = new ≡ old
-PrintsLayout old new write spec cpus (Err BadWords) = ⊥
-PrintsLayout old new write spec cpus (Err (BadLine line)) = ⊥
-PrintsLayout old new write spec cpus (Err NotBuilt) = ⊥
-PrintsLayout old new write spec cpus (Err TooLong) = ⊥
-PrintsLayout old new write spec cpus (Err ReadFault) = ⊥
+PrintsLayout old new write spec cpus _ = ⊥
 
 -- what a replay came to: everything was done, or why it ended early
 abbrev pub Replays : Call → Option Trace → Journal → Result Status Stop → Type 0
 Replays c trace journal (Ok status) = IsDone trace journal × (status ≡ done_status journal)
-Replays c trace journal (Err BadWords) = ⊥
 Replays c trace journal (Err (BadLine text)) =
-    (trace ≡ None) × (line : ℕ) × (why : Why) × (text.items ≡ bad_line line why) × IsBadLine c line why
+    (trace ≡ None) × (line : ℕ) × (why : Why) × (text.items ≡ bad_line line why)
+    × IsBadLine c line why
 Replays c trace journal (Err NotBuilt) = (trace ≡ None) × IsUnbuilt c
 Replays c trace journal (Err TooLong) = (trace ≡ None) × IfSome c.told IsTooLong
 Replays c trace journal (Err ReadFault) = (trace ≡ None) × Rose c.read.0 c.read.1
 Replays c trace journal (Err WriteFault) = IsSome trace × Rose c.write.0 c.write.1
 Replays c trace journal (Err NoMemory) = journal.total ≡ None
+Replays c trace journal _ = ⊥
+
+-- the whole of a replay
+pub record Replayed (c : Call) (replies : Bool) (trace : Option Trace) (journal : Journal)
+    (result : Result Status Stop) : Type 0 where
+  pub end : Replays c trace journal result
+  pub lawful : IsJournalOf c trace journal
+  pub told : TookText replies c.old c.new trace journal result
 
 -- what it came to where no command was read
 abbrev pub Refuses : Call → Option Trace → Journal → Result Status Stop → Type 0
-Refuses c trace journal (Ok status) = ⊥
 Refuses c trace journal (Err BadWords) = AreBadWords c.words × (trace ≡ None)
-Refuses c trace journal (Err (BadLine text)) = ⊥
-Refuses c trace journal (Err NotBuilt) = ⊥
-Refuses c trace journal (Err TooLong) = ⊥
-Refuses c trace journal (Err ReadFault) = ⊥
-Refuses c trace journal (Err WriteFault) = ⊥
 Refuses c trace journal (Err NoMemory) = (trace ≡ None) × (journal.total ≡ None)
+Refuses c trace journal _ = ⊥
 
 -- what was asked came to this, and the sink took this of it
-abbrev pub Works : Call → Option Command → Option (List ℕ) → Option (List ℕ) → Option Trace → Journal → Result Status Stop → Type 0
-Works c None old new trace journal result = Refuses c trace journal result × (new ≡ old)
-Works c (Some (Replay how seed replies)) old new trace journal result = Replays c trace journal result × TookText replies old new trace journal result
-Works c (Some (Layout spec cpus)) old new trace journal result =
-    PrintsLayout old new c.write spec cpus result × (trace ≡ None) × (journal.total ≡ None)
-Works c (Some (Load seed events workers)) old new trace journal result = ⊥
+abbrev pub Works : Call → Option Command → Option Trace → Journal → Result Status Stop → Type 0
+Works c None trace journal result = Refuses c trace journal result × (c.new ≡ c.old)
+Works c (Some (Replay how seed replies)) trace journal result =
+    Replays c trace journal result × TookText replies c.old c.new trace journal result
+Works c (Some (Layout spec cpus)) trace journal result =
+    PrintsLayout c.old c.new c.write spec cpus result × (trace ≡ None) × (journal.total ≡ None)
+Works c (Some (Load seed events workers)) trace journal result = ⊥
 
--- the same of what the words ask
-abbrev pub Worked : Call → Option (List ℕ) → Option (List ℕ) → Option Trace → Journal → Result Status Stop → Type 0
-Worked c old new trace journal result = (asked : Option Command) × IsAsked c.words asked × Works c asked old new trace journal result
+-- the whole of the work, for one command that was read of the words
+pub record Worked (c : Call) (trace : Option Trace) (journal : Journal)
+    (result : Result Status Stop) : Type 0 where
+  pub asked : Option Command
+  pub is_asked : IsAsked c.words asked
+  pub works : Works c asked trace journal result
+  pub lawful : IsJournalOf c trace journal
 
 -- the line of a stop
 abbrev pub stop_line : Stop → List ℕ
@@ -241,9 +221,11 @@ stop_status NoMemory = ends.NoMemory
 -- the line of a stop was written and no write failed, or a front of it that isn't the whole
 abbrev pub WroteLine : Option (List ℕ) → Option (List ℕ) → ℕ × ℕ → Stop → Status → Type 0
 WroteLine old new write stop status =
-    ((status ≡ stop_status stop) × Appends old new (stop_line stop) × (write.1 ≡ write.0)) ⊎ ((status ≡ ends.WriteFault) × Rose write.0 write.1 × AppendsFront old new 0 (stop_line stop))
+    ((status ≡ stop_status stop) × Appends old new (stop_line stop) × (write.1 ≡ write.0))
+    ⊎ ((status ≡ ends.WriteFault) × Rose write.0 write.1 × AppendsFront old new 0 (stop_line stop))
 
 -- how a run that came to this end finishes
-abbrev pub Finishes : Option (List ℕ) → Option (List ℕ) → ℕ × ℕ → Result Status Stop → Status → Type 0
+abbrev pub Finishes : Option (List ℕ) → Option (List ℕ) → ℕ × ℕ → Result Status Stop → Status
+    → Type 0
 Finishes old new write (Ok done) status = (status ≡ done) × (new ≡ old) × (write.1 ≡ write.0)
 Finishes old new write (Err stop) status = WroteLine old new write stop status

@@ -1,5 +1,5 @@
 -- What a run promises: the table of statuses, the text, the law.
-use Rattle.std.specs.Prelude.{◌≡◌, ℕ, ◌-◌, ◌⊎◌, List, [], ◌∷◌, ◌++◌, length, take, Bool, true, false, ◌||◌, not, cond, Option, Some, None, IfSome, IsSome, Result, Ok, Err, codes, ⊤}
+use Rattle.std.specs.Prelude.{◌≡◌, ◌≢◌, ℕ, ◌-◌, ◌↔◌, ◌⊎◌, List, [], ◌∷◌, ◌++◌, length, take, Bool, true, false, ◌||◌, not, cond, Option, Some, None, IfSome, IsSome, IsSomeAnd, Result, Ok, Err, codes, ⊤}
 use Rattle.std.specs.List.{list_any}
 use Rattle.std.specs.Fmt.{decimal}
 use Rattle.std.specs.Io.KnownBytes.{Appends, IsAtEnd}
@@ -20,16 +20,18 @@ use Rattle.slub_trace_reader.specs.Grammar.{IsTrace}
 use Rattle.slub_trace_reader.specs.declared.reading.Why.{Why}
 use Rattle.slub_trace_reader.specs.Faults.{why_text}
 use Rattle.slub_trace_reader.specs.Reads.{IsBadIn, IsNoTrace, IsTooLong, Spells}
-use Rattle.slub_engine.specs.declared.journal.Done.{Done}
-use Rattle.slub_engine.specs.declared.journal.Done.TheVariants as done
-use Rattle.slub_engine.specs.declared.journal.Found.{Found}
-use Rattle.slub_engine.specs.declared.journal.Total.{Total}
-use Rattle.slub_engine.specs.declared.journal.Journal.{Journal}
-use Rattle.slub_engine.specs.Journal.{IsEmpty}
-use Rattle.slub_engine.specs.Lawful.{IsBuilt, IsLawful}
-use Rattle.slub_engine.specs.Text.{text_of, items_text}
+use Rattle.slub_trace_reader.specs.Sound.{IsSound}
+use Rattle.slub_journal.specs.declared.journal.Done.{Done}
+use Rattle.slub_journal.specs.declared.journal.Done.TheVariants as done
+use Rattle.slub_journal.specs.declared.journal.Found.{Found}
+use Rattle.slub_journal.specs.declared.journal.Total.{Total}
+use Rattle.slub_journal.specs.declared.journal.Journal.{Journal}
+use Rattle.slub_journal.specs.Journal.{IsEmpty}
+use Rattle.slub_journal.specs.Lawful.{IsBuilt, IsLawful}
+use Rattle.slub_journal.specs.Text.{text_of, items_text}
 use Rattle.slub_cli.specs.declared.status.Status.{Status}
-use Rattle.slub_cli.specs.declared.status.Status.TheVariants.{Fine, Refused, BadWords, BadTrace, ReadFault, WriteFault, NoMemory}
+use Rattle.slub_cli.specs.declared.status.Status.TheVariants.{Fine, Refused, BadWords, BadTrace, ReadFault, WriteFault, NoMemory, TurnsSpent}
+use Rattle.slub_cli.specs.declared.status.Outcome.{Outcome}
 
 -- ---- the words
 
@@ -47,7 +49,8 @@ IsAsking words command = IsCommand words command × IsRunnable command
 abbrev pub AreBadWords : List (List ℕ) → Type 0
 AreBadWords words = (command : Command) → ¬ IsAsking words command
 
--- the command that was read of the words; none was read where they are none, or no memory was there to read them
+-- the command that was read of the words; none was read where they are none, or no memory was
+-- there to read them
 abbrev pub IsAsked : List (List ℕ) → Option Command → Type 0
 IsAsked words None = ⊤
 IsAsked words (Some command) = IsAsking words command
@@ -60,11 +63,8 @@ AsksReplay words = (seed : ℕ) × (replies : Bool) × IsCommand words (Replay S
 
 -- a reply of an item is that no memory was there
 abbrev pub lacks_memory : Done → Bool
-lacks_memory (done.Created answer) = false
 lacks_memory (done.Round result) = list_any is_no_memory result.replies
-lacks_memory (done.Shrunk answer) = false
-lacks_memory (done.Destroyed answer) = false
-lacks_memory (done.Slabinfo rows) = false
+lacks_memory _ = false
 
 abbrev pub is_err : {A : Type 0} → {E : Type 0} → Result A E → Bool
 is_err (Ok x) = false
@@ -74,10 +74,12 @@ abbrev pub is_some_found : List Found → Bool
 is_some_found [] = false
 is_some_found (found ∷ others) = true
 
--- a creation, a shrink or a destruction was refused, a reply isn't Ok, or an object was found damaged
+-- a creation, a shrink or a destruction was refused, a reply isn't Ok, or an object was found
+-- damaged
 abbrev pub has_refused : Done → Bool
 has_refused (done.Created answer) = is_err answer
-has_refused (done.Round result) = list_any (λ reply. not (is_ok_reply reply)) result.replies || is_some_found result.damages
+has_refused (done.Round result) =
+    list_any (λ reply. not (is_ok_reply reply)) result.replies || is_some_found result.damages
 has_refused (done.Shrunk answer) = is_err answer
 has_refused (done.Destroyed answer) = is_err answer
 has_refused (done.Slabinfo rows) = false
@@ -85,15 +87,32 @@ has_refused (done.Slabinfo rows) = false
 -- the status of a replay that did everything
 abbrev pub done_status : Journal → Status
 done_status journal =
-    cond (list_any lacks_memory journal.items) NoMemory (cond (list_any has_refused journal.items) Refused Fine)
+    cond (list_any lacks_memory journal.items) NoMemory
+    (cond (list_any has_refused journal.items) Refused Fine)
+
+-- the number with which the program ends
+abbrev pub number_of : Status → ℕ
+number_of Fine = 0
+number_of Refused = 1
+number_of BadWords = 2
+number_of BadTrace = 3
+number_of ReadFault = 4
+number_of WriteFault = 5
+number_of NoMemory = 6
+number_of TurnsSpent = 7
 
 -- ---- the call
 
--- what a call had and left: its words, the bytes that the source tells before and after, the counts of faults before and after
+-- what a call of `run` had, and what it left
 pub record Call : Type 0 where
   pub words : List (List ℕ)
+  -- the bytes that the source tells, before and after
   pub told : Option (List ℕ)
   pub left : Option (List ℕ)
+  -- the bytes that the sink tells to have taken, before and after
+  pub old : Option (List ℕ)
+  pub new : Option (List ℕ)
+  -- the counts of faults of the source and of the sink, before and after
   pub read : ℕ × ℕ
   pub write : ℕ × ℕ
 
@@ -106,7 +125,8 @@ text_in replies (Some trace) journal = text_of replies trace journal
 
 -- where the text of the last entry begins: the total, where it is there, or else the last item
 abbrev pub last_from : Bool → Trace → Option Total → List Done → ℕ
-last_from replies trace None dones = length (items_text replies trace trace.items (take (length dones - 1) dones))
+last_from replies trace None dones =
+    length (items_text replies trace trace.items (take (length dones - 1) dones))
 last_from replies trace (Some total) dones = length (items_text replies trace trace.items dones)
 
 -- the same of a journal
@@ -138,11 +158,20 @@ answer_status (Err why) = Refused
 
 -- ---- the law
 
--- where a trace was read, the source was read to its end, its bytes spell that trace and no other, it is one that is
--- replayed today, and the journal is lawful for it; where none was read, the journal is empty
+-- a source that told these bytes was read to its end, its bytes spell this trace and no other, the
+-- trace is sound and one that is replayed today, and the journal is lawful for it
+pub record IsReplayOf (told left : Option (List ℕ)) (trace : Trace)
+    (journal : Journal) : Type 0 where
+  pub at_end : IsAtEnd left
+  pub spelled : Spells told trace
+  pub sound : IsSound trace
+  pub built : IsBuilt trace
+  pub lawful : IsLawful trace journal
+
+-- the journal is that of the trace that was read; where none was read, it is empty
 abbrev pub IsJournalOf : Call → Option Trace → Journal → Type 0
 IsJournalOf c None journal = IsEmpty journal
-IsJournalOf c (Some trace) journal = IsAtEnd c.left × Spells c.told trace × IsBuilt trace × IsLawful trace journal
+IsJournalOf c (Some trace) journal = IsReplayOf c.told c.left trace journal
 
 -- ---- the statuses
 
@@ -160,63 +189,52 @@ IsUnbuilt c = IsAtEnd c.left × (trace : Trace) × Spells c.told trace × ¬ IsB
 
 -- the bytes read are no trace, there are too many, or they spell one that is not replayed today
 abbrev pub IsBadInput : Call → Type 0
-IsBadInput c = ((line : ℕ) × (why : Why) × IsBadLine c line why) ⊎ IfSome c.told IsTooLong ⊎ IsUnbuilt c
+IsBadInput c =
+    ((line : ℕ) × (why : Why) × IsBadLine c line why) ⊎ IfSome c.told IsTooLong ⊎ IsUnbuilt c
 
 -- want of memory ended the replay, or is one of its replies
 abbrev pub IsWant : Option Trace → Journal → Type 0
-IsWant trace journal = (journal.total ≡ None) ⊎ (IsDone trace journal × (done_status journal ≡ NoMemory))
+IsWant trace journal =
+    (journal.total ≡ None) ⊎ (IsDone trace journal × (done_status journal ≡ NoMemory))
 
 -- the row of each status, for a replay
 abbrev pub IsReplayCause : Call → Option Trace → Journal → Status → Type 0
 IsReplayCause c trace journal Fine = IsDone trace journal × (done_status journal ≡ Fine)
 IsReplayCause c trace journal Refused = IsDone trace journal × (done_status journal ≡ Refused)
-IsReplayCause c trace journal BadWords = ⊥
 IsReplayCause c trace journal BadTrace = IsBadInput c × (trace ≡ None)
 IsReplayCause c trace journal ReadFault = Rose c.read.0 c.read.1 × (trace ≡ None)
 IsReplayCause c trace journal WriteFault = Rose c.write.0 c.write.1
 IsReplayCause c trace journal NoMemory = IsWant trace journal
+IsReplayCause c trace journal _ = ⊥
 
 -- the same for a layout
 abbrev pub IsLayoutCause : Call → Spec → ℕ → Status → Type 0
 IsLayoutCause c spec cpus Fine = (layout : SlabLayout) × IsLayoutAnswer spec cpus (Ok layout)
 IsLayoutCause c spec cpus Refused = (why : LayoutRefusal) × IsLayoutAnswer spec cpus (Err why)
-IsLayoutCause c spec cpus BadWords = ⊥
-IsLayoutCause c spec cpus BadTrace = ⊥
-IsLayoutCause c spec cpus ReadFault = ⊥
 IsLayoutCause c spec cpus WriteFault = Rose c.write.0 c.write.1
 IsLayoutCause c spec cpus NoMemory = ⊤
+IsLayoutCause c spec cpus _ = ⊥
 
 -- the same where no command was read: the words are none, or memory was wanting to read them
 abbrev pub IsWordsCause : Call → Status → Type 0
-IsWordsCause c Fine = ⊥
-IsWordsCause c Refused = ⊥
 IsWordsCause c BadWords = AreBadWords c.words
-IsWordsCause c BadTrace = ⊥
-IsWordsCause c ReadFault = ⊥
 IsWordsCause c WriteFault = Rose c.write.0 c.write.1
 IsWordsCause c NoMemory = ⊤
+IsWordsCause c _ = ⊥
 
 -- the same for what was asked
 abbrev pub IsCauseOf : Call → Option Command → Option Trace → Journal → Status → Type 0
 IsCauseOf c None trace journal status = IsWordsCause c status × (trace ≡ None)
-IsCauseOf c (Some (Replay how seed replies)) trace journal status = IsReplayCause c trace journal status
-IsCauseOf c (Some (Layout spec cpus)) trace journal status = IsLayoutCause c spec cpus status × (trace ≡ None)
+IsCauseOf c (Some (Replay how seed replies)) trace journal status =
+    IsReplayCause c trace journal status
+IsCauseOf c (Some (Layout spec cpus)) trace journal status =
+    IsLayoutCause c spec cpus status × (trace ≡ None)
 IsCauseOf c (Some (Load seed events workers)) trace journal status = ⊥
 
--- the row of each status
-abbrev pub IsCause : Call → Option Trace → Journal → Status → Type 0
-IsCause c trace journal status =
-    (asked : Option Command) × IsAsked c.words asked × IsCauseOf c asked trace journal status
-
--- no write failed but at a write fault, and no read but at a read fault, or at a write fault after it
-abbrev pub TellsFaults : Call → Status → Type 0
-TellsFaults c Fine = (c.read.1 ≡ c.read.0) × (c.write.1 ≡ c.write.0)
-TellsFaults c Refused = (c.read.1 ≡ c.read.0) × (c.write.1 ≡ c.write.0)
-TellsFaults c BadWords = (c.read.1 ≡ c.read.0) × (c.write.1 ≡ c.write.0)
-TellsFaults c BadTrace = (c.read.1 ≡ c.read.0) × (c.write.1 ≡ c.write.0)
-TellsFaults c ReadFault = c.write.1 ≡ c.write.0
-TellsFaults c WriteFault = ⊤
-TellsFaults c NoMemory = (c.read.1 ≡ c.read.0) × (c.write.1 ≡ c.write.0)
+-- the source's count of faults rose at a read fault, and is else as it was
+abbrev pub TellsReads : Call → Status → Type 0
+TellsReads c ReadFault = Rose c.read.0 c.read.1
+TellsReads c _ = c.read.1 ≡ c.read.0
 
 -- ---- what is written
 
@@ -228,71 +246,106 @@ fault_line why = codes "slub: " ++ why ++ 10 ∷ []
 abbrev pub bad_line : ℕ → Why → List ℕ
 bad_line line why = fault_line (codes "line " ++ decimal line ++ codes ": " ++ why_text why)
 
--- the line after the text, where a run ended early with this status; a replay that did everything has none
+-- the line of bad input
+abbrev pub IsBadInputLine : Call → List ℕ → Type 0
+IsBadInputLine c line =
+    ((number : ℕ) × (why : Why) × (line ≡ bad_line number why) × IsBadLine c number why)
+    ⊎ ((line ≡ fault_line (codes "input too long")) × IfSome c.told IsTooLong)
+    ⊎ ((line ≡ fault_line (codes "bad trace")) × IsUnbuilt c)
+
+-- the line after the text, where a run ended early with this status; a replay that did everything
+-- has none
 abbrev pub IsFaultLine : Call → Journal → Status → List ℕ → Type 0
 IsFaultLine c journal Fine line = line ≡ []
 IsFaultLine c journal Refused line = line ≡ []
 IsFaultLine c journal BadWords line = line ≡ fault_line (codes "bad command")
-IsFaultLine c journal BadTrace line =
-    ((number : ℕ) × (why : Why) × (line ≡ bad_line number why) × IsBadLine c number why)
-    ⊎ ((line ≡ fault_line (codes "input too long")) × IfSome c.told IsTooLong)
-    ⊎ ((line ≡ fault_line (codes "bad trace")) × IsUnbuilt c)
+IsFaultLine c journal BadTrace line = IsBadInputLine c line
 IsFaultLine c journal ReadFault line = line ≡ fault_line (codes "read fault")
-IsFaultLine c journal WriteFault line = ⊥
 IsFaultLine c journal NoMemory line =
-    ((journal.total ≡ None) × (line ≡ fault_line (codes "out of memory"))) ⊎ (IsSome journal.total × (line ≡ []))
+    ((journal.total ≡ None) × (line ≡ fault_line (codes "out of memory")))
+    ⊎ (IsSome journal.total × (line ≡ []))
+IsFaultLine c journal _ line = ⊥
 
 -- the text of a layout: none where no memory was there
 abbrev pub IsLayoutText : Spec → ℕ → Status → List ℕ → Type 0
-IsLayoutText spec cpus Fine text = (layout : SlabLayout) × IsLayoutAnswer spec cpus (Ok layout) × (text ≡ layout_lines (Ok layout))
-IsLayoutText spec cpus Refused text = (why : LayoutRefusal) × IsLayoutAnswer spec cpus (Err why) × (text ≡ layout_lines (Err why))
-IsLayoutText spec cpus BadWords text = ⊥
-IsLayoutText spec cpus BadTrace text = ⊥
-IsLayoutText spec cpus ReadFault text = ⊥
-IsLayoutText spec cpus WriteFault text = ⊥
+IsLayoutText spec cpus Fine text =
+    (layout : SlabLayout) × IsLayoutAnswer spec cpus (Ok layout) × (text ≡ layout_lines (Ok layout))
+IsLayoutText spec cpus Refused text =
+    (why : LayoutRefusal) × IsLayoutAnswer spec cpus (Err why) × (text ≡ layout_lines (Err why))
 IsLayoutText spec cpus NoMemory text = text ≡ []
+IsLayoutText spec cpus _ text = ⊥
 
 -- the text where no command was read: none, and no trace was read
 abbrev pub IsWordsText : Option Trace → Status → List ℕ → Type 0
-IsWordsText trace Fine text = ⊥
-IsWordsText trace Refused text = ⊥
 IsWordsText trace BadWords text = (text ≡ []) × (trace ≡ None)
-IsWordsText trace BadTrace text = ⊥
-IsWordsText trace ReadFault text = ⊥
-IsWordsText trace WriteFault text = ⊥
 IsWordsText trace NoMemory text = (text ≡ []) × (trace ≡ None)
+IsWordsText trace _ text = ⊥
 
 -- the text of what was asked, where it ended with this status
 abbrev pub IsTextOf : Option Command → Option Trace → Journal → Status → List ℕ → Type 0
 IsTextOf None trace journal status text = IsWordsText trace status text
-IsTextOf (Some (Replay how seed replies)) trace journal status text = text ≡ text_in replies trace journal
+IsTextOf (Some (Replay how seed replies)) trace journal status text =
+    text ≡ text_in replies trace journal
 IsTextOf (Some (Layout spec cpus)) trace journal status text = IsLayoutText spec cpus status text
 IsTextOf (Some (Load seed events workers)) trace journal status text = ⊥
 
--- the text was taken, and after it the line of the status
-abbrev pub TookAll : Call → Option (List ℕ) → Option (List ℕ) → Option Trace → Journal → Status → Type 0
-TookAll c old new trace journal status =
-    (asked : Option Command) × (text line : List ℕ) × IsAsked c.words asked × IsTextOf asked trace journal status text × IsFaultLine c journal status line × Appends old new (text ++ line)
+-- no write failed: the text was taken, and after it the line of the status
+pub record TookAll (c : Call) (asked : Option Command) (trace : Option Trace) (journal : Journal)
+    (status : Status) : Type 0 where
+  pub text : List ℕ
+  pub line : List ℕ
+  pub text_is : IsTextOf asked trace journal status text
+  pub line_is : IsFaultLine c journal status line
+  pub taken : Appends c.old c.new (text ++ line)
+  pub reads : TellsReads c status
+  pub writes : c.write.1 ≡ c.write.0
 
--- a write of the text failed: a front of it was taken that isn't the whole, of a replay past where the last entry's text begins
-abbrev pub TookEntry : Option Command → Option (List ℕ) → Option (List ℕ) → Option Trace → Journal → Type 0
-TookEntry None old new trace journal = ⊥
-TookEntry (Some (Replay how seed replies)) old new trace journal =
-    IsSome trace × AppendsFront old new (last_in replies trace journal) (text_in replies trace journal)
-TookEntry (Some (Layout spec cpus)) old new trace journal =
-    (answer : Result SlabLayout LayoutRefusal) × IsLayoutAnswer spec cpus answer × AppendsFront old new 0 (layout_lines answer)
-TookEntry (Some (Load seed events workers)) old new trace journal = ⊥
+-- the front of a text was taken that isn't the whole, of a replay past where the last entry begins
+abbrev pub TookFront : Call → Option Command → Option Trace → Journal → Type 0
+TookFront c None trace journal = ⊥
+TookFront c (Some (Replay how seed replies)) trace journal =
+    IsSome trace
+    × AppendsFront c.old c.new (last_in replies trace journal) (text_in replies trace journal)
+TookFront c (Some (Layout spec cpus)) trace journal =
+    (answer : Result SlabLayout LayoutRefusal) × IsLayoutAnswer spec cpus answer
+    × AppendsFront c.old c.new 0 (layout_lines answer)
+TookFront c (Some (Load seed events workers)) trace journal = ⊥
 
--- the write of the line failed that was meant: the text was taken, and a front of the line that isn't the whole
-abbrev pub TookLine : Call → Option Command → Option (List ℕ) → Option (List ℕ) → Option Trace → Journal → Type 0
-TookLine c asked old new trace journal =
-    (meant : Status) × (text line : List ℕ) × IsCauseOf c asked trace journal meant × IsTextOf asked trace journal meant text × IsFaultLine c journal meant line
-    × AppendsFront old new (length text) (text ++ line)
+-- a write of the text failed, and no read
+pub record TookEntry (c : Call) (asked : Option Command) (trace : Option Trace)
+    (journal : Journal) : Type 0 where
+  pub taken : TookFront c asked trace journal
+  pub reads : c.read.1 ≡ c.read.0
 
--- a write failed, and a byte is missing: a front of the text was taken, or the text and a front of the line that was meant
-abbrev pub TookFront : Call → Option (List ℕ) → Option (List ℕ) → Option Trace → Journal → Type 0
-TookFront c old new trace journal =
-    (asked : Option Command) × IsAsked c.words asked × (TookEntry asked old new trace journal ⊎ TookLine c asked old new trace journal)
+-- a write of the line failed with which the run was to end: the text was taken, and a front of the
+-- line that isn't the whole
+pub record TookLine (c : Call) (asked : Option Command) (trace : Option Trace)
+    (journal : Journal) : Type 0 where
+  pub meant : Status
+  pub cause : IsCauseOf c asked trace journal meant
+  pub text : List ℕ
+  pub line : List ℕ
+  pub text_is : IsTextOf asked trace journal meant text
+  pub line_is : IsFaultLine c journal meant line
+  pub taken : AppendsFront c.old c.new (length text) (text ++ line)
+  pub reads : TellsReads c meant
+
+-- what was written, and what the counts of faults tell: at a write fault a byte is missing, of the
+-- text or of the line
+abbrev pub Wrote : Call → Option Command → Option Trace → Journal → Status → Type 0
+Wrote c asked trace journal WriteFault =
+    TookEntry c asked trace journal ⊎ TookLine c asked trace journal
+Wrote c asked trace journal status = TookAll c asked trace journal status
+
+-- ---- the run
+
+-- for one command that was read of the words, this status has its cause, and this was written
+pub record Ends (c : Call) (trace : Option Trace) (journal : Journal)
+    (status : Status) : Type 0 where
+  pub asked : Option Command
+  pub is_asked : IsAsked c.words asked
+  pub cause : IsCauseOf c asked trace journal status
+  pub wrote : Wrote c asked trace journal status
 
 -- ---- input
 
@@ -302,4 +355,35 @@ IsSomeTrace bytes = (trace : Trace) × IsTrace bytes trace × IsBuilt trace
 
 -- the bytes are no trace, or too many, or a trace that is not replayed today
 abbrev pub IsBadBytes : List ℕ → Type 0
-IsBadBytes bytes = IsNoTrace bytes ⊎ IsTooLong bytes ⊎ ((trace : Trace) × IsTrace bytes trace × ¬ IsBuilt trace)
+IsBadBytes bytes =
+    IsNoTrace bytes ⊎ IsTooLong bytes ⊎ ((trace : Trace) × IsTrace bytes trace × ¬ IsBuilt trace)
+
+-- ---- the promise
+
+-- neither the source nor the sink failed
+pub record NoFault (c : Call) : Type 0 where
+  pub reads : ¬ Rose c.read.0 c.read.1
+  pub writes : ¬ Rose c.write.0 c.write.1
+
+-- what `run` promises of each call and its outcome. The last five follow from the first two: they
+-- say which status a run must have
+pub record IsRunOf (c : Call) (outcome : Outcome) : Type 0 where
+  pub ends : Ends c outcome.trace outcome.journal outcome.status
+  pub lawful : IsJournalOf c outcome.trace outcome.journal
+  -- words that are no command, and no others, end as such
+  pub bad_words : outcome.status ≢ WriteFault → outcome.status ≢ NoMemory →
+      (outcome.status ≡ BadWords ↔ AreBadWords c.words)
+  -- bytes that are no trace end as such
+  pub bad_trace : AsksReplay c.words → IsSomeAnd c.told IsBadBytes → NoFault c →
+      (outcome.status ≡ BadTrace) ⊎ (outcome.status ≡ NoMemory)
+  -- a trace is done to its end
+  pub complete : AsksReplay c.words → IsSomeAnd c.told IsSomeTrace → NoFault c →
+      (outcome.status ≡ done_status outcome.journal) ⊎ (outcome.status ≡ NoMemory)
+  -- and what was refused is told
+  pub refused : AsksReplay c.words → IsDone outcome.trace outcome.journal →
+      done_status outcome.journal ≡ Refused → ¬ Rose c.write.0 c.write.1 → outcome.status ≡ Refused
+  -- a layout is answered
+  pub layout : (spec : Spec) (cpus : ℕ) → IsCommand c.words (Layout spec cpus) →
+      ¬ Rose c.write.0 c.write.1 →
+      (outcome.status ≡ NoMemory) ⊎ ((answer : Result SlabLayout LayoutRefusal)
+      × IsLayoutAnswer spec cpus answer × (outcome.status ≡ answer_status answer))

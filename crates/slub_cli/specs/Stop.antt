@@ -8,9 +8,12 @@ use Rattle.slub_cli.specs.declared.stop.Stop.{Stop}
 use Rattle.slub_cli.specs.declared.stop.Stop.TheVariants.{BadLine, TooLong, ReadFault, NoMemory}
 use Rattle.slub_cli.specs.Run.{bad_line}
 
--- a fault of the reader stops the run under the like name, with the line made that tells a bad one; that may find no memory
+-- a fault of the reader stops the run under the like name, with the line made that tells a bad one;
+-- that may find no memory
 abbrev pub IsStopOf : TraceFault → Stop → Type 0
 IsStopOf fault.ReadFault stop = stop ≡ ReadFault
 IsStopOf fault.TooLong stop = stop ≡ TooLong
-IsStopOf (fault.BadLine line why) stop = (stop ≡ NoMemory) ⊎ ((text : Vec ℕ Global) × (stop ≡ BadLine text) × (text.items ≡ bad_line line why))
+IsStopOf (fault.BadLine line why) stop =
+    (stop ≡ NoMemory)
+    ⊎ ((text : Vec ℕ Global) × (stop ≡ BadLine text) × (text.items ≡ bad_line line why))
 IsStopOf fault.NoMemory stop = stop ≡ NoMemory

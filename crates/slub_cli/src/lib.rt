@@ -15,5 +15,3 @@ pub mod stop;
 mod tests;
 #[cfg(test)]
 mod tests_commands;
-#[cfg(test)]
-mod tests_rows;

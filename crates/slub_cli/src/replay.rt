@@ -4,9 +4,9 @@
 
 ghost use Rattle.std.specs.Prelude.{Bool, ◌≡◌, ◌<◌, ◌≤◌, [], None, Some, length, IfErr, IfOk, OnOk, IsSome};
 ghost use Rattle.slub_lists.specs.Coherent.{IsCoherent};
-ghost use Rattle.slub_engine.specs.Journal.{IsEmpty};
+ghost use Rattle.slub_journal.specs.Journal.{IsEmpty};
 ghost use Rattle.slub_trace_reader.specs.Sound.{IsSound};
-ghost use Rattle.slub_engine.specs.Lawful.{IsBuilt, IsLawful, IsReady, RunsItems, opening_of};
+ghost use Rattle.slub_journal.specs.Lawful.{IsBuilt, IsLawful, IsReady, RunsItems, opening_of};
 ghost use Rattle.slub_cli.specs.Inner.{DoesItem, IsItemStop, IsMachineOf, StopsAtWriteFault, Tells, TookText, Totals};
 
 use crate::stop::Stop;
@@ -14,8 +14,8 @@ use slub_common::no_memory::NoMemory;
 use slub_edges::edges::Sink;
 use slub_edges::pieces::write_lines;
 use slub_engine::item::{item, total};
-use slub_engine::journal::Journal;
-use slub_engine::text::{text_of_item, text_of_total};
+use slub_journal::journal::Journal;
+use slub_journal::text::{text_of_item, text_of_total};
 use slub_list_machine::lists::Lists;
 use slub_trace_reader::trace::Trace;
 use std::alloc::Global;
@@ -37,7 +37,8 @@ fn do_item<K: Sink>(
     requires so_far { length journal.old.items ≡ number }
     requires no_total { journal.old.total ≡ None }
     ensures done { DoesItem lists.old trace.now number lists.new journal.old journal.new result }
-    ensures told { Tells replies (K.taken sink.old) (K.taken sink.new) trace.now journal.old journal.new result }
+    ensures told { Tells replies (K.taken sink.old) (K.taken sink.new) trace.now
+        journal.old journal.new result }
     ensures stops { IfErr result (IsItemStop (K.faults sink.old) (K.faults sink.new) journal.new) }
     ensures write_faults { StopsAtWriteFault (K.faults sink.old) (K.faults sink.new) result }
     ensures counts { K.faults sink.old ≤ K.faults sink.new }
@@ -65,11 +66,13 @@ fn do_items<K: Sink>(
     requires machine { IsMachineOf trace.now journal.old }
     requires no_items { journal.old.items ≡ [] }
     requires no_total { journal.old.total ≡ None }
-    ensures run { OnOk result (RunsItems (opening_of trace.now) trace.now trace.now.items journal.new.items lists.new) }
+    ensures run { OnOk result (RunsItems (opening_of trace.now) trace.now trace.now.items
+        journal.new.items lists.new) }
     ensures coherent { OnOk result (IsCoherent lists.new) }
     ensures lawful { IsLawful trace.now journal.new }
     ensures no_total { journal.new.total ≡ None }
-    ensures told { Tells replies (K.taken sink.old) (K.taken sink.new) trace.now journal.old journal.new result }
+    ensures told { Tells replies (K.taken sink.old) (K.taken sink.new) trace.now
+        journal.old journal.new result }
     ensures stops { IfErr result (IsItemStop (K.faults sink.old) (K.faults sink.new) journal.new) }
     ensures write_faults { StopsAtWriteFault (K.faults sink.old) (K.faults sink.new) result }
     ensures counts { K.faults sink.old ≤ K.faults sink.new }
@@ -90,10 +93,12 @@ fn do_total<K: Sink>(
 ) -> Result<(), Stop>
     requires sound { IsSound trace.now }
     requires coherent { IsCoherent lists.now }
-    requires run { RunsItems (opening_of trace.now) trace.now trace.now.items journal.old.items lists.now }
+    requires run { RunsItems (opening_of trace.now) trace.now trace.now.items
+        journal.old.items lists.now }
     requires no_total { journal.old.total ≡ None }
     ensures done { Totals lists.now journal.old journal.new result }
-    ensures told { (replies : Bool) → Tells replies (K.taken sink.old) (K.taken sink.new) trace.now journal.old journal.new result }
+    ensures told { (replies : Bool) → Tells replies (K.taken sink.old) (K.taken sink.new)
+        trace.now journal.old journal.new result }
     ensures stops { IfErr result (IsItemStop (K.faults sink.old) (K.faults sink.new) journal.new) }
     ensures write_faults { StopsAtWriteFault (K.faults sink.old) (K.faults sink.new) result }
     ensures counts { K.faults sink.old ≤ K.faults sink.new }
@@ -144,7 +149,8 @@ pub fn do_trace<K: Sink>(
     requires empty { IsEmpty journal.old }
     ensures lawful { IsLawful trace.now journal.new }
     ensures all { OnOk result (IsSome journal.new.total) }
-    ensures told { TookText replies (K.taken sink.old) (K.taken sink.new) (Some trace.now) journal.new result }
+    ensures told { TookText replies (K.taken sink.old) (K.taken sink.new) (Some trace.now)
+        journal.new result }
     ensures stops { IfErr result (IsItemStop (K.faults sink.old) (K.faults sink.new) journal.new) }
     ensures write_faults { StopsAtWriteFault (K.faults sink.old) (K.faults sink.new) result }
     ensures counts { K.faults sink.old ≤ K.faults sink.new }

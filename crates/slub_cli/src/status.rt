@@ -2,16 +2,15 @@
 
 ghost use Rattle.std.specs.Prelude.{◌≡◌, not};
 ghost use Rattle.std.specs.List.{list_any};
-ghost use Rattle.slub_answers.specs.Kinds.{is_ok_reply, is_no_memory};
+ghost use Rattle.slub_answers.specs.Kinds.{is_no_memory, is_ok_reply};
 ghost use Rattle.slub_cli.specs.Run.{answer_status, done_status, has_refused, lacks_memory};
 
-use slub_engine::journal::{Done, Journal};
 use slub_answers::reply::{Kind, Reply};
+use slub_journal::journal::{Done, Journal};
 use slub_object_layout::layout::{Layout, LayoutRefusal};
-use slub_slabinfo_text::text::is_ok_reply;
 use slub_trace_reader::trace::Trace;
 
-/// How a run ended. The program ends with the number of its place, from 0 on.
+/// How a run ended.
 #[derive(Clone, Copy, Debug, PartialEq, Eq)]
 pub enum Status {
     /// Everything was done, and nothing was refused or found damaged.
@@ -29,6 +28,28 @@ pub enum Status {
     WriteFault,
     /// Memory ran out, for the run or for one of its replies.
     NoMemory,
+    /// A scheduled round had no turns left. No run ends so yet.
+    TurnsSpent,
+}
+
+impl Status {
+    ghost use Rattle.slub_cli.specs.Run.{number_of};
+
+    /// The number with which the program ends, 0 to 7.
+    pub fn number(self) -> u8
+        ensures { result ≡ number_of self }
+    {
+        match self {
+            Status::Fine => 0,
+            Status::Refused => 1,
+            Status::BadWords => 2,
+            Status::BadTrace => 3,
+            Status::ReadFault => 4,
+            Status::WriteFault => 5,
+            Status::NoMemory => 6,
+            Status::TurnsSpent => 7,
+        }
+    }
 }
 
 /// What a run leaves: how it ended, the trace that it read, and what it did.
@@ -41,18 +62,13 @@ pub struct Outcome {
     pub journal: Journal,
 }
 
-/// Whether a reply is that no memory was there.
-fn is_no_memory(reply: &Reply) -> bool
-    ensures { result ≡ is_no_memory reply.now }
-{
-    matches!(reply.kind(), Kind::LacksMemory)
-}
-
 /// Whether one of the replies is that no memory was there.
 fn has_no_memory(replies: &[Reply]) -> bool
     ensures { result ≡ list_any is_no_memory replies.now }
 {
-    replies.iter().any(|reply| is_no_memory(reply))
+    replies
+        .iter()
+        .any(|reply| matches!(reply.kind(), Kind::LacksMemory))
 }
 
 /// Whether one of the replies of an item is that no memory was there.
@@ -69,7 +85,7 @@ fn lacks_memory(done: &Done) -> bool
 fn has_refusal(replies: &[Reply]) -> bool
     ensures { result ≡ list_any (λ reply. not (is_ok_reply reply)) replies.now }
 {
-    replies.iter().any(|reply| !is_ok_reply(reply))
+    replies.iter().any(|reply| !reply.is_ok())
 }
 
 /// Whether a creation, a shrink or a destruction was refused, a reply isn't Ok, or an object was found

@@ -96,109 +96,6 @@ fn the_first_allocation(rt: HostRuntime) -> Result<(), Fail> {
     expect(alloc, &REPLAY, FIRST, &slow, Status::Fine, text.as_str())
 }
 
-/// A trace of one cache and so many allocations on CPU 0, numbered from 1 on.
-fn trace_of(
-    alloc: Global,
-    machine: &str,
-    name: &str,
-    size: u32,
-    count: u32,
-) -> Result<String, AllocError> {
-    let mut text = format!(in alloc;
-        "slubtrace 1\nmachine {machine}\ncache {name} {size} 8 -\nround 1\n"
-    )?;
-    for object in 1..=count {
-        let line = format!(in alloc; "alloc 0 0 {name} {object}\n")?;
-        text.push_str(line.as_str())?;
-    }
-    text.push_str("done\nslabinfo\nend\n")?;
-    Ok(text)
-}
-
-/// The replies to so many allocations from frame 1 on, each so many bytes after the other.
-fn replies_of(alloc: Global, name: &str, count: u32, size: u32) -> Result<String, AllocError> {
-    let mut text = format!(in alloc; "cache {name}: new\n")?;
-    for object in 1..=count {
-        let address = 4096 + u64::from(object - 1) * u64::from(size);
-        let line = format!(in alloc; "alloc {object}: given {address}\n")?;
-        text.push_str(line.as_str())?;
-    }
-    Ok(text)
-}
-
-#[test]
-fn a_second_slab(rt: HostRuntime) -> Result<(), Fail> {
-    let alloc = rt.alloc();
-    let input = trace_of(alloc, "16 2", "dentry", 192, 22)?;
-    let replies = replies_of(alloc, "dentry", 21, 192)?;
-    let text = text_of(
-        alloc,
-        &[
-            replies.as_str(),
-            "alloc 22: given 8192\n",
-            HEADER,
-            "dentry                42     42    192   21    1 : tunables    0    0    0 : slabdata      2      2      0\n",
-            "total given 22 freed 0 live 22 free 20 aside 0 frozen 1 slabs 2 frames 13\n",
-        ],
-    )?;
-    expect(
-        alloc,
-        &REPLAY,
-        input.as_str(),
-        &SOUND,
-        Status::Fine,
-        text.as_str(),
-    )
-}
-
-#[test]
-fn a_slab_of_the_least_order(rt: HostRuntime) -> Result<(), Fail> {
-    let alloc = rt.alloc();
-    let input = trace_of(alloc, "3 2", "big", 1024, 1)?;
-    let text = text_of(
-        alloc,
-        &[
-            "cache big: new\nalloc 1: given 4096\n",
-            HEADER,
-            "big                    4      4   1024   16    4 : tunables    0    0    0 : slabdata      1      1      0\n",
-            "total given 1 freed 0 live 1 free 3 aside 0 frozen 1 slabs 1 frames 1\n",
-        ],
-    )?;
-    expect(
-        alloc,
-        &REPLAY,
-        input.as_str(),
-        &SOUND,
-        Status::Fine,
-        text.as_str(),
-    )
-}
-
-#[test]
-fn no_frames_for_a_third_slab(rt: HostRuntime) -> Result<(), Fail> {
-    let alloc = rt.alloc();
-    let input = trace_of(alloc, "3 2", "big", 1024, 9)?;
-    let replies = replies_of(alloc, "big", 8, 1024)?;
-    let text = text_of(
-        alloc,
-        &[
-            replies.as_str(),
-            "alloc 9: no frames\n",
-            HEADER,
-            "big                    8      8   1024   16    4 : tunables    0    0    0 : slabdata      2      2      0\n",
-            "total given 8 freed 0 live 8 free 0 aside 0 frozen 0 slabs 2 frames 0\n",
-        ],
-    )?;
-    expect(
-        alloc,
-        &REPLAY,
-        input.as_str(),
-        &SOUND,
-        Status::Refused,
-        text.as_str(),
-    )
-}
-
 #[test]
 fn faults_of_the_ends(rt: HostRuntime) -> Result<(), Fail> {
     let alloc = rt.alloc();
@@ -217,24 +114,31 @@ fn faults_of_the_ends(rt: HostRuntime) -> Result<(), Fail> {
         )?;
     }
     let text = first_text(alloc)?;
-    let lines = text.as_bytes();
-    let mut written = 0;
-    for call in 0..6 {
-        let ends = Ends {
-            writes: &[call],
-            ..SOUND
-        };
-        let (status, taken) = ran(alloc, &REPLAY, FIRST, &ends)?;
-        if status != Status::WriteFault
-            || taken.len() < written
-            || !lines.starts_with(taken.as_slice())
-        {
-            return Err("no front of the text".into());
-        }
-        if taken.iter().filter(|byte| **byte == b'\n').count() as u64 != call {
-            return Err("another number of lines".into());
-        }
-        written = taken.len();
+    for line in 0..6 {
+        expect_cut(alloc, &REPLAY, FIRST, line, text.as_str())?;
+    }
+    Ok(())
+}
+
+/// Fails the write of a line, counted from 0, and expects that the lines before it were taken, each as
+/// one piece, and nothing after them.
+pub(crate) fn expect_cut(
+    alloc: Global,
+    words: &[&str],
+    input: &str,
+    line: u64,
+    whole: &str,
+) -> Result<(), Fail> {
+    let ends = Ends {
+        writes: &[line],
+        ..SOUND
+    };
+    let (status, taken) = ran(alloc, words, input, &ends)?;
+    if status != Status::WriteFault || !whole.as_bytes().starts_with(taken.as_slice()) {
+        return Err("no front of the text".into());
+    }
+    if taken.iter().filter(|byte| **byte == b'\n').count() as u64 != line {
+        return Err("another number of lines".into());
     }
     Ok(())
 }

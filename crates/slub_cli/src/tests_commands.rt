@@ -1,19 +1,34 @@
 //! Commands through `run`: layouts, and replays without `--replies`.
 
 use crate::status::Status;
-use crate::tests::{HEADER, SOUND, expect, text_of};
+use crate::tests::{HEADER, SOUND, expect, expect_cut, text_of};
 use std::test::*;
+
+/// The layout of objects of 24 bytes with F, Z and P.
+const NODE: &str =
+    "object_size 24\ninuse 32\noffset 32\nleft_pad 8\nsize 56\nalign 8\norder 0\nobjects 73\nmin_order 0\nmin_objects 73\nmin_partial 5\ncpu_partial_slabs 0\n";
 
 #[test]
 fn layout_of_a_checked_cache(rt: HostRuntime) -> Result<(), Fail> {
-    expect(
+    let words = ["layout", "24", "8", "FZP", "2"];
+    expect(rt.alloc(), &words, "", &SOUND, Status::Fine, NODE)?;
+    for line in 0..12 {
+        expect_cut(rt.alloc(), &words, "", line, NODE)?;
+    }
+    Ok(())
+}
+
+#[test]
+fn a_fault_line_that_is_not_taken(rt: HostRuntime) -> Result<(), Fail> {
+    let end = "slub: line 3: bad form\n";
+    expect_cut(
         rt.alloc(),
-        &["layout", "24", "8", "FZP", "2"],
-        "",
-        &SOUND,
-        Status::Fine,
-        "object_size 24\ninuse 32\noffset 32\nleft_pad 8\nsize 56\nalign 8\norder 0\nobjects 73\nmin_order 0\nmin_objects 73\nmin_partial 5\ncpu_partial_slabs 0\n",
-    )
+        &["replay"],
+        "slubtrace 1\nmachine 16 2\nbad\n",
+        0,
+        end,
+    )?;
+    expect_cut(rt.alloc(), &["replay", "-x"], "", 0, "slub: bad command\n")
 }
 
 #[test]

@@ -14,8 +14,10 @@ use Rattle.slub_lists.specs.Coherent.{IsCoherent}
 use Rattle.slub_slabinfo_text.specs.declared.counts.Counts.{Counts}
 use Rattle.slub_slabinfo_text.specs.declared.counts.InfoRow.{InfoRow}
 use Rattle.slub_slabinfo_text.specs.Counts.{counts_of, row_of, row_with}
+use Rattle.slub_journal.specs.Lawful.{counted}
+use Rattle.slub_journal.proofs.Rows.{reversed_rows}
 use Rattle.slub_engine.specs.declared.sums.CacheSums.{CacheSums}
-use Rattle.slub_engine.specs.Sums.{AreSums, IsAtMost, counted}
+use Rattle.slub_engine.specs.Sums.{AreSums, IsAtMost}
 use Rattle.slub_engine.proofs.Few.{counts_few}
 
 -- a cache of the ages is live
@@ -62,21 +64,6 @@ sums_more s at cache counts sums after coherent here of_it so_far live free asid
 pub read_few : (s : State) (cache : ℕ) (counts : Counts) (found : Option Cache) → IsCoherent s → IsSome found → IfSome found (λ live. counts ≡ counts_of s cache live.layout) → IsAtMost (2 ^ 32) counts
 read_few s cache counts None coherent some of_it = absurd (let never : ⊥ = cc in never)
 read_few s cache counts (Some live) coherent some of_it = rw of_it (counts_few s cache live.layout coherent)
-
--- ---- newest first
-
-pub reversed_rows : (number : Counts → ℕ) (s : State) (caches : List ℕ) → counted number s (reverse caches) ≡ counted number s caches
-reversed_rows number s [] = refl
-reversed_rows number s (cache ∷ caches) =
-    let turned : reverse (cache ∷ caches) ≡ reverse caches ++ cache ∷ [] = reverse-append (cache ∷ []) caches in
-    let front = filter_map-append (row_of s) (reverse caches) (cache ∷ []) in
-    let back = filter_map-append (row_of s) (cache ∷ []) caches in
-    let mine = λ (rows : List InfoRow). sum_by (λ (row : InfoRow). number row.counts) rows in
-    let one = sum_by-append (λ (row : InfoRow). number row.counts) (filter_map (row_of s) (reverse caches)) (filter_map (row_of s) (cache ∷ [])) in
-    let other = sum_by-append (λ (row : InfoRow). number row.counts) (filter_map (row_of s) (cache ∷ [])) (filter_map (row_of s) caches) in
-    let left : counted number s (reverse (cache ∷ caches)) ≡ counted number s (reverse caches) + counted number s (cache ∷ []) = ap mine (ap (filter_map (row_of s)) turned ∙ front) ∙ one in
-    let right : counted number s (cache ∷ caches) ≡ counted number s (cache ∷ []) + counted number s caches = ap mine back ∙ other in
-    omega (arith, left, right, reversed_rows number s caches)
 
 -- the sums don't ask in which order the caches stand
 pub sums_reversed : (s : State) (caches : List ℕ) (sums : CacheSums) → AreSums s caches sums → AreSums s (reverse caches) sums

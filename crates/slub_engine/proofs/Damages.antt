@@ -15,8 +15,9 @@ use Rattle.slub_red_zone.specs.declared.zones.Report.{Report}
 use Rattle.slub_lists.specs.Alloc.{checked_of}
 use Rattle.slub_lists.specs.Coherent.{AddsReportsOf, findable_in}
 use Rattle.slub_lists.specs.State.{State}
-use Rattle.slub_engine.specs.declared.journal.Found.{Found}
-use Rattle.slub_engine.specs.Lawful.{cache_numbers, found_in, found_of, reports_of}
+use Rattle.slub_journal.specs.declared.journal.Found.{Found}
+use Rattle.slub_journal.specs.Lawful.{cache_numbers, found_in, found_of, reports_of}
+use Rattle.slub_journal.proofs.Numbers.{sum_numbers}
 use Rattle.slub_engine.specs.Steps.{found_past, found_since, listed_in, told_in}
 
 -- ---- one after the other
@@ -24,23 +25,6 @@ use Rattle.slub_engine.specs.Steps.{found_past, found_since, listed_in, told_in}
 flat_map_same : {A B : Type 0} (f g : A → List B) (xs : List A) → ((x : A) → f x ≡ g x) → flat_map f xs ≡ flat_map g xs
 flat_map_same f g [] same = refl
 flat_map_same f g (x ∷ xs) same = flat_map-cons f x xs ∙ rw (same x, flat_map_same f g xs same) (sym (flat_map-cons g x xs))
-
--- a sum over places is one over the elements there
-pub sum_from : {A : Type 0} (g : ℕ → ℕ) (f : A → ℕ) (d : A) (a : ℕ) (xs : List A) → ((i : ℕ) → i < length xs → g (a + i) ≡ f (get_or xs i d))
-    → sum_by g (range_with_len a (length xs)) ≡ sum_by f xs
-sum_from g f d a [] same = refl
-sum_from g f d a (x ∷ xs) same =
-    let rest = sum_from g f d (a + 1) xs (λ i within. ap g (let e : a + 1 + i ≡ a + suc i = omega arith in e) ∙ same (suc i) (omega (arith, within))) in
-    let opened : range_with_len a (length (x ∷ xs)) ≡ a ∷ range_with_len (a + 1) (length xs) = refl in
-    let first : g a ≡ f x = ap g (let e : a ≡ a + 0 = omega arith in e) ∙ same 0 (omega arith) in
-    ap (sum_by g) opened ∙ sum_by-cons g a (range_with_len (a + 1) (length xs)) ∙ rw (first, rest) (sym (sum_by-cons f x xs))
-
-sum_places : {A : Type 0} (f : A → ℕ) (d : A) (n : ℕ) (xs : List A) → length xs ≡ n → sum_by (λ i. f (get_or xs i d)) (range_with_len 0 n) ≡ sum_by f xs
-sum_places f d n xs long = rw (← long) (sum_from (λ i. f (get_or xs i d)) f d 0 xs (λ i within. ap (λ at. f (get_or xs at d)) (let e : 0 + i ≡ i = omega arith in e)))
-
-pub sum_numbers : {A : Type 0} (f : A → ℕ) (d : A) (xs : List A) → length xs ≡ 32 → sum_by (λ i. f (get_or xs i d)) cache_numbers ≡ sum_by f xs
-unfolding cache_numbers
-sum_numbers f d xs long = sum_places f d 32 xs long
 
 sums_over : (xs : List ℕ) (one two three four : ℕ → ℕ) → ((x : ℕ) → one x + two x ≤ three x + four x)
     → sum_by one xs + sum_by two xs ≤ sum_by three xs + sum_by four xs

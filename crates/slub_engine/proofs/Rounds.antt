@@ -18,13 +18,13 @@ use Rattle.slub_lists.specs.Alloc.{checked_of}
 use Rattle.slub_lists.specs.Coherent.{AddsReportsOf, IsCoherent, KeepsOthers, findable_in}
 use Rattle.slub_trace_reader.specs.Sound.{allocated, objects_of}
 use Rattle.slub_answers.specs.declared.ledger.Ledger.{Ledger}
-use Rattle.slub_engine.specs.Lawful.{Answers, AreLedgers, IsLedger, IsUnheld, RunsEvents, is_by, is_order, lacks, least_order_of}
+use Rattle.slub_journal.specs.Lawful.{Answers, AreLedgers, IsLedger, IsUnheld, RunsEvents, is_by, is_order, lacks, least_order_of}
 use Rattle.slub_answers.specs.Kinds.{is_freed, is_given, is_no_frames}
 use Rattle.slub_engine.specs.Steps.{IsBelow, IsBlank, IsKnown, IsKnownAct, KeepsCaches, KeepsUnheld, Notes, NotesOwn, object_of}
 use Rattle.slub_engine.proofs.Parts.{All-back, All-front}
 use Rattle.slub_engine.proofs.Reports.{adds_none, adds_then}
 use Rattle.slub_engine.proofs.Unheld.{keeps_then, still_unheld}
-use Rattle.slub_engine.proofs.Zips.{length-snoc, zip-snoc}
+use Rattle.slub_journal.proofs.Zips.{length-snoc, zip-snoc}
 
 -- the first `done` events of a round were answered
 pub record HasRun (s : State) (workers : ℕ) (events : List Event) (done : ℕ) (replies : List Reply) (ledgers : List Ledger) (now : State) : Type 0 where
@@ -51,12 +51,7 @@ runs_more s (first ∷ events) (answer ∷ replies) mid after event reply runs a
 -- the table of names and caches decides which least order an act asks for
 least_order_kept : (s now : State) (act : Act) → now.table ≡ s.table → least_order_of now act ≡ least_order_of s act
 least_order_kept s now (Alloc place object) table = rw table refl
-least_order_kept s now (Free object) table = refl
-least_order_kept s now (Write object word value) table = refl
-least_order_kept s now (Read object word) table = refl
-least_order_kept s now (Poke object offset byte) table = refl
-least_order_kept s now (Trim place) table = refl
-least_order_kept s now Flush table = refl
+least_order_kept s now _ table = refl
 
 lacks_kept : (s now : State) (order : ℕ) (event : Event) (reply : Reply) → now.table ≡ s.table
     → lacks now order (event, reply) ≡ lacks s order (event, reply)
@@ -160,7 +155,7 @@ pub has_run_none : (s : State) (events : List Event) (replies : List Reply) (led
 has_run_none s events replies ledgers coherent none blank = rw none (record {
   coherent = coherent;
   runs = refl;
-  caches = record { cpus = refl; table = refl; board = refl };
+  caches = record { frames = refl; cpus = refl; table = refl; board = refl };
   reports = λ cache. adds_none (checked_of s cache);
   findable = omega arith;
   counted = blank_ledgers s ledgers blank;
@@ -225,7 +220,7 @@ has_run_more s workers events done replies before now event reply after ledgers 
     record {
       coherent = coherent;
       runs = rw more (runs_more s (take done events) replies now after event reply has_run.runs answers coherent);
-      caches = record { cpus = others.cpus ∙ has_run.caches.cpus; table = table; board = others.board_length ∙ has_run.caches.board };
+      caches = record { frames = others.frames ∙ has_run.caches.frames; cpus = others.cpus ∙ has_run.caches.cpus; table = table; board = others.board_length ∙ has_run.caches.board };
       reports = λ cache. adds_then (checked_of s cache) (checked_of now cache) (checked_of after cache) (has_run.reports cache) (others.reports cache);
       findable = omega (arith, others.findable, has_run.findable);
       counted = rw (more, zip-snoc (take done events) replies event reply even) (ledgers_more s after (zip (take done events) replies) workers event reply before ledgers table worker has_run.counted noted);

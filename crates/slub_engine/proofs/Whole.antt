@@ -13,10 +13,10 @@ use Rattle.slub_trace_reader.specs.declared.trace.Item.TheVariants as item
 use Rattle.slub_trace_reader.specs.declared.trace.Trace.{Trace}
 use Rattle.slub_trace_reader.specs.Sound.{IsSound, IsSoundItem, events_in}
 use Rattle.slub_answers.specs.declared.ledger.Ledger.{Ledger}
-use Rattle.slub_engine.specs.declared.journal.RoundResult.{RoundResult}
-use Rattle.slub_engine.specs.declared.journal.Done.{Done}
-use Rattle.slub_engine.specs.declared.journal.Done.TheVariants as done
-use Rattle.slub_engine.specs.Lawful.{Does, DoesRound, RunsItems, freed_in, given_in, is_by, ledgers_of, opening_of}
+use Rattle.slub_journal.specs.declared.journal.RoundResult.{RoundResult}
+use Rattle.slub_journal.specs.declared.journal.Done.{Done}
+use Rattle.slub_journal.specs.declared.journal.Done.TheVariants as done
+use Rattle.slub_journal.specs.Lawful.{Does, DoesRound, RunsItems, freed_in, given_in, is_by, ledgers_of, opening_of}
 use Rattle.slub_answers.specs.Kinds.{is_freed, is_given}
 
 -- 16 ledgers at most, none of which counts more than the events are
@@ -42,31 +42,10 @@ item_few s trace (item.Round round) (done.Round outcome) after sound does =
     let does : DoesRound s round outcome after = does in
     round_few s round outcome after sound.workers.1 does
 item_few s trace (item.Cache place spec) (done.Created answer) after sound does = (omega arith, omega arith)
-item_few s trace (item.Cache place spec) (done.Round outcome) after sound does = absurd does
-item_few s trace (item.Cache place spec) (done.Shrunk answer) after sound does = absurd does
-item_few s trace (item.Cache place spec) (done.Destroyed answer) after sound does = absurd does
-item_few s trace (item.Cache place spec) (done.Slabinfo rows) after sound does = absurd does
-item_few s trace (item.Round round) (done.Created answer) after sound does = absurd does
-item_few s trace (item.Round round) (done.Shrunk answer) after sound does = absurd does
-item_few s trace (item.Round round) (done.Destroyed answer) after sound does = absurd does
-item_few s trace (item.Round round) (done.Slabinfo rows) after sound does = absurd does
-item_few s trace (item.Shrink place) (done.Created answer) after sound does = absurd does
-item_few s trace (item.Shrink place) (done.Round outcome) after sound does = absurd does
 item_few s trace (item.Shrink place) (done.Shrunk answer) after sound does = (omega arith, omega arith)
-item_few s trace (item.Shrink place) (done.Destroyed answer) after sound does = absurd does
-item_few s trace (item.Shrink place) (done.Slabinfo rows) after sound does = absurd does
-item_few s trace (item.Destroy place) (done.Created answer) after sound does = absurd does
-item_few s trace (item.Destroy place) (done.Round outcome) after sound does = absurd does
-item_few s trace (item.Destroy place) (done.Shrunk answer) after sound does = absurd does
 item_few s trace (item.Destroy place) (done.Destroyed answer) after sound does = (omega arith, omega arith)
-item_few s trace (item.Destroy place) (done.Slabinfo rows) after sound does = absurd does
-item_few s trace item.Slabinfo (done.Created answer) after sound does = absurd does
-item_few s trace item.Slabinfo (done.Round outcome) after sound does = absurd does
-item_few s trace item.Slabinfo (done.Shrunk answer) after sound does = absurd does
-item_few s trace item.Slabinfo (done.Destroyed answer) after sound does = absurd does
 item_few s trace item.Slabinfo (done.Slabinfo rows) after sound does = (omega arith, omega arith)
-item_few s trace (item.Tune place setting) dn after sound does = absurd does
-item_few s trace (item.Client client) dn after sound does = absurd does
+item_few s trace _ _ after sound does = absurd does
 
 items_few : (s : State) (trace : Trace) (items : List Item) (dones : List Done) (after : State) → All (IsSoundItem trace) items → RunsItems s trace items dones after
     → (sum_by (λ done. given_in (ledgers_of done)) dones ≤ 16 * length (flat_map events_in items)) × (sum_by (λ done. freed_in (ledgers_of done)) dones ≤ 16 * length (flat_map events_in items))

@@ -8,14 +8,15 @@ use Rattle.slub_object_layout.specs.declared.event.Event.{Event}
 use Rattle.slub_red_zone.specs.declared.zones.Report.{Report}
 use Rattle.slub_answers.specs.declared.reply.Reply.{Reply}
 use Rattle.slub_lists.specs.State.{State}
-use Rattle.slub_engine.specs.declared.journal.Found.{Found}
+use Rattle.slub_journal.specs.declared.journal.Found.{Found}
 use Rattle.slub_answers.specs.declared.ledger.Ledger.{Ledger}
-use Rattle.slub_engine.specs.Lawful.{IsUnheld, cache_numbers, lacks, reports_of, title_of}
+use Rattle.slub_journal.specs.Lawful.{IsUnheld, cache_numbers, lacks, reports_of, title_of}
 use Rattle.slub_answers.specs.Kinds.{is_freed, is_given}
 
 -- an act under a number that the machine has, an allocation of a name of it; no trim and no flush
 abbrev pub IsKnownAct : State → Act → Type 0
-IsKnownAct s (Alloc place object) = (place < length s.table.kept) × (1 ≤ object) × (object < length s.board)
+IsKnownAct s (Alloc place object) =
+    (place < length s.table.kept) × (1 ≤ object) × (object < length s.board)
 IsKnownAct s (Free object) = object < length s.board
 IsKnownAct s (Write object word value) = (object < length s.board) × (word ≤ 4095)
 IsKnownAct s (Read object word) = (object < length s.board) × (word ≤ 4095)
@@ -36,24 +37,26 @@ object_of (Free object) = object
 object_of (Write object word value) = object
 object_of (Read object word) = object
 object_of (Poke object offset byte) = object
-object_of (Trim place) = 0
-object_of Flush = 0
+object_of _ = 0
 
--- what an item leaves of the machine: its CPUs, names and numbers
+-- what an item leaves of the machine: its frames, CPUs, names and numbers
 pub record KeepsSizes (s after : State) : Type 0 where
+  pub frames : after.frames ≡ s.frames
   pub cpus : after.cpus ≡ s.cpus
   pub kept : after.table.kept ≡ s.table.kept
   pub board : length after.board ≡ length s.board
 
 -- what a round leaves as it was
 pub record KeepsCaches (s after : State) : Type 0 where
+  pub frames : after.frames ≡ s.frames
   pub cpus : after.cpus ≡ s.cpus
   pub table : after.table ≡ s.table
   pub board : length after.board ≡ length s.board
 
 -- a number that no object has stays so, but for these
 abbrev pub KeepsUnheld : State → List ℕ → State → Type 0
-KeepsUnheld s objects after = (object : ℕ) → IsUnheld s object → ¬ Contains objects object → IsUnheld after object
+KeepsUnheld s objects after =
+    (object : ℕ) → IsUnheld s object → ¬ Contains objects object → IsUnheld after object
 
 -- nothing is counted yet
 pub record IsBlank (ledger : Ledger) : Type 0 where
@@ -65,10 +68,12 @@ pub record IsBlank (ledger : Ledger) : Type 0 where
 pub record Notes (s : State) (event : Event) (reply : Reply) (before after : Ledger) : Type 0 where
   pub given : after.given ≡ before.given + (if is_given reply then 1 else 0)
   pub freed : after.freed ≡ before.freed + (if is_freed reply then 1 else 0)
-  pub no_frames : (order : ℕ) → order < 11 → slice_index after.no_frames order ≡ slice_index before.no_frames order + (if lacks s order (event, reply) then 1 else 0)
+  pub no_frames : (order : ℕ) → order < 11 → slice_index after.no_frames order
+      ≡ slice_index before.no_frames order + (if lacks s order (event, reply) then 1 else 0)
 
 -- one more reply is counted in the ledger of the event's worker, and in no other
-pub record NotesOwn (s : State) (event : Event) (reply : Reply) (before after : List Ledger) : Type 0 where
+pub record NotesOwn (s : State) (event : Event) (reply : Reply)
+    (before after : List Ledger) : Type 0 where
   pub ledger : Ledger
   pub noted : Notes s event reply (slice_index_or before event.worker ledger) ledger
   pub after_is : after ≡ slice_set before event.worker ledger
@@ -95,8 +100,10 @@ found_with title report = record { title = title; report = report }
 
 -- what was found of a cache after the first so many
 abbrev pub found_past : ℕ → State → ℕ → List Found
-found_past told s cache = map (found_with (title_of s cache)) (drop told (reports_of s cache))
+found_past told s cache =
+    map (found_with (title_of s cache)) (drop told (reports_of s cache))
 
 -- what was found of each cache after so many, by cache number
 abbrev pub found_since : List ℕ → State → List Found
-found_since told s = flat_map (λ cache. found_past (slice_index_or told cache 0) s cache) cache_numbers
+found_since told s =
+    flat_map (λ cache. found_past (slice_index_or told cache 0) s cache) cache_numbers

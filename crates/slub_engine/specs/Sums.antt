@@ -1,15 +1,11 @@
 -- The sums over the live caches.
-use Rattle.std.specs.Prelude.{◌≡◌, ℕ, ◌≤◌, List, sum_by}
-use Rattle.std.specs.List.{filter_map}
+use Rattle.std.specs.Prelude.{◌≡◌, ℕ, ◌≤◌, List}
 use Rattle.slub_lists.specs.State.{State}
 use Rattle.slub_slabinfo_text.specs.declared.counts.Counts.{Counts}
-use Rattle.slub_slabinfo_text.specs.Counts.{row_of}
+use Rattle.slub_journal.specs.Lawful.{counted}
 use Rattle.slub_engine.specs.declared.sums.CacheSums.{CacheSums}
 
--- the sum of a number of the counts of these caches, as far as they are live
-abbrev pub counted : (Counts → ℕ) → State → List ℕ → ℕ
-counted number s caches = sum_by (λ row. number row.counts) (filter_map (row_of s) caches)
-
+-- the sums of the counts of these caches, as far as they are live
 pub record AreSums (s : State) (caches : List ℕ) (sums : CacheSums) : Type 0 where
   pub live : sums.live ≡ counted (λ counts. counts.live) s caches
   pub free : sums.free ≡ counted (λ counts. counts.free) s caches

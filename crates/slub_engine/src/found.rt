@@ -3,11 +3,11 @@
 ghost use Rattle.std.specs.Prelude.{◌≡◌, ℕ, ◌+◌, ◌^◌, ◌<◌, ◌≤◌, ◌++◌, [], length, map, slice_index_or, vec_capacity, IfOk};
 ghost use Rattle.std.specs.Option.{option_map_or};
 ghost use Rattle.slub_lists.specs.Coherent.{IsCoherent};
-ghost use Rattle.slub_engine.specs.Lawful.{reports_of};
+ghost use Rattle.slub_journal.specs.Lawful.{reports_of};
 ghost use Rattle.slub_engine.specs.Steps.{found_past, found_since, found_with, listed_in, told_in};
 
-use crate::journal::Found;
 use slub_common::no_memory::NoMemory;
+use slub_journal::journal::Found;
 use slub_list_machine::lists::Lists;
 use slub_object_layout::name::Name;
 use slub_red_zone::checked::CheckedSlabs;
@@ -62,7 +62,8 @@ fn count_listed(slabs: &Option<CheckedSlabs>) -> usize
 pub(crate) fn push_found(lists: &Lists, told: &[usize], damages: &mut Vec<Found>)
     requires coherent { IsCoherent lists.now }
     requires each { length told.now ≡ 32 }
-    requires grown { (cache : ℕ) → slice_index_or told.now cache 0 ≤ length (reports_of lists.now cache) }
+    requires grown { (cache : ℕ) →
+        slice_index_or told.now cache 0 ≤ length (reports_of lists.now cache) }
     requires empty { damages.old.items ≡ [] }
     requires room { length (found_since told.now lists.now) ≤ vec_capacity damages.old }
     ensures { damages.new.items ≡ found_since told.now lists.now }
@@ -77,7 +78,8 @@ fn push_found_of(lists: &Lists, cache: u8, told: usize, damages: &mut Vec<Found>
     requires coherent { IsCoherent lists.now }
     requires number { cache < 32 }
     requires told { told ≤ length (reports_of lists.now cache) }
-    requires room { length damages.old.items + length (found_past told lists.now cache) ≤ vec_capacity damages.old }
+    requires room { length damages.old.items + length (found_past told lists.now cache)
+        ≤ vec_capacity damages.old }
     ensures found { damages.new.items ≡ damages.old.items ++ found_past told lists.now cache }
     ensures capacity { vec_capacity damages.new ≡ vec_capacity damages.old }
 {
@@ -90,7 +92,8 @@ fn push_found_of(lists: &Lists, cache: u8, told: usize, damages: &mut Vec<Found>
 /// Puts in reports of the cache with this title.
 fn push_reports(title: &Name, reports: &[Report], damages: &mut Vec<Found>)
     requires room { length damages.old.items + length reports.now ≤ vec_capacity damages.old }
-    ensures found { damages.new.items ≡ damages.old.items ++ map (found_with title.now) reports.now }
+    ensures found { damages.new.items ≡
+        damages.old.items ++ map (found_with title.now) reports.now }
     ensures capacity { vec_capacity damages.new ≡ vec_capacity damages.old }
 {
     for report in reports {

@@ -2,31 +2,32 @@
 
 ghost use Rattle.std.specs.Prelude.{◌≡◌, ℕ, ◌+◌, ◌-◌, ◌^◌, ◌<◌, ◌≤◌, [], ◌∷◌, length, All, IfOk, IfSome, OnOk, OnErr, nat_eq, vec_capacity};
 ghost use Rattle.std.specs.List.{IsDistinct, zip};
-ghost use Rattle.slub_lists.specs.Coherent.{AddsReportsOf, IsCoherent, KeepsOthers, findable_in};
+ghost use Rattle.slub_lists.specs.Coherent.{AddsReportsOf, IsCoherent, KeepsMachine, KeepsOthers, findable_in};
 ghost use Rattle.slub_lists.specs.Alloc.{checked_of};
 ghost use Rattle.slub_trace_reader.specs.Sound.{IsSound, objects_of};
-ghost use Rattle.slub_engine.specs.Lawful.{Answers, AreLedgers, CreatesName, DoesAt, DoesRound, IsBuilt, IsReady, IsTotal, IsUnheld, RunsEvents, RunsItems, least_order_of, opening_of};
+ghost use Rattle.slub_journal.specs.Lawful.{Answers, AreLedgers, CreatesName, DoesAt, DoesRound, IsBuilt, IsReady, IsTotal, IsUnheld, RunsEvents, RunsItems, TakesMemoryAt, least_order_of, opening_of};
 ghost use Rattle.slub_engine.specs.Steps.{IsBelow, IsBlank, IsKnown, IsKnownAct, KeepsCaches, KeepsSizes, KeepsUnheld, Notes, NotesOwn, object_of};
 
+use crate::counts::info_rows;
 use crate::found::{counts_told, push_found, room_to_find};
-use crate::journal::{Done, RoundResult, Total};
+use crate::sums::{self, CacheSums};
 use slub_answers::create::{CreateRefusal, Created};
 use slub_answers::ledger::Ledger;
-use crate::names::name_of;
-use crate::sums::{self, CacheSums};
+use slub_answers::reply::{Kind, Reply};
 use slub_cache_create::caches;
 use slub_common::no_memory::NoMemory;
+use slub_common::sequence::Sequence;
+use slub_journal::journal::{Done, RoundResult, Total};
+use slub_journal::names::name_of;
 use slub_list_machine::lists::Lists;
-use slub_answers::reply::{Kind, Reply};
 use slub_object_layout::event::{Act, Event, Round};
 use slub_object_layout::layout::Spec;
 use slub_object_layout::name::Name;
-use slub_common::sequence::Sequence;
-use slub_slabinfo_text::counts::info_rows;
 use slub_trace_reader::trace::{Item, Trace};
 use std::alloc::Global;
 
-/// Does the item of this number. Where it finds no memory, the machine is as it was given.
+/// Does the item of this number. Only a creation, a round and slabinfo take memory; where none is
+/// found, the machine is as it was given.
 pub fn item(
     alloc: Global,
     lists: &mut Lists,
@@ -40,6 +41,7 @@ pub fn item(
     ensures done { IfOk result (λ done. DoesAt lists.old trace.now number done lists.new) }
     ensures ready { OnOk result (IsReady lists.new trace.now (number + 1)) }
     ensures err { OnErr result (lists.new ≡ lists.old) }
+    ensures memory { OnErr result (TakesMemoryAt trace.now number) }
 {
     match &trace.items.as_slice()[number] {
         Item::Cache { name, spec } => {
@@ -64,9 +66,10 @@ fn create(
     spec: &Spec,
 ) -> Result<Result<Created, CreateRefusal>, NoMemory>
     requires coherent { IsCoherent lists.old }
-    ensures creates { IfOk result (λ answer. CreatesName lists.old name.now spec.now answer lists.new) }
+    ensures creates { IfOk result (λ answer.
+        CreatesName lists.old name.now spec.now answer lists.new) }
     ensures coherent { IsCoherent lists.new }
-    ensures sizes { KeepsSizes lists.old lists.new }
+    ensures kept { KeepsMachine lists.old lists.new }
     ensures board { lists.new.board ≡ lists.old.board }
     ensures err { OnErr result (lists.new ≡ lists.old) }
 {
@@ -138,10 +141,12 @@ fn run_events(lists: &mut Lists, events: &[Event], replies: &mut Vec<Reply>, led
     ensures runs { RunsEvents lists.old events.now replies.new.items lists.new }
     ensures coherent { IsCoherent lists.new }
     ensures caches { KeepsCaches lists.old lists.new }
-    ensures reports { (cache : ℕ) → AddsReportsOf (checked_of lists.old cache) (checked_of lists.new cache) }
+    ensures reports { (cache : ℕ) →
+        AddsReportsOf (checked_of lists.old cache) (checked_of lists.new cache) }
     ensures findable { findable_in lists.new ≤ findable_in lists.old + length events.now }
     ensures unheld { KeepsUnheld lists.old (objects_of events.now) lists.new }
-    ensures ledgers { AreLedgers lists.old (zip events.now replies.new.items) (length ledgers.old) ledgers.new }
+    ensures ledgers { AreLedgers lists.old (zip events.now replies.new.items)
+        (length ledgers.old) ledgers.new }
 {
     for event in events {
         let reply = answer(lists, event);

@@ -2,12 +2,13 @@
 
 ghost use Rattle.std.specs.Prelude.{◌≡◌, ◌+◌, ◌*◌, ◌^◌, ◌<◌, reverse, sum_by};
 ghost use Rattle.slub_lists.specs.Coherent.{IsCoherent};
-ghost use Rattle.slub_engine.specs.Lawful.{freed_in, given_in, ledgers_of};
+ghost use Rattle.slub_journal.specs.Lawful.{freed_in, given_in, ledgers_of};
 
-use crate::journal::Done;
+use crate::counts::cache_counts;
 use slub_answers::ledger::Ledger;
+use slub_journal::journal::Done;
 use slub_list_machine::lists::Lists;
-use slub_slabinfo_text::counts::{Counts, cache_counts};
+use slub_slabinfo_text::counts::Counts;
 
 /// Sums of the counts of caches.
 #[derive(Clone, Copy)]

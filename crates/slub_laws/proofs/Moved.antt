@@ -18,12 +18,12 @@ use Rattle.slub_common.proofs.Writes.{inside-of}
 use Rattle.slub_trace_reader.specs.declared.trace.Item.{Item}
 use Rattle.slub_trace_reader.specs.declared.trace.Trace.{Trace}
 use Rattle.slub_trace_reader.specs.Sound.{IsSound, objects_in as allocated_in}
-use Rattle.slub_engine.specs.declared.journal.Done.{Done}
-use Rattle.slub_engine.specs.declared.journal.Journal.{Journal}
-use Rattle.slub_engine.specs.Lawful.{Does, IsLawful, RunsEvents, RunsItems, opening_of}
+use Rattle.slub_journal.specs.declared.journal.Done.{Done}
+use Rattle.slub_journal.specs.declared.journal.Journal.{Journal}
+use Rattle.slub_journal.specs.Lawful.{Does, IsLawful, RunsEvents, RunsItems, opening_of}
 use Rattle.slub_answers.specs.Kinds.{is_freed, is_given}
-use Rattle.slub_engine.proofs.Effects.{Effect, event_effect, given, kept, quiet, taken}
-use Rattle.slub_engine.proofs.Keeping.{ItemEffect, item_effect, no_round, one_round}
+use Rattle.slub_laws.proofs.Effects.{Effect, event_effect, given, kept, quiet, taken}
+use Rattle.slub_laws.proofs.Keeping.{ItemEffect, item_effect, no_round, one_round}
 use Rattle.slub_laws.specs.Freed.{answered_in, did_free, freed_times, gave, given_times, is_alloc_of, is_free_of}
 use Rattle.slub_laws.proofs.Times.{counted_append, items_given, once_times, one_where, zip_taken}
 

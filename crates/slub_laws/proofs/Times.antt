@@ -12,7 +12,7 @@ use Rattle.slub_answers.specs.declared.reply.Reply.{Reply}
 use Rattle.slub_trace_reader.specs.declared.trace.Item.{Item}
 use Rattle.slub_trace_reader.specs.declared.trace.Item.TheVariants as item
 use Rattle.slub_trace_reader.specs.Sound.{objects_in, objects_of}
-use Rattle.slub_engine.specs.declared.journal.Done.{Done}
+use Rattle.slub_journal.specs.declared.journal.Done.{Done}
 use Rattle.slub_answers.specs.Kinds.{is_given}
 use Rattle.slub_laws.specs.Freed.{answered_in, gave, is_alloc_of, replies_of}
 
@@ -67,12 +67,7 @@ one_given object (Alloc place other) line worker cpu reply events =
     by true true split = omega (arith, split)
     by true false split = omega (arith, split)
     by false c split = omega (arith, split)
-one_given object (Free other) line worker cpu reply events = omega arith
-one_given object (Write other word value) line worker cpu reply events = omega arith
-one_given object (Read other word) line worker cpu reply events = omega arith
-one_given object (Poke other offset byte) line worker cpu reply events = omega arith
-one_given object (Trim place) line worker cpu reply events = omega arith
-one_given object Flush line worker cpu reply events = omega arith
+one_given object _ line worker cpu reply events = omega arith
 
 events_given : (object : ℕ) (events : List Event) (replies : List Reply) → count_by (gave object) (zip events replies) ≤ times object (objects_of events)
 events_given object [] replies = omega arith
@@ -81,13 +76,8 @@ events_given object (event ∷ events) (reply ∷ replies) =
     omega (arith, sum_by-cons (λ (one : Event × Reply). cond (gave object one) 1 0) (event, reply) (zip events replies), events_given object events replies, one_given object event.act event.line event.worker event.cpu reply events)
 
 item_given : (object : ℕ) (it : Item) (dn : Done) → count_by (gave object) (answered_in (it, dn)) ≤ times object (objects_in it)
-item_given object (item.Cache place spec) dn = omega arith
 item_given object (item.Round round) dn = events_given object round.events (replies_of dn)
-item_given object (item.Shrink place) dn = omega arith
-item_given object (item.Destroy place) dn = omega arith
-item_given object item.Slabinfo dn = omega arith
-item_given object (item.Tune place setting) dn = omega arith
-item_given object (item.Client client) dn = omega arith
+item_given object _ dn = omega arith
 
 pub items_given : (object : ℕ) (items : List Item) (dones : List Done) → count_by (gave object) (flat_map answered_in (zip items dones)) ≤ times object (flat_map objects_in items)
 items_given object [] dones = omega arith

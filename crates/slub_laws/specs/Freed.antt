@@ -2,15 +2,15 @@
 use Rattle.std.specs.Prelude.{ℕ, ◌&&◌, ◌==◌, Bool, false, List, [], count_by, flat_map}
 use Rattle.std.specs.List.{zip}
 use Rattle.slub_object_layout.specs.declared.event.Act.{Act}
-use Rattle.slub_object_layout.specs.declared.event.Act.TheVariants.{Alloc, Free, Write, Read, Poke, Trim, Flush}
+use Rattle.slub_object_layout.specs.declared.event.Act.TheVariants.{Alloc, Free}
 use Rattle.slub_object_layout.specs.declared.event.Event.{Event}
 use Rattle.slub_answers.specs.declared.reply.Reply.{Reply}
 use Rattle.slub_trace_reader.specs.declared.trace.Item.{Item}
 use Rattle.slub_trace_reader.specs.declared.trace.Trace.{Trace}
 use Rattle.slub_trace_reader.specs.Sound.{events_in}
-use Rattle.slub_engine.specs.declared.journal.Done.{Done}
-use Rattle.slub_engine.specs.declared.journal.Done.TheVariants.{Created, Round, Shrunk, Destroyed, Slabinfo}
-use Rattle.slub_engine.specs.declared.journal.Journal.{Journal}
+use Rattle.slub_journal.specs.declared.journal.Done.{Done}
+use Rattle.slub_journal.specs.declared.journal.Done.TheVariants.{Round}
+use Rattle.slub_journal.specs.declared.journal.Journal.{Journal}
 use Rattle.slub_answers.specs.Kinds.{is_freed, is_given}
 
 -- ---- one event
@@ -18,22 +18,12 @@ use Rattle.slub_answers.specs.Kinds.{is_freed, is_given}
 -- the act allocates this object
 abbrev pub is_alloc_of : ℕ → Act → Bool
 is_alloc_of object (Alloc place other) = other == object
-is_alloc_of object (Free other) = false
-is_alloc_of object (Write other word value) = false
-is_alloc_of object (Read other word) = false
-is_alloc_of object (Poke other offset byte) = false
-is_alloc_of object (Trim place) = false
-is_alloc_of object Flush = false
+is_alloc_of object _ = false
 
 -- the act frees this object
 abbrev pub is_free_of : ℕ → Act → Bool
-is_free_of object (Alloc place other) = false
 is_free_of object (Free other) = other == object
-is_free_of object (Write other word value) = false
-is_free_of object (Read other word) = false
-is_free_of object (Poke other offset byte) = false
-is_free_of object (Trim place) = false
-is_free_of object Flush = false
+is_free_of object _ = false
 
 -- the event was to allocate this object, and it was given
 abbrev pub gave : ℕ → Event × Reply → Bool
@@ -47,11 +37,8 @@ did_free object answered = is_free_of object answered.0.act && is_freed answered
 
 -- the replies of what was done: those of a round
 abbrev pub replies_of : Done → List Reply
-replies_of (Created answer) = []
 replies_of (Round result) = result.replies
-replies_of (Shrunk answer) = []
-replies_of (Destroyed answer) = []
-replies_of (Slabinfo rows) = []
+replies_of _ = []
 
 -- the events of an item, each with its reply
 abbrev pub answered_in : Item × Done → List (Event × Reply)

@@ -1,11 +1,16 @@
-//! What holds of every lawful journal of a sound trace. None of these does anything.
+//! What holds of every lawful journal of a sound trace, and of every coherent machine. None of these
+//! does anything.
 
-ghost use Rattle.std.specs.Prelude.{ℕ, ◌≤◌};
+ghost use Rattle.std.specs.Prelude.{◌≡◌, ℕ, ◌+◌, ◌≤◌, IfSome, IsSome};
+ghost use Rattle.slub_lists.specs.Alloc.{cache_of};
+ghost use Rattle.slub_lists.specs.Coherent.{IsCoherent};
+ghost use Rattle.slub_lists.specs.State.{State};
+ghost use Rattle.slub_slabinfo_text.specs.Counts.{counts_of};
 ghost use Rattle.slub_trace_reader.specs.Sound.{IsSound};
-ghost use Rattle.slub_engine.specs.Lawful.{IsLawful};
+ghost use Rattle.slub_journal.specs.Lawful.{IsLawful, IsReady, opening_of};
 ghost use Rattle.slub_laws.specs.Freed.{freed_times, given_times};
 
-use slub_engine::journal::Journal;
+use slub_journal::journal::Journal;
 use slub_trace_reader::trace::Trace;
 
 /// Over a whole run no object number is freed twice, and none is given twice: a number is freed at
@@ -14,6 +19,28 @@ pub fn no_number_is_freed_twice(trace: &Trace, journal: &Journal)
     requires sound { IsSound trace.now }
     requires lawful { IsLawful trace.now journal.now }
     ensures once { (object : ℕ) → freed_times object trace.now journal.now ≤ 1 }
-    ensures given_first { (object : ℕ) → freed_times object trace.now journal.now ≤ given_times object trace.now journal.now }
+    ensures given_first { (object : ℕ) →
+        freed_times object trace.now journal.now ≤ given_times object trace.now journal.now }
     ensures given_once { (object : ℕ) → given_times object trace.now journal.now ≤ 1 }
+{}
+
+/// What was given less what was freed is live.
+pub fn given_is_freed_or_live(trace: &Trace, journal: &Journal)
+    requires sound { IsSound trace.now }
+    requires lawful { IsLawful trace.now journal.now }
+    ensures { IfSome journal.now.total (λ total. total.given ≡ total.freed + total.live) }
+{}
+
+/// The machine that is opened for a trace stands before its first item.
+pub fn opening_is_ready(trace: &Trace)
+    requires { IsCoherent (opening_of trace.now) }
+    ensures { IsReady (opening_of trace.now) trace.now 0 }
+{}
+
+/// Every object of a live cache's slabs is given, free or set aside: `num_objs` counts each of them
+/// once. This holds between any two events, too.
+pub fn objects_add_up()
+    ensures { (s : State) (cache : ℕ) → IsCoherent s → IsSome (cache_of s cache) →
+        IfSome (cache_of s cache) (λ live. let counts = counts_of s cache live.layout in
+        counts.live + counts.free + counts.aside ≡ counts.num_objs) }
 {}

@@ -1,5 +1,1 @@
-pub mod Adding
 pub mod Lines
-pub mod Places
-pub mod Sums
-pub mod Whole

@@ -34,7 +34,8 @@ listed_free slabs = sum_by (λ frame. length (checked_slab slabs frame).free) sl
 -- the free objects of the slabs on the node list, which of a checked cache are its listed slabs
 abbrev pub node_free_of : State → ℕ → ℕ
 node_free_of s cache =
-    option_map_or listed_free (checked_of s cache) (sum_by (λ frame. length (own_free s frame)) (node_of s cache))
+    option_map_or listed_free (checked_of s cache)
+    (sum_by (λ frame. length (own_free s frame)) (node_of s cache))
 
 -- the free objects of a slab of the cache
 abbrev pub free_in : ℕ → Option Slab × List ℕ → ℕ
@@ -43,7 +44,9 @@ free_in cache slab = if is_slab_of cache slab.0 then length slab.1 else 0
 -- the free objects on the slabs' own freelists and on the CPUs' freelists
 abbrev pub loose_of : State → ℕ → ℕ
 loose_of s cache =
-    sum_by (free_in cache) (zip s.slabs s.frees) + sum_by (λ lists. length lists.free) (slice_range s.cpu_lists (cache * s.cpus) ((cache + 1) * s.cpus))
+    sum_by (free_in cache) (zip s.slabs s.frees)
+    + sum_by (λ lists. length lists.free)
+    (slice_range s.cpu_lists (cache * s.cpus) ((cache + 1) * s.cpus))
 
 -- the free objects, wherever they stand
 abbrev pub free_of : State → ℕ → ℕ
@@ -53,7 +56,8 @@ free_of s cache = option_map_or free_count (checked_of s cache) (loose_of s cach
 abbrev pub aside_of : State → ℕ → ℕ
 aside_of s cache = option_map_or aside_count (checked_of s cache) 0
 
--- objects on a CPU's freelist or in a slab on a CPU's partial list count as active; the slab of the row is one of the layout's order
+-- objects on a CPU's freelist or in a slab on a CPU's partial list count as active; the slab of the
+-- row is one of the layout's order
 abbrev pub counts_of : State → ℕ → Layout → Counts
 counts_of s cache layout = record {
   active_objs = num_objs_of s cache - node_free_of s cache;

@@ -38,12 +38,14 @@ zone_text zone.Padding = codes "padding"
 -- `ZONE offset K found XX wanted YY`
 abbrev pub damage_words : Damage → List ℕ
 damage_words damage =
-    zone_text damage.zone ++ codes " offset " ++ signed_decimal damage.offset ++ codes " found " ++ hex_byte damage.found ++ codes " wanted " ++ hex_byte damage.wanted
+    zone_text damage.zone ++ codes " offset " ++ signed_decimal damage.offset
+    ++ codes " found " ++ hex_byte damage.found ++ codes " wanted " ++ hex_byte damage.wanted
 
 -- `damage TITLE ADDRESS: `, and what was found
 abbrev pub damage_line : List ℕ → Report → List ℕ
 damage_line title report =
-    codes "damage " ++ title ++ 32 ∷ decimal report.address ++ codes ": " ++ damage_words report.damage ++ 10 ∷ []
+    codes "damage " ++ title ++ 32 ∷ decimal report.address ++ codes ": "
+    ++ damage_words report.damage ++ 10 ∷ []
 
 -- ---- replies
 
@@ -68,13 +70,9 @@ reply_answer (reply.Flushed slabs) = codes "moved " ++ decimal slabs
 
 -- the act of an event that is answered today: no trim and no flush
 abbrev pub IsAnswered : Act → Type 0
-IsAnswered (Alloc cache object) = Unit {0}
-IsAnswered (Free object) = Unit {0}
-IsAnswered (Write object word value) = Unit {0}
-IsAnswered (Read object word) = Unit {0}
-IsAnswered (Poke object offset byte) = Unit {0}
 IsAnswered (Trim cache) = ⊥
 IsAnswered Flush = ⊥
+IsAnswered _ = Unit {0}
 
 -- what the line of an event says before the answer
 abbrev pub event_words : Act → List ℕ
@@ -82,9 +80,9 @@ event_words (Alloc cache object) = codes "alloc " ++ decimal object
 event_words (Free object) = codes "free " ++ decimal object
 event_words (Write object word value) = codes "write " ++ decimal object ++ 32 ∷ decimal word
 event_words (Read object word) = codes "read " ++ decimal object ++ 32 ∷ decimal word
-event_words (Poke object offset byte) = codes "poke " ++ decimal object ++ 32 ∷ signed_decimal offset
-event_words (Trim cache) = []
-event_words Flush = []
+event_words (Poke object offset byte) =
+    codes "poke " ++ decimal object ++ 32 ∷ signed_decimal offset
+event_words _ = []
 
 -- `alloc O: `, `write O WORD: ` or the like, and the answer
 abbrev pub reply_text : Act → Reply → List ℕ
@@ -117,25 +115,20 @@ answer_text answer.Checked = codes "checked"
 
 -- an answer that is no refusal: its line is written with `--replies` alone
 abbrev pub is_ok_answer : ItemAnswer → Bool
-is_ok_answer answer.Fresh = true
-is_ok_answer (answer.MergedWith title) = true
 is_ok_answer answer.NameTaken = false
 is_ok_answer answer.TooMany = false
 is_ok_answer answer.BadSize = false
 is_ok_answer answer.BadAlign = false
 is_ok_answer answer.BadFlags = false
-is_ok_answer answer.SlabsRemain = true
-is_ok_answer answer.NoSlabs = true
-is_ok_answer answer.Destroyed = true
-is_ok_answer answer.NameDropped = true
 is_ok_answer (answer.Busy objects) = false
 is_ok_answer answer.NoSuchCache = false
-is_ok_answer answer.Set = true
 is_ok_answer answer.Checked = false
+is_ok_answer _ = true
 
 -- `cache N: ` or the like, and the answer
 abbrev pub item_line : ItemWord → List ℕ → ItemAnswer → List ℕ
-item_line word name answer = word_text word ++ 32 ∷ name ++ codes ": " ++ answer_text answer ++ 10 ∷ []
+item_line word name answer =
+    word_text word ++ 32 ∷ name ++ codes ": " ++ answer_text answer ++ 10 ∷ []
 
 -- ---- slabinfo, version 2.1 of `/proc/slabinfo` (`print_slabinfo_header`, `cache_show`)
 
@@ -149,7 +142,9 @@ left width text = text ++ replicate (width - length text) 32
 
 abbrev pub header_text : List ℕ
 header_text =
-    codes "slabinfo - version: 2.1" ++ 10 ∷ codes "# name            <active_objs> <num_objs> <objsize> <objperslab> <pagesperslab> : tunables <limit> <batchcount> <sharedfactor> : slabdata <active_slabs> <num_slabs> <sharedavail>" ++ 10 ∷ []
+    codes "slabinfo - version: 2.1" ++ 10 ∷ codes "# name            <active_objs> <num_objs> "
+    ++ codes "<objsize> <objperslab> <pagesperslab> : tunables <limit> <batchcount> "
+    ++ codes "<sharedfactor> : slabdata <active_slabs> <num_slabs> <sharedavail>" ++ 10 ∷ []
 
 -- a space and a number: ` %6lu` is the column of width 6
 abbrev pub column : ℕ → ℕ → List ℕ
@@ -158,7 +153,8 @@ column width n = 32 ∷ right width n
 -- ` %6lu %6lu %6u %4u %4d`
 abbrev pub row_objects : Counts → List ℕ
 row_objects counts =
-    column 6 counts.active_objs ++ column 6 counts.num_objs ++ column 6 counts.objsize ++ column 4 counts.objperslab ++ column 4 counts.pagesperslab
+    column 6 counts.active_objs ++ column 6 counts.num_objs ++ column 6 counts.objsize
+    ++ column 4 counts.objperslab ++ column 4 counts.pagesperslab
 
 -- ` %6lu %6lu %6lu` and the end of the line: all slabs count as active
 abbrev pub row_slabs : ℕ → List ℕ
@@ -167,7 +163,8 @@ row_slabs slabs = column 6 slabs ++ column 6 slabs ++ column 6 0 ++ 10 ∷ []
 -- ` : tunables %4u %4u %4u : slabdata` stands between the two
 abbrev pub row_numbers : Counts → List ℕ
 row_numbers counts =
-    row_objects counts ++ codes " : tunables" ++ column 4 0 ++ column 4 0 ++ column 4 0 ++ codes " : slabdata" ++ row_slabs counts.num_slabs
+    row_objects counts ++ codes " : tunables" ++ column 4 0 ++ column 4 0 ++ column 4 0
+    ++ codes " : slabdata" ++ row_slabs counts.num_slabs
 
 -- the title, as `%-17s`, and the numbers
 abbrev pub row_text : InfoRow → List ℕ
@@ -181,8 +178,10 @@ info_text rows = header_text ++ flat_map row_text rows
 
 abbrev pub total_line : ℕ → ℕ → ℕ → ℕ → ℕ → ℕ → ℕ → ℕ → List ℕ
 total_line given freed live free aside frozen slabs frames =
-    codes "total given " ++ decimal given ++ codes " freed " ++ decimal freed ++ codes " live " ++ decimal live ++ codes " free " ++ decimal free
-    ++ codes " aside " ++ decimal aside ++ codes " frozen " ++ decimal frozen ++ codes " slabs " ++ decimal slabs ++ codes " frames " ++ decimal frames ++ 10 ∷ []
+    codes "total given " ++ decimal given ++ codes " freed " ++ decimal freed
+    ++ codes " live " ++ decimal live ++ codes " free " ++ decimal free
+    ++ codes " aside " ++ decimal aside ++ codes " frozen " ++ decimal frozen
+    ++ codes " slabs " ++ decimal slabs ++ codes " frames " ++ decimal frames ++ 10 ∷ []
 
 -- ---- the layout
 
@@ -190,13 +189,25 @@ total_line given freed live free aside frozen slabs frames =
 abbrev pub number_line : List ℕ → ℕ → List ℕ
 number_line name n = name ++ 32 ∷ decimal n ++ 10 ∷ []
 
+-- the lines on a slot
+abbrev pub slot_lines : Layout → List ℕ
+slot_lines layout =
+    number_line (codes "object_size") layout.object_size ++ number_line (codes "inuse") layout.inuse
+    ++ number_line (codes "offset") layout.offset ++ number_line (codes "left_pad") layout.left_pad
+    ++ number_line (codes "size") layout.size ++ number_line (codes "align") layout.align
+
+-- the lines on slabs
+abbrev pub slab_lines : Layout → List ℕ
+slab_lines layout =
+    number_line (codes "order") layout.order ++ number_line (codes "objects") layout.objects
+    ++ number_line (codes "min_order") layout.min_order
+    ++ number_line (codes "min_objects") layout.min_objects_slab
+    ++ number_line (codes "min_partial") layout.min_partial
+    ++ number_line (codes "cpu_partial_slabs") layout.cpu_partial_slabs
+
 -- the twelve lines of a layout, and the line of a refusal
 unfoldable pub layout_lines : Result Layout LayoutRefusal → List ℕ
-layout_lines (Ok layout) =
-    number_line (codes "object_size") layout.object_size ++ number_line (codes "inuse") layout.inuse ++ number_line (codes "offset") layout.offset
-    ++ number_line (codes "left_pad") layout.left_pad ++ number_line (codes "size") layout.size ++ number_line (codes "align") layout.align
-    ++ number_line (codes "order") layout.order ++ number_line (codes "objects") layout.objects ++ number_line (codes "min_order") layout.min_order
-    ++ number_line (codes "min_objects") layout.min_objects_slab ++ number_line (codes "min_partial") layout.min_partial ++ number_line (codes "cpu_partial_slabs") layout.cpu_partial_slabs
+layout_lines (Ok layout) = slot_lines layout ++ slab_lines layout
 layout_lines (Err refusal.BadSize) = codes "layout: bad size" ++ 10 ∷ []
 layout_lines (Err refusal.BadAlign) = codes "layout: bad alignment" ++ 10 ∷ []
 layout_lines (Err refusal.BadFlags) = codes "layout: bad flags" ++ 10 ∷ []

@@ -1,13 +1,12 @@
 //! Replies, items, slabinfo and the total as lines.
 
-ghost use Rattle.std.specs.Prelude.{◌≡◌, ◌∷◌, ◌++◌, Err, IfOk, OnOk, codes, replicate, slice_index};
+ghost use Rattle.std.specs.Prelude.{◌≡◌, ℕ, ◌∷◌, ◌++◌, Err, IfOk, OnOk, codes, replicate, slice_index};
 ghost use Rattle.std.specs.Fmt.{decimal, signed_decimal};
-ghost use Rattle.slub_slabinfo_text.specs.Texts.{IsAnswered, answer_text, column, damage_line, damage_words, event_words, header_text, hex_byte, info_text, is_ok_answer, item_line, layout_lines, left, number_line, reply_answer, reply_text, row_numbers, row_objects, row_slabs, row_text, total_line, word_text, zone_text};
-ghost use Rattle.slub_answers.specs.Kinds.{is_ok_reply};
+ghost use Rattle.slub_slabinfo_text.specs.Texts.{IsAnswered, answer_text, column, damage_line, damage_words, event_words, header_text, hex_byte, info_text, is_ok_answer, item_line, layout_lines, left, number_line, reply_answer, reply_text, row_numbers, row_objects, row_slabs, row_text, slab_lines, slot_lines, total_line, word_text, zone_text};
 
 use crate::counts::{Counts, InfoRow};
-use slub_common::no_memory::NoMemory;
 use slub_answers::reply::Reply;
+use slub_common::no_memory::NoMemory;
 use slub_object_layout::event::Act;
 use slub_object_layout::layout::{Layout, LayoutRefusal};
 use slub_object_layout::name::Name;
@@ -98,24 +97,21 @@ fn push_reply(alloc: Global, text: &mut Vec<u8>, reply: &Reply) -> Result<(), No
         Reply::OutOfSlot => push_words(text, b"out of slot"),
         Reply::NotChecked => push_words(text, b"not checked"),
         Reply::IdsSpent(tid) => push_words(text, format!(in alloc; "ids spent {tid}")?.as_bytes()),
-        Reply::Trimmed(slabs) => push_words(text, format!(in alloc; "discarded {slabs}")?.as_bytes()),
+        Reply::Trimmed(slabs) => push_words(
+            text,
+            format!(in alloc; "discarded {slabs}")?.as_bytes(),
+        ),
         Reply::Checked => push_words(text, b"checked"),
         Reply::Flushed(slabs) => push_words(text, format!(in alloc; "moved {slabs}")?.as_bytes()),
     }
 }
 
 fn push_corrupt(alloc: Global, text: &mut Vec<u8>, damage: &Damage) -> Result<(), NoMemory>
-    ensures { OnOk result (text.new.items ≡ text.old.items ++ reply_answer (Reply.Corrupt damage.now)) }
+    ensures { OnOk result (text.new.items ≡
+        text.old.items ++ reply_answer (Reply.Corrupt damage.now)) }
 {
     push_words(text, b"corrupt ")?;
     push_damage(alloc, text, damage)
-}
-
-/// Whether a reply is Ok: its line is written with `--replies` alone.
-pub fn is_ok_reply(reply: &Reply) -> bool
-    ensures { result ≡ is_ok_reply reply.now }
-{
-    reply.is_ok()
 }
 
 /// Whether an answer is no refusal: its line is written with `--replies` alone.
@@ -181,7 +177,8 @@ fn push_bytes(
     found: u8,
     wanted: u8,
 ) -> Result<(), NoMemory>
-    ensures { OnOk result (text.new.items ≡ text.old.items ++ codes " offset " ++ signed_decimal offset ++ codes " found " ++ hex_byte found ++ codes " wanted " ++ hex_byte wanted) }
+    ensures { OnOk result (text.new.items ≡ text.old.items ++ codes " offset " ++ signed_decimal offset
+        ++ codes " found " ++ hex_byte found ++ codes " wanted " ++ hex_byte wanted) }
 {
     push_offset(alloc, text, offset)?;
     push_hex(alloc, text, found)?;
@@ -190,7 +187,8 @@ fn push_bytes(
 }
 
 fn push_offset(alloc: Global, text: &mut Vec<u8>, offset: i32) -> Result<(), NoMemory>
-    ensures { OnOk result (text.new.items ≡ text.old.items ++ codes " offset " ++ signed_decimal offset ++ codes " found ") }
+    ensures { OnOk result (text.new.items ≡ text.old.items
+        ++ codes " offset " ++ signed_decimal offset ++ codes " found ") }
 {
     push_words(text, b" offset ")?;
     push_words(text, format!(in alloc; "{offset}")?.as_bytes())?;
@@ -226,7 +224,7 @@ pub fn layout_text(
 
 /// The lines on a slot.
 fn push_slot(alloc: Global, text: &mut Vec<u8>, layout: &Layout) -> Result<(), NoMemory>
-    ensures { OnOk result (text.new.items ≡ text.old.items ++ number_line (codes "object_size") layout.now.object_size ++ number_line (codes "inuse") layout.now.inuse ++ number_line (codes "offset") layout.now.offset ++ number_line (codes "left_pad") layout.now.left_pad ++ number_line (codes "size") layout.now.size ++ number_line (codes "align") layout.now.align) }
+    ensures { OnOk result (text.new.items ≡ text.old.items ++ slot_lines layout.now) }
 {
     push_number(alloc, text, b"object_size", layout.object_size)?;
     push_number(alloc, text, b"inuse", layout.inuse)?;
@@ -238,7 +236,7 @@ fn push_slot(alloc: Global, text: &mut Vec<u8>, layout: &Layout) -> Result<(), N
 
 /// The lines on slabs.
 fn push_slab(alloc: Global, text: &mut Vec<u8>, layout: &Layout) -> Result<(), NoMemory>
-    ensures { OnOk result (text.new.items ≡ text.old.items ++ number_line (codes "order") layout.now.order ++ number_line (codes "objects") layout.now.objects ++ number_line (codes "min_order") layout.now.min_order ++ number_line (codes "min_objects") layout.now.min_objects_slab ++ number_line (codes "min_partial") layout.now.min_partial ++ number_line (codes "cpu_partial_slabs") layout.now.cpu_partial_slabs) }
+    ensures { OnOk result (text.new.items ≡ text.old.items ++ slab_lines layout.now) }
 {
     push_number(alloc, text, b"order", layout.order)?;
     push_number(alloc, text, b"objects", layout.objects)?;
@@ -328,7 +326,8 @@ fn push_words(text: &mut Vec<u8>, words: &[u8]) -> Result<(), NoMemory>
 }
 
 fn push_merged(text: &mut Vec<u8>, title: &Name) -> Result<(), NoMemory>
-    ensures { OnOk result (text.new.items ≡ text.old.items ++ answer_text (ItemAnswer.MergedWith title.now)) }
+    ensures { OnOk result (text.new.items ≡
+        text.old.items ++ answer_text (ItemAnswer.MergedWith title.now)) }
 {
     text.extend_from_slice(b"merged with ")?;
     text.extend_from_slice(title.as_bytes())?;
@@ -428,7 +427,8 @@ fn push_spaces(text: &mut Vec<u8>, count: usize) -> Result<(), NoMemory>
 /// The total: how many objects were given and freed, and what the live caches have of live, free
 /// and set-aside objects, frozen slabs and slabs; then the free frames.
 pub fn total_text(alloc: Global, numbers: &[u64; 8]) -> Result<Vec<u8>, NoMemory>
-    ensures { IfOk result (λ text. text.items ≡ total_line (slice_index numbers.now 0) (slice_index numbers.now 1) (slice_index numbers.now 2) (slice_index numbers.now 3) (slice_index numbers.now 4) (slice_index numbers.now 5) (slice_index numbers.now 6) (slice_index numbers.now 7)) }
+    ensures { let at = λ (n : ℕ). slice_index numbers.now n in IfOk result (λ text. text.items ≡
+        total_line (at 0) (at 1) (at 2) (at 3) (at 4) (at 5) (at 6) (at 7)) }
 {
     let [given, freed, live, free, aside, frozen, slabs, frames] = *numbers;
     let text = format!(in alloc;

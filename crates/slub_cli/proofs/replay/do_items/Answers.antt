@@ -19,7 +19,7 @@ pub loop-number-preserved : goal.loop-number-preserved
 loop-number-preserved g c =
     let at = c.loop-number in
     record {
-      reached = Reached-more c.args.trace.now at.number at.lists c.do_item.new.lists at.journal c.do_item.new.journal at.invariant.reached c.in_ok-do_item.ensures.done;
+      reached = Reached-more c.args.trace.now at.number at.lists c.do_item.new.lists at.journal c.do_item.new.journal (omega (arith, c.len-number-end.ensures)) at.invariant.reached c.in_ok-do_item.ensures.done;
       told = λ start h. c.in_ok-do_item.ensures.told start (at.invariant.told start h);
       still = c.in_ok-do_item.ensures.write_faults ∙ at.invariant.still;
       counts = le_trans at.invariant.counts c.do_item.ensures.counts;

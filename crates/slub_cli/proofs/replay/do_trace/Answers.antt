@@ -1,6 +1,7 @@
-use Rattle.std.proofs.Common.{◌∙◌, Err}
+use Rattle.std.proofs.Common.{◌∙◌, ℕ, Err, IfErr, subst}
 use Rattle.std.proofs.KnownBytes.{Appends-nil}
 use Rattle.std.proofs.lemmas.Result.{err_from_is_err_and}
+use Rattle.slub_cli.specs.Inner.{IsItemStop}
 use Rattle.slub_cli.proofs.Laws.{no_items_lawful, totals_lawful}
 use Rattle.slub_cli.proofs.Texts.{empty_text, tells_then, took_of}
 use Rattle.slub_cli.proofs.replay.do_trace.Goals as goal
@@ -25,3 +26,7 @@ returns-clause-lawful g c = totals_lawful _ _ _ _ c.do_total.result c.in_ok-do_i
 pub returns-clause-told : goal.returns-clause-told
 returns-clause-told g c =
     took_of c.args.replies (g.K.Sink.taken c.args.sink.now) (g.K.Sink.taken c.do_total.new.sink) c.args.trace.now c.begin.new.journal c.do_total.new.journal c.do_total.result (empty_text c.args.replies c.args.trace.now c.begin.new.journal (c.begin.ensures.items ∙ c.requires.empty.items) (c.begin.ensures.total ∙ c.requires.empty.total)) (tells_then c.args.replies _ (g.K.Sink.taken c.do_items.new.sink) _ c.args.trace.now _ c.do_items.new.journal _ c.do_total.result c.in_ok-do_items.ensures.told (c.do_total.ensures.told c.args.replies))
+
+pub returns-clause-stops : goal.returns-clause-stops
+returns-clause-stops g c =
+    subst (λ (faults : ℕ). IfErr c.do_total.result (IsItemStop faults (g.K.Sink.faults c.do_total.new.sink) c.do_total.new.journal)) c.in_ok-do_items.ensures.write_faults c.do_total.ensures.stops

@@ -1,17 +1,15 @@
-use Rattle.slub_cli.proofs.Ends.{bad_trace, bad_words, complete, layout, refused}
+use Rattle.std.proofs.Common.{map, refl}
+use Rattle.std.specs.Prelude.{string_bytes}
+use Rattle.slub_cli.proofs.Ends.{promise, run_ends}
 use Rattle.slub_cli.proofs.run.run.Goals as goal
 
-pub returns-clause-bad_words : goal.returns-clause-bad_words
-returns-clause-bad_words g c = bad_words _ c.run_all.result.trace c.run_all.result.journal c.run_all.result.status c.run_all.ensures.cause
-
-pub returns-clause-bad_trace : goal.returns-clause-bad_trace
-returns-clause-bad_trace g c = bad_trace _ c.run_all.result.trace c.run_all.result.journal c.run_all.result.status c.run_all.ensures.cause c.run_all.ensures.lawful
-
-pub returns-clause-refused : goal.returns-clause-refused
-returns-clause-refused g c = λ asks. refused _ c.run_all.result.trace c.run_all.result.journal c.run_all.result.status c.run_all.ensures.cause
-
-pub returns-clause-complete : goal.returns-clause-complete
-returns-clause-complete g c = complete _ c.run_all.result.trace c.run_all.result.journal c.run_all.result.status c.run_all.ensures.cause
-
-pub returns-clause-layout : goal.returns-clause-layout
-returns-clause-layout g c = layout _ c.run_all.result.trace c.run_all.result.journal c.run_all.result.status c.run_all.ensures.cause
+pub returns-clause-run : goal.returns-clause-run
+returns-clause-run g c =
+    let worked = c.work-end.ensures.worked in
+    promise _ _
+    (run_ends (map string_bytes c.args.words.now) (g.S.Source.rest c.args.source.now) (g.S.Source.rest c.work-end.new.source)
+    (g.K.Sink.taken c.args.sink.now) (g.K.Sink.taken c.work-end.new.sink) (g.K.Sink.taken c.finish-status.new.sink) _ _
+    (g.K.Sink.faults c.work-end.new.sink, g.K.Sink.faults c.finish-status.new.sink) c.work-end.new.trace c.work-end.new.journal
+    c.work-end.result c.finish-status.result c.work-end.ensures.counts refl c.finish-status.ensures.counts
+    c.work-end.ensures.read_faults c.work-end.ensures.write_faults worked c.finish-status.ensures.finishes)
+    worked.lawful

@@ -9,7 +9,13 @@ use Rattle.slub_cli.proofs.run.work.Goals as goal
 pub returns-in-Serial-clause-worked : goal.returns-in-Serial-clause-worked
 returns-in-Serial-clause-worked g c =
     let r = c.in-Replay in
-    (Some (Replay Serial r.seed r.replies), replayed (map string_bytes c.args.words.now) c.in-Ok.command r.how r.seed r.replies c.in-Ok.ensures.spells r.is c.in-Serial.is, (c.replay.ensures.replays (map string_bytes c.args.words.now), c.replay.ensures.told))
+    let whole = c.replay.ensures.replayed (map string_bytes c.args.words.now) in
+    record {
+      asked = Some (Replay Serial r.seed r.replies);
+      is_asked = replayed (map string_bytes c.args.words.now) c.in-Ok.command r.how r.seed r.replies c.in-Ok.ensures.spells r.is c.in-Serial.is;
+      works = (whole.end, whole.told);
+      lawful = whole.lawful;
+    }
 
 pub returns-in-Serial-clause-untouched : goal.returns-in-Serial-clause-untouched
 returns-in-Serial-clause-untouched g c =
@@ -22,8 +28,7 @@ returns-in-Schedule g c =
     let r = c.in-Replay in
     let bad = not_serial (map string_bytes c.args.words.now) c.in-Ok.command r.how r.seed r.replies c.in-Ok.ensures.spells r.is (other_how r.how c.in-Schedule.is) in
     record {
-      worked = (None, tt, ((bad, c.requires.unread), refl));
-      lawful = rw c.requires.unread c.requires.empty;
+      worked = record { asked = None; is_asked = tt; works = ((bad, c.requires.unread), refl); lawful = rw c.requires.unread c.requires.empty };
       untouched = λ none. refl;
       read_faults = refl;
       write_faults = refl;
@@ -35,8 +40,7 @@ returns-in-Load g c =
     let l = c.in-Load in
     let bad = not_made (map string_bytes c.args.words.now) c.in-Ok.command l.seed l.events l.workers c.in-Ok.ensures.spells l.is in
     record {
-      worked = (None, tt, ((bad, c.requires.unread), refl));
-      lawful = rw c.requires.unread c.requires.empty;
+      worked = record { asked = None; is_asked = tt; works = ((bad, c.requires.unread), refl); lawful = rw c.requires.unread c.requires.empty };
       untouched = λ none. refl;
       read_faults = refl;
       write_faults = refl;
@@ -54,4 +58,9 @@ print_layout-requires-clause-few_cpus g c =
 pub returns-in-Layout-clause-worked : goal.returns-in-Layout-clause-worked
 returns-in-Layout-clause-worked g c =
     let l = c.in-Layout in
-    (Some (Layout l.spec l.cpus), (subst (λ x. IsCommand (map string_bytes c.args.words.now) x) l.is c.in-Ok.ensures.spells, tt), (c.print_layout.ensures.printed, c.requires.unread, c.requires.empty.total))
+    record {
+      asked = Some (Layout l.spec l.cpus);
+      is_asked = (subst (λ x. IsCommand (map string_bytes c.args.words.now) x) l.is c.in-Ok.ensures.spells, tt);
+      works = (c.print_layout.ensures.printed, c.requires.unread, c.requires.empty.total);
+      lawful = rw c.requires.unread c.requires.empty;
+    }

@@ -1,6 +1,6 @@
 use Rattle.std.proofs.Common.{◌≡◌, get_or, ◌∙◌}
-use Rattle.slub_engine.proofs.Items.{does_creation, does_destroy, does_round, does_shrink, does_slabinfo}
-use Rattle.slub_engine.proofs.Ready.{kept_sizes, ready_kept, ready_round, ready_same, round_ready}
+use Rattle.slub_journal.proofs.Items.{does_creation, does_destroy, does_round, does_shrink, does_slabinfo}
+use Rattle.slub_engine.proofs.Ready.{ready_kept, ready_round, ready_same, round_ready}
 use Rattle.slub_engine.proofs.item.item.Goals as goal
 
 pub returns-in_ok-create-in-Cache-clause-done : goal.returns-in_ok-create-in-Cache-clause-done
@@ -12,7 +12,7 @@ pub returns-in_ok-create-in-Cache-clause-ready : goal.returns-in_ok-create-in-Ca
 returns-in_ok-create-in-Cache-clause-ready c =
     let at : c.index-as_slice-number.result ≡ get_or c.args.trace.now.items c.args.number c.index-as_slice-number.result = rw (← c.as_slice.ensures) c.index-as_slice-number.is in
     ready_kept c.args.lists.now c.create.new.lists c.args.trace.now c.args.number _ c.requires.sound c.requires.ready c.requires.within at
-    c.in_ok-create-in-Cache.ensures.coherent c.in_ok-create-in-Cache.ensures.sizes c.in_ok-create-in-Cache.ensures.board
+    c.in_ok-create-in-Cache.ensures.coherent c.in_ok-create-in-Cache.ensures.kept c.in_ok-create-in-Cache.ensures.board
 
 pub returns-in-Shrink-clause-done : goal.returns-in-Shrink-clause-done
 returns-in-Shrink-clause-done c =
@@ -23,7 +23,7 @@ pub returns-in-Shrink-clause-ready : goal.returns-in-Shrink-clause-ready
 returns-in-Shrink-clause-ready c =
     let at : c.index-as_slice-number.result ≡ get_or c.args.trace.now.items c.args.number c.index-as_slice-number.result = rw (← c.as_slice.ensures) c.index-as_slice-number.is in
     ready_kept c.args.lists.now c.shrink.new.self c.args.trace.now c.args.number _ c.requires.sound c.requires.ready c.requires.within at
-    c.shrink.ensures.coherent (kept_sizes c.args.lists.now c.shrink.new.self c.shrink.ensures.kept c.shrink.ensures.board) c.shrink.ensures.board
+    c.shrink.ensures.coherent c.shrink.ensures.kept c.shrink.ensures.board
 
 pub returns-in-Destroy-clause-done : goal.returns-in-Destroy-clause-done
 returns-in-Destroy-clause-done c =
@@ -34,7 +34,7 @@ pub returns-in-Destroy-clause-ready : goal.returns-in-Destroy-clause-ready
 returns-in-Destroy-clause-ready c =
     let at : c.index-as_slice-number.result ≡ get_or c.args.trace.now.items c.args.number c.index-as_slice-number.result = rw (← c.as_slice.ensures) c.index-as_slice-number.is in
     ready_kept c.args.lists.now c.destroy.new.self c.args.trace.now c.args.number _ c.requires.sound c.requires.ready c.requires.within at
-    c.destroy.ensures.coherent (kept_sizes c.args.lists.now c.destroy.new.self c.destroy.ensures.kept c.destroy.ensures.board) c.destroy.ensures.board
+    c.destroy.ensures.coherent c.destroy.ensures.kept c.destroy.ensures.board
 
 pub returns-in_ok-serial-in-Round-clause-done : goal.returns-in_ok-serial-in-Round-clause-done
 returns-in_ok-serial-in-Round-clause-done c =
@@ -59,8 +59,8 @@ serial-requires-clause-distinct c =
 pub returns-in_ok-serial-in-Round-clause-ready : goal.returns-in_ok-serial-in-Round-clause-ready
 returns-in_ok-serial-in-Round-clause-ready c =
     let at : c.index-as_slice-number.result ≡ get_or c.args.trace.now.items c.args.number c.index-as_slice-number.result = rw (← c.as_slice.ensures) c.index-as_slice-number.is in
-    ready_round c.args.lists.now c.serial.new.lists c.args.trace.now c.args.number _ _ c.requires.sound c.requires.ready c.requires.within at c.in-Round.is
-    c.in_ok-serial-in-Round.ensures.coherent c.in_ok-serial-in-Round.ensures.sizes c.in_ok-serial-in-Round.ensures.unheld
+    ready_round c.args.lists.now c.serial.new.lists c.args.trace.now c.args.number _ _ _ c.requires.sound c.requires.ready c.requires.within at c.in-Round.is
+    c.in_ok-serial-in-Round.ensures.coherent c.in_ok-serial-in-Round.ensures.sizes c.in_ok-serial-in-Round.ensures.round c.in_ok-serial-in-Round.ensures.unheld
 
 pub returns-in_ok-info_rows-in-Slabinfo-clause-ready : goal.returns-in_ok-info_rows-in-Slabinfo-clause-ready
 returns-in_ok-info_rows-in-Slabinfo-clause-ready c =

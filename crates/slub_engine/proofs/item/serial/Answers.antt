@@ -4,7 +4,7 @@ use Rattle.slub_trace_reader.specs.Sound.{objects_of}
 use Rattle.slub_engine.specs.Steps.{KeepsUnheld, found_since, told_in}
 use Rattle.slub_engine.proofs.Damages.{found_few, found_is}
 use Rattle.slub_engine.proofs.Rounds.{same_ledgers}
-use Rattle.slub_engine.proofs.Zips.{front_taken}
+use Rattle.slub_journal.proofs.Zips.{front_taken}
 use Rattle.slub_engine.proofs.Unheld.{keeps_laid}
 use Rattle.slub_engine.proofs.item.serial.Goals as goal
 

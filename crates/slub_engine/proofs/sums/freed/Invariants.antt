@@ -1,5 +1,5 @@
 use Rattle.std.proofs.Common.{◌≡◌, take, sum_by}
-use Rattle.slub_engine.specs.Lawful.{freed_in, ledgers_of}
+use Rattle.slub_journal.specs.Lawful.{freed_in, ledgers_of}
 use Rattle.slub_engine.proofs.sums.freed.Given as goal
 
 abbrev pub invariant-loop-done : goal.invariant-loop-done

@@ -1,0 +1,155 @@
+-- What the items of a trace that is sound and built are, what was done for them, and their text.
+use Rattle.std.proofs.Common.{◌≡◌, ℕ, ◌<◌, Bool, List, [], length, get_or, refl, sym, ap, subst, Option, Some, MatchOption, Result, slice_get}
+use Rattle.std.proofs.lemmas.Option.{get_or_from_slice_get, slice_get_read}
+use Rattle.std.specs.Option.{option_map_or}
+use Rattle.slub_object_layout.specs.declared.event.Round.{Round}
+use Rattle.slub_object_layout.specs.declared.layout.Spec.{Spec}
+use Rattle.slub_trace_reader.specs.declared.trace.Item.{Item}
+use Rattle.slub_trace_reader.specs.declared.trace.Item.TheVariants as item
+use Rattle.slub_trace_reader.specs.declared.trace.Trace.{Trace}
+use Rattle.slub_trace_reader.specs.Sound.{IsSound, IsSoundItem}
+use Rattle.slub_common.specs.declared.no_such_cache.NoSuchCache.{NoSuchCache}
+use Rattle.slub_answers.specs.declared.destroy.Destroyed.{Destroyed}
+use Rattle.slub_answers.specs.declared.destroy.DestroyRefusal.{DestroyRefusal}
+use Rattle.slub_lists.specs.Destroy.{Destroys}
+use Rattle.slub_lists.specs.Shrink.{Shrinks}
+use Rattle.slub_lists.specs.State.{State}
+use Rattle.slub_slabinfo_text.specs.declared.counts.InfoRow.{InfoRow}
+use Rattle.slub_slabinfo_text.specs.Counts.{rows_of}
+use Rattle.slub_slabinfo_text.specs.declared.text.ItemWord.TheVariants as word
+use Rattle.slub_slabinfo_text.specs.Texts.{info_text}
+use Rattle.slub_answers.specs.declared.create.Created.{Created}
+use Rattle.slub_answers.specs.declared.create.CreateRefusal.{CreateRefusal}
+use Rattle.slub_journal.specs.declared.journal.RoundResult.{RoundResult}
+use Rattle.slub_journal.specs.declared.journal.Done.{Done}
+use Rattle.slub_journal.specs.declared.journal.Done.TheVariants as done
+use Rattle.slub_journal.specs.Lawful.{CreatesName, Does, DoesAt, DoesRound, TakesMemory, TakesMemoryAt, name_at}
+use Rattle.slub_journal.specs.Text.{answer_line, created_answer, destroyed_answer, done_text, round_text, shrunk_answer, text_at}
+
+-- ---- an item that was read
+
+pub sound_at : (trace : Trace) (number : ℕ) (it : Item) → IsSound trace → number < length trace.items → it ≡ get_or trace.items number it → IsSoundItem trace it
+sound_at trace number it sound within is = subst (IsSoundItem trace) (sym is) (sound.items number it within)
+
+-- an element that was read, under another default
+pub at_any_default : {A : Type 0} (xs : List A) (i : ℕ) (x d : A) → i < length xs → x ≡ get_or xs i x → get_or xs i d ≡ x
+at_any_default xs i x d within is = get_or_from_slice_get xs i x d (slice_get_read xs (length xs) i x refl within is)
+
+-- the text of an item that was read
+pub text_at_is : (replies : Bool) (trace : Trace) (number : ℕ) (it : Item) (done : Done) → number < length trace.items → it ≡ get_or trace.items number it
+    → text_at replies trace number done ≡ done_text replies trace it done
+text_at_is replies trace number it done within is =
+    ap (λ found. option_map_or (λ it. done_text replies trace it done) found []) (slice_get_read trace.items (length trace.items) number it refl within is)
+
+-- ---- the text of a pair of an item and what was done
+
+pub creation_text : (replies : Bool) (trace : Trace) (place : ℕ) (spec : Spec) (answer : Result Created CreateRefusal)
+    → done_text replies trace (item.Cache place spec) (done.Created answer) ≡ answer_line replies word.Cache (name_at trace place) (created_answer answer)
+unfolding done_text
+creation_text replies trace place spec answer = refl
+
+pub events_text : (replies : Bool) (trace : Trace) (round : Round) (outcome : RoundResult)
+    → done_text replies trace (item.Round round) (done.Round outcome) ≡ round_text replies round outcome
+unfolding done_text
+events_text replies trace round outcome = refl
+
+pub shrink_text : (replies : Bool) (trace : Trace) (place : ℕ) (answer : Result Bool NoSuchCache)
+    → done_text replies trace (item.Shrink place) (done.Shrunk answer) ≡ answer_line replies word.Shrink (name_at trace place) (shrunk_answer answer)
+unfolding done_text
+shrink_text replies trace place answer = refl
+
+pub destroy_text : (replies : Bool) (trace : Trace) (place : ℕ) (answer : Result Destroyed DestroyRefusal)
+    → done_text replies trace (item.Destroy place) (done.Destroyed answer) ≡ answer_line replies word.Destroy (name_at trace place) (destroyed_answer answer)
+unfolding done_text
+destroy_text replies trace place answer = refl
+
+pub slabinfo_text : (replies : Bool) (trace : Trace) (rows : List InfoRow) → done_text replies trace item.Slabinfo (done.Slabinfo rows) ≡ info_text rows
+unfolding done_text
+slabinfo_text replies trace rows = refl
+
+-- an item that is answered by what isn't of its kind has no text
+pub no_creation_text : (replies : Bool) (trace : Trace) (place : ℕ) (spec : Spec) (dn : Done) → ((answer : Result Created CreateRefusal) → dn ≡ done.Created answer → ⊥) → done_text replies trace (item.Cache place spec) dn ≡ []
+unfolding done_text
+no_creation_text replies trace place spec (done.Created answer) isnt = absurd (isnt answer refl)
+no_creation_text replies trace place spec _ isnt = refl
+
+pub no_events_text : (replies : Bool) (trace : Trace) (round : Round) (dn : Done) → ((outcome : RoundResult) → dn ≡ done.Round outcome → ⊥) → done_text replies trace (item.Round round) dn ≡ []
+unfolding done_text
+no_events_text replies trace round (done.Round outcome) isnt = absurd (isnt outcome refl)
+no_events_text replies trace round _ isnt = refl
+
+pub no_shrink_text : (replies : Bool) (trace : Trace) (place : ℕ) (dn : Done) → ((answer : Result Bool NoSuchCache) → dn ≡ done.Shrunk answer → ⊥) → done_text replies trace (item.Shrink place) dn ≡ []
+unfolding done_text
+no_shrink_text replies trace place (done.Shrunk answer) isnt = absurd (isnt answer refl)
+no_shrink_text replies trace place _ isnt = refl
+
+pub no_destroy_text : (replies : Bool) (trace : Trace) (place : ℕ) (dn : Done) → ((answer : Result Destroyed DestroyRefusal) → dn ≡ done.Destroyed answer → ⊥) → done_text replies trace (item.Destroy place) dn ≡ []
+unfolding done_text
+no_destroy_text replies trace place (done.Destroyed answer) isnt = absurd (isnt answer refl)
+no_destroy_text replies trace place _ isnt = refl
+
+pub no_slabinfo_text : (replies : Bool) (trace : Trace) (dn : Done) → ((rows : List InfoRow) → dn ≡ done.Slabinfo rows → ⊥) → done_text replies trace item.Slabinfo dn ≡ []
+unfolding done_text
+no_slabinfo_text replies trace (done.Slabinfo rows) isnt = absurd (isnt rows refl)
+no_slabinfo_text replies trace _ isnt = refl
+
+-- nor has an item of another kind
+pub no_other_text : (replies : Bool) (trace : Trace) (it : Item) (dn : Done)
+    → ((place : ℕ) (spec : Spec) → it ≡ item.Cache place spec → ⊥) → ((round : Round) → it ≡ item.Round round → ⊥) → ((place : ℕ) → it ≡ item.Shrink place → ⊥)
+    → ((place : ℕ) → it ≡ item.Destroy place → ⊥) → (it ≡ item.Slabinfo → ⊥) → done_text replies trace it dn ≡ []
+unfolding done_text
+no_other_text replies trace (item.Cache place spec) dn cache round shrink destroy info = absurd (cache place spec refl)
+no_other_text replies trace (item.Round it) dn cache round shrink destroy info = absurd (round it refl)
+no_other_text replies trace (item.Shrink place) dn cache round shrink destroy info = absurd (shrink place refl)
+no_other_text replies trace (item.Destroy place) dn cache round shrink destroy info = absurd (destroy place refl)
+no_other_text replies trace item.Slabinfo dn cache round shrink destroy info = absurd (info refl)
+no_other_text replies trace _ dn cache round shrink destroy info = refl
+
+-- ---- an item that was read is done
+
+-- it is one for which memory is taken
+pub takes_at : (trace : Trace) (number : ℕ) (it : Item) → number < length trace.items → it ≡ get_or trace.items number it → TakesMemory it → TakesMemoryAt trace number
+takes_at trace number it within is takes =
+    let found : slice_get trace.items number ≡ Some it = slice_get_read trace.items (length trace.items) number it refl within is in
+    subst (λ (found : Option Item). MatchOption found ⊥ TakesMemory) (sym found) takes
+
+does_at : (s : State) (trace : Trace) (number : ℕ) (it : Item) (dn : Done) (after : State) → number < length trace.items → it ≡ get_or trace.items number it
+    → Does s trace it dn after → DoesAt s trace number dn after
+does_at s trace number it dn after within is does =
+    let found : slice_get trace.items number ≡ Some it = slice_get_read trace.items (length trace.items) number it refl within is in
+    subst (λ (found : Option Item). MatchOption found ⊥ (λ it. Does s trace it dn after)) (sym found) does
+
+pub does_creation : (s : State) (trace : Trace) (number : ℕ) (it : Item) (place : ℕ) (spec : Spec) (answer : Result Created CreateRefusal) (after : State)
+    → number < length trace.items → it ≡ get_or trace.items number it → it ≡ item.Cache place spec
+    → CreatesName s (name_at trace place) spec answer after → DoesAt s trace number (done.Created answer) after
+unfolding Does
+does_creation s trace number it place spec answer after within at is creates =
+    does_at s trace number it (done.Created answer) after within at (subst (λ (it : Item). Does s trace it (done.Created answer) after) (sym is) creates)
+
+pub does_round : (s : State) (trace : Trace) (number : ℕ) (it : Item) (round : Round) (outcome : RoundResult) (after : State)
+    → number < length trace.items → it ≡ get_or trace.items number it → it ≡ item.Round round
+    → DoesRound s round outcome after → DoesAt s trace number (done.Round outcome) after
+unfolding Does
+does_round s trace number it round outcome after within at is does =
+    does_at s trace number it (done.Round outcome) after within at (subst (λ (it : Item). Does s trace it (done.Round outcome) after) (sym is) does)
+
+pub does_slabinfo : (s : State) (trace : Trace) (number : ℕ) (it : Item) (rows : List InfoRow)
+    → number < length trace.items → it ≡ get_or trace.items number it → it ≡ item.Slabinfo
+    → rows ≡ rows_of s → DoesAt s trace number (done.Slabinfo rows) s
+unfolding Does
+does_slabinfo s trace number it rows within at is rows_are =
+    does_at s trace number it (done.Slabinfo rows) s within at (subst (λ (it : Item). Does s trace it (done.Slabinfo rows) s) (sym is) (rows_are, refl))
+
+pub does_shrink : (s : State) (trace : Trace) (number : ℕ) (it : Item) (place : ℕ) (answer : Result Bool NoSuchCache) (after : State)
+    → number < length trace.items → it ≡ get_or trace.items number it → it ≡ item.Shrink place
+    → Shrinks s (name_at trace place) answer after → DoesAt s trace number (done.Shrunk answer) after
+unfolding Does
+does_shrink s trace number it place answer after within at is does =
+    does_at s trace number it (done.Shrunk answer) after within at (subst (λ (it : Item). Does s trace it (done.Shrunk answer) after) (sym is) does)
+
+pub does_destroy : (s : State) (trace : Trace) (number : ℕ) (it : Item) (place : ℕ) (answer : Result Destroyed DestroyRefusal) (after : State)
+    → number < length trace.items → it ≡ get_or trace.items number it → it ≡ item.Destroy place
+    → Destroys s (name_at trace place) answer after → DoesAt s trace number (done.Destroyed answer) after
+unfolding Does
+does_destroy s trace number it place answer after within at is does =
+    does_at s trace number it (done.Destroyed answer) after within at (subst (λ (it : Item). Does s trace it (done.Destroyed answer) after) (sym is) does)

@@ -1,0 +1,5 @@
+pub mod Zips
+pub mod Items
+pub mod Laws
+pub mod Numbers
+pub mod Rows

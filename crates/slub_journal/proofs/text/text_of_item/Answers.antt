@@ -1,0 +1,61 @@
+use Rattle.std.proofs.Common.{◌≡◌, get_or, ℕ, List, [], IfOk, subst, refl, sym, ◌∙◌}
+use Rattle.slub_slabinfo_text.specs.declared.text.ItemWord.TheVariants as word
+use Rattle.slub_journal.specs.Text.{answer_line, done_text, round_text}
+use Rattle.slub_journal.proofs.Items.{creation_text, destroy_text, events_text, no_creation_text, no_destroy_text, no_events_text, no_other_text, no_shrink_text, no_slabinfo_text, shrink_text, slabinfo_text, text_at_is}
+use Rattle.slub_journal.proofs.text.text_of_item.Goals as goal
+use Rattle.slub_journal.proofs.text.text_of_item.Goals.{in_default-via-in-Cache+in_default, in_default-via-in-Round+in_default, in_default-via-in-Shrink+in_default, in_default-via-in-Destroy+in_default, in_default-via-in-Slabinfo+in_default, in_default-via-in_default}
+
+pub returns-in_default : goal.returns-in_default
+returns-in_default c =
+    let at : c.index-as_slice-number.result ≡ get_or c.args.trace.now.items c.args.number c.index-as_slice-number.result = rw (← c.as_slice.ensures) c.index-as_slice-number.is in
+    let text = text_at_is c.args.replies c.args.trace.now c.args.number c.index-as_slice-number.result c.args.done.now c.requires.within at in
+    c.new.ensures.items ∙ sym (text ∙ none)
+  where
+    none : done_text c.args.replies c.args.trace.now c.index-as_slice-number.result c.args.done.now ≡ []
+    none = elim c.in_default.branch [
+      | in_default-via-in-Cache+in_default w ↦ rw w.in_default.is-0 (no_creation_text c.args.replies c.args.trace.now _ _ c.args.done.now w.in_default.not-Created-1)
+      | in_default-via-in-Round+in_default w ↦ rw w.in_default.is-0 (no_events_text c.args.replies c.args.trace.now _ c.args.done.now w.in_default.not-Round-1)
+      | in_default-via-in-Shrink+in_default w ↦ rw w.in_default.is-0 (no_shrink_text c.args.replies c.args.trace.now _ c.args.done.now w.in_default.not-Shrunk-1)
+      | in_default-via-in-Destroy+in_default w ↦ rw w.in_default.is-0 (no_destroy_text c.args.replies c.args.trace.now _ c.args.done.now w.in_default.not-Destroyed-1)
+      | in_default-via-in-Slabinfo+in_default w ↦ rw w.in_default.is-0 (no_slabinfo_text c.args.replies c.args.trace.now c.args.done.now w.in_default.not-Slabinfo-1)
+      | in_default-via-in_default w ↦ no_other_text c.args.replies c.args.trace.now _ c.args.done.now w.in_default.not-Cache-0 w.in_default.not-Round-0 w.in_default.not-Shrink-0 w.in_default.not-Destroy-0 w.in_default.not-Slabinfo-0
+    ]
+
+pub returns-in-Cache-Created : goal.returns-in-Cache-Created
+returns-in-Cache-Created c =
+    let at : c.index-as_slice-number.result ≡ get_or c.args.trace.now.items c.args.number c.index-as_slice-number.result = rw (← c.as_slice.ensures) c.index-as_slice-number.is in
+    let text = text_at_is c.args.replies c.args.trace.now c.args.number c.index-as_slice-number.result c.args.done.now c.requires.within at in
+    let line : done_text c.args.replies c.args.trace.now c.index-as_slice-number.result c.args.done.now ≡ answer_line c.args.replies word.Cache c.name_of.result.now c.created_answer-answer.result =
+    rw (c.in-Cache-Created.is-0, c.in-Cache-Created.is-1, c.name_of.ensures, c.created_answer-answer.ensures) (creation_text c.args.replies c.args.trace.now _ _ _) in
+    subst (λ (lines : List ℕ). IfOk c.line_of.result (λ text. text.items ≡ lines)) (sym (text ∙ line)) c.line_of.ensures
+
+pub returns-in-Shrink-Shrunk : goal.returns-in-Shrink-Shrunk
+returns-in-Shrink-Shrunk c =
+    let at : c.index-as_slice-number.result ≡ get_or c.args.trace.now.items c.args.number c.index-as_slice-number.result = rw (← c.as_slice.ensures) c.index-as_slice-number.is in
+    let text = text_at_is c.args.replies c.args.trace.now c.args.number c.index-as_slice-number.result c.args.done.now c.requires.within at in
+    let line : done_text c.args.replies c.args.trace.now c.index-as_slice-number.result c.args.done.now ≡ answer_line c.args.replies word.Shrink c.name_of-in-Shrink-Shrunk.result.now c.shrunk_answer-answer.result =
+    rw (c.in-Shrink-Shrunk.is-0, c.in-Shrink-Shrunk.is-1, c.name_of-in-Shrink-Shrunk.ensures, c.shrunk_answer-answer.ensures) (shrink_text c.args.replies c.args.trace.now _ _) in
+    subst (λ (lines : List ℕ). IfOk c.line_of-in-Shrink-Shrunk.result (λ text. text.items ≡ lines)) (sym (text ∙ line)) c.line_of-in-Shrink-Shrunk.ensures
+
+pub returns-in-Destroy-Destroyed : goal.returns-in-Destroy-Destroyed
+returns-in-Destroy-Destroyed c =
+    let at : c.index-as_slice-number.result ≡ get_or c.args.trace.now.items c.args.number c.index-as_slice-number.result = rw (← c.as_slice.ensures) c.index-as_slice-number.is in
+    let text = text_at_is c.args.replies c.args.trace.now c.args.number c.index-as_slice-number.result c.args.done.now c.requires.within at in
+    let line : done_text c.args.replies c.args.trace.now c.index-as_slice-number.result c.args.done.now ≡ answer_line c.args.replies word.Destroy c.name_of-in-Destroy-Destroyed.result.now c.destroyed_answer-answer.result =
+    rw (c.in-Destroy-Destroyed.is-0, c.in-Destroy-Destroyed.is-1, c.name_of-in-Destroy-Destroyed.ensures, c.destroyed_answer-answer.ensures) (destroy_text c.args.replies c.args.trace.now _ _) in
+    subst (λ (lines : List ℕ). IfOk c.line_of-in-Destroy-Destroyed.result (λ text. text.items ≡ lines)) (sym (text ∙ line)) c.line_of-in-Destroy-Destroyed.ensures
+
+pub returns-in-Round-Round : goal.returns-in-Round-Round
+returns-in-Round-Round c =
+    let at : c.index-as_slice-number.result ≡ get_or c.args.trace.now.items c.args.number c.index-as_slice-number.result = rw (← c.as_slice.ensures) c.index-as_slice-number.is in
+    let text = text_at_is c.args.replies c.args.trace.now c.args.number c.index-as_slice-number.result c.args.done.now c.requires.within at in
+    let lines : done_text c.args.replies c.args.trace.now c.index-as_slice-number.result c.args.done.now ≡ round_text c.args.replies c.in-Round-Round.round c.in-Round-Round.outcome =
+    rw (c.in-Round-Round.is-0, c.in-Round-Round.is-1) (events_text c.args.replies c.args.trace.now _ _) in
+    subst (λ (lines : List ℕ). IfOk c.round_text.result (λ text. text.items ≡ lines)) (sym (text ∙ lines)) c.round_text.ensures
+
+pub returns-in_ok-slabinfo_text-in-Slabinfo-Slabinfo : goal.returns-in_ok-slabinfo_text-in-Slabinfo-Slabinfo
+returns-in_ok-slabinfo_text-in-Slabinfo-Slabinfo c =
+    let at : c.index-as_slice-number.result ≡ get_or c.args.trace.now.items c.args.number c.index-as_slice-number.result = rw (← c.as_slice.ensures) c.index-as_slice-number.is in
+    let text = text_at_is c.args.replies c.args.trace.now c.args.number c.index-as_slice-number.result c.args.done.now c.requires.within at in
+    let line = c.in_ok-slabinfo_text-in-Slabinfo-Slabinfo.ensures in
+    rw (text, c.in-Slabinfo-Slabinfo.is-0, c.in-Slabinfo-Slabinfo.is-1, slabinfo_text, line, c.as_slice-in-Slabinfo-Slabinfo.ensures) refl

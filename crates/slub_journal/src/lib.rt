@@ -1,0 +1,17 @@
+//! The journal of what was done: what came of each item of a trace, which journals are lawful for a
+//! trace, and the text that a journal has.
+//!
+//! `journal` has the types. `specs/Lawful.antt` says which journals are lawful for a trace: the items
+//! answer the trace's first items, one each, by the sequential semantics from the opening machine, and
+//! between any two steps the machine is coherent. It also says which traces are built, that is,
+//! replayed today (`is_built` decides it), and where a machine stands before an item.
+//! `specs/Text.antt` says which text a journal has, and `text` makes it, an item at a time. Nothing here
+//! knows a machine's bodies: an answer is made into text whoever gave it.
+#![tactic(auto)]
+
+pub mod built;
+pub mod journal;
+pub mod names;
+#[cfg(test)]
+mod tests;
+pub mod text;

@@ -1,0 +1,102 @@
+-- What leaves the board and the counts of held objects as they are: each item but a round.
+use Rattle.std.proofs.Common.{◌≡◌, ℕ, Bool, true, false, cond, List, [], refl, ◌∙◌, ap, Option, Some, None, MatchOption, Result, Ok, Err}
+use Rattle.slub_object_layout.specs.declared.event.Round.{Round}
+use Rattle.slub_object_layout.specs.declared.layout.Spec.{Spec}
+use Rattle.slub_common.specs.declared.no_such_cache.NoSuchCache.{NoSuchCache}
+use Rattle.slub_cache_create.specs.declared.caches.Created.{Created as CreatedCache}
+use Rattle.slub_cache_create.specs.declared.caches.Created.TheVariants as made
+use Rattle.slub_cache_create.specs.Table.{number_of, cache_of as live_cache}
+use Rattle.slub_answers.specs.declared.destroy.Destroyed.{Destroyed}
+use Rattle.slub_answers.specs.declared.destroy.Destroyed.TheVariants.{NameDropped, Gone}
+use Rattle.slub_answers.specs.declared.destroy.DestroyRefusal.{DestroyRefusal}
+use Rattle.slub_answers.specs.declared.destroy.DestroyRefusal.TheVariants.{NoSuchCache as NotLive, Busy}
+use Rattle.slub_lists.specs.State.{State}
+use Rattle.slub_lists.specs.Create.{CreatesCache}
+use Rattle.slub_lists.specs.Destroy.{Destroys}
+use Rattle.slub_lists.specs.Leaving.{KeepsHeld}
+use Rattle.slub_lists.specs.Shrink.{Shrinks}
+use Rattle.slub_trace_reader.specs.declared.trace.Item.{Item}
+use Rattle.slub_trace_reader.specs.declared.trace.Item.TheVariants as item
+use Rattle.slub_trace_reader.specs.declared.trace.Trace.{Trace}
+use Rattle.slub_trace_reader.specs.Sound.{events_in}
+use Rattle.slub_answers.specs.declared.create.Created.{Created}
+use Rattle.slub_answers.specs.declared.create.Created.TheVariants.{New, Merged}
+use Rattle.slub_answers.specs.declared.create.CreateRefusal.{CreateRefusal}
+use Rattle.slub_journal.specs.declared.journal.RoundResult.{RoundResult}
+use Rattle.slub_journal.specs.declared.journal.Done.{Done}
+use Rattle.slub_journal.specs.declared.journal.Done.TheVariants as done
+use Rattle.slub_journal.specs.Lawful.{CreatesName, Does, DoesRound, ledgers_of}
+
+-- ---- what stays
+
+-- the same objects are held, under the same numbers
+pub record Keeps (s after : State) : Type 0 where
+  pub board : after.board ≡ s.board
+  pub live : after.live ≡ s.live
+
+pub keeps_both : (s mid after : State) → Keeps s mid → Keeps mid after → Keeps s after
+keeps_both s mid after first second = record { board = second.board ∙ first.board; live = second.live ∙ first.live }
+
+-- something else was written
+pub keeps_written : (s mid after : State) → after ≡ mid → mid.board ≡ s.board → mid.live ≡ s.live → Keeps s after
+keeps_written s mid after is board live = record { board = ap (λ (t : State). t.board) is ∙ board; live = ap (λ (t : State). t.live) is ∙ live }
+
+pub keeps_same : (s after : State) → after ≡ s → Keeps s after
+keeps_same s after is = keeps_written s s after is refl refl
+
+pub keeps_either : (s one other : State) (b : Bool) → Keeps s one → Keeps s other → Keeps s (cond b one other)
+keeps_either s one other true first second = first
+keeps_either s one other false first second = second
+
+pub keeps_held : (s after : State) → KeepsHeld s after → Keeps s after
+keeps_held s after held = record { board = held.board; live = held.live }
+
+-- what is there
+pub match_some : {A : Type 0} (found : Option A) (P : A → Type 0) (Q : Type 0) → MatchOption found ⊥ P → ((x : A) → P x → Q) → Q
+match_some None P Q matches some = absurd matches
+match_some (Some x) P Q matches some = some x matches
+
+-- ---- creating
+
+created_keeps : (s : State) (name : List ℕ) (spec : Spec) (created : CreatedCache) (after : State) → CreatesCache s name spec created after → Keeps s after
+created_keeps s name spec (made.Merged cache) after creates = keeps_written s _ after creates.2 refl refl
+created_keeps s name spec (made.New cache) after creates =
+    match_some (live_cache creates.0 cache) _ (Keeps s after) creates.2 (λ live is. keeps_written s _ after is refl refl)
+
+creates_keep : (s : State) (name : List ℕ) (spec : Spec) (answer : Result Created CreateRefusal) (after : State) → CreatesName s name spec answer after → Keeps s after
+creates_keep s name spec (Ok (New cache)) after creates = created_keeps s name spec (made.New cache) after creates.2
+creates_keep s name spec (Ok (Merged cache title)) after creates = created_keeps s name spec (made.Merged cache) after creates.2
+creates_keep s name spec (Err why) after creates = keeps_same s after creates.1
+
+-- ---- shrinking and destroying
+
+shrinks_keep : (s : State) (name : List ℕ) (answer : Result Bool NoSuchCache) (after : State) → Shrinks s name answer after → Keeps s after
+shrinks_keep s name (Err none) after shrinks = keeps_same s after shrinks.1
+shrinks_keep s name (Ok remain) after shrinks =
+    match_some (number_of s.table name) _ (Keeps s after) shrinks (λ cache shrinks. keeps_held s after shrinks.0.held)
+
+destroys_keep : (s : State) (name : List ℕ) (answer : Result Destroyed DestroyRefusal) (after : State) → Destroys s name answer after → Keeps s after
+destroys_keep s name (Err NotLive) after destroys = keeps_same s after destroys.1
+destroys_keep s name (Err (Busy objects)) after destroys =
+    match_some (number_of s.table name) _ (Keeps s after) destroys (λ cache busy. keeps_same s after busy.3)
+destroys_keep s name (Ok NameDropped) after destroys =
+    match_some (number_of s.table name) _ (Keeps s after) destroys (λ cache drops. keeps_written s _ after drops.1 refl refl)
+destroys_keep s name (Ok Gone) after destroys =
+    match_some (number_of s.table name) _ (Keeps s after) destroys (λ cache goes.
+    keeps_both s goes.2 after (keeps_held s goes.2 goes.3.held) (keeps_written goes.2 _ after goes.5 refl refl))
+
+-- ---- items
+
+-- an item is a round; or no event and no ledger is counted of it, and it keeps the board and the counts
+pub data ItemEffect (s : State) (it : Item) (dn : Done) (after : State) : Type 0 where
+  one_round : (round : Round) (outcome : RoundResult) → it ≡ item.Round round → dn ≡ done.Round outcome → DoesRound s round outcome after → ItemEffect s it dn after
+  no_round : events_in it ≡ [] → ledgers_of dn ≡ [] → Keeps s after → ItemEffect s it dn after
+
+pub item_effect : (s : State) (trace : Trace) (it : Item) (dn : Done) (after : State) → Does s trace it dn after → ItemEffect s it dn after
+unfolding Does
+item_effect s trace (item.Cache place spec) (done.Created answer) after does = no_round refl refl (creates_keep s _ spec answer after does)
+item_effect s trace (item.Round round) (done.Round outcome) after does = one_round round outcome refl refl does
+item_effect s trace (item.Shrink place) (done.Shrunk answer) after does = no_round refl refl (shrinks_keep s _ answer after does)
+item_effect s trace (item.Destroy place) (done.Destroyed answer) after does = no_round refl refl (destroys_keep s _ answer after does)
+item_effect s trace item.Slabinfo (done.Slabinfo rows) after does = no_round refl refl (keeps_same s after does.1)
+item_effect s trace _ _ after does = absurd does

@@ -1,0 +1,63 @@
+#!/usr/bin/env bash
+# examples.sh [PROGRAM]: each examples/NAME.out against what the program writes: for the words of NAME.args, one a
+# line (without it: replay --replies), the input NAME.trace (without it: none) and the status of NAME.status
+# (without it: 0). Without PROGRAM the program is made by `rt try`, unproved, in about a minute.
+top=$(cd "$(dirname "${BASH_SOURCE[0]}")/.." && pwd) || exit 2
+room=$(mktemp -d) || exit 2
+trap 'rm -rf "$room"' EXIT
+passed=0
+failed=0
+
+# One folder with a file NAME, NAME.args and NAME.stdout for each example, as `rt try --cases` reads it.
+mkdir "$room/cases"
+for out in "$top"/examples/*.out; do
+    example=${out%.out}
+    case=$room/cases/${example##*/}
+    cp "$out" "$case.stdout"
+    if [ -f "$example.trace" ]; then cp "$example.trace" "$case"; else : >"$case"; fi
+    if [ -f "$example.args" ]; then cp "$example.args" "$case.args"; else printf 'replay\n--replies\n' >"$case.args"; fi
+done
+
+# Writes lines NAME STATUS OUTPUT, where OUTPUT is `expected` or `differs`.
+run_all() {
+    local case words status
+    if [ $# = 0 ]; then
+        (cd "$top/crates/slub" && rt try --cases "$room/cases") >"$room/log" 2>&1
+        sed -n 's/^case=\([^ ]*\) run=ended status=\([0-9]*\) .*output=\([a-z]*\).*/\1 \2 \3/p' "$room/log"
+        return
+    fi
+    cp "$1" "$room/program" && chmod +x "$room/program" || return
+    for case in "$room"/cases/*.stdout; do
+        case=${case%.stdout}
+        mapfile -t words <"$case.args"
+        "$room/program" "${words[@]}" <"$case" >"$room/got"
+        status=$?
+        if cmp -s "$room/got" "$case.stdout"; then
+            echo "${case##*/} $status expected"
+        else
+            echo "${case##*/} $status differs"
+            diff "$case.stdout" "$room/got" | head -5 >&2
+        fi
+    done
+}
+
+run_all "$@" >"$room/results"
+for out in "$top"/examples/*.out; do
+    name=$(basename "$out" .out)
+    wanted=$(cat "$top/examples/$name.status" 2>/dev/null || echo 0)
+    if grep -qx "$name $wanted expected" "$room/results"; then
+        passed=$((passed + 1))
+    else
+        failed=$((failed + 1))
+        result=$(sed -n "s/^$name //p" "$room/results")
+        echo "tests/examples.sh: $name: wanted $wanted expected, got ${result:-nothing}" >&2
+    fi
+done
+for trace in "$top"/examples/*.trace; do
+    [ -f "${trace%.trace}.out" ] && continue
+    failed=$((failed + 1))
+    echo "tests/examples.sh: no output stands beside $(basename "$trace")" >&2
+done
+if [ "$failed" != 0 ] && [ -f "$room/log" ]; then cat "$room/log" >&2; fi
+echo "tests/examples.sh: $passed passed, $failed failed"
+[ "$failed" = 0 ]

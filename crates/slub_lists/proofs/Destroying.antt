@@ -108,7 +108,7 @@ module _ (s : State) (table : Table) (checked : List (Option CheckedState)) (coh
     }
 
   -- a checked cache whose slabs stand where they stood, under the same flags and layout
-  tabled-checked : (cache : ℕ) (slabs : CheckedState) → MatchOption (live_cache table cache) ⊥ (λ live. IsCacheOf slabs live.layout live.flags) → IsCheckedOf s cache slabs → IsCheckedOf tabled cache slabs
+  pub tabled-checked : (cache : ℕ) (slabs : CheckedState) → MatchOption (live_cache table cache) ⊥ (λ live. IsCacheOf slabs live.layout live.flags) → IsCheckedOf s cache slabs → IsCheckedOf tabled cache slabs
   tabled-checked cache slabs live is = record {
     sound = is.sound;
     number = is.number;

@@ -16,11 +16,13 @@ use Rattle.slub_lists.specs.State.{State}
 use Rattle.slub_lists.specs.Alloc.{cache_of, checked_of, slab_of}
 use Rattle.slub_lists.specs.Coherent.{AreChecked, IsCacheOf, IsCheckedOf, IsCoherent, IsSlabOf, KeepsMachine}
 use Rattle.slub_lists.specs.Leaving.{LeavesSlabs}
-use Rattle.slub_lists.specs.Shrink.{min_partial_of}
+use Rattle.slub_lists.specs.Shrink.{flushed_below, min_partial_of}
+use Rattle.slub_lists.specs.Shrinking.{KeepsChecked}
 use Rattle.slub_lists.specs.Tune.{TunesCache, tuned, with_setting}
 use Rattle.slub_common.proofs.Writes.{at_written}
 use Rattle.slub_lists.proofs.CheckedSlabs.{some_weaker}
 use Rattle.slub_lists.proofs.ComingFree.{frees-lost}
+use Rattle.slub_lists.proofs.Leaving.{leaves-both, leaves-same}
 use Rattle.slub_lists.proofs.Destroying.{tabled, tabled-checked, tabled-coherent}
 
 -- ---- one cache
@@ -110,6 +112,23 @@ min_partial-is (Some live) layout some is = ap (λ (l : Layout). l.min_partial) 
 
 -- ---- the whole
 
-pub tunes-cache : (s after : State) (cache : ℕ) (setting : Setting) → IsCoherent s → IsCoherent after → after.frames ≡ s.frames → after ≡ tuned s cache setting → LeavesSlabs s cache after → TunesCache s cache setting after
+tunes-cache : (s after : State) (cache : ℕ) (setting : Setting) → IsCoherent s → IsCoherent after → after.frames ≡ s.frames → after ≡ tuned s cache setting → LeavesSlabs s cache after → TunesCache s cache setting after
 tunes-cache s after cache setting coherent coherent_after frames steps leaves =
     record { steps = steps; slabs = leaves; pages = frees-lost s after cache coherent coherent_after frames leaves }
+
+-- `min_partial` is set
+pub tunes-min_partial : (s after : State) (cache slabs : ℕ) → IsCoherent s → IsCoherent after → after ≡ with_setting s cache (MinPartial slabs) → TunesCache s cache (MinPartial slabs) after
+tunes-min_partial s after cache slabs coherent coherent_after set =
+    tunes-cache s after cache (MinPartial slabs) coherent coherent_after (ap (λ (t : State). t.frames) set) set (leaves-same s after cache (ap (λ (t : State). t.slabs) set))
+
+-- the CPUs are flushed, and then the objects of their partial lists are set
+pub tunes-unchecked : (s t after : State) (cache objects least : ℕ) → IsCoherent s → IsCoherent after → checked_of s cache ≡ None → least ≡ min_partial_of s cache
+    → t ≡ flushed_below s least cache s.cpus → LeavesSlabs s cache t → KeepsChecked s t → after ≡ with_setting t cache (CpuPartial objects) → TunesCache s cache (CpuPartial objects) after
+tunes-unchecked s t after cache objects least coherent coherent_after unchecked is flushed leaves rest set =
+    tunes-cache s after cache (CpuPartial objects) coherent coherent_after (ap (λ (u : State). u.frames) set ∙ rest.held.frames)
+    (rw unchecked (set ∙ ap (λ (u : State). with_setting u cache (CpuPartial objects)) (flushed ∙ ap (λ n. flushed_below s n cache s.cpus) is)))
+    (leaves-both s t after cache leaves (leaves-same t after cache (ap (λ (u : State). u.slabs) set)))
+
+-- a checked cache stays as it is
+pub tunes-nothing : (s : State) (cache objects : ℕ) → IsCoherent s → IsSome (checked_of s cache) → TunesCache s cache (CpuPartial objects) s
+tunes-nothing s cache objects coherent checked = tunes-cache s s cache (CpuPartial objects) coherent coherent refl (rw checked refl) (leaves-same s s cache refl)

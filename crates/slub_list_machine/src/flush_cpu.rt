@@ -1,11 +1,10 @@
 //! Emptying a CPU in the midst of a round (`__flush_cpu_slab`).
 
-ghost use Rattle.std.specs.Prelude.{◌≡◌, ◌<◌, ◌≤◌, length, IsSome};
+ghost use Rattle.std.specs.Prelude.{◌≡◌, ℕ, ◌<◌, ◌≤◌, length, IsSome};
 ghost use Rattle.slub_lists.specs.Alloc.{cache_of, lists_of};
-ghost use Rattle.slub_lists.specs.Coherent.{IsCoherent};
+ghost use Rattle.slub_lists.specs.Coherent.{IsCoherent, KeepsOthers};
 ghost use Rattle.slub_lists.specs.Flush.{Flushes, flushed_cpu, flushed_of, slabs_on, slabs_on_cpu};
 ghost use Rattle.slub_lists.specs.Shrinking.{KeepsChecked};
-ghost use Rattle.slub_lists.specs.WordSteps.{KeepsAll};
 
 use crate::lists::Lists;
 use slub_answers::reply::Reply;
@@ -17,7 +16,8 @@ impl Lists {
         requires coherent { IsCoherent self.old }
         requires cpu { cpu < self.old.cpus }
         ensures flushes { Flushes self.old cpu result self.new }
-        ensures others { KeepsAll self.old self.new }
+        ensures board { self.new.board ≡ self.old.board }
+        ensures others { (object : ℕ) → KeepsOthers self.old object self.new }
         ensures coherent { IsCoherent self.new }
     {
         let moved = self.slabs_on_cpu(cpu);
@@ -73,9 +73,10 @@ impl Lists {
         ensures rest { KeepsChecked self.old self.new }
         ensures coherent { IsCoherent self.new }
     {
-        if self.checked[cache as usize].is_none() {
-            let min_partial = self.table.layout(cache).min_partial;
-            self.flush_cache(cache, cpu, min_partial);
+        if self.checked[cache as usize].is_some() {
+            return;
         }
+        let min_partial = self.table.layout(cache).min_partial;
+        self.flush_cache(cache, cpu, min_partial);
     }
 }

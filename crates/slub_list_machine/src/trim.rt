@@ -1,12 +1,11 @@
 //! Shrinking caches in the midst of a round.
 
-ghost use Rattle.std.specs.Prelude.{◌≡◌, ◌+◌, ◌<◌, None, IsSome, length};
+ghost use Rattle.std.specs.Prelude.{◌≡◌, ℕ, ◌+◌, ◌<◌, None, IsSome, length};
 ghost use Rattle.slub_lists.specs.Alloc.{cache_of, checked_of};
-ghost use Rattle.slub_lists.specs.Coherent.{IsCoherent};
+ghost use Rattle.slub_lists.specs.Coherent.{IsCoherent, KeepsOthers};
 ghost use Rattle.slub_lists.specs.Shrink.{ShrinksCache, slabs_of};
 ghost use Rattle.slub_lists.specs.Shrinking.{KeepsChecked};
 ghost use Rattle.slub_lists.specs.Trim.{Trims};
-ghost use Rattle.slub_lists.specs.WordSteps.{KeepsAll};
 
 use crate::lists::Lists;
 use slub_answers::reply::Reply;
@@ -20,7 +19,8 @@ impl Lists {
         requires coherent { IsCoherent self.old }
         requires place { place < length self.old.table.kept }
         ensures trims { Trims self.old place result self.new }
-        ensures others { KeepsAll self.old self.new }
+        ensures board { self.new.board ≡ self.old.board }
+        ensures others { (object : ℕ) → KeepsOthers self.old object self.new }
         ensures coherent { IsCoherent self.new }
     {
         let Some(cache) = self.table.at(place) else {

@@ -1,9 +1,10 @@
 //! Settings of live caches, after `min_partial_store` and `cpu_partial_store`.
 
 ghost use Rattle.std.specs.Prelude.{◌≡◌, ◌≤◌, ◌<◌, None, IsSome, MatchResult};
+ghost use Rattle.slub_cache_create.specs.Tune.{IsSetting};
 ghost use Rattle.slub_lists.specs.Alloc.{cache_of, checked_of};
 ghost use Rattle.slub_lists.specs.Coherent.{IsCoherent, KeepsMachine};
-ghost use Rattle.slub_lists.specs.Tune.{IsRefused, IsSetting, Tunes, TunesCache, with_setting};
+ghost use Rattle.slub_lists.specs.Tune.{IsRefused, Tunes, TunesCache, with_setting};
 
 use crate::lists::Lists;
 use slub_answers::tune::TuneRefusal;

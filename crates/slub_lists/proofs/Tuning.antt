@@ -48,7 +48,7 @@ checked-still slabs own (Some live) h = (ap (λ (layout : Layout). record layout
 
 module _ (s : State) (cache : ℕ) (setting : Setting) (coherent : IsCoherent s) (sound : IsSoundTable (table_with_setting s.table cache setting))
     (still : (own : CheckedState) (x : Option Cache) → checked_of s cache ≡ Some own → MatchOption x ⊥ (λ live. IsCacheOf own live.layout live.flags)
-        → MatchOption (option_map (tuned_cache setting) x) ⊥ (λ live. IsCacheOf own live.layout live.flags)) where
+    → MatchOption (option_map (tuned_cache setting) x) ⊥ (λ live. IsCacheOf own live.layout live.flags)) where
   abbrev set-table : Table
   set-table = table_with_setting s.table cache setting
 

@@ -1,4 +1,5 @@
--- Emptying a CPU in the midst of a round, after `slub_cpu_dead` and `__flush_cpu_slab` of Linux 6.1.
+-- Emptying a CPU in the midst of a round, after `slub_cpu_dead` and `__flush_cpu_slab` of Linux
+-- 6.1.
 use Rattle.std.specs.Prelude.{◌≡◌, ℕ, ◌+◌, if◌then◌else◌, is_some, length, sum_by, fold}
 use Rattle.slub_answers.specs.declared.reply.Reply.{Reply}
 use Rattle.slub_answers.specs.declared.reply.Reply.TheVariants.{Flushed}
@@ -17,7 +18,8 @@ slabs_on_cpu s cpu = sum_by (λ cache. slabs_on (lists_of s cache cpu)) s.table.
 
 -- a CPU has nothing of a cache any more; of a checked cache it never has
 abbrev pub flushed_of : ℕ → State → ℕ → State
-flushed_of cpu s cache = if is_some (checked_of s cache) then s else flushed (min_partial_of s cache) cache s cpu
+flushed_of cpu s cache =
+    if is_some (checked_of s cache) then s else flushed (min_partial_of s cache) cache s cpu
 
 -- it has nothing of any cache, the oldest first (profile)
 abbrev pub flushed_cpu : State → ℕ → State

@@ -1,6 +1,6 @@
 -- Words taken off the front, and what stands there.
 use Rattle.std.proofs.Common.{◌≡◌, ◌≢◌, ℕ, ◌<◌, ◌≤◌, ◌^◌, true, false, not, ◌&&◌, min, Result, Ok, Err, Option, Some, None, Bor, List, [], ◌∷◌, ◌++◌, length, get_or, refl, ap, arith, eq-eqb, eqb, leb, inl, inr, subst, All, ◌⊎◌}
-use Rattle.std.specs.Prelude.{IfSome, IfNone, MatchOption, MatchResult, SomeIff, IsUtf8}
+use Rattle.std.specs.Prelude.{IsSome, IfSome, IfNone, MatchOption, MatchResult, SomeIff, IsUtf8}
 use Rattle.std.specs.List.{list_all}
 use Rattle.std.specs.Str.Parse.{AllDigits, digits_value, ParsesUnsigned, IsNumeral, without_leading_plus}
 use Rattle.std.proofs.lemmas.Bool.{false≢true, cases_Bool, eqb-true, eqb-false, ne_eqb, and_parts, and_from, leb-true, le-leb, false_from_ne_true}
@@ -208,3 +208,8 @@ pub names : (word : List ℕ) (r : Option (List ℕ)) → SomeIff r (IsName word
 unfolding name_of
 names word None is = rw (false_from_ne_true (is_name word) (λ named. is ((name_tells word).0 named))) refl
 names word (Some x) is = rw ((name_tells word).1 is.0) (ap (λ t. Some t) is.1)
+
+-- a text that passes the test is a name
+pub names_some : (word : List ℕ) (r : Option (List ℕ)) → is_name word ≡ true → SomeIff r (IsName word) word → IsSome r
+names_some word None is some = absurd (some ((name_tells word).0 is))
+names_some word (Some x) is some = refl

@@ -2,9 +2,10 @@
 
 ghost use Rattle.std.specs.Prelude.{◌≡◌, ◌≢◌, ◌∷◌, ◌++◌, All, IfSome, IfNone, true};
 ghost use Rattle.std.specs.List.{list_all};
-ghost use Rattle.slub_trace_reader.specs.Forms.{Gives, strip, field, number_of, offset_of, name_of, flags_of, byte_of, number_at, name_at, offset_at};
+ghost use Rattle.slub_trace_reader.specs.Forms.{Gives, strip, field, number_of, offset_of, name_of, flags_of, byte_of, knob_of, version_of, number_at, name_at, offset_at, knob_at};
 ghost use Rattle.slub_trace_reader.specs.Words.{is_digit, is_number, is_letter, stands_in, are_distinct, are_flags, flags_in, is_hex, hex_value};
 
+use crate::line::Knob;
 use slub_object_layout::layout::Flags;
 use slub_object_layout::name::Name;
 
@@ -174,6 +175,31 @@ pub(crate) fn byte(word: &[u8]) -> Option<u8>
     }
 }
 
+/// What a `tune` line sets.
+#[tactic(auto, unfolding(crate::specs::Forms::knob_of))]
+fn knob(word: &[u8]) -> Option<Knob>
+    ensures { result ≡ knob_of word.now }
+{
+    if word == b"min_partial".as_slice() {
+        return Some(Knob::MinPartial);
+    }
+    if word == b"cpu_partial".as_slice() {
+        return Some(Knob::CpuPartial);
+    }
+    None
+}
+
+/// The version of a digit from 1 to 4.
+#[tactic(auto, unfolding(crate::specs::Forms::version_of))]
+pub(crate) fn version(word: &[u8]) -> Option<u32>
+    ensures { result ≡ version_of word.now }
+{
+    match word {
+        [digit] if b'1' <= *digit && *digit <= b'4' => Some(u32::from(*digit - b'0')),
+        _ => None,
+    }
+}
+
 /// The number in front, with a space behind it, and what follows.
 #[tactic(auto, unfolding(crate::specs::Forms::number_at))]
 pub(crate) fn number_field(bytes: &[u8]) -> Option<(u128, &[u8])>
@@ -202,4 +228,14 @@ pub(crate) fn offset_field(bytes: &[u8]) -> Option<((bool, u128), &[u8])>
     let (word, rest) = field_of(bytes)?;
     let n = offset(word)?;
     Some((n, rest))
+}
+
+/// What a `tune` line sets, in front with a space behind it, and what follows.
+#[tactic(auto, unfolding(crate::specs::Forms::knob_at))]
+pub(crate) fn knob_field(bytes: &[u8]) -> Option<(Knob, &[u8])>
+    ensures { Gives (λ x. (x.0, x.1.now)) result (knob_at bytes.now) }
+{
+    let (word, rest) = field_of(bytes)?;
+    let found = knob(word)?;
+    Some((found, rest))
 }

@@ -243,9 +243,23 @@ pub record IsLawful (trace : Trace) (journal : Journal) : Type 0 where
 
 -- ---- what is built
 
--- the trace is one that is replayed today: no transaction id to start at. What is read is of version 1, so it has no tune, trim, flush or client's line
-abbrev pub IsBuilt : Trace → Type 0
-IsBuilt trace = trace.tid ≡ 0
+-- an act but a trim or a flush
+abbrev pub IsBuiltAct : Act → Type 0
+IsBuiltAct (Trim place) = ⊥
+IsBuiltAct Flush = ⊥
+IsBuiltAct _ = ⊤
+
+-- an item but a tune or a client's line, of events that are none but built ones
+abbrev pub IsBuiltItem : Item → Type 0
+IsBuiltItem (item.Round round) = All (λ event. IsBuiltAct event.act) round.events
+IsBuiltItem (item.Tune place setting) = ⊥
+IsBuiltItem (item.Client client) = ⊥
+IsBuiltItem _ = ⊤
+
+-- the trace is one that is replayed today: no transaction id to start at, no tune, no client's line, no trim and no flush
+pub record IsBuilt (trace : Trace) : Type 0 where
+  pub tid : trace.tid ≡ 0
+  pub items : All IsBuiltItem trace.items
 
 -- ---- where the machine stands
 

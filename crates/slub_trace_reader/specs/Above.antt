@@ -7,6 +7,7 @@ use Rattle.slub_object_layout.specs.declared.event.Act.TheVariants as act
 use Rattle.slub_object_layout.specs.declared.event.Event.{Event}
 use Rattle.slub_object_layout.specs.declared.layout.Setting.{Setting}
 use Rattle.slub_object_layout.specs.declared.layout.Setting.TheVariants as setting
+use Rattle.slub_object_layout.specs.declared.layout.Spec.{Spec}
 use Rattle.slub_trace_reader.specs.declared.client.ClientLine.{ClientLine}
 use Rattle.slub_trace_reader.specs.declared.client.ClientLine.TheVariants.{Kmalloc, Kget, Krealloc, Bulk, Bulkfree, Mempool, Mget, Mput}
 use Rattle.slub_trace_reader.specs.declared.line.Knob.{Knob}
@@ -33,7 +34,8 @@ pub record Above : Type 0 where
   pub frames : ℕ
   pub cpus : ℕ
   pub tid : ℕ
-  -- each name of a cache line once, in the order of the first lines that have them; a kmalloc line counts as one of each class
+  -- each name of a cache line once, in the order of the first lines that have them; a kmalloc line
+  -- counts as one of each class
   pub names : List (List ℕ)
   -- each name of a mempool's reserve once
   pub pools : List (List ℕ)
@@ -166,27 +168,47 @@ abbrev pub after : Above → Line → Above
 after a Passed = record a { count = a.count + 1 }
 after a (Slubtrace version) = record a { count = a.count + 1; place = Second; version = version }
 after a (Machine frames cpus tid) =
-    record a { count = a.count + 1; place = Between; frames = frames; cpus = cpus; tid = unwrap_or tid 0 }
+    record a {
+      count = a.count + 1;
+      place = Between;
+      frames = frames;
+      cpus = cpus;
+      tid = unwrap_or tid 0;
+    }
 after a (Cache name size align flags) =
-    record (with_item a (item.Cache (place_of name a.names) (record { size = size; align = align; flags = flags }))) { names = with_name a.names name }
+    let spec : Spec = record { size = size; align = align; flags = flags } in
+    record (with_item a (item.Cache (place_of name a.names) spec)) {
+      names = with_name a.names name;
+    }
 after a (Shrink name) = with_item a (item.Shrink (place_of name a.names))
 after a (Destroy name) = with_item a (item.Destroy (place_of name a.names))
-after a (Tune name knob number) = with_item a (item.Tune (place_of name a.names) (setting_of knob number))
+after a (Tune name knob number) =
+    with_item a (item.Tune (place_of name a.names) (setting_of knob number))
 after a Slabinfo = with_item a item.Slabinfo
 after a (Client line) = with_client a line
 after a (Round workers) =
-    record a { count = a.count + 1; place = Within workers; rounds = a.rounds + 1; written = []; events = [] }
+    record a {
+      count = a.count + 1;
+      place = Within workers;
+      rounds = a.rounds + 1;
+      written = [];
+      events = [];
+    }
 after a (Alloc worker cpu name object) =
-    record (with_event a worker cpu (act.Alloc (place_of name a.names) object)) { objects = a.objects ++ object ∷ [] }
+    record (with_event a worker cpu (act.Alloc (place_of name a.names) object))
+    { objects = a.objects ++ object ∷ [] }
 after a (Free worker cpu object) = with_event a worker cpu (act.Free object)
 after a (Write worker object word value) =
-    record (with_event a worker 0 (act.Write object word value)) { written = with_one is_spot a.written (worker, object, word) }
+    record (with_event a worker 0 (act.Write object word value))
+    { written = with_one is_spot a.written (worker, object, word) }
 after a (Read worker object word) = with_event a worker 0 (act.Read object word)
-after a (Poke worker object negative offset byte) = with_event a worker 0 (act.Poke object (offset_of negative offset) byte)
+after a (Poke worker object negative offset byte) =
+    with_event a worker 0 (act.Poke object (offset_of negative offset) byte)
 after a (Trim worker name) = with_event a worker 0 (act.Trim (place_of name a.names))
 after a (Flush worker cpu) = with_event a worker cpu act.Flush
 after a Done =
-    record (with_item a (item.Round (record { workers = workers_in a.place; events = a.events }))) { place = Between; events = [] }
+    record (with_item a (item.Round (record { workers = workers_in a.place; events = a.events })))
+    { place = Between; events = [] }
 after a End = record a { count = a.count + 1; place = After }
 
 -- what lines say, the first of them below those above

@@ -22,7 +22,8 @@ GoesOn bytes Nothing = bytes ≡ []
 
 -- a line of a form of its place for which something doesn't hold
 abbrev pub IsFormWithout : Above → List ℕ → (Line → Type 0) → Type 0
-IsFormWithout a text Holds = (line : Line) × Says text line × MayStand line a.version a.place × ¬ Holds line
+IsFormWithout a text Holds =
+    (line : Line) × Says text line × MayStand line a.version a.place × ¬ Holds line
 
 -- a finished line is bad for this reason
 abbrev pub IsBad : Above → List ℕ → Why → Type 0

@@ -1,4 +1,5 @@
--- Reading one line: a function on lists of bytes, which takes one word after the other off the front.
+-- Reading one line: a function on lists of bytes, which takes one word after the other off the
+-- front.
 use Rattle.std.specs.Prelude.{◌≡◌, ℕ, ◌+◌, ◌-◌, ◌*◌, ◌^◌, ◌==◌, ◌&&◌, ◌||◌, min, Bool, true, false, List, [], ◌∷◌, length, Option, Some, None, option_and_then, option_map, if◌then◌else◌, codes, nat_eq, nat_le}
 use Rattle.std.specs.List.{list_all}
 use Rattle.std.specs.Str.Parse.{digits_value}
@@ -41,7 +42,9 @@ number_of word = if is_number word then Some (min (digits_value 10 word) (2 ^ 64
 -- the sign and the size of an offset
 unfoldable pub offset_of : List ℕ → Option (Bool × ℕ)
 offset_of [] = None
-offset_of (c ∷ cs) = if c == 45 then option_map (λ n. (true, n)) (number_of cs) else option_map (λ n. (false, n)) (number_of (c ∷ cs))
+offset_of (c ∷ cs) =
+    if c == 45 then option_map (λ n. (true, n)) (number_of cs)
+    else option_map (λ n. (false, n)) (number_of (c ∷ cs))
 
 abbrev pub is_letter_or_digit : ℕ → Bool
 is_letter_or_digit c = (nat_le 65 c && nat_le c 90) || (nat_le 97 c && nat_le c 122) || is_digit c
@@ -69,7 +72,8 @@ byte_of (h ∷ l ∷ x ∷ xs) = None
 -- what a tune line sets
 unfoldable pub knob_of : List ℕ → Option Knob
 knob_of word =
-    if pointwise nat_eq word (codes "min_partial") then Some MinPartial else (if pointwise nat_eq word (codes "cpu_partial") then Some CpuPartial else None)
+    if pointwise nat_eq word (codes "min_partial") then Some MinPartial
+    else (if pointwise nat_eq word (codes "cpu_partial") then Some CpuPartial else None)
 
 -- the version of a digit from 1 to 4
 unfoldable pub version_of : List ℕ → Option ℕ
@@ -295,8 +299,10 @@ mput_line bytes = do
 -- a line of one word, or one that is passed over
 unfoldable pub plain_line : List ℕ → Option Line
 plain_line bytes =
-    if is_passed bytes then Some Passed else (if pointwise nat_eq bytes (codes "done") then Some Done else
-    (if pointwise nat_eq bytes (codes "slabinfo") then Some Slabinfo else (if pointwise nat_eq bytes (codes "end") then Some End else None)))
+    if is_passed bytes then Some Passed
+    else (if pointwise nat_eq bytes (codes "done") then Some Done
+    else (if pointwise nat_eq bytes (codes "slabinfo") then Some Slabinfo
+    else (if pointwise nat_eq bytes (codes "end") then Some End else None)))
 
 -- the first answer that is there
 infixr 9 ◌or_else◌
@@ -306,18 +312,23 @@ None or_else other = other
 
 unfoldable pub event_line : List ℕ → Option Line
 event_line bytes =
-    alloc_line bytes or_else free_line bytes or_else write_line bytes or_else read_line bytes or_else poke_line bytes or_else trim_line bytes or_else flush_line bytes
+    alloc_line bytes or_else free_line bytes or_else write_line bytes or_else read_line bytes
+    or_else poke_line bytes or_else trim_line bytes or_else flush_line bytes
 
 unfoldable pub item_line : List ℕ → Option Line
 item_line bytes =
-    round_line bytes or_else shrink_line bytes or_else destroy_line bytes or_else cache_line bytes or_else tune_line bytes or_else machine_line bytes
+    round_line bytes or_else shrink_line bytes or_else destroy_line bytes or_else cache_line bytes
+    or_else tune_line bytes or_else machine_line bytes
     or_else slubtrace_line bytes
 
 unfoldable pub client_line : List ℕ → Option ClientLine
 client_line bytes =
-    kmalloc_line bytes or_else kget_line bytes or_else krealloc_line bytes or_else bulk_line bytes or_else bulkfree_line bytes or_else mempool_line bytes
+    kmalloc_line bytes or_else kget_line bytes or_else krealloc_line bytes or_else bulk_line bytes
+    or_else bulkfree_line bytes or_else mempool_line bytes
     or_else mget_line bytes or_else mput_line bytes
 
 -- the line that a text says
 unfoldable pub line_of : List ℕ → Option Line
-line_of bytes = plain_line bytes or_else event_line bytes or_else item_line bytes or_else option_map Client (client_line bytes)
+line_of bytes =
+    plain_line bytes or_else event_line bytes or_else item_line bytes
+    or_else option_map Client (client_line bytes)

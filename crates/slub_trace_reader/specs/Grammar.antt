@@ -50,7 +50,9 @@ MayStand End version place = place ≡ Between
 -- the least power of two that is not below 1 to 16 CPUs
 abbrev pub step_of : ℕ → ℕ
 step_of cpus =
-    if nat_le cpus 1 then 1 else (if nat_le cpus 2 then 2 else (if nat_le cpus 4 then 4 else (if nat_le cpus 8 then 8 else 16)))
+    if nat_le cpus 1 then 1
+    else (if nat_le cpus 2 then 2
+    else (if nat_le cpus 4 then 4 else (if nat_le cpus 8 then 8 else 16)))
 
 -- a transaction id that the CPUs can start at: a multiple of the step, a step below 2 ^ 32
 abbrev pub IsTid : ℕ → Option ℕ → Type 0
@@ -71,7 +73,8 @@ IsOffset false size = size ≤ 32767
 
 -- some numbers from the first on, at most so many, the last in its range
 abbrev pub AreObjects : ℕ → ℕ → ℕ → Type 0
-AreObjects most first count = IsObject first × (1 ≤ count) × (count ≤ most) × (first + count - 1 ≤ 1048576)
+AreObjects most first count =
+    IsObject first × (1 ≤ count) × (count ≤ most) × (first + count - 1 ≤ 1048576)
 
 -- a size that a client asks for
 abbrev pub IsAskedSize : ℕ → Type 0
@@ -81,7 +84,8 @@ IsAskedSize size = (1 ≤ size) × (size ≤ 4294967295)
 abbrev pub ClientInRange : Above → ClientLine → Type 0
 ClientInRange a Kmalloc = ⊤
 ClientInRange a (Kget cpu size object) = (cpu < a.cpus) × IsAskedSize size × IsObject object
-ClientInRange a (Krealloc cpu object size fresh) = (cpu < a.cpus) × IsObject object × IsAskedSize size × IsObject fresh
+ClientInRange a (Krealloc cpu object size fresh) =
+    (cpu < a.cpus) × IsObject object × IsAskedSize size × IsObject fresh
 ClientInRange a (Bulk cpu name first count) = (cpu < a.cpus) × AreObjects 1024 first count
 ClientInRange a (Bulkfree cpu first count) = (cpu < a.cpus) × AreObjects 1024 first count
 ClientInRange a (Mempool pool name min first) = AreObjects 64 first min
@@ -92,7 +96,8 @@ ClientInRange a (Mput cpu pool object) = (cpu < a.cpus) × IsObject object
 abbrev pub InRange : Above → Line → Type 0
 InRange a Passed = ⊤
 InRange a (Slubtrace version) = ⊤
-InRange a (Machine frames cpus tid) = (2 ≤ frames) × (frames ≤ 4096) × (1 ≤ cpus) × (cpus ≤ 16) × IsTid cpus tid
+InRange a (Machine frames cpus tid) =
+    (2 ≤ frames) × (frames ≤ 4096) × (1 ≤ cpus) × (cpus ≤ 16) × IsTid cpus tid
 InRange a (Cache name size align flags) = (size ≤ 4294967295) × (align ≤ 4294967295)
 InRange a (Shrink name) = ⊤
 InRange a (Destroy name) = ⊤
@@ -102,9 +107,11 @@ InRange a (Client line) = ClientInRange a line
 InRange a (Round workers) = (1 ≤ workers) × (workers ≤ 16)
 InRange a (Alloc worker cpu name object) = IsWorker a worker × (cpu < a.cpus) × IsObject object
 InRange a (Free worker cpu object) = IsWorker a worker × (cpu < a.cpus) × IsObject object
-InRange a (Write worker object word value) = IsWorker a worker × IsObject object × (word ≤ 4095) × (value ≤ 18446744073709551615)
+InRange a (Write worker object word value) =
+    IsWorker a worker × IsObject object × (word ≤ 4095) × (value ≤ 18446744073709551615)
 InRange a (Read worker object word) = IsWorker a worker × IsObject object × (word ≤ 4095)
-InRange a (Poke worker object negative offset byte) = IsWorker a worker × IsObject object × IsOffset negative offset
+InRange a (Poke worker object negative offset byte) =
+    IsWorker a worker × IsObject object × IsOffset negative offset
 InRange a (Trim worker name) = IsWorker a worker
 InRange a (Flush worker cpu) = IsWorker a worker × (cpu < a.cpus)
 InRange a Done = ⊤
@@ -122,7 +129,8 @@ HasRoom a _ = ⊤
 abbrev pub IsNamed : List ℕ → List (List ℕ) → Type 0
 IsNamed name names = list_any (bytes_eq name) names ≡ true
 
--- a client's line has what it takes from: a cache line for its name, a mempool line for its reserve, a kmalloc line
+-- a client's line has what it takes from: a cache line for its name, a mempool line for its
+-- reserve, a kmalloc line
 abbrev pub HasSource : Above → ClientLine → Type 0
 HasSource a Kmalloc = ⊤
 HasSource a (Kget cpu size object) = a.kmalloc ≡ true
@@ -177,7 +185,8 @@ IsOneLine text = All (λ b. b ≢ 10) text
 abbrev pub AreLines : Above → List ℕ → List Line → Type 0
 AreLines a bytes [] = bytes ≡ []
 AreLines a bytes (line ∷ lines) =
-    (text rest : List ℕ) × (bytes ≡ text ++ 10 ∷ rest) × IsOneLine text × IsLine a text line × AreLines (after a line) rest lines
+    (text rest : List ℕ) × (bytes ≡ text ++ 10 ∷ rest) × IsOneLine text × IsLine a text line
+    × AreLines (after a line) rest lines
 
 -- the bytes spell this trace: lines that end with `end`, the passed-over aside
 pub record IsTrace (bytes : List ℕ) (trace : Trace) : Type 0 where

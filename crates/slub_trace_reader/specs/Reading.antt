@@ -27,7 +27,8 @@ with_byte b (line ∷ lines) rest = ((b ∷ line) ∷ lines, rest)
 unfoldable pub cut_lines : List ℕ → List (List ℕ) × List ℕ
 cut_lines [] = ([], [])
 cut_lines (b ∷ bs) =
-    if b == 10 then ([] ∷ (cut_lines bs).0, (cut_lines bs).1) else with_byte b (cut_lines bs).0 (cut_lines bs).1
+    if b == 10 then ([] ∷ (cut_lines bs).0, (cut_lines bs).1)
+    else with_byte b (cut_lines bs).0 (cut_lines bs).1
 
 -- ---- tests
 
@@ -99,15 +100,18 @@ is_offset true size = nat_le size 32768
 is_offset false size = nat_le size 32767
 
 abbrev pub are_objects : ℕ → ℕ → ℕ → Bool
-are_objects most first count = is_object first && nat_le 1 count && nat_le count most && nat_le (first + count - 1) 1048576
+are_objects most first count =
+    is_object first && nat_le 1 count && nat_le count most && nat_le (first + count - 1) 1048576
 
 abbrev pub is_asked_size : ℕ → Bool
 is_asked_size size = nat_le 1 size && nat_le size 4294967295
 
 unfoldable pub client_in_range : Above → ClientLine → Bool
 client_in_range a Kmalloc = true
-client_in_range a (Kget cpu size object) = nat_lt cpu a.cpus && is_asked_size size && is_object object
-client_in_range a (Krealloc cpu object size fresh) = nat_lt cpu a.cpus && is_object object && is_asked_size size && is_object fresh
+client_in_range a (Kget cpu size object) =
+    nat_lt cpu a.cpus && is_asked_size size && is_object object
+client_in_range a (Krealloc cpu object size fresh) =
+    nat_lt cpu a.cpus && is_object object && is_asked_size size && is_object fresh
 client_in_range a (Bulk cpu name first count) = nat_lt cpu a.cpus && are_objects 1024 first count
 client_in_range a (Bulkfree cpu first count) = nat_lt cpu a.cpus && are_objects 1024 first count
 client_in_range a (Mempool pool name min first) = are_objects 64 first min
@@ -117,7 +121,8 @@ client_in_range a (Mput cpu pool object) = nat_lt cpu a.cpus && is_object object
 unfoldable pub in_range : Above → Line → Bool
 in_range a Passed = true
 in_range a (Slubtrace version) = true
-in_range a (Machine frames cpus tid) = nat_le 2 frames && nat_le frames 4096 && nat_le 1 cpus && nat_le cpus 16 && is_tid cpus tid
+in_range a (Machine frames cpus tid) =
+    nat_le 2 frames && nat_le frames 4096 && nat_le 1 cpus && nat_le cpus 16 && is_tid cpus tid
 in_range a (Cache name size align flags) = nat_le size 4294967295 && nat_le align 4294967295
 in_range a (Shrink name) = true
 in_range a (Destroy name) = true
@@ -125,12 +130,17 @@ in_range a (Tune name knob number) = nat_le number 4096
 in_range a Slabinfo = true
 in_range a (Client line) = client_in_range a line
 in_range a (Round workers) = nat_le 1 workers && nat_le workers 16
-in_range a (Alloc worker cpu name object) = nat_lt worker (workers_in a.place) && nat_lt cpu a.cpus && is_object object
-in_range a (Free worker cpu object) = nat_lt worker (workers_in a.place) && nat_lt cpu a.cpus && is_object object
+in_range a (Alloc worker cpu name object) =
+    nat_lt worker (workers_in a.place) && nat_lt cpu a.cpus && is_object object
+in_range a (Free worker cpu object) =
+    nat_lt worker (workers_in a.place) && nat_lt cpu a.cpus && is_object object
 in_range a (Write worker object word value) =
-    nat_lt worker (workers_in a.place) && is_object object && nat_le word 4095 && nat_le value 18446744073709551615
-in_range a (Read worker object word) = nat_lt worker (workers_in a.place) && is_object object && nat_le word 4095
-in_range a (Poke worker object negative offset byte) = nat_lt worker (workers_in a.place) && is_object object && is_offset negative offset
+    nat_lt worker (workers_in a.place) && is_object object && nat_le word 4095
+    && nat_le value 18446744073709551615
+in_range a (Read worker object word) =
+    nat_lt worker (workers_in a.place) && is_object object && nat_le word 4095
+in_range a (Poke worker object negative offset byte) =
+    nat_lt worker (workers_in a.place) && is_object object && is_offset negative offset
 in_range a (Trim worker name) = nat_lt worker (workers_in a.place)
 in_range a (Flush worker cpu) = nat_lt worker (workers_in a.place) && nat_lt cpu a.cpus
 in_range a Done = true
@@ -180,13 +190,19 @@ is_written a _ = true
 -- the first reason of those whose tests fail
 abbrev pub first_of : Bool → Bool → Bool → Bool → Bool → Bool → Bool → Option Why
 first_of stands range room named fresh known written =
-    if stands then (if range then (if room then (if named then (if fresh then (if known then (if written then None
-    else Some ReadBeforeWrite) else Some UnknownObject) else Some ObjectTwice) else Some UnknownCache) else Some TooManyRounds) else Some Range) else Some Form
+    if not stands then Some Form
+    else (if not range then Some Range
+    else (if not room then Some TooManyRounds
+    else (if not named then Some UnknownCache
+    else (if not fresh then Some ObjectTwice
+    else (if not known then Some UnknownObject
+    else (if not written then Some ReadBeforeWrite else None))))))
 
 -- the first thing that a line lacks
 unfoldable pub lack_of : Above → Line → Option Why
 lack_of a line =
-    first_of (may_stand line a.version a.place) (in_range a line) (has_room a line) (has_cache a line) (are_fresh a (allocates line))
+    first_of (may_stand line a.version a.place) (in_range a line) (has_room a line)
+    (has_cache a line) (are_fresh a (allocates line))
     (are_known a (needs line)) (is_written a line)
 
 abbrev pub good_or : Line → Option Why → Result Line Why
@@ -199,7 +215,8 @@ judged a (Some line) = good_or line (lack_of a line)
 
 -- the line that a text says below lines that say this, or its first reason
 unfoldable pub judge : Above → List ℕ → Result Line Why
-judge a text = if is_after a.place && not (is_passed text) then Err AfterEnd else judged a (line_of text)
+judge a text =
+    if is_after a.place && not (is_passed text) then Err AfterEnd else judged a (line_of text)
 
 -- ---- all lines
 

@@ -67,9 +67,11 @@ events_in (Client client) = []
 
 -- object numbers of the trace, words and offsets of their ranges
 abbrev pub IsSoundAct : Trace → Act → Type 0
-IsSoundAct trace (act.Alloc place object) = (place < length trace.names) × (1 ≤ object) × (object ≤ trace.objects)
+IsSoundAct trace (act.Alloc place object) =
+    (place < length trace.names) × (1 ≤ object) × (object ≤ trace.objects)
 IsSoundAct trace (act.Free object) = (1 ≤ object) × (object ≤ trace.objects)
-IsSoundAct trace (act.Write object word value) = (1 ≤ object) × (object ≤ trace.objects) × (word ≤ 4095)
+IsSoundAct trace (act.Write object word value) =
+    (1 ≤ object) × (object ≤ trace.objects) × (word ≤ 4095)
 IsSoundAct trace (act.Read object word) = (1 ≤ object) × (object ≤ trace.objects) × (word ≤ 4095)
 IsSoundAct trace (act.Poke object offset byte) =
     (1 ≤ object) × (object ≤ trace.objects) × (neg_ℤ (pos 32768) ≤ℤ offset) × (offset ≤ℤ pos 32767)
@@ -110,19 +112,26 @@ IsSoundObject trace object = (1 ≤ object) × (object ≤ trace.objects)
 
 -- at most so many object numbers of the trace, from the first on
 abbrev pub AreSoundObjects : Trace → ℕ → ℕ → ℕ → Type 0
-AreSoundObjects trace most first count = (1 ≤ first) × (1 ≤ count) × (count ≤ most) × (first + count - 1 ≤ trace.objects)
+AreSoundObjects trace most first count =
+    (1 ≤ first) × (1 ≤ count) × (count ≤ most) × (first + count - 1 ≤ trace.objects)
 
 -- on CPUs of the machine, with places, names and object numbers of the trace
 abbrev pub IsSoundClient : Trace → Asked → Type 0
 IsSoundClient trace Kmalloc = ⊤
-IsSoundClient trace (Kget cpu size object) = (cpu < trace.cpus) × IsAskedSize size × IsSoundObject trace object
+IsSoundClient trace (Kget cpu size object) =
+    (cpu < trace.cpus) × IsAskedSize size × IsSoundObject trace object
 IsSoundClient trace (Krealloc cpu object size fresh) =
     (cpu < trace.cpus) × IsSoundObject trace object × IsAskedSize size × IsSoundObject trace fresh
-IsSoundClient trace (Bulk cpu place first count) = (cpu < trace.cpus) × (place < length trace.names) × AreSoundObjects trace 1024 first count
-IsSoundClient trace (Bulkfree cpu first count) = (cpu < trace.cpus) × AreSoundObjects trace 1024 first count
-IsSoundClient trace (Mempool pool place min first) = IsName pool × (place < length trace.names) × AreSoundObjects trace 64 first min
-IsSoundClient trace (Mget cpu pool object) = (cpu < trace.cpus) × IsName pool × IsSoundObject trace object
-IsSoundClient trace (Mput cpu pool object) = (cpu < trace.cpus) × IsName pool × IsSoundObject trace object
+IsSoundClient trace (Bulk cpu place first count) =
+    (cpu < trace.cpus) × (place < length trace.names) × AreSoundObjects trace 1024 first count
+IsSoundClient trace (Bulkfree cpu first count) =
+    (cpu < trace.cpus) × AreSoundObjects trace 1024 first count
+IsSoundClient trace (Mempool pool place min first) =
+    IsName pool × (place < length trace.names) × AreSoundObjects trace 64 first min
+IsSoundClient trace (Mget cpu pool object) =
+    (cpu < trace.cpus) × IsName pool × IsSoundObject trace object
+IsSoundClient trace (Mput cpu pool object) =
+    (cpu < trace.cpus) × IsName pool × IsSoundObject trace object
 
 abbrev pub IsSoundItem : Trace → Item → Type 0
 IsSoundItem trace (Cache name spec) = name < length trace.names

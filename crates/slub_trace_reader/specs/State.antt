@@ -88,11 +88,17 @@ Lacks a line (Some Unfinished) = ⊥
 Lacks a line (Some AfterEnd) = ⊥
 Lacks a line (Some Form) = ¬ MayStand line a.version a.place
 Lacks a line (Some Range) = MayStand line a.version a.place × ¬ InRange a line
-Lacks a line (Some TooManyRounds) = MayStand line a.version a.place × InRange a line × ¬ HasRoom a line
-Lacks a line (Some UnknownCache) = MayStand line a.version a.place × InRange a line × HasRoom a line × ¬ HasCache a line
-Lacks a line (Some ObjectTwice) = MayStand line a.version a.place × InRange a line × HasRoom a line × HasCache a line × ¬ IsFresh a line
+Lacks a line (Some TooManyRounds) =
+    MayStand line a.version a.place × InRange a line × ¬ HasRoom a line
+Lacks a line (Some UnknownCache) =
+    MayStand line a.version a.place × InRange a line × HasRoom a line × ¬ HasCache a line
+Lacks a line (Some ObjectTwice) =
+    MayStand line a.version a.place × InRange a line × HasRoom a line × HasCache a line
+    × ¬ IsFresh a line
 Lacks a line (Some UnknownObject) =
-    MayStand line a.version a.place × InRange a line × HasRoom a line × HasCache a line × IsFresh a line × ¬ IsKnown a line
+    MayStand line a.version a.place × InRange a line × HasRoom a line × HasCache a line
+    × IsFresh a line × ¬ IsKnown a line
 Lacks a line (Some ReadBeforeWrite) =
-    MayStand line a.version a.place × InRange a line × HasRoom a line × HasCache a line × IsFresh a line × IsKnown a line × ¬ IsWritten a line
+    MayStand line a.version a.place × InRange a line × HasRoom a line × HasCache a line
+    × IsFresh a line × IsKnown a line × ¬ IsWritten a line
 Lacks a line (Some NoEnd) = ⊥

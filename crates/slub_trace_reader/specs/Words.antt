@@ -42,7 +42,9 @@ are_distinct (c ∷ cs) = not (stands_in c cs) && are_distinct cs
 
 -- `-`, or some of the letters, in any order and none twice
 abbrev pub are_flags : List ℕ → Bool
-are_flags word = pointwise nat_eq word (codes "-") || (not (length word == 0) && list_all is_letter word && are_distinct word)
+are_flags word =
+    pointwise nat_eq word (codes "-")
+    || (not (length word == 0) && list_all is_letter word && are_distinct word)
 
 -- the flags whose letters stand in the word
 abbrev pub flags_in : List ℕ → Flags

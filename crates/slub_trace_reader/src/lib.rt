@@ -27,4 +27,6 @@ mod taking;
 #[cfg(test)]
 mod tests;
 pub mod trace;
+#[cfg(test)]
+mod version_tests;
 mod words;

@@ -1,5 +1,6 @@
 -- Which reason a line is bad for first.
 use Rattle.std.proofs.Common.{◌≡◌, ℕ, ◌<◌, ◌≤◌, ◌^◌, true, false, Some, None, List, refl, sym, ap, ◌∙◌, arith, subst}
+use Rattle.slub_numbers.specs.Numbers.{cut_number}
 use Rattle.slub_trace_reader.specs.declared.client.ClientLine.{ClientLine}
 use Rattle.slub_trace_reader.specs.declared.client.ClientLine.TheVariants.{Kmalloc, Kget, Krealloc, Bulk, Bulkfree, Mempool, Mget, Mput}
 use Rattle.slub_trace_reader.specs.declared.line.Line.{Line}
@@ -9,7 +10,7 @@ use Rattle.slub_trace_reader.specs.declared.place.Place.TheVariants.{Between, Af
 use Rattle.slub_trace_reader.specs.declared.reading.Why.{Why}
 use Rattle.slub_trace_reader.specs.declared.reading.Why.TheVariants.{Unfinished, AfterEnd, Form, Range, TooManyRounds, UnknownCache, ObjectTwice, UnknownObject, ReadBeforeWrite, NoEnd}
 use Rattle.slub_trace_reader.specs.Above.{Above}
-use Rattle.slub_trace_reader.specs.Cut.{cut_number, cut_client, cut_line}
+use Rattle.slub_trace_reader.specs.Cut.{cut_client, cut_line}
 use Rattle.slub_trace_reader.specs.Faults.{Finished, IsFormWithout, IsBad, IsFirstReason, rank}
 use Rattle.slub_trace_reader.specs.Forms.{line_of}
 use Rattle.slub_trace_reader.specs.Grammar.{MayStand, InRange, ClientInRange, HasRoom, HasCache, IsFresh, IsKnown, IsWritten, IsLine}

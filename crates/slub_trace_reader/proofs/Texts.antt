@@ -4,15 +4,16 @@ use Rattle.std.specs.Prelude.{option_map, codes}
 use Rattle.std.specs.Cmp.Lexicographic.{pointwise, bytes_decides}
 use Rattle.std.proofs.lemmas.Bool.{eqb-true, eq-eqb}
 use Rattle.slub_object_layout.specs.declared.layout.Flags.{Flags}
+use Rattle.slub_numbers.specs.Numbers.{Writes, cut_number, number_of}
+use Rattle.slub_numbers.proofs.Digits.{number_found, number_some}
 use Rattle.slub_trace_reader.specs.declared.line.Knob.{Knob}
 use Rattle.slub_trace_reader.specs.declared.line.Line.{Line}
 use Rattle.slub_trace_reader.specs.declared.line.Line.TheVariants.{Passed, Slubtrace, Machine, Cache, Shrink, Destroy, Tune, Slabinfo, Round, Alloc, Free, Write, Read, Poke, Trim, Flush, Done, End}
-use Rattle.slub_trace_reader.specs.Forms.{field, number_of, slubtrace_line, machine_tail, machine_end, machine_line, cache_line, shrink_line, destroy_line, tune_line, round_line, alloc_line, free_line, write_line, read_line, poke_line, trim_line, flush_line, plain_line, is_passed}
+use Rattle.slub_trace_reader.specs.Forms.{field, slubtrace_line, machine_tail, machine_end, machine_line, cache_line, shrink_line, destroy_line, tune_line, round_line, alloc_line, free_line, write_line, read_line, poke_line, trim_line, flush_line, plain_line, is_passed}
 use Rattle.slub_trace_reader.specs.Lines.{Says, SaysTid, IsPassed, knob_word, parted}
-use Rattle.slub_trace_reader.specs.Words.{Writes}
-use Rattle.slub_trace_reader.specs.Cut.{cut_number, cut_line}
+use Rattle.slub_trace_reader.specs.Cut.{cut_line}
 use Rattle.slub_trace_reader.proofs.Fields.{strip_found, strip_some, field_found, field_none, field_some}
-use Rattle.slub_trace_reader.proofs.WordTexts.{bind_found, bind_some, same_some, map_some, number_word, number_found, number_some, number_at_found, number_at_some, name_found, name_some, name_at_found, name_at_some, flags_found, flags_some, byte_found, byte_some, offset_at_found, offset_at_some, chosen, knob_at_found, knob_at_some, version_found, version_some}
+use Rattle.slub_trace_reader.proofs.WordTexts.{bind_found, bind_some, same_some, map_some, number_word, number_at_found, number_at_some, name_found, name_some, name_at_found, name_at_some, flags_found, flags_some, byte_found, byte_some, offset_at_found, offset_at_some, chosen, knob_at_found, knob_at_some, version_found, version_some}
 
 -- ---- lines with equal numbers
 

@@ -6,15 +6,16 @@ use Rattle.std.specs.Str.Parse.{digits_value}
 use Rattle.std.specs.Cmp.Lexicographic.{pointwise, bytes_decides}
 use Rattle.std.proofs.lemmas.Bool.{false≢true, cases_Bool, eqb-true, ne_eqb, and_parts, leb-true, le-leb}
 use Rattle.std.proofs.lemmas.List.Elements.{All-cons, All-nil}
+use Rattle.slub_numbers.specs.Numbers.{Writes, cut_number, is_digit, is_number, number_of}
+use Rattle.slub_numbers.proofs.Digits.{digit_within, number_found, number_some}
 use Rattle.slub_object_layout.specs.declared.layout.Flags.{Flags}
 use Rattle.slub_object_layout.specs.Name.{IsName}
 use Rattle.slub_trace_reader.specs.declared.line.Knob.{Knob}
 use Rattle.slub_trace_reader.specs.declared.line.Knob.TheVariants.{MinPartial, CpuPartial}
-use Rattle.slub_trace_reader.specs.Forms.{field, number_of, offset_of, name_of, is_name, flags_of, byte_of, knob_of, version_of, number_at, name_at, offset_at, knob_at, ◌or_else◌}
+use Rattle.slub_trace_reader.specs.Forms.{field, offset_of, name_of, is_name, flags_of, byte_of, knob_of, version_of, number_at, name_at, offset_at, knob_at, ◌or_else◌}
 use Rattle.slub_trace_reader.specs.Lines.{knob_word}
-use Rattle.slub_trace_reader.specs.Words.{Writes, WritesOffset, WritesFlags, WritesByte, is_digit, is_number, are_flags, flags_in, is_hex, hex_value}
-use Rattle.slub_trace_reader.specs.Cut.{cut_number}
-use Rattle.slub_trace_reader.proofs.Fields.{IsWord, field_found, field_some, digit_within, name_tells}
+use Rattle.slub_trace_reader.specs.Words.{WritesOffset, WritesFlags, WritesByte, are_flags, flags_in, is_hex, hex_value}
+use Rattle.slub_trace_reader.proofs.Fields.{IsWord, field_found, field_some, name_tells}
 
 -- ---- answers that are there
 
@@ -63,16 +64,6 @@ pub number_word : (word : List ℕ) → is_number word ≡ true → IsWord word
 number_word [] is = absurd (false≢true is)
 number_word (c ∷ []) is = digits_word (c ∷ []) (rw is refl)
 number_word (c ∷ d ∷ cs) is = digits_word (c ∷ d ∷ cs) (and_parts (not (eqb c 48)) (list_all is_digit (c ∷ d ∷ cs)) is).1
-
-pub number_found : (word : List ℕ) (n : ℕ) → Writes word n → number_of word ≡ Some (cut_number n)
-unfolding number_of
-number_found word n is = rw (is.form, is.value) refl
-
-pub number_some : (word : List ℕ) (k : ℕ) → number_of word ≡ Some k → (n : ℕ) × Writes word n × (k ≡ cut_number n)
-unfolding number_of
-number_some word k is =
-    let parts = if_some (is_number word) (min (digits_value 10 word) (2 ^ 64)) k is in
-    (digits_value 10 word, record { form = parts.0; value = refl }, sym parts.1)
 
 pub number_at_found : (word : List ℕ) (n : ℕ) (rest : List ℕ) → Writes word n → number_at (word ++ 32 ∷ rest) ≡ Some (cut_number n, rest)
 unfolding number_at

@@ -1,13 +1,11 @@
 -- For proofs and private clauses: a line as it is read. A number that 64 bits don't hold is as
 -- great as the least of those.
-use Rattle.std.specs.Prelude.{ℕ, ◌^◌, min, option_map}
+use Rattle.std.specs.Prelude.{option_map}
+use Rattle.slub_numbers.specs.Numbers.{cut_number}
 use Rattle.slub_trace_reader.specs.declared.client.ClientLine.{ClientLine}
 use Rattle.slub_trace_reader.specs.declared.client.ClientLine.TheVariants.{Kmalloc, Kget, Krealloc, Bulk, Bulkfree, Mempool, Mget, Mput}
 use Rattle.slub_trace_reader.specs.declared.line.Line.{Line}
 use Rattle.slub_trace_reader.specs.declared.line.Line.TheVariants.{Passed, Slubtrace, Machine, Cache, Shrink, Destroy, Tune, Slabinfo, Client, Round, Alloc, Free, Write, Read, Poke, Trim, Flush, Done, End}
-
-abbrev pub cut_number : ℕ → ℕ
-cut_number n = min n (2 ^ 64)
 
 abbrev pub cut_client : ClientLine → ClientLine
 cut_client Kmalloc = Kmalloc

@@ -1,9 +1,9 @@
 -- Reading one line: a function on lists of bytes, which takes one word after the other off the
 -- front.
-use Rattle.std.specs.Prelude.{◌≡◌, ℕ, ◌+◌, ◌-◌, ◌*◌, ◌^◌, ◌==◌, ◌&&◌, ◌||◌, min, Bool, true, false, List, [], ◌∷◌, length, Option, Some, None, option_and_then, option_map, if◌then◌else◌, codes, nat_eq, nat_le}
+use Rattle.std.specs.Prelude.{◌≡◌, ℕ, ◌+◌, ◌-◌, ◌*◌, ◌==◌, ◌&&◌, ◌||◌, Bool, true, false, List, [], ◌∷◌, length, Option, Some, None, option_and_then, option_map, if◌then◌else◌, codes, nat_eq, nat_le}
 use Rattle.std.specs.List.{list_all}
-use Rattle.std.specs.Str.Parse.{digits_value}
 use Rattle.std.specs.Cmp.Lexicographic.{pointwise}
+use Rattle.slub_numbers.specs.Numbers.{is_digit, number_of}
 use Rattle.slub_object_layout.specs.declared.layout.Flags.{Flags}
 use Rattle.slub_trace_reader.specs.declared.client.ClientLine.{ClientLine}
 use Rattle.slub_trace_reader.specs.declared.client.ClientLine.TheVariants.{Kmalloc, Kget, Krealloc, Bulk, Bulkfree, Mempool, Mget, Mput}
@@ -11,7 +11,7 @@ use Rattle.slub_trace_reader.specs.declared.line.Knob.{Knob}
 use Rattle.slub_trace_reader.specs.declared.line.Knob.TheVariants.{MinPartial, CpuPartial}
 use Rattle.slub_trace_reader.specs.declared.line.Line.{Line}
 use Rattle.slub_trace_reader.specs.declared.line.Line.TheVariants.{Passed, Slubtrace, Machine, Cache, Shrink, Destroy, Tune, Slabinfo, Client, Round, Alloc, Free, Write, Read, Poke, Trim, Flush, Done, End}
-use Rattle.slub_trace_reader.specs.Words.{is_digit, is_number, are_flags, flags_in, is_hex, hex_value}
+use Rattle.slub_trace_reader.specs.Words.{are_flags, flags_in, is_hex, hex_value}
 
 infixl 10 ◌>>=◌
 abbrev pub ◌>>=◌ : {A B : Type 0} → Option A → (A → Option B) → Option B
@@ -34,10 +34,6 @@ strip (t ∷ ts) (b ∷ bs) = if t == b then strip ts bs else None
 unfoldable pub field : List ℕ → Option (List ℕ × List ℕ)
 field [] = None
 field (b ∷ bs) = if b == 32 then Some ([], bs) else option_map (λ f. (b ∷ f.0, f.1)) (field bs)
-
--- the number of a word; one that 64 bits don't hold is as great as the least of those
-unfoldable pub number_of : List ℕ → Option ℕ
-number_of word = if is_number word then Some (min (digits_value 10 word) (2 ^ 64)) else None
 
 -- the sign and the size of an offset
 unfoldable pub offset_of : List ℕ → Option (Bool × ℕ)

@@ -1,6 +1,7 @@
 -- What a line says: its form, and the values of its words.
 use Rattle.std.specs.Prelude.{◌≡◌, ℕ, ◌+◌, ◌≤◌, List, [], ◌∷◌, Option, Some, None, ⊤, codes}
 use Rattle.std.specs.List.{join_with_byte}
+use Rattle.slub_numbers.specs.Numbers.{Writes}
 use Rattle.slub_object_layout.specs.Name.{IsName}
 use Rattle.slub_trace_reader.specs.declared.client.ClientLine.{ClientLine}
 use Rattle.slub_trace_reader.specs.declared.client.ClientLine.TheVariants.{Kmalloc, Kget, Krealloc, Bulk, Bulkfree, Mempool, Mget, Mput}
@@ -8,7 +9,7 @@ use Rattle.slub_trace_reader.specs.declared.line.Knob.{Knob}
 use Rattle.slub_trace_reader.specs.declared.line.Knob.TheVariants.{MinPartial, CpuPartial}
 use Rattle.slub_trace_reader.specs.declared.line.Line.{Line}
 use Rattle.slub_trace_reader.specs.declared.line.Line.TheVariants.{Passed, Slubtrace, Machine, Cache, Shrink, Destroy, Tune, Slabinfo, Client, Round, Alloc, Free, Write, Read, Poke, Trim, Flush, Done, End}
-use Rattle.slub_trace_reader.specs.Words.{Writes, WritesOffset, WritesFlags, WritesByte}
+use Rattle.slub_trace_reader.specs.Words.{WritesOffset, WritesFlags, WritesByte}
 
 -- words parted by one space
 abbrev pub parted : List (List ℕ) → List ℕ

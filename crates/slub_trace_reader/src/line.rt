@@ -10,9 +10,9 @@ ghost use Rattle.slub_trace_reader.specs.Forms.{slubtrace_line, machine_end, mac
 
 use crate::client::{ClientLine, client};
 use crate::words::{
-    after, byte, field_of, flags, knob_field, name, name_field, number, number_field, offset_field,
-    version,
+    after, byte, field_of, flags, knob_field, name, name_field, number_field, offset_field, version,
 };
+use slub_numbers::numbers::number;
 use slub_object_layout::layout::Flags;
 use slub_object_layout::name::Name;
 

@@ -2,8 +2,9 @@
 
 use crate::reading::{TraceFault, Why, read_trace};
 use crate::trace::{Client, Item};
-use crate::words::{cut, number};
+use crate::words::cut;
 use slub_edges::memory::MemSource;
+use slub_numbers::numbers::number;
 use std::alloc::Global;
 use std::test::Fail;
 

@@ -2,15 +2,13 @@
 
 ghost use Rattle.std.specs.Prelude.{◌≡◌, ◌≢◌, ◌∷◌, ◌++◌, All, IfSome, IfNone, true};
 ghost use Rattle.std.specs.List.{list_all};
-ghost use Rattle.slub_trace_reader.specs.Forms.{Gives, strip, field, number_of, offset_of, name_of, flags_of, byte_of, knob_of, version_of, number_at, name_at, offset_at, knob_at};
-ghost use Rattle.slub_trace_reader.specs.Words.{is_digit, is_number, is_letter, stands_in, are_distinct, are_flags, flags_in, is_hex, hex_value};
+ghost use Rattle.slub_trace_reader.specs.Forms.{Gives, strip, field, offset_of, name_of, flags_of, byte_of, knob_of, version_of, number_at, name_at, offset_at, knob_at};
+ghost use Rattle.slub_trace_reader.specs.Words.{is_letter, stands_in, are_distinct, are_flags, flags_in, is_hex, hex_value};
 
 use crate::line::Knob;
+use slub_numbers::numbers::{is_decimal, number};
 use slub_object_layout::layout::Flags;
 use slub_object_layout::name::Name;
-
-/// As great as every number that 64 bits don't hold.
-const GREAT: u128 = 18446744073709551616;
 
 /// What follows a fixed text.
 pub(crate) fn after<'a>(bytes: &'a [u8], text: &[u8]) -> Option<&'a [u8]>
@@ -33,46 +31,6 @@ pub(crate) fn cut(bytes: &[u8], end: u8) -> Option<(&[u8], &[u8])>
 {
     let at = bytes.iter().position(|b| *b == end)?;
     Some((&bytes[..at], &bytes[at + 1..]))
-}
-
-fn is_decimal(c: u8) -> bool
-    ensures { result ≡ is_digit c }
-{
-    b'0' <= c && c <= b'9'
-}
-
-fn are_digits(word: &[u8]) -> bool
-    ensures { result ≡ list_all is_digit word.now }
-{
-    word.iter().all(|c| is_decimal(*c))
-}
-
-/// Whether a word is a number: digits, with no zero in front of others.
-fn is_numeral(word: &[u8]) -> bool
-    ensures { result ≡ is_number word.now }
-{
-    match word {
-        [] => false,
-        [c] => is_decimal(*c),
-        [c, ..] => *c != b'0' && are_digits(word),
-    }
-}
-
-/// The number of a word, as great as `GREAT` where 64 bits don't hold it.
-#[tactic(auto, unfolding(crate::specs::Forms::number_of))]
-pub(crate) fn number(word: &[u8]) -> Option<u128>
-    ensures { result ≡ number_of word.now }
-{
-    if !is_numeral(word) {
-        return None;
-    }
-    let Ok(text) = str::from_utf8(word) else {
-        return None;
-    };
-    match text.parse::<u64>() {
-        Ok(n) => Some(u128::from(n)),
-        Err(_) => Some(GREAT),
-    }
 }
 
 /// The sign and the size of an offset.

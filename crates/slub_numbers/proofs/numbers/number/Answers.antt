@@ -1,6 +1,6 @@
 use Rattle.std.proofs.Common.{sym}
-use Rattle.slub_trace_reader.proofs.Fields.{number_utf8, great}
-use Rattle.slub_trace_reader.proofs.words.number.Goals as goal
+use Rattle.slub_numbers.proofs.Digits.{number_utf8, great}
+use Rattle.slub_numbers.proofs.numbers.number.Goals as goal
 
 pub returns-in_default : goal.returns-in_default
 returns-in_default c = absurd (c.in_default.ensures.cases.0 (number_utf8 c.args.word.now (sym c.if-not-is_numeral.ensures)))

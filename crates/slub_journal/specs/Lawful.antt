@@ -262,10 +262,15 @@ pub record IsLawful (trace : Trace) (journal : Journal) : Type 0 where
 
 -- ---- what is built
 
--- the trace is one that is replayed today: no transaction id to start at. What is read is of
--- version 1, so it has no tune, trim, flush or client's line
-abbrev pub IsBuilt : Trace → Type 0
-IsBuilt trace = trace.tid ≡ 0
+-- an item but a client's line
+abbrev pub IsBuiltItem : Item → Type 0
+IsBuiltItem (item.Client client) = ⊥
+IsBuiltItem _ = ⊤
+
+-- the trace is one that is replayed today: no transaction id to start at, and no client's line
+pub record IsBuilt (trace : Trace) : Type 0 where
+  pub tid : trace.tid ≡ 0
+  pub items : All IsBuiltItem trace.items
 
 -- ---- where the machine stands
 

@@ -1,12 +1,17 @@
 -- The layouts of live caches keep within their bounds.
-use Rattle.std.proofs.Common.{◌≡◌, ℕ, ◌≤◌, ◌||◌, Bool, true, false, refl, ◌∙◌, arith}
+use Rattle.std.proofs.Common.{◌≡◌, ℕ, ◌*◌, ◌/◌, ◌%◌, ◌+◌, ◌≤◌, ◌||◌, Bool, true, false, refl, ◌∙◌, arith}
+use Rattle.std.proofs.Math.Nat.{mul-le-mul_right}
+use Rattle.std.specs.Int.{div_ceil}
 use Rattle.slub_object_layout.specs.declared.layout.Layout.{Layout}
 use Rattle.slub_object_layout.specs.declared.layout.Flags.{Flags}
+use Rattle.slub_object_layout.specs.declared.layout.Setting.{Setting}
+use Rattle.slub_object_layout.specs.declared.layout.Setting.TheVariants.{MinPartial, CpuPartial}
 use Rattle.slub_object_layout.specs.declared.layout.Spec.{Spec}
 use Rattle.slub_object_layout.specs.Layout.{IsAccepted, IsLayout, IsWithinBounds, align_up, alignment_of, left_pad_of, is_checked}
 use Rattle.slub_cache_create.specs.declared.caches.Cache.{Cache}
 use Rattle.slub_cache_create.specs.Merging.{Fits, merged_with, wanted_of}
 use Rattle.slub_cache_create.specs.Sound.{IsLiveLayout}
+use Rattle.slub_cache_create.specs.Tune.{Takes, tuned_layout}
 
 unpadded : (spec : Spec) → spec.flags.zones ≡ false → left_pad_of spec ≡ 0
 unfolding left_pad_of
@@ -88,3 +93,28 @@ IsLiveLayout-merged live spec accepted some fits was =
       unpadded = was.unpadded;
       no_partial = was.no_partial;
     }
+
+-- the same layout, of which one number is set
+pub IsLiveLayout-tuned : (flags : Flags) (setting : Setting) (layout : Layout) → Takes flags setting → IsLiveLayout flags layout
+    → IsLiveLayout flags (tuned_layout setting layout)
+IsLiveLayout-tuned flags (MinPartial slabs) layout takes was = record {
+  made = was.made;
+  min_partial = takes;
+  cpu_partial_slabs = was.cpu_partial_slabs;
+  unpadded = was.unpadded;
+  no_partial = was.no_partial;
+}
+IsLiveLayout-tuned flags (CpuPartial objects) layout takes was = record {
+  made = was.made;
+  min_partial = was.min_partial;
+  cpu_partial_slabs = rounded (2 * objects) layout.objects was.made.objects.0 (omega (arith, takes.0));
+  unpadded = was.unpadded;
+  no_partial = λ checked. nothing objects layout.objects (takes.1 checked) was.made.objects.0;
+}
+  where
+    nothing : (x y : ℕ) → x ≡ 0 → 1 ≤ y → div_ceil (2 * x) y ≡ 0
+    nothing x y none some = rw none (omega arith)
+
+    -- so many slabs are no more than the objects
+    rounded : (x y : ℕ) → 1 ≤ y → x ≤ 8192 → div_ceil x y ≤ 8192
+    rounded x y some most = let whole : 1 * (x / y) ≤ y * (x / y) = mul-le-mul_right (x / y) some in omega (arith, whole)

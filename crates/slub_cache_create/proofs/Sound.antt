@@ -8,6 +8,7 @@ use Rattle.std.proofs.lemmas.List.Elements.{All-push, All-weaker, All-head, All-
 use Rattle.std.proofs.lemmas.List.Sums.{sum_by-cons}
 use Rattle.std.proofs.lemmas.Bool.Decides.{nat_tests}
 use Rattle.slub_object_layout.specs.declared.layout.Layout.{Layout}
+use Rattle.slub_object_layout.specs.declared.layout.Setting.{Setting}
 use Rattle.slub_object_layout.specs.declared.layout.Spec.{Spec}
 use Rattle.slub_object_layout.specs.Layout.{IsAccepted, alignment_of}
 use Rattle.slub_cache_create.specs.declared.caches.Cache.{Cache}
@@ -16,10 +17,11 @@ use Rattle.slub_cache_create.specs.Merging.{Fits, FitsAt, merged_with}
 use Rattle.slub_cache_create.specs.Create.{IsOpenTo, IsLeastUnused, with_alias, with_cache}
 use Rattle.slub_cache_create.specs.Drop.{less_named, without_alias, without_cache, without_name}
 use Rattle.slub_cache_create.specs.Sound.{IsLiveCache, IsLiveLayout, IsSound}
+use Rattle.slub_cache_create.specs.Tune.{Takes, tuned, with_setting}
 use Rattle.slub_common.specs.Times.{times}
 use Rattle.slub_cache_create.proofs.Counts.{times-filter, having, having-none, having-push, having-removed, length-removed, All-removed, many-within}
 use Rattle.slub_common.proofs.Times.{times-push}
-use Rattle.slub_cache_create.proofs.Layouts.{IsLiveLayout-merged}
+use Rattle.slub_cache_create.proofs.Layouts.{IsLiveLayout-merged, IsLiveLayout-tuned}
 use Rattle.slub_common.proofs.Writes.{at_written, at_written_else, get_or-replicate_any, inside-of}
 
 -- the cache of a number, where it is known
@@ -29,6 +31,10 @@ known (Some y) h = (y, refl)
 
 at_known : {X : Type 0} (x : Option X) (y : X) (P : X → Type 0) → x ≡ Some y → IfSome x P → P y
 at_known x y P is h = rw is at h
+
+no_cache : (x : Option Cache) → x ≡ None → IsSome x → ⊥
+no_cache None is some = absurd cc
+no_cache (Some y) is some = absurd cc
 
 -- a number, 0 or 1, of a test
 one : (b : Bool) → b ≡ true → ◌≡◌ {A = ℕ} (cond b 1 0) 1
@@ -138,6 +144,20 @@ without_alias-sound s name cache named others distinct sound = by (cache_of s ca
         (omega (arith, was.names, having-removed test cache cache s.live named, one (eqb cache cache) (grind (arith, nat_tests)))) (omega (arith, many, others))
         (λ c ne. omega (arith, having-removed test c cache s.live named, nothing (eqb cache c) (grind (arith, nat_tests)))) sound)
 
+-- a number of a live cache is set
+pub with_setting-sound : (s : Table) (cache : ℕ) (setting : Setting) → IsSome (cache_of s cache) → IfSome (cache_of s cache) (λ live. Takes live.flags setting)
+    → IsSound s → IsSound (with_setting s cache setting)
+with_setting-sound s cache setting there takes sound = by (cache_of s cache) refl
+  where
+    by : (x : Option Cache) → cache_of s cache ≡ x → IsSound (with_setting s cache setting)
+    by None is = absurd (no_cache (cache_of s cache) is there)
+    by (Some old) is =
+        let was = at_known (cache_of s cache) old (IsLiveCache s cache) is (sound.live cache) in
+        let fits = at_known (cache_of s cache) old (λ live. Takes live.flags setting) is takes in
+        subst (λ x. IsSound (record s { caches = set s.caches cache x })) (sym (alias_is s (tuned setting) cache old is))
+        (rewritten-sound s cache old (tuned setting old) s.live is refl (IsLiveLayout-tuned old.flags setting old.layout fits was.layout)
+        sound.few sound.distinct sound.alive was.names was.named (λ c ne. refl) sound)
+
 -- ---- caches that come and go
 
 -- a cache is made under an unused number
@@ -174,10 +194,6 @@ module _ (s : Table) (name : List ℕ) (spec : Spec) (layout : Layout) (cache : 
         titles = λ n a b at_a at_b. apart sound n a b (title_before_made made refl n a at_a) (title_before_made made refl n b at_b);
       }
     where
-      no_cache : (x : Option Cache) → x ≡ None → IsSome x → ⊥
-      no_cache None is some = absurd cc
-      no_cache (Some y) is some = absurd cc
-
       kept : (c : ℕ) → c ≢ cache → (x : Option Cache) → IfSome x (IsLiveCache s c) → IfSome x (IsLiveCache (with_cache s name spec layout cache) c)
       kept c ne None h = tt
       kept c ne (Some a) h = record {

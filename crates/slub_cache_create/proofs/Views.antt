@@ -2,6 +2,7 @@
 use Rattle.std.proofs.Common.{◌≡◌, ℕ, cond, List, [], ◌∷◌, ◌++◌, Option, Some, None, MatchOption, option_map, filter, not, eqb, set, position, ap, ◌∙◌}
 use Rattle.std.specs.Map.{lookup, remove_entry}
 use Rattle.std.specs.Str.{bytes_eq}
+use Rattle.slub_object_layout.specs.declared.layout.Setting.{Setting}
 use Rattle.slub_object_layout.specs.declared.layout.Spec.{Spec}
 use Rattle.slub_object_layout.specs.declared.layout.Layout.{Layout}
 use Rattle.slub_cache_create.specs.declared.caches.Cache.{Cache}
@@ -11,6 +12,7 @@ use Rattle.slub_cache_create.specs.Merging.{merged_with}
 use Rattle.slub_cache_create.specs.Create.{with_alias, with_cache}
 use Rattle.slub_cache_create.specs.Drop.{less_named, without_alias, without_cache}
 use Rattle.slub_cache_create.specs.Fields.{IsKept, table_of}
+use Rattle.slub_cache_create.specs.Tune.{tuned, with_setting}
 use Rattle.slub_cache_create.specs.Sound.{IsSound}
 use Rattle.slub_cache_create.proofs.Noted.{noted}
 
@@ -75,6 +77,15 @@ module _ (s : Table) (kept : List (List ℕ)) (live : List (List ℕ × ℕ)) (c
       → live' ≡ remove_entry (bytes_eq name) live → ages' ≡ filter (λ other. not (eqb other cache)) ages
       → (let after : Table = record { kept = kept; live = live'; caches = set caches cache None; ages = ages' } in after ≡ without_cache s name cache)
   cache_gone_view name cache live' ages' removed aged =
+      let k = same_kept in
+      let l = same_live in
+      let c = same_caches in
+      let a = same_ages in
+      cc
+
+  pub tuned_view : (cache : ℕ) (setting : Setting) (x : Option Cache) → x ≡ option_map (tuned setting) (cache_of s cache)
+      → (let after : Table = record { kept = kept; live = live; caches = set caches cache x; ages = ages } in after ≡ with_setting s cache setting)
+  tuned_view cache setting x tuned =
       let k = same_kept in
       let l = same_live in
       let c = same_caches in

@@ -4,3 +4,4 @@ pub mod Fields
 pub mod Merging
 pub mod Sound
 pub mod Table
+pub mod Tune

@@ -9,13 +9,14 @@ ghost use Rattle.slub_cache_create.specs.Drop.{Drops, without_alias, without_cac
 ghost use Rattle.slub_cache_create.specs.Merging.{FitsAt, IsOldestFit, NoneFits};
 ghost use Rattle.slub_cache_create.specs.Sound.{IsLiveLayout, IsSound};
 ghost use Rattle.slub_cache_create.specs.Table.{IsTaken, IsTitle, cache_of, name_at, names_of, number_of, opening};
+ghost use Rattle.slub_cache_create.specs.Tune.{Takes, with_setting};
 
-use crate::merging;
+use crate::{merging, settings};
 use indexmap::{IndexMap, IndexSet};
 use slub_common::limits::NAMES_MAX;
 use slub_common::no_memory::NoMemory;
 use slub_common::no_such_cache::NoSuchCache;
-use slub_object_layout::layout::{Flags, Layout, LayoutRefusal, Spec, layout_of};
+use slub_object_layout::layout::{Flags, Layout, LayoutRefusal, Setting, Spec, layout_of};
 use slub_object_layout::name::Name;
 use std::alloc::Global;
 use std::marker::Model;
@@ -273,6 +274,20 @@ impl Caches {
             self.drop_last(name, cache);
             Ok(Dropped::Last(cache))
         }
+    }
+
+    /// Sets a number of a live cache, under all of its names (`min_partial_store`, `cpu_partial_store`).
+    ///
+    /// The number is at most 4096 (*profile*), and a checked cache takes no objects above 0 for a CPU's
+    /// partial list. What is merged with the cache from now on keeps the setting.
+    pub fn tune(&mut self, cache: u8, setting: Setting)
+        requires live { IsSome (cache_of self.old cache) }
+        requires takes { IfSome (cache_of self.old cache) (λ live. Takes live.flags setting) }
+        ensures tuned { self.new ≡ with_setting self.old cache setting }
+        ensures sound { IsSound self.new }
+    {
+        let tuned = settings::tuned(self.cache(cache), setting);
+        self.caches[cache as usize] = Some(tuned);
     }
 
     /// Takes a name off a cache that has others.

@@ -3,12 +3,13 @@
 ghost use Rattle.std.specs.Prelude.{◌≡◌, ℕ, ◌-◌, ◌%◌, ◌<◌, ◌≤◌, length};
 ghost use Rattle.slub_object_layout.specs.Layout.{IsAccepted, address_of, alignment_of};
 ghost use Rattle.slub_cache_create.specs.Create.{Creates, IsLeastUnused};
-ghost use Rattle.slub_cache_create.specs.Merging.{Fits};
+ghost use Rattle.slub_cache_create.specs.Merging.{Fits, merged_with};
 ghost use Rattle.slub_cache_create.specs.Sound.{IsLiveLayout};
 ghost use Rattle.slub_cache_create.specs.Table.{Table};
+ghost use Rattle.slub_cache_create.specs.Tune.{tuned};
 
 use crate::caches::{Cache, Caches, Created};
-use slub_object_layout::layout::Spec;
+use slub_object_layout::layout::{Setting, Spec};
 
 /// Where fewer than 32 names are live, a number is left for a cache: each live cache has a live name.
 pub fn a_number_is_left(caches: &Caches)
@@ -38,4 +39,9 @@ pub fn merged_objects_fit(live: &Cache, spec: &Spec, frame: u32)
     requires fits { Fits live.now spec.now }
     ensures within { spec.now.size ≤ live.now.layout.size - live.now.layout.left_pad }
     ensures aligned { (index : ℕ) → address_of frame index live.now.layout % alignment_of spec.now ≡ 0 }
+{}
+
+/// Merging forgets no setting: a cache that is set and then merged with is as if it were merged with first.
+pub fn merging_keeps_settings(live: &Cache, setting: Setting, spec: &Spec)
+    ensures { merged_with spec.now (tuned setting live.now) ≡ tuned setting (merged_with spec.now live.now) }
 {}

@@ -3,16 +3,18 @@
 //! A `Caches` owns the table of live names, in the order of their creation, and up to 32 live
 //! caches. `create` makes a cache or merges it with a live one, as `kmem_cache_create_usercopy` of
 //! Linux 6.1 does (`mm/slab_common.c`, `mm/slub.c`), and `drop_name` ends a name and with its last
-//! name a cache. The read calls look up by number or by place and search nothing.
+//! name a cache. `tune` sets a number of a live cache. The read calls look up by number or by place and
+//! search nothing.
 //!
 //! Contracts see a `Caches` as a `Table`, and cite `specs/Merging.antt` for which cache a new one is
-//! merged with, `Creates` of `specs/Create.antt`, `Drops` of `specs/Drop.antt`, and `IsSound` of
-//! `specs/Sound.antt`, which holds between any two calls. `laws` has what follows. `open` takes the
+//! merged with, `Creates` of `specs/Create.antt`, `Drops` of `specs/Drop.antt`, `with_setting` of
+//! `specs/Tune.antt`, and `IsSound` of `specs/Sound.antt`, which holds between any two calls. `laws` has what follows. `open` takes the
 //! memory that the table needs; `create` takes some only where the table of live names grows.
 #![tactic(auto)]
 
 pub mod caches;
 pub mod laws;
 mod merging;
+pub mod settings;
 #[cfg(test)]
 mod tests;

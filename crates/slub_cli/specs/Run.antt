@@ -74,8 +74,8 @@ abbrev pub is_some_found : List Found → Bool
 is_some_found [] = false
 is_some_found (found ∷ others) = true
 
--- a creation, a shrink or a destruction was refused, a reply isn't Ok, or an object was found
--- damaged
+-- a creation, a shrink, a destruction or a tune was refused, a reply isn't Ok, or an object was
+-- found damaged
 abbrev pub has_refused : Done → Bool
 has_refused (done.Created answer) = is_err answer
 has_refused (done.Round result) =
@@ -83,6 +83,7 @@ has_refused (done.Round result) =
 has_refused (done.Shrunk answer) = is_err answer
 has_refused (done.Destroyed answer) = is_err answer
 has_refused (done.Slabinfo rows) = false
+has_refused (done.Tuned answer) = is_err answer
 
 -- the status of a replay that did everything
 abbrev pub done_status : Journal → Status

@@ -77,7 +77,11 @@ fn lacks_memory(done: &Done) -> bool
 {
     match done {
         Done::Round(result) => has_no_memory(result.replies.as_slice()),
-        Done::Created(_) | Done::Shrunk(_) | Done::Destroyed(_) | Done::Slabinfo(_) => false,
+        Done::Created(_)
+        | Done::Shrunk(_)
+        | Done::Destroyed(_)
+        | Done::Slabinfo(_)
+        | Done::Tuned(_) => false,
     }
 }
 
@@ -88,8 +92,8 @@ fn has_refusal(replies: &[Reply]) -> bool
     replies.iter().any(|reply| !reply.is_ok())
 }
 
-/// Whether a creation, a shrink or a destruction was refused, a reply isn't Ok, or an object was found
-/// damaged.
+/// Whether a creation, a shrink, a destruction or a tune was refused, a reply isn't Ok, or an object was
+/// found damaged.
 fn has_refused(done: &Done) -> bool
     ensures { result ≡ has_refused done.now }
 {
@@ -101,6 +105,7 @@ fn has_refused(done: &Done) -> bool
         Done::Shrunk(answer) => answer.is_err(),
         Done::Destroyed(answer) => answer.is_err(),
         Done::Slabinfo(_) => false,
+        Done::Tuned(answer) => answer.is_err(),
     }
 }
 

@@ -4,6 +4,7 @@ use Rattle.std.specs.List.{list_all}
 use Rattle.std.specs.Str.{bytes_eq}
 use Rattle.std.proofs.lemmas.Bool.{false≢true, and_parts, cases_Bool, eqb-true, leb-true}
 use Rattle.std.proofs.lemmas.List.Folds.{list_all-append}
+use Rattle.slub_numbers.specs.Numbers.{is_digit, is_number}
 use Rattle.slub_object_layout.specs.declared.layout.Spec.{Spec}
 use Rattle.slub_command.specs.declared.command.How.{How}
 use Rattle.slub_command.specs.declared.command.How.TheVariants.{Serial, Schedule, Threads}
@@ -12,7 +13,7 @@ use Rattle.slub_command.specs.declared.command.Command.TheVariants.{Replay, Layo
 use Rattle.slub_command.specs.Arguments.{no_dashes}
 use Rattle.slub_command.specs.Command.{IsCommand, IsLayout, IsLoad, SayLayout, SayLoad}
 use Rattle.slub_command.specs.Options.{Given, how_given, seed_given, replies_given, IsValued, AreGiven, AreOptions, IsHow, IsReplay, IsSeed, hows, seeds, is_bare, is_plain, listed}
-use Rattle.slub_command.specs.Spelling.{Word, IsFlags, IsNumber, are_letters, has_needless_zero, is_digit, is_flag_word, is_letter, is_numeral, stands_once}
+use Rattle.slub_command.specs.Spelling.{Word, IsFlags, IsNumber, are_letters, is_flag_word, is_letter, stands_once}
 
 -- ---- words with no hyphen in front
 
@@ -26,18 +27,18 @@ digit_is_bare c is =
       | inr other ↦ rw other refl
     ]
 
-pub numeral_is_bare : (word : Word) → is_numeral word ≡ true → is_bare word ≡ true
+pub numeral_is_bare : (word : Word) → is_number word ≡ true → is_bare word ≡ true
 numeral_is_bare [] is = refl
-numeral_is_bare (c ∷ cs) is =
-    let some = and_parts (not (eqb (length (c ∷ cs)) 0)) (list_all is_digit (c ∷ cs) && not (has_needless_zero (c ∷ cs))) is in
-    let digits = and_parts (list_all is_digit (c ∷ cs)) (not (has_needless_zero (c ∷ cs))) some.1 in
-    digit_is_bare c (and_parts (is_digit c) (list_all is_digit cs) digits.0).0
+numeral_is_bare (c ∷ []) is = digit_is_bare c is
+numeral_is_bare (c ∷ d ∷ cs) is =
+    let digits = (and_parts (not (eqb c 48)) (list_all is_digit (c ∷ d ∷ cs)) is).1 in
+    digit_is_bare c (and_parts (is_digit c) (list_all is_digit (d ∷ cs)) digits).0
 
 bare_is_plain : (word : Word) → is_bare word ≡ true → is_plain word ≡ true
 bare_is_plain word is = rw is refl
 
 number_is_plain : (least most : ℕ) (word : Word) (n : ℕ) → IsNumber least most word n → is_plain word ≡ true
-number_is_plain least most word n is = bare_is_plain word (numeral_is_bare word is.numeral)
+number_is_plain least most word n is = bare_is_plain word (numeral_is_bare word is.writes.form)
 
 letters_are_bare : (word : Word) → are_letters word ≡ true → is_bare word ≡ true
 letters_are_bare [] is = refl
@@ -79,7 +80,7 @@ how_is_bare (Some value) Threads is = rw is refl
 
 seed_is_bare : (text : Option Word) (seed : ℕ) → IsSeed text seed → list_all is_bare (listed text) ≡ true
 seed_is_bare None seed is = refl
-seed_is_bare (Some value) seed is = rw (numeral_is_bare value is.numeral) refl
+seed_is_bare (Some value) seed is = rw (numeral_is_bare value is.writes.form) refl
 
 abbrev pub values_bare : Option Word → Option Word → Bool
 values_bare how seed = list_all is_bare (listed how) && list_all is_bare (listed seed)

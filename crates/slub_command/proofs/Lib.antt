@@ -1,5 +1,4 @@
 pub mod Walks
-pub mod Numbers
 pub mod Replays
 pub mod Matches
 pub mod Apps

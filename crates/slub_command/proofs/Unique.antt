@@ -32,7 +32,7 @@ one_how None a b is also = is ∙ sym also
 one_how (Some value) a b is also = one_how_word value a b is also
 
 one_number : (least most : ℕ) (word : Word) (a b : ℕ) → IsNumber least most word a → IsNumber least most word b → a ≡ b
-one_number least most word a b is also = is.value ∙ sym also.value
+one_number least most word a b is also = is.writes.value ∙ sym also.writes.value
 
 one_seed : (text : Option Word) (a b : ℕ) → IsSeed text a → IsSeed text b → a ≡ b
 one_seed None a b is also = is ∙ sym also

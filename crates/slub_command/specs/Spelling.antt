@@ -2,7 +2,7 @@
 use Rattle.std.specs.Prelude.{◌≡◌, ◌≤◌, ℕ, ◌==◌, Bool, true, not, ◌&&◌, ◌||◌, List, length, codes, nat_le, count_by, slice_index}
 use Rattle.std.specs.List.{list_any, list_all}
 use Rattle.std.specs.Str.{bytes_eq}
-use Rattle.std.specs.Str.Parse.{digits_value}
+use Rattle.slub_numbers.specs.Numbers.{Writes}
 use Rattle.slub_object_layout.specs.declared.layout.Flags.{Flags}
 
 -- the bytes of a word
@@ -11,22 +11,9 @@ Word = List ℕ
 
 -- ---- numbers
 
--- a decimal digit
-abbrev pub is_digit : ℕ → Bool
-is_digit c = nat_le 48 c && nat_le c 57
-
--- a zero (48) in front of others
-abbrev pub has_needless_zero : Word → Bool
-has_needless_zero word = not (length word == 1) && slice_index word 0 == 48
-
--- one digit or more and nothing else, with no needless zero
-abbrev pub is_numeral : Word → Bool
-is_numeral word = not (length word == 0) && (list_all is_digit word && not (has_needless_zero word))
-
 -- the word spells this number, which is from `least` to `most`
 pub record IsNumber (least most : ℕ) (word : Word) (n : ℕ) : Type 0 where
-  pub numeral : is_numeral word ≡ true
-  pub value : n ≡ digits_value 10 word
+  pub writes : Writes word n
   pub least_of : least ≤ n
   pub most_of : n ≤ most
 

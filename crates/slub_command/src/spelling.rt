@@ -3,50 +3,16 @@
 ghost use Rattle.std.specs.Prelude.{◌≡◌, ℕ, MatchOption};
 ghost use Rattle.std.specs.List.{list_all};
 ghost use Rattle.slub_object_layout.specs.declared.layout.Flags.{Flags};
-ghost use Rattle.slub_command.specs.Spelling.{IsFlags, IsNumber, are_letters, has_needless_zero, is_digit, is_flag_word, is_letter, is_numeral, stands_in, stands_once};
+ghost use Rattle.slub_command.specs.Spelling.{IsFlags, IsNumber, are_letters, is_flag_word, is_letter, stands_in, stands_once};
 
+use slub_numbers::numbers::small_number;
 use slub_object_layout::layout::Flags;
-
-fn is_digit(c: u8) -> bool
-    ensures { result ≡ is_digit c }
-{
-    b'0' <= c && c <= b'9'
-}
-
-fn are_digits(word: &[u8]) -> bool
-    ensures { result ≡ list_all is_digit word.now }
-{
-    word.iter().all(|c| is_digit(*c))
-}
-
-/// Whether a zero stands in front of other bytes.
-fn has_needless_zero(word: &[u8]) -> bool
-    ensures { result ≡ has_needless_zero word.now }
-{
-    match word {
-        [c, _, ..] => *c == b'0',
-        _ => false,
-    }
-}
-
-/// Whether a word is digits, with no needless zero.
-fn is_numeral(word: &[u8]) -> bool
-    ensures { result ≡ is_numeral word.now }
-{
-    !word.is_empty() && are_digits(word) && !has_needless_zero(word)
-}
 
 /// The number that a word spells, of those that 64 bits hold.
 pub(crate) fn number(word: &str) -> Option<u64>
     ensures { MatchOption result ((n : ℕ) → ¬ IsNumber 0 18446744073709551615 word.now n) (IsNumber 0 18446744073709551615 word.now) }
 {
-    if !is_numeral(word.as_bytes()) {
-        return None;
-    }
-    match word.parse::<u64>() {
-        Ok(n) => Some(n),
-        Err(_) => None,
-    }
+    small_number(word.as_bytes())
 }
 
 /// The number from `least` to `most` that a word spells.

@@ -146,7 +146,7 @@ known_kept s now (Free object) names board known = omega (arith, known)
 known_kept s now (Write object word value) names board known = (omega (arith, known.0), known.1)
 known_kept s now (Read object word) names board known = (omega (arith, known.0), known.1)
 known_kept s now (Poke object offset byte) names board known = omega (arith, known)
-known_kept s now (Trim place) names board known = known
+known_kept s now (Trim place) names board known = omega (arith, known)
 known_kept s now Flush names board known = known
 
 -- before the first event

@@ -45,6 +45,7 @@ item_few s trace (item.Cache place spec) (done.Created answer) after sound does 
 item_few s trace (item.Shrink place) (done.Shrunk answer) after sound does = (omega arith, omega arith)
 item_few s trace (item.Destroy place) (done.Destroyed answer) after sound does = (omega arith, omega arith)
 item_few s trace item.Slabinfo (done.Slabinfo rows) after sound does = (omega arith, omega arith)
+item_few s trace (item.Tune place setting) (done.Tuned answer) after sound does = (omega arith, omega arith)
 item_few s trace _ _ after sound does = absurd does
 
 items_few : (s : State) (trace : Trace) (items : List Item) (dones : List Done) (after : State) → All (IsSoundItem trace) items → RunsItems s trace items dones after

@@ -13,7 +13,7 @@ use Rattle.slub_answers.specs.declared.ledger.Ledger.{Ledger}
 use Rattle.slub_journal.specs.Lawful.{IsUnheld, cache_numbers, lacks, reports_of, title_of}
 use Rattle.slub_answers.specs.Kinds.{is_freed, is_given}
 
--- an act under a number that the machine has, an allocation of a name of it; no trim and no flush
+-- an act under a number that the machine has, an allocation or a trim of a name of it
 abbrev pub IsKnownAct : State → Act → Type 0
 IsKnownAct s (Alloc place object) =
     (place < length s.table.kept) × (1 ≤ object) × (object < length s.board)
@@ -21,8 +21,8 @@ IsKnownAct s (Free object) = object < length s.board
 IsKnownAct s (Write object word value) = (object < length s.board) × (word ≤ 4095)
 IsKnownAct s (Read object word) = (object < length s.board) × (word ≤ 4095)
 IsKnownAct s (Poke object offset byte) = object < length s.board
-IsKnownAct s (Trim place) = ⊥
-IsKnownAct s Flush = ⊥
+IsKnownAct s (Trim place) = place < length s.table.kept
+IsKnownAct s Flush = Unit {0}
 
 -- such an act of one of so many workers on a CPU of the machine
 pub record IsKnown (s : State) (workers : ℕ) (event : Event) : Type 0 where

@@ -51,11 +51,10 @@ pub fn item(
         Item::Shrink { name } => Ok(Done::Shrunk(lists.shrink(name_of(trace, *name)))),
         Item::Destroy { name } => Ok(Done::Destroyed(lists.destroy(name_of(trace, *name)))),
         Item::Slabinfo => Ok(Done::Slabinfo(Sequence::from_vec(info_rows(alloc, lists)?))),
-        Item::Tune {
-            name: _,
-            setting: _,
+        Item::Tune { name, setting } => {
+            Ok(Done::Tuned(lists.tune(name_of(trace, *name), *setting)))
         }
-        | Item::Client(_) => unreachable!(),
+        Item::Client(_) => unreachable!(),
     }
 }
 
@@ -180,7 +179,8 @@ fn answer(lists: &mut Lists, event: &Event) -> Reply
             offset,
             byte,
         } => lists.poke(event.worker, object, offset, byte),
-        Act::Trim { cache: _ } | Act::Flush => unreachable!(),
+        Act::Trim { cache } => lists.trim(cache),
+        Act::Flush => lists.flush(event.cpu),
     }
 }
 

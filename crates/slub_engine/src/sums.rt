@@ -90,7 +90,11 @@ fn ledgers_of(done: &Done) -> &[Ledger]
 {
     match done {
         Done::Round(outcome) => outcome.ledgers.as_slice(),
-        Done::Created(_) | Done::Shrunk(_) | Done::Destroyed(_) | Done::Slabinfo(_) => &[],
+        Done::Created(_)
+        | Done::Shrunk(_)
+        | Done::Destroyed(_)
+        | Done::Slabinfo(_)
+        | Done::Tuned(_) => &[],
     }
 }
 

@@ -3,7 +3,9 @@ use Rattle.std.proofs.Common.{◌≡◌, ℕ, ◌<◌, Bool, List, [], length, g
 use Rattle.std.proofs.lemmas.Option.{get_or_from_slice_get, slice_get_read}
 use Rattle.std.specs.Option.{option_map_or}
 use Rattle.slub_object_layout.specs.declared.event.Round.{Round}
+use Rattle.slub_object_layout.specs.declared.layout.Setting.{Setting}
 use Rattle.slub_object_layout.specs.declared.layout.Spec.{Spec}
+use Rattle.slub_trace_reader.specs.declared.trace.Client.{Client}
 use Rattle.slub_trace_reader.specs.declared.trace.Item.{Item}
 use Rattle.slub_trace_reader.specs.declared.trace.Item.TheVariants as item
 use Rattle.slub_trace_reader.specs.declared.trace.Trace.{Trace}
@@ -11,8 +13,10 @@ use Rattle.slub_trace_reader.specs.Sound.{IsSound, IsSoundItem}
 use Rattle.slub_common.specs.declared.no_such_cache.NoSuchCache.{NoSuchCache}
 use Rattle.slub_answers.specs.declared.destroy.Destroyed.{Destroyed}
 use Rattle.slub_answers.specs.declared.destroy.DestroyRefusal.{DestroyRefusal}
+use Rattle.slub_answers.specs.declared.tune.TuneRefusal.{TuneRefusal}
 use Rattle.slub_lists.specs.Destroy.{Destroys}
 use Rattle.slub_lists.specs.Shrink.{Shrinks}
+use Rattle.slub_lists.specs.Tune.{Tunes}
 use Rattle.slub_lists.specs.State.{State}
 use Rattle.slub_slabinfo_text.specs.declared.counts.InfoRow.{InfoRow}
 use Rattle.slub_slabinfo_text.specs.Counts.{rows_of}
@@ -24,7 +28,7 @@ use Rattle.slub_journal.specs.declared.journal.RoundResult.{RoundResult}
 use Rattle.slub_journal.specs.declared.journal.Done.{Done}
 use Rattle.slub_journal.specs.declared.journal.Done.TheVariants as done
 use Rattle.slub_journal.specs.Lawful.{CreatesName, Does, DoesAt, DoesRound, TakesMemory, TakesMemoryAt, name_at}
-use Rattle.slub_journal.specs.Text.{answer_line, created_answer, destroyed_answer, done_text, round_text, shrunk_answer, text_at}
+use Rattle.slub_journal.specs.Text.{answer_line, created_answer, destroyed_answer, done_text, round_text, shrunk_answer, text_at, tuned_answer}
 
 -- ---- an item that was read
 
@@ -49,7 +53,7 @@ unfolding done_text
 creation_text replies trace place spec answer = refl
 
 pub events_text : (replies : Bool) (trace : Trace) (round : Round) (outcome : RoundResult)
-    → done_text replies trace (item.Round round) (done.Round outcome) ≡ round_text replies round outcome
+    → done_text replies trace (item.Round round) (done.Round outcome) ≡ round_text replies trace.names round outcome
 unfolding done_text
 events_text replies trace round outcome = refl
 
@@ -66,6 +70,11 @@ destroy_text replies trace place answer = refl
 pub slabinfo_text : (replies : Bool) (trace : Trace) (rows : List InfoRow) → done_text replies trace item.Slabinfo (done.Slabinfo rows) ≡ info_text rows
 unfolding done_text
 slabinfo_text replies trace rows = refl
+
+pub tune_text : (replies : Bool) (trace : Trace) (place : ℕ) (setting : Setting) (answer : Result (Unit {0}) TuneRefusal)
+    → done_text replies trace (item.Tune place setting) (done.Tuned answer) ≡ answer_line replies word.Tune (name_at trace place) (tuned_answer answer)
+unfolding done_text
+tune_text replies trace place setting answer = refl
 
 -- an item that is answered by what isn't of its kind has no text
 pub no_creation_text : (replies : Bool) (trace : Trace) (place : ℕ) (spec : Spec) (dn : Done) → ((answer : Result Created CreateRefusal) → dn ≡ done.Created answer → ⊥) → done_text replies trace (item.Cache place spec) dn ≡ []
@@ -93,17 +102,15 @@ unfolding done_text
 no_slabinfo_text replies trace (done.Slabinfo rows) isnt = absurd (isnt rows refl)
 no_slabinfo_text replies trace _ isnt = refl
 
--- nor has an item of another kind
-pub no_other_text : (replies : Bool) (trace : Trace) (it : Item) (dn : Done)
-    → ((place : ℕ) (spec : Spec) → it ≡ item.Cache place spec → ⊥) → ((round : Round) → it ≡ item.Round round → ⊥) → ((place : ℕ) → it ≡ item.Shrink place → ⊥)
-    → ((place : ℕ) → it ≡ item.Destroy place → ⊥) → (it ≡ item.Slabinfo → ⊥) → done_text replies trace it dn ≡ []
+pub no_tune_text : (replies : Bool) (trace : Trace) (place : ℕ) (setting : Setting) (dn : Done) → ((answer : Result (Unit {0}) TuneRefusal) → dn ≡ done.Tuned answer → ⊥) → done_text replies trace (item.Tune place setting) dn ≡ []
 unfolding done_text
-no_other_text replies trace (item.Cache place spec) dn cache round shrink destroy info = absurd (cache place spec refl)
-no_other_text replies trace (item.Round it) dn cache round shrink destroy info = absurd (round it refl)
-no_other_text replies trace (item.Shrink place) dn cache round shrink destroy info = absurd (shrink place refl)
-no_other_text replies trace (item.Destroy place) dn cache round shrink destroy info = absurd (destroy place refl)
-no_other_text replies trace item.Slabinfo dn cache round shrink destroy info = absurd (info refl)
-no_other_text replies trace _ dn cache round shrink destroy info = refl
+no_tune_text replies trace place setting (done.Tuned answer) isnt = absurd (isnt answer refl)
+no_tune_text replies trace place setting _ isnt = refl
+
+-- nor has a client's line
+pub no_client_text : (replies : Bool) (trace : Trace) (client : Client) (dn : Done) → done_text replies trace (item.Client client) dn ≡ []
+unfolding done_text
+no_client_text replies trace client dn = refl
 
 -- ---- an item that was read is done
 
@@ -153,3 +160,10 @@ pub does_destroy : (s : State) (trace : Trace) (number : ℕ) (it : Item) (place
 unfolding Does
 does_destroy s trace number it place answer after within at is does =
     does_at s trace number it (done.Destroyed answer) after within at (subst (λ (it : Item). Does s trace it (done.Destroyed answer) after) (sym is) does)
+
+pub does_tune : (s : State) (trace : Trace) (number : ℕ) (it : Item) (place : ℕ) (setting : Setting) (answer : Result (Unit {0}) TuneRefusal) (after : State)
+    → number < length trace.items → it ≡ get_or trace.items number it → it ≡ item.Tune place setting
+    → Tunes s (name_at trace place) setting answer after → DoesAt s trace number (done.Tuned answer) after
+unfolding Does
+does_tune s trace number it place setting answer after within at is does =
+    does_at s trace number it (done.Tuned answer) after within at (subst (λ (it : Item). Does s trace it (done.Tuned answer) after) (sym is) does)

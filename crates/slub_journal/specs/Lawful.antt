@@ -25,6 +25,9 @@ use Rattle.slub_lists.specs.Words.{Pokes, Reads, Writes}
 use Rattle.slub_lists.specs.Create.{CreatesCache}
 use Rattle.slub_lists.specs.Shrink.{Shrinks}
 use Rattle.slub_lists.specs.Destroy.{Destroys}
+use Rattle.slub_lists.specs.Tune.{Tunes}
+use Rattle.slub_lists.specs.Trim.{Trims}
+use Rattle.slub_lists.specs.Flush.{Flushes}
 use Rattle.slub_lists.specs.Coherent.{IsCoherent, all_on_board, held_under, opening}
 use Rattle.slub_slabinfo_text.specs.declared.counts.Counts.{Counts}
 use Rattle.slub_slabinfo_text.specs.Counts.{row_of, rows_of}
@@ -72,7 +75,7 @@ CreatesName s name spec (Err why) after = IsCreateRefusal s name spec why × (af
 
 -- ---- events
 
--- an event is answered; a trim and a flush aren't today
+-- an event is answered
 abbrev pub Answers : State → Event → Act → Reply → State → Type 0
 Answers s event (Alloc place object) reply after =
     AllocatesNamed s place event.cpu event.worker object reply after
@@ -83,8 +86,8 @@ Answers s event (Read object word) reply after =
     Reads s event.worker object word reply × (after ≡ s)
 Answers s event (Poke object offset byte) reply after =
     Pokes s event.worker object offset byte reply after
-Answers s event (Trim place) reply after = ⊥
-Answers s event Flush reply after = ⊥
+Answers s event (Trim place) reply after = Trims s place reply after
+Answers s event Flush reply after = Flushes s event.cpu reply after
 
 -- the events are answered one after the other, and the machine is coherent after each
 abbrev pub RunsEvents : State → List Event → List Reply → State → Type 0
@@ -170,7 +173,7 @@ pub record DoesRound (s : State) (round : Round) (result : RoundResult)
 
 -- ---- items
 
--- an item is done, by an answer of its kind; a tune and a client's line aren't done today
+-- an item is done, by an answer of its kind; a client's line isn't done today
 unfoldable pub Does : State → Trace → Item → Done → State → Type 0
 Does s trace (item.Cache place spec) (done.Created answer) after =
     CreatesName s (name_at trace place) spec answer after
@@ -180,6 +183,8 @@ Does s trace (item.Shrink place) (done.Shrunk answer) after =
 Does s trace (item.Destroy place) (done.Destroyed answer) after =
     Destroys s (name_at trace place) answer after
 Does s trace item.Slabinfo (done.Slabinfo rows) after = (rows ≡ rows_of s) × (after ≡ s)
+Does s trace (item.Tune place setting) (done.Tuned answer) after =
+    Tunes s (name_at trace place) setting answer after
 Does s trace _ _ after = ⊥
 
 -- the item of this number is done
@@ -262,10 +267,15 @@ pub record IsLawful (trace : Trace) (journal : Journal) : Type 0 where
 
 -- ---- what is built
 
--- the trace is one that is replayed today: no transaction id to start at. What is read is of
--- version 1, so it has no tune, trim, flush or client's line
-abbrev pub IsBuilt : Trace → Type 0
-IsBuilt trace = trace.tid ≡ 0
+-- an item but a client's line
+abbrev pub IsBuiltItem : Item → Type 0
+IsBuiltItem (item.Client client) = ⊥
+IsBuiltItem _ = ⊤
+
+-- the trace is one that is replayed today: no transaction id to start at, and no client's line
+pub record IsBuilt (trace : Trace) : Type 0 where
+  pub tid : trace.tid ≡ 0
+  pub items : All IsBuiltItem trace.items
 
 -- ---- where the machine stands
 

@@ -11,6 +11,8 @@ use Rattle.slub_answers.specs.declared.destroy.Destroyed.TheVariants as destroye
 use Rattle.slub_answers.specs.declared.destroy.DestroyRefusal.{DestroyRefusal}
 use Rattle.slub_answers.specs.declared.destroy.DestroyRefusal.TheVariants as kept
 use Rattle.slub_answers.specs.declared.reply.Reply.{Reply}
+use Rattle.slub_answers.specs.declared.tune.TuneRefusal.{TuneRefusal}
+use Rattle.slub_answers.specs.declared.tune.TuneRefusal.TheVariants as unset
 use Rattle.slub_slabinfo_text.specs.declared.text.ItemWord.{ItemWord}
 use Rattle.slub_slabinfo_text.specs.declared.text.ItemWord.TheVariants as word
 use Rattle.slub_slabinfo_text.specs.declared.text.ItemAnswer.{ItemAnswer}
@@ -54,6 +56,12 @@ destroyed_answer (Ok destroyed.Gone) = answer.Destroyed
 destroyed_answer (Err kept.NoSuchCache) = answer.NoSuchCache
 destroyed_answer (Err (kept.Busy objects)) = answer.Busy objects
 
+-- what a tune's line says
+abbrev pub tuned_answer : Result (Unit {0}) TuneRefusal → ItemAnswer
+tuned_answer (Ok set) = answer.Set
+tuned_answer (Err unset.NoSuchCache) = answer.NoSuchCache
+tuned_answer (Err unset.Checked) = answer.Checked
+
 -- a line that is always written, or one of those that are written with `--replies` alone
 abbrev pub shown : Bool → Bool → List ℕ → List ℕ
 shown replies is_ok line = if replies || not is_ok then line else []
@@ -64,30 +72,33 @@ answer_line replies word name answer =
     shown replies (is_ok_answer answer) (item_line word name answer)
 
 -- the line of an event with its reply
-abbrev pub event_text : Bool → Event × Reply → List ℕ
-event_text replies answered =
-    shown replies (is_ok_reply answered.1) (reply_text answered.0.act answered.1)
+abbrev pub event_text : Bool → List (List ℕ) → Event × Reply → List ℕ
+event_text replies names answered =
+    shown replies (is_ok_reply answered.1) (reply_text names answered.0 answered.1)
 
 -- the line of a damage
 abbrev pub found_text : Found → List ℕ
 found_text found = damage_line found.title found.report
 
 -- the lines of a round: its events in their order, each with its reply, and what was found damaged
-abbrev pub round_text : Bool → Round → RoundResult → List ℕ
-round_text replies round result =
-    flat_map (event_text replies) (zip round.events result.replies)
+abbrev pub round_text : Bool → List (List ℕ) → Round → RoundResult → List ℕ
+round_text replies names round result =
+    flat_map (event_text replies names) (zip round.events result.replies)
     ++ flat_map found_text result.damages
 
 -- the lines of an item that was done as what it is; none of another
 unfoldable pub done_text : Bool → Trace → Item → Done → List ℕ
 done_text replies trace (item.Cache place spec) (done.Created answer) =
     answer_line replies word.Cache (name_at trace place) (created_answer answer)
-done_text replies trace (item.Round round) (done.Round result) = round_text replies round result
+done_text replies trace (item.Round round) (done.Round result) =
+    round_text replies trace.names round result
 done_text replies trace (item.Shrink place) (done.Shrunk answer) =
     answer_line replies word.Shrink (name_at trace place) (shrunk_answer answer)
 done_text replies trace (item.Destroy place) (done.Destroyed answer) =
     answer_line replies word.Destroy (name_at trace place) (destroyed_answer answer)
 done_text replies trace item.Slabinfo (done.Slabinfo rows) = info_text rows
+done_text replies trace (item.Tune place setting) (done.Tuned answer) =
+    answer_line replies word.Tune (name_at trace place) (tuned_answer answer)
 done_text replies trace _ _ = []
 
 -- the lines of the item of this number

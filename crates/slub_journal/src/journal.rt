@@ -6,6 +6,7 @@ use slub_answers::create::{CreateRefusal, Created};
 use slub_answers::destroy::{DestroyRefusal, Destroyed};
 use slub_answers::ledger::Ledger;
 use slub_answers::reply::Reply;
+use slub_answers::tune::TuneRefusal;
 use slub_common::no_such_cache::NoSuchCache;
 use slub_common::sequence::Sequence;
 use slub_object_layout::name::Name;
@@ -41,6 +42,7 @@ pub enum Done {
     Shrunk(Result<bool, NoSuchCache>),
     Destroyed(Result<Destroyed, DestroyRefusal>),
     Slabinfo(Sequence<InfoRow>),
+    Tuned(Result<(), TuneRefusal>),
 }
 
 /// The sums at the end: of the ledgers, and over the live caches.

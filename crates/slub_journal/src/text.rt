@@ -2,16 +2,17 @@
 
 ghost use Rattle.std.specs.Prelude.{◌≡◌, ◌<◌, length, flat_map, All, IfOk};
 ghost use Rattle.std.specs.List.{zip};
-ghost use Rattle.slub_slabinfo_text.specs.Texts.{IsAnswered};
+ghost use Rattle.slub_slabinfo_text.specs.Texts.{IsNamed};
 ghost use Rattle.slub_trace_reader.specs.Sound.{IsSound};
 ghost use Rattle.slub_journal.specs.Lawful.{IsBuilt};
-ghost use Rattle.slub_journal.specs.Text.{answer_line, created_answer, destroyed_answer, event_text, found_text, round_text, shrunk_answer, text_at, total_text};
+ghost use Rattle.slub_journal.specs.Text.{answer_line, created_answer, destroyed_answer, event_text, found_text, round_text, shrunk_answer, text_at, total_text, tuned_answer};
 
 use crate::journal::{Done, Found, RoundResult, Total};
 use crate::names::name_of;
 use slub_answers::create::{CreateRefusal, Created};
 use slub_answers::destroy::{DestroyRefusal, Destroyed};
 use slub_answers::reply::Reply;
+use slub_answers::tune::TuneRefusal;
 use slub_common::no_memory::NoMemory;
 use slub_common::no_such_cache::NoSuchCache;
 use slub_object_layout::event::{Event, Round};
@@ -48,7 +49,9 @@ pub fn text_of_item(
                 replies,
             )
         }
-        (Item::Round(round), Done::Round(outcome)) => round_text(alloc, round, outcome, replies),
+        (Item::Round(round), Done::Round(outcome)) => {
+            round_text(alloc, trace.names.as_slice(), round, outcome, replies)
+        }
         (Item::Shrink { name }, Done::Shrunk(answer)) => {
             let answer = shrunk_answer(answer);
             line_of(
@@ -70,6 +73,16 @@ pub fn text_of_item(
             )
         }
         (Item::Slabinfo, Done::Slabinfo(rows)) => Ok(slabinfo_text(alloc, rows.as_slice())?),
+        (Item::Tune { name, setting: _ }, Done::Tuned(answer)) => {
+            let answer = tuned_answer(answer);
+            line_of(
+                alloc,
+                ItemWord::Tune,
+                name_of(trace, *name),
+                &answer,
+                replies,
+            )
+        }
         _ => Ok(Vec::new(alloc)),
     }
 }
@@ -112,6 +125,17 @@ fn destroyed_answer(destruction: &Result<Destroyed, DestroyRefusal>) -> ItemAnsw
     }
 }
 
+/// What the line of a tune says.
+fn tuned_answer(tune: &Result<(), TuneRefusal>) -> ItemAnswer
+    ensures { result ≡ tuned_answer tune.now }
+{
+    match tune {
+        Ok(()) => ItemAnswer::Set,
+        Err(TuneRefusal::NoSuchCache) => ItemAnswer::NoSuchCache,
+        Err(TuneRefusal::Checked) => ItemAnswer::Checked,
+    }
+}
+
 /// The line of an item's answer, if it is to be written.
 fn line_of(
     alloc: Global,
@@ -132,15 +156,18 @@ fn line_of(
 /// The lines of a round: its events in their order, each with its reply, and what was found damaged.
 fn round_text(
     alloc: Global,
+    names: &[Name],
     round: &Round,
     outcome: &RoundResult,
     replies: bool,
 ) -> Result<Vec<u8>, NoMemory>
-    requires { All (λ event. IsAnswered event.act) round.now.events }
-    ensures { IfOk result (λ text. text.items ≡ round_text replies round.now outcome.now) }
+    requires { All (λ event. IsNamed names.now event.act) round.now.events }
+    ensures { IfOk result (λ text. text.items ≡
+        round_text replies names.now round.now outcome.now) }
 {
     let mut text = events_text(
         alloc,
+        names,
         round.events.as_slice(),
         outcome.replies.as_slice(),
         replies,
@@ -153,17 +180,18 @@ fn round_text(
 /// The lines of events, each with its reply.
 fn events_text(
     alloc: Global,
+    names: &[Name],
     events: &[Event],
     answers: &[Reply],
     replies: bool,
 ) -> Result<Vec<u8>, NoMemory>
-    requires { All (λ event. IsAnswered event.act) events.now }
+    requires { All (λ event. IsNamed names.now event.act) events.now }
     ensures { IfOk result (λ text. text.items ≡
-        flat_map (event_text replies) (zip events.now answers.now)) }
+        flat_map (event_text replies names.now) (zip events.now answers.now)) }
 {
     let mut text = Vec::new(alloc);
     for (event, reply) in events.iter().zip(answers) {
-        let line = event_text(alloc, event, reply, replies)?;
+        let line = event_text(alloc, names, event, reply, replies)?;
         text.extend_from_slice(line.as_slice())?;
     }
     Ok(text)
@@ -172,15 +200,17 @@ fn events_text(
 /// The line of an event with its reply, if it is to be written.
 fn event_text(
     alloc: Global,
+    names: &[Name],
     event: &Event,
     reply: &Reply,
     replies: bool,
 ) -> Result<Vec<u8>, NoMemory>
-    requires { IsAnswered event.now.act }
-    ensures { IfOk result (λ text. text.items ≡ event_text replies (event.now, reply.now)) }
+    requires { IsNamed names.now event.now.act }
+    ensures { IfOk result (λ text. text.items ≡
+        event_text replies names.now (event.now, reply.now)) }
 {
     if replies || !reply.is_ok() {
-        Ok(reply_line(alloc, &event.act, reply)?)
+        Ok(reply_line(alloc, names, event, reply)?)
     } else {
         Ok(Vec::new(alloc))
     }

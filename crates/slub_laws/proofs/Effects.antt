@@ -25,10 +25,12 @@ use Rattle.slub_lists.specs.Checked.{GivesOrMakes, GivesSlot, IsFreedOrKept, Lac
 use Rattle.slub_lists.specs.Free.{FreesUnchecked, discarded, drained, freed, freed_here, is_current, is_freeable, is_frozen, put_partial, settled, without_spare, with_freed, with_gone, with_taken, without_slab}
 use Rattle.slub_lists.specs.Freeing.{Frees, FreesHeld}
 use Rattle.slub_lists.specs.Words.{PokesChecked, Pokes, Reads, Writes, held_by, inside, is_word, known_to, outside, with_word, word_at, word_of}
+use Rattle.slub_lists.specs.Flush.{flushed_cpu}
+use Rattle.slub_lists.specs.Trim.{Trims}
 use Rattle.slub_lists.proofs.Flushing.{rest-moved_partial}
 use Rattle.slub_journal.specs.Lawful.{Answers}
 use Rattle.slub_answers.specs.Kinds.{is_freed, is_given}
-use Rattle.slub_laws.proofs.Keeping.{Keeps, keeps_either, keeps_held, keeps_same, keeps_both, keeps_written, match_some}
+use Rattle.slub_laws.proofs.Keeping.{Keeps, flushed_keeps, keeps_either, keeps_held, keeps_same, keeps_both, keeps_written, match_some}
 
 -- ---- what an event does
 
@@ -259,6 +261,15 @@ module _ (s : State) (act : Act) (worker object : ℕ) (answer : Reply) (after :
       (λ none. still s act answer after reply.NotChecked none refl refl)
       (λ slabs pokes. poked_effect slabs held offset byte pokes))
 
+-- ---- trims
+
+trim_effect : (s : State) (act : Act) (place : ℕ) (answer : Reply) (after : State) → Trims s place answer after → Effect s act answer after
+trim_effect s act place answer after trims = match_either (named s place) _ _ (Effect s act answer after) trims
+    (λ none. still s act answer after reply.NoSuchCache none refl refl)
+    (λ cache trims. match_either (checked_of s cache) _ _ (Effect s act answer after) trims
+    (λ trimmed. silent s act answer after (reply.Trimmed trimmed.0) trimmed.1 refl refl (keeps_held s after trimmed.2.held))
+    (λ slabs refused. still s act answer after reply.Checked refused refl refl))
+
 -- ---- events
 
 pub event_effect : (s : State) (event : Event) (act : Act) (answer : Reply) (after : State) → Answers s event act answer after → Effect s act answer after
@@ -267,5 +278,7 @@ event_effect s event (Free object) answer after answers = free_effect s event.cp
 event_effect s event (Write object word value) answer after answers = write_effect s _ event.worker object answer after word value answers
 event_effect s event (Read object word) answer after answers = read_effect s _ event.worker object answer after word answers.0 answers.1
 event_effect s event (Poke object offset byte) answer after answers = poke_effect s _ event.worker object answer after offset byte answers
-event_effect s event (Trim place) answer after answers = absurd answers
-event_effect s event Flush answer after answers = absurd answers
+event_effect s event (Trim place) answer after answers = trim_effect s _ place answer after answers
+event_effect s event Flush answer after answers =
+    let keeps = flushed_keeps s event.cpu in
+    silent s _ answer after (reply.Flushed _) answers.moved refl refl (keeps_written s (flushed_cpu s event.cpu) after answers.steps keeps.board keeps.live)

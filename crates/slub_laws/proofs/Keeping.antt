@@ -1,6 +1,9 @@
 -- What leaves the board and the counts of held objects as they are: each item but a round.
-use Rattle.std.proofs.Common.{◌≡◌, ℕ, Bool, true, false, cond, List, [], refl, ◌∙◌, ap, Option, Some, None, MatchOption, Result, Ok, Err}
+use Rattle.std.proofs.Common.{◌≡◌, ℕ, Bool, true, false, cond, List, [], ◌∷◌, fold, is_some, refl, ◌∙◌, ap, Option, Some, None, MatchOption, Result, Ok, Err}
+use Rattle.std.specs.List.{range_with_len}
 use Rattle.slub_object_layout.specs.declared.event.Round.{Round}
+use Rattle.slub_object_layout.specs.declared.layout.Setting.{Setting}
+use Rattle.slub_object_layout.specs.declared.layout.Setting.TheVariants.{MinPartial, CpuPartial}
 use Rattle.slub_object_layout.specs.declared.layout.Spec.{Spec}
 use Rattle.slub_common.specs.declared.no_such_cache.NoSuchCache.{NoSuchCache}
 use Rattle.slub_cache_create.specs.declared.caches.Created.{Created as CreatedCache}
@@ -10,11 +13,19 @@ use Rattle.slub_answers.specs.declared.destroy.Destroyed.{Destroyed}
 use Rattle.slub_answers.specs.declared.destroy.Destroyed.TheVariants.{NameDropped, Gone}
 use Rattle.slub_answers.specs.declared.destroy.DestroyRefusal.{DestroyRefusal}
 use Rattle.slub_answers.specs.declared.destroy.DestroyRefusal.TheVariants.{NoSuchCache as NotLive, Busy}
+use Rattle.slub_answers.specs.declared.tune.TuneRefusal.{TuneRefusal}
+use Rattle.slub_answers.specs.declared.tune.TuneRefusal.TheVariants as unset
 use Rattle.slub_lists.specs.State.{State}
 use Rattle.slub_lists.specs.Create.{CreatesCache}
 use Rattle.slub_lists.specs.Destroy.{Destroys}
+use Rattle.slub_lists.specs.Alloc.{checked_of}
+use Rattle.slub_lists.specs.Flush.{flushed_cpu, flushed_of}
 use Rattle.slub_lists.specs.Leaving.{KeepsHeld}
-use Rattle.slub_lists.specs.Shrink.{Shrinks}
+use Rattle.slub_lists.specs.Shrink.{Shrinks, flushed, flushed_below, min_partial_of}
+use Rattle.slub_lists.specs.Shrinking.{KeepsChecked}
+use Rattle.slub_lists.specs.Tune.{Tunes, tuned, with_setting}
+use Rattle.slub_lists.proofs.Flushing.{rest-flushed}
+use Rattle.slub_lists.proofs.FlushingCpu.{rest-flushed_of}
 use Rattle.slub_trace_reader.specs.declared.trace.Item.{Item}
 use Rattle.slub_trace_reader.specs.declared.trace.Item.TheVariants as item
 use Rattle.slub_trace_reader.specs.declared.trace.Trace.{Trace}
@@ -85,6 +96,37 @@ destroys_keep s name (Ok Gone) after destroys =
     match_some (number_of s.table name) _ (Keeps s after) destroys (λ cache goes.
     keeps_both s goes.2 after (keeps_held s goes.2 goes.3.held) (keeps_written goes.2 _ after goes.5 refl refl))
 
+-- ---- tuning, trimming and flushing
+
+keeps_checked : (s after : State) → KeepsChecked s after → Keeps s after
+keeps_checked s after rest = keeps_held s after rest.held
+
+-- what each step keeps, all steps keep
+folded_keeps : (f : State → ℕ → State) → ((s : State) (n : ℕ) → Keeps s (f s n)) → (s : State) (ns : List ℕ) → Keeps s (fold f s ns)
+folded_keeps f keeps s [] = keeps_same s s refl
+folded_keeps f keeps s (n ∷ ns) = keeps_both s (f s n) (fold f (f s n) ns) (keeps s n) (folded_keeps f keeps (f s n) ns)
+
+flushes_keep : (s : State) (cache : ℕ) → Keeps s (flushed_below s (min_partial_of s cache) cache s.cpus)
+flushes_keep s cache = let least = min_partial_of s cache in
+    folded_keeps (flushed least cache) (λ t cpu. keeps_checked t (flushed least cache t cpu) (rest-flushed least cache t cpu)) s (range_with_len 0 s.cpus)
+
+tuned_keeps : (s : State) (cache : ℕ) (setting : Setting) → Keeps s (tuned s cache setting)
+tuned_keeps s cache (MinPartial slabs) = record { board = refl; live = refl }
+tuned_keeps s cache (CpuPartial objects) =
+    let keeps = flushes_keep s cache in
+    keeps_either s s (with_setting (flushed_below s (min_partial_of s cache) cache s.cpus) cache (CpuPartial objects)) (is_some (checked_of s cache)) (keeps_same s s refl) (record { board = keeps.board; live = keeps.live })
+
+tunes_keep : (s : State) (name : List ℕ) (setting : Setting) (answer : Result (Unit {0}) TuneRefusal) (after : State) → Tunes s name setting answer after → Keeps s after
+tunes_keep s name setting (Err unset.NoSuchCache) after tunes = keeps_same s after tunes.1
+tunes_keep s name setting (Err unset.Checked) after tunes =
+    match_some (number_of s.table name) _ (Keeps s after) tunes (λ cache refused. keeps_same s after refused.1)
+tunes_keep s name setting (Ok done) after tunes =
+    match_some (number_of s.table name) _ (Keeps s after) tunes (λ cache set.
+    let keeps = tuned_keeps s cache setting in keeps_written s (tuned s cache setting) after set.1.steps keeps.board keeps.live)
+
+pub flushed_keeps : (s : State) (cpu : ℕ) → Keeps s (flushed_cpu s cpu)
+flushed_keeps s cpu = folded_keeps (flushed_of cpu) (λ t cache. keeps_checked t (flushed_of cpu t cache) (rest-flushed_of cpu t cache)) s s.table.ages
+
 -- ---- items
 
 -- an item is a round; or no event and no ledger is counted of it, and it keeps the board and the counts
@@ -99,4 +141,5 @@ item_effect s trace (item.Round round) (done.Round outcome) after does = one_rou
 item_effect s trace (item.Shrink place) (done.Shrunk answer) after does = no_round refl refl (shrinks_keep s _ answer after does)
 item_effect s trace (item.Destroy place) (done.Destroyed answer) after does = no_round refl refl (destroys_keep s _ answer after does)
 item_effect s trace item.Slabinfo (done.Slabinfo rows) after does = no_round refl refl (keeps_same s after does.1)
+item_effect s trace (item.Tune place setting) (done.Tuned answer) after does = no_round refl refl (tunes_keep s _ setting answer after does)
 item_effect s trace _ _ after does = absurd does

@@ -1,14 +1,18 @@
 //! What holds of every lawful journal of a sound trace, and of every coherent machine. None of these
 //! does anything.
 
-ghost use Rattle.std.specs.Prelude.{◌≡◌, ℕ, ◌+◌, ◌≤◌, IfSome, IsSome};
+ghost use Rattle.std.specs.Prelude.{◌≡◌, ℕ, ◌+◌, ◌≤◌, false, IfSome, IsSome};
 ghost use Rattle.slub_lists.specs.Alloc.{cache_of};
 ghost use Rattle.slub_lists.specs.Coherent.{IsCoherent};
+ghost use Rattle.slub_lists.specs.Shrink.{has_slab};
 ghost use Rattle.slub_lists.specs.State.{State};
+ghost use Rattle.slub_object_layout.specs.declared.event.Round.{Round as Events};
+ghost use Rattle.slub_journal.specs.declared.journal.RoundResult.{RoundResult as Outcome};
 ghost use Rattle.slub_slabinfo_text.specs.Counts.{counts_of};
 ghost use Rattle.slub_trace_reader.specs.Sound.{IsSound};
 ghost use Rattle.slub_journal.specs.Lawful.{IsLawful, IsReady, opening_of};
 ghost use Rattle.slub_laws.specs.Freed.{freed_times, given_times};
+ghost use Rattle.slub_laws.specs.Trimmed.{EndsTrimmed};
 
 use slub_journal::journal::Journal;
 use slub_trace_reader::trace::Trace;
@@ -43,4 +47,11 @@ pub fn objects_add_up()
     ensures { (s : State) (cache : ℕ) → IsCoherent s → IsSome (cache_of s cache) →
         IfSome (cache_of s cache) (λ live. let counts = counts_of s cache live.layout in
         counts.live + counts.free + counts.aside ≡ counts.num_objs) }
+{}
+
+/// Where a round ends with a trim of a cache that isn't checked, and no object of the cache is held or
+/// on the board then, the cache has no slab.
+pub fn trimmed_cache_is_empty()
+    ensures { (s : State) (round : Events) (result : Outcome) (cache : ℕ) (after : State) →
+        EndsTrimmed s round result cache after → has_slab after cache ≡ false }
 {}

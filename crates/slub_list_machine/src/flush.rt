@@ -28,7 +28,7 @@ impl Lists {
     }
 
     /// Puts the CPU's current slab away, and moves its partial list (`flush_cpu_slab`).
-    fn flush_cache(&mut self, cache: u8, cpu: u32, min_partial: u32)
+    pub(crate) fn flush_cache(&mut self, cache: u8, cpu: u32, min_partial: u32)
         requires coherent { IsCoherent self.old }
         requires cache { cache < 32 }
         requires cpu { cpu < self.old.cpus }

@@ -2,7 +2,8 @@
 //!
 //! A `Lists` is the machine, and contracts see it as the record `State` of `slub_lists`. Each operation is
 //! one call whose contract is its definition there, and keeps the machine coherent. `alloc`, `free`,
-//! `words`, `create`, `shrink` and `destroy` have the calls; the other modules have their steps.
+//! `words`, `trim`, `flush_cpu`, `create`, `shrink`, `destroy` and `tune` have the calls; the other modules
+//! have their steps.
 //!
 //! After `Lists::open` only checked caches take memory: at their creation, and for each new slab.
 #![tactic(auto)]
@@ -13,6 +14,7 @@ pub mod create;
 pub mod destroy;
 mod discard;
 mod flush;
+pub mod flush_cpu;
 pub mod free;
 pub mod lists;
 pub mod node;
@@ -22,4 +24,6 @@ mod shrink_checked;
 mod stock;
 #[cfg(test)]
 mod tests;
+pub mod trim;
+pub mod tune;
 pub mod words;

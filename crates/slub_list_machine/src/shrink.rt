@@ -6,7 +6,7 @@ ghost use Rattle.slub_lists.specs.Alloc.{cache_of, checked_of, lists_of, no_list
 ghost use Rattle.slub_lists.specs.Coherent.{IsCoherent, IsConsistent, KeepsMachine};
 ghost use Rattle.slub_lists.specs.Free.{inuse_of};
 ghost use Rattle.slub_lists.specs.Leaving.{LeavesSlabs};
-ghost use Rattle.slub_lists.specs.Shrink.{Promotes, Shrinks, ShrinksCache, ShrinksUnchecked, busy_of, has_slab, swept, swept_slab};
+ghost use Rattle.slub_lists.specs.Shrink.{Promotes, Shrinks, ShrinksCache, ShrinksUnchecked, busy_of, has_slab, slabs_of, swept, swept_slab};
 ghost use Rattle.slub_lists.specs.Shrinking.{IsSwept, KeepsChecked};
 
 use crate::lists::{Lists, is_slab_of};
@@ -52,14 +52,23 @@ impl Lists {
 
     /// Whether a cache has a slab.
     pub(crate) fn has_slab(&self, cache: u8) -> bool
+        requires frames { length self.now.slabs ≤ 4096 }
         ensures { result ≡ has_slab self.now cache }
     {
+        self.count_slabs(cache) > 0
+    }
+
+    /// How many slabs a cache has.
+    pub(crate) fn count_slabs(&self, cache: u8) -> u32
+        requires frames { length self.now.slabs ≤ 4096 }
+        ensures { result ≡ slabs_of self.now cache }
+    {
         let slabs = self.slabs.iter();
-        slabs.filter(|slab| is_slab_of(slab, cache)).count() > 0
+        slabs.filter(|slab| is_slab_of(slab, cache)).count() as u32
     }
 
     /// Flushes the CPUs, sweeps the node list and puts it in order.
-    fn shrink_unchecked(&mut self, cache: u8, min_partial: u32)
+    pub(crate) fn shrink_unchecked(&mut self, cache: u8, min_partial: u32)
         requires coherent { IsCoherent self.old }
         requires cache { cache < 32 }
         requires unchecked { checked_of self.old cache ≡ None }

@@ -20,14 +20,14 @@ use Rattle.slub_lists.specs.State.{State}
 use Rattle.slub_lists.specs.Alloc.{FindsRun, cache_of, checked_of, cpu_place, held_here, own_free, slab_of, with_held, HasLayout, IsLive}
 use Rattle.slub_lists.specs.Checked.{first_slot, put_back}
 use Rattle.slub_lists.specs.CheckedSteps.{run_of, slab_of_run}
-use Rattle.slub_lists.specs.Coherent.{Agrees, AreChecked, IsCheckedOf, IsConsistent, IsFramed, IsListed, IsSlabOf, covers, has_object, idle_in, places, times_current, times_partial}
+use Rattle.slub_lists.specs.Coherent.{Agrees, AreChecked, IsCacheOf, IsCheckedOf, IsConsistent, IsFramed, IsListed, IsSlabOf, covers, has_object, idle_in, places, times_current, times_partial}
 use Rattle.slub_common.proofs.Writes.{at_written, at_written_else}
 use Rattle.slub_lists.proofs.Times.{current-same}
 use Rattle.slub_common.proofs.Sums.{element-counted}
 use Rattle.slub_lists.proofs.Framed.{covered-set, framed-most, framed-with_new_slab, run-inside, run-unused}
 use Rattle.slub_lists.proofs.Listed.{IsFrozenBy, IsOf, current-counted-at, node-counted, partial-counted-at, unlisted-unused}
 use Rattle.slub_lists.proofs.Runs.{IsRunFor, none-frames, none-free}
-use Rattle.slub_lists.proofs.CheckedSlabs.{IsLiveOf, IsStanding, are-checked-same, are-checked-with, at_match, held-standing, idle-with, listed-same, match_weaker, shaped-with_slabs, some_weaker, was-checked, whole, with_slabs}
+use Rattle.slub_lists.proofs.CheckedSlabs.{IsLiveOf, IsStanding, are-checked-same, are-checked-with, at_match, held-standing, idle-with, listed-same, match_weaker, of-same, shaped-with_slabs, some_weaker, was-checked, whole, with_slabs}
 use Rattle.slub_lists.proofs.CheckedGiving.{live-of, the-value}
 
 -- a list where no number stands is empty
@@ -180,7 +180,7 @@ module _ (s : State) (cache : ℕ) (layout : Layout) (old : CheckedState) (run :
   pub new-sized : IsSized old.layout run.order run.objects
   new-sized =
       let live = the-value (cache_of s cache) (λ live. live.layout ≡ layout) has in
-      let same = at_match (cache_of s cache) live.0 (λ c. (c.layout ≡ old.layout) × (c.flags ≡ old.flags)) live.1 of-cache.live in
+      let same = at_match (cache_of s cache) live.0 (λ c. IsCacheOf old c.layout c.flags) live.1 of-cache.live in
       subst (λ (l : Layout). IsSized l run.order run.objects) (sym live.2 ∙ same.0) is_run.fits
 
   -- nothing stands on a freelist of it
@@ -194,7 +194,7 @@ module _ (s : State) (cache : ℕ) (layout : Layout) (old : CheckedState) (run :
         (record {
           sound = sound;
           number = adds.others.cache ∙ of-cache.number;
-          live = match_weaker (cache_of s cache) (λ c. (c.layout ≡ old.layout) × (c.flags ≡ old.flags)) (λ c. (c.layout ≡ new.layout) × (c.flags ≡ new.flags)) (λ c h. (h.0 ∙ sym adds.others.layout, h.1 ∙ sym adds.others.flags)) of-cache.live;
+          live = match_weaker (cache_of s cache) (λ c. IsCacheOf old c.layout c.flags) (λ c. IsCacheOf new c.layout c.flags) (λ c h. of-same old new c.layout c.flags adds.others.layout adds.others.flags h) of-cache.live;
           agrees = λ frame. at_written_else (λ x. Agrees cache x (shape_at new frame)) s.slabs run.frame frame (Some (slab_of_run cache run)) None slot
               (λ e. subst (Agrees cache (Some (slab_of_run cache run))) (sym (ap (shape_at new) e ∙ adds.shape)) (refl, refl, refl))
               (λ ne. subst (Agrees cache (slab_of s frame)) (sym (adds.others.shape frame ne)) (of-cache.agrees frame));

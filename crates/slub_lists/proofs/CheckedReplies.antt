@@ -1,5 +1,5 @@
 -- What the steps of an allocation from a checked cache add up to.
-use Rattle.std.proofs.Common.{◌≡◌, ℕ, zero, suc, ◌^◌, ◌<◌, ◌≤◌, List, [], ◌∷◌, length, get_or, get_or-set_same, set, sum_by, Option, Some, None, IsSome, MatchOption, Ok, Err, inl, inr, refl, ap, sym, ◌∙◌, subst, arith}
+use Rattle.std.proofs.Common.{◌≡◌, ℕ, zero, suc, ◌^◌, ◌<◌, ◌≤◌, List, [], ◌∷◌, length, get_or, get_or-set_same, set, sum_by, Option, Some, None, is_some, IsSome, true, false, MatchOption, Ok, Err, inl, inr, refl, ap, sym, ◌∙◌, subst, arith}
 use Rattle.slub_page_pool.specs.Block.{CanPut}
 use Rattle.slub_page_pool.specs.FreeFrames.{IsPool}
 use Rattle.slub_object_layout.specs.declared.layout.Layout.{Layout}
@@ -46,6 +46,17 @@ pub read-slabs : (s : State) (cache : ℕ) (x : Option CheckedState) (slabs : Ch
 read-slabs s cache x slabs P there read is =
     let the = the-value (checked_of s cache) P there in
     same-default s.checked cache None x (inside-of s.checked cache the.0 the.1) ∙ sym read ∙ is
+
+-- the slabs that were read are those of the cache, or it has none
+pub read-some : {X : Type 0} (xs : List (Option X)) (i : ℕ) (x : Option X) → i < length xs → x ≡ get_or xs i x → is_some x ≡ true → IsSome (get_or xs i None)
+read-some {X} xs i x inside read is = subst (λ (y : Option X). is_some y ≡ true) (read ∙ same-default xs i x None inside) is
+
+pub read-none : {X : Type 0} (xs : List (Option X)) (i : ℕ) (x : Option X) → i < length xs → x ≡ get_or xs i x → is_some x ≡ false → get_or xs i None ≡ None
+read-none {X} xs i x inside read isnt = bare (get_or xs i None) (subst (λ (y : Option X). is_some y ≡ false) (read ∙ same-default xs i x None inside) isnt)
+  where
+    bare : (y : Option X) → is_some y ≡ false → y ≡ None
+    bare None e = refl
+    bare (Some z) e = absurd (let never : ⊥ = cc in never)
 
 -- the numbers of a live cache
 pub cache-live : (s : State) (cache : ℕ) (layout : Layout) → HasLayout s cache layout → IsConsistent s → cache < length s.live

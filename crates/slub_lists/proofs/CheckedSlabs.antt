@@ -7,6 +7,8 @@ use Rattle.std.proofs.lemmas.List.{append-nil, append_assoc, get_or_past}
 use Rattle.std.proofs.lemmas.List.Sums.{sum_by-set}
 use Rattle.slub_page_pool.specs.FreeFrames.{FreeFrames, IsPool}
 use Rattle.slub_object_layout.specs.Layout.{is_checked}
+use Rattle.slub_object_layout.specs.declared.layout.Flags.{Flags}
+use Rattle.slub_object_layout.specs.declared.layout.Layout.{Layout}
 use Rattle.slub_red_zone.specs.declared.zones.Report.{Report}
 use Rattle.slub_red_zone.specs.Objects.{AddsReports, KeepsIdle, KeepsSlabs, findable, idle}
 use Rattle.slub_red_zone.specs.Sound.{IsSound}
@@ -16,7 +18,7 @@ use Rattle.slub_lists.specs.declared.lists.Held.{Held}
 use Rattle.slub_lists.specs.State.{State}
 use Rattle.slub_lists.specs.Alloc.{cache_of, checked_of, held_here, slab_of, with_held}
 use Rattle.slub_lists.specs.Checked.{kept_by, with_checked}
-use Rattle.slub_lists.specs.Coherent.{AddsReportsOf, Agrees, AreChecked, IsAccounted, IsCheckedOf, IsConsistent, IsFramed, IsListed, IsPlaced, IsShaped, IsSlabOf, findable_in, held_of, held_under, idle_in}
+use Rattle.slub_lists.specs.Coherent.{AddsReportsOf, Agrees, AreChecked, IsCacheOf, IsAccounted, IsCheckedOf, IsConsistent, IsFramed, IsListed, IsPlaced, IsShaped, IsSlabOf, findable_in, held_of, held_under, idle_in}
 use Rattle.slub_lists.specs.Free.{with_taken}
 use Rattle.slub_lists.specs.Steps.{KeepsFound}
 use Rattle.slub_lists.proofs.Accounted.{accounted-with_held}
@@ -46,6 +48,10 @@ whole s stands placed = record { shaped = stands.shaped; placed = placed; framed
 pub at_some : {X : Type 0} (o : Option X) (x : X) (P : X → Type 0) → o ≡ Some x → IfSome o P → P x
 at_some None x P is h = cc
 at_some (Some y) x P is h = subst (λ (o : Option _). IfSome o P) is h
+
+-- slabs of the same layout and flags are slabs of the same cache
+pub of-same : (old new : CheckedState) (layout : Layout) (flags : Flags) → new.layout ≡ old.layout → new.flags ≡ old.flags → IsCacheOf old layout flags → IsCacheOf new layout flags
+of-same old new layout flags l f h = (h.0 ∙ ap (λ (made : Layout). record made { min_partial = layout.min_partial }) (sym l), h.1 ∙ sym f)
 
 pub at_match : {X : Type 0} (o : Option X) (x : X) (P : X → Type 0) → o ≡ Some x → MatchOption o ⊥ P → P x
 at_match o x P is h = subst (λ (o : Option _). MatchOption o ⊥ P) is h
@@ -114,7 +120,7 @@ module _ (s : State) (cache : ℕ) (old new : CheckedState) (was : checked_of s 
       (record {
         sound = sound;
         number = keeps.cache ∙ is.number;
-        live = match_weaker (cache_of s cache) (λ c. (c.layout ≡ old.layout) × (c.flags ≡ old.flags)) (λ c. (c.layout ≡ new.layout) × (c.flags ≡ new.flags)) (λ c h. (h.0 ∙ sym keeps.layout, h.1 ∙ sym keeps.flags)) is.live;
+        live = match_weaker (cache_of s cache) (λ c. IsCacheOf old c.layout c.flags) (λ c. IsCacheOf new c.layout c.flags) (λ c h. of-same old new c.layout c.flags keeps.layout keeps.flags h) is.live;
         agrees = λ frame. subst (λ x. Agrees cache (slab_of s frame) x) (sym (keeps.shape frame)) (is.agrees frame);
         unlisted = is.unlisted;
         off_node = is.off_node;

@@ -12,6 +12,7 @@ use Rattle.slub_page_pool.specs.Block.{CanPut, with_run}
 use Rattle.slub_page_pool.specs.FreeFrames.{IsPool}
 use Rattle.slub_common.specs.Times.{times}
 use Rattle.slub_object_layout.specs.declared.layout.Layout.{Layout}
+use Rattle.slub_cache_create.specs.declared.caches.Cache.{Cache}
 use Rattle.slub_red_zone.specs.declared.slab.ObjectState.{ObjectState}
 use Rattle.slub_red_zone.specs.declared.slab.ObjectState.TheVariants.{Free, Used, Aside}
 use Rattle.slub_red_zone.specs.Objects.{TakesObject, TakesSlab, here, idle, is_idle, one_of, shape_at, shape_of}
@@ -23,7 +24,7 @@ use Rattle.slub_lists.specs.declared.lists.Held.{Held}
 use Rattle.slub_lists.specs.State.{State}
 use Rattle.slub_lists.specs.Alloc.{cache_of, checked_of, cpu_place, held_here, lists_of, no_lists, node_of, own_free, slab_of, HasLayout}
 use Rattle.slub_lists.specs.Checked.{slot_of_held, with_checked}
-use Rattle.slub_lists.specs.Coherent.{Agrees, AreChecked, IsCheckedOf, IsConsistent, IsFramed, IsListed, IsPlaced, IsSlabOf, covered_from, covers, has_object, held_under, idle_in, if_current, on_cpu, places, times_current, times_partial}
+use Rattle.slub_lists.specs.Coherent.{Agrees, AreChecked, IsCacheOf, IsCheckedOf, IsConsistent, IsFramed, IsListed, IsPlaced, IsSetFrom, IsSlabOf, covered_from, covers, has_object, held_under, idle_in, if_current, on_cpu, places, times_current, times_partial}
 use Rattle.slub_lists.specs.Free.{discarded, order_of, with_taken}
 use Rattle.slub_common.proofs.Writes.{at_written, at_written_else, inside-of}
 use Rattle.slub_lists.proofs.Times.{current-other}
@@ -31,7 +32,7 @@ use Rattle.slub_common.proofs.Sums.{element-counted}
 use Rattle.slub_lists.proofs.Framed.{covered-set, framed-most}
 use Rattle.slub_common.proofs.Times.{times-contained}
 use Rattle.slub_lists.proofs.Listed.{IsFrozenBy, IsOf}
-use Rattle.slub_lists.proofs.CheckedSlabs.{IsLiveOf, are-checked-with, at_some, held-live, held-once, idle-with, keeps-standing, match_weaker, on-board, shaped-with_slabs, standing, taken-standing, was-checked, whole}
+use Rattle.slub_lists.proofs.CheckedSlabs.{IsLiveOf, are-checked-with, at_some, held-live, held-once, idle-with, keeps-standing, match_weaker, of-same, on-board, shaped-with_slabs, standing, taken-standing, was-checked, whole}
 use Rattle.slub_lists.proofs.CheckedGiving.{layout-live, one-object, slab-objects, slab-sized, the-value}
 use Rattle.slub_lists.proofs.CheckedComing.{times-with_run}
 
@@ -65,14 +66,21 @@ both : {X : Type 0} (x : Option X) (P Q : X → Type 0) → MatchOption x ⊥ P 
 both None P Q p q = p
 both (Some y) P Q p q = (p, q)
 
--- the layout of its cache is its own
-pub checked-layout : (s : State) (cache : ℕ) (slabs : CheckedState) → IsCheckedOf s cache slabs → HasLayout s cache slabs.layout
-checked-layout s cache slabs is = match_weaker (cache_of s cache) (λ c. (c.layout ≡ slabs.layout) × (c.flags ≡ slabs.flags)) (λ c. c.layout ≡ slabs.layout) (λ c h. h.0) is.live
+-- the layout of its cache is its own, but for what was set since
+pub checked-layout : (s : State) (cache : ℕ) (slabs : CheckedState) → IsCheckedOf s cache slabs → (layout : Layout) × HasLayout s cache layout × IsSetFrom slabs.layout layout
+checked-layout s cache slabs is =
+    let live = the-value (cache_of s cache) (λ c. IsCacheOf slabs c.layout c.flags) is.live in
+    (live.0.layout, subst (λ (x : Option Cache). MatchOption x ⊥ (λ c. c.layout ≡ live.0.layout)) (sym live.1) refl, live.2.0)
 
 pub same-layout : (s : State) (cache : ℕ) (one other : Layout) → HasLayout s cache one → HasLayout s cache other → one ≡ other
 same-layout s cache one other has also =
     let live = the-value (cache_of s cache) (λ c. (c.layout ≡ one) × (c.layout ≡ other)) (both (cache_of s cache) (λ c. c.layout ≡ one) (λ c. c.layout ≡ other) has also) in
     sym live.2.0 ∙ live.2.1
+
+pub checked-set : (s : State) (cache : ℕ) (layout : Layout) (slabs : CheckedState) → HasLayout s cache layout → IsCheckedOf s cache slabs → IsSetFrom slabs.layout layout
+checked-set s cache layout slabs has is =
+    let own = checked-layout s cache slabs is in
+    subst (IsSetFrom slabs.layout) (same-layout s cache own.0 layout own.1 has) own.2
 
 -- other slabs that are the same
 pub with-checked-same : (s : State) (cache : ℕ) (slabs : CheckedState) → checked_of s cache ≡ Some slabs → with_checked s cache slabs ≡ s
@@ -227,8 +235,8 @@ module _ (s : State) (cache frame : ℕ) (old : CheckedState) (was : checked_of 
   going-can-put =
       let order = going-slab.2.1 in
       let layout = checked-layout s cache old of-cache in
-      let live = layout-live s cache old.layout layout consistent.shaped in
-      let sized = slab-sized s cache frame old.layout going-slab.0 layout going-slab.1 going-slab.2.0 consistent.shaped in
+      let live = layout-live s cache layout.0 layout.1 consistent.shaped in
+      let sized = slab-sized s cache frame layout.0 going-slab.0 layout.1 going-slab.1 going-slab.2.0 consistent.shaped in
       let last = run-frames (frame + 2 ^ (going-slab.0.order) - 1) (omega (arith, pow_pos going-slab.0.order)) (omega (arith, pow_pos going-slab.0.order)) in
       let first = run-frames frame (omega arith) (omega (arith, pow_pos going-slab.0.order)) in
       let put : CanPut s.pool frame going-slab.0.order = record {
@@ -262,7 +270,7 @@ module _ (s : State) (cache frame : ℕ) (old : CheckedState) (was : checked_of 
         (record {
           sound = sound;
           number = takes.others.cache ∙ of-cache.number;
-          live = match_weaker (cache_of s cache) (λ c. (c.layout ≡ old.layout) × (c.flags ≡ old.flags)) (λ c. (c.layout ≡ new.layout) × (c.flags ≡ new.flags)) (λ c h. (h.0 ∙ sym takes.others.layout, h.1 ∙ sym takes.others.flags)) of-cache.live;
+          live = match_weaker (cache_of s cache) (λ c. IsCacheOf old c.layout c.flags) (λ c. IsCacheOf new c.layout c.flags) (λ c h. of-same old new c.layout c.flags takes.others.layout takes.others.flags h) of-cache.live;
           agrees = λ f. at_written_else (λ x. Agrees cache x (shape_at new f)) s.slabs frame f None None going-slot
               (λ e. subst (Agrees cache None) (sym (ap (shape_at new) e ∙ takes.shape)) tt)
               (λ ne. subst (Agrees cache (slab_of s f)) (sym (takes.others.shape f ne)) (of-cache.agrees f));

@@ -27,7 +27,7 @@ use Rattle.slub_lists.specs.declared.lists.Slab.{Slab}
 use Rattle.slub_lists.specs.declared.lists.CpuLists.{CpuLists}
 use Rattle.slub_lists.specs.State.{State}
 use Rattle.slub_lists.specs.Alloc.{cache_of, checked_of, cpu_place, lists_of, no_lists, node_of, own_free, slab_of}
-use Rattle.slub_lists.specs.Coherent.{Agrees, AreChecked, IsCheckedOf, IsCoherent, IsListed, IsShaped, IsSlabOf, idle_in, times_current, times_partial}
+use Rattle.slub_lists.specs.Coherent.{Agrees, AreChecked, IsCacheOf, IsCheckedOf, IsCoherent, IsListed, IsShaped, IsSlabOf, idle_in, times_current, times_partial}
 use Rattle.slub_lists.specs.Checked.{with_checked}
 use Rattle.slub_lists.specs.Create.{CreatesCache, with_new}
 use Rattle.slub_common.proofs.Writes.{at_written, at_written_else, get_or-replicate_any}
@@ -88,7 +88,7 @@ module _ (s : State) (cache : ℕ) (shaped : IsShaped s) (listed : IsListed s) (
     where
       none : (x : Option CheckedState) → IfSome x (IsCheckedOf s cache) → x ≡ None
       none None of = refl
-      none (Some slabs) of = absurd (nobody (cache_of s cache) (λ live. (live.layout ≡ slabs.layout) × (live.flags ≡ slabs.flags)) unused of.live)
+      none (Some slabs) of = absurd (nobody (cache_of s cache) (λ live. IsCacheOf slabs live.layout live.flags) unused of.live)
 
   unfree : (f : ℕ) → IsUnfree cache (slab_of s f) (own_free s f)
   unfree f = by (slab_of s f) (no-slab f)
@@ -163,7 +163,7 @@ recached s table checked sound still same_idle are coherent =
 
 -- the slabs of a checked cache that is as before
 same-checked : (s : State) (table : Table) (checked : List (Option CheckedState)) (c : ℕ) (own : CheckedState) → IsCheckedOf s c own
-    → MatchOption (live_cache table c) ⊥ (λ live. (live.layout ≡ own.layout) × (live.flags ≡ own.flags)) → IsCheckedOf (record s { table = table; checked = checked }) c own
+    → MatchOption (live_cache table c) ⊥ (λ live. IsCacheOf own live.layout live.flags) → IsCheckedOf (record s { table = table; checked = checked }) c own
 same-checked s table checked c own of live = record {
   sound = of.sound;
   number = of.number;
@@ -199,7 +199,7 @@ module _ (s : State) (table : Table) (cache : ℕ) (made : Cache) (coherent : Is
       (record {
         numbers = coherent.shaped.checked.numbers;
         those = λ c. IfSome-weaker (checked_of s c) (IsCheckedOf s c) (IsCheckedOf (record s { table = table; checked = s.checked }) c)
-            (λ own of. same-checked s table s.checked c own of (still-live (λ live. (live.layout ≡ own.layout) × (live.flags ≡ own.flags)) c of.live)) (coherent.shaped.checked.those c);
+            (λ own of. same-checked s table s.checked c own of (still-live (λ live. IsCacheOf own live.layout live.flags) c of.live)) (coherent.shaped.checked.those c);
         all = λ c. at-caches (λ x. IfSome x (λ live. is_checked live.flags ≡ is_some (checked_of s c))) c
             (at_written (λ (x : Option Cache). IfSome x (λ live. is_checked live.flags ≡ is_some (checked_of s c))) s.table.caches cache c (Some made) None
             (λ e. plain ∙ sym (ap is_some (ap (checked_of s) e ∙ no-checked))) (coherent.shaped.checked.all c));
@@ -226,8 +226,8 @@ module _ (s : State) (table : Table) (cache : ℕ) (made : Cache) (coherent : Is
     new-checked = record {
       sound = own-sound;
       number = refl;
-      live = at-caches (λ x. MatchOption x ⊥ (λ live. (live.layout ≡ own.layout) × (live.flags ≡ own.flags))) cache
-          (at_written_else (λ (x : Option Cache). MatchOption x ⊥ (λ live. (live.layout ≡ own.layout) × (live.flags ≡ own.flags))) s.table.caches cache cache (Some made) None slot (λ e. (refl, refl)) (λ ne. absurd (ne refl)));
+      live = at-caches (λ x. MatchOption x ⊥ (λ live. IsCacheOf own live.layout live.flags)) cache
+          (at_written_else (λ (x : Option Cache). MatchOption x ⊥ (λ live. IsCacheOf own live.layout live.flags)) s.table.caches cache cache (Some made) None slot (λ e. (refl, refl)) (λ ne. absurd (ne refl)));
       agrees = λ f. subst (Agrees cache (slab_of s f)) (sym (shape-none made.layout made.flags cache f))
           (agrees-none s cache coherent.shaped coherent.listed unused (slab_of s f) (no-slab s cache coherent.shaped coherent.listed unused f));
       unlisted = unused-lists s cache coherent.shaped coherent.listed unused;
@@ -248,7 +248,7 @@ module _ (s : State) (table : Table) (cache : ℕ) (made : Cache) (coherent : Is
           those = λ c. at_written (λ x. IfSome x (IsCheckedOf then c)) s.checked cache c (Some own) None
               (λ e. subst (λ n. IsCheckedOf then n own) (sym e) new-checked)
               (IfSome-weaker (checked_of s c) (IsCheckedOf s c) (IsCheckedOf then c)
-              (λ other of. same-checked s table more c other of (still-live (λ live. (live.layout ≡ other.layout) × (live.flags ≡ other.flags)) c of.live)) (coherent.shaped.checked.those c));
+              (λ other of. same-checked s table more c other of (still-live (λ live. IsCacheOf other live.layout live.flags) c of.live)) (coherent.shaped.checked.those c));
           all = λ c. at-caches (λ x. IfSome x (λ live. is_checked live.flags ≡ is_some (get_or more c None))) c
               (at_written_else (λ (x : Option Cache). IfSome x (λ live. is_checked live.flags ≡ is_some (get_or more c None))) s.table.caches cache c (Some made) None slot
               (λ e. checked ∙ sym (ap is_some (ap (λ n. get_or more n None) e ∙ get_or-set_same s.checked cache (Some own) None own-slot)))
@@ -281,9 +281,9 @@ module _ (s : State) (table : Table) (cache : ℕ) (spec : Spec) (coherent : IsC
 
   -- a checked cache is never merged with
   not-merged : (c : ℕ) (own : CheckedState) → IsCheckedOf s c own → c ≢ cache
-  not-merged c own of e = by (cache_of s cache) fits (subst (λ n. MatchOption (cache_of s n) ⊥ (λ live. (live.layout ≡ own.layout) × (live.flags ≡ own.flags))) e of.live)
+  not-merged c own of e = by (cache_of s cache) fits (subst (λ n. MatchOption (cache_of s n) ⊥ (λ live. IsCacheOf own live.layout live.flags)) e of.live)
     where
-      by : (x : Option Cache) → MatchOption x ⊥ (λ live. Fits live spec) → MatchOption x ⊥ (λ live. (live.layout ≡ own.layout) × (live.flags ≡ own.flags)) → ⊥
+      by : (x : Option Cache) → MatchOption x ⊥ (λ live. Fits live spec) → MatchOption x ⊥ (λ live. IsCacheOf own live.layout live.flags) → ⊥
       by None fit live = live
       by (Some l) fit live = let no : is_checked l.flags ≡ false = fit.unchecked in let is : is_checked l.flags ≡ true = ap is_checked live.1 ∙ of.sound.checked in cc
 
@@ -294,8 +294,8 @@ module _ (s : State) (table : Table) (cache : ℕ) (spec : Spec) (coherent : IsC
         numbers = coherent.shaped.checked.numbers;
         those = λ c. IfSome-weaker (checked_of s c) (IsCheckedOf s c) (IsCheckedOf (record s { table = table; checked = s.checked }) c)
             (λ own of. same-checked s table s.checked c own of
-            (subst (λ (xs : List (Option Cache)). MatchOption (get_or xs c None) ⊥ (λ live. (live.layout ≡ own.layout) × (live.flags ≡ own.flags))) (sym caches)
-            (at_written (λ (x : Option Cache). MatchOption x ⊥ (λ live. (live.layout ≡ own.layout) × (live.flags ≡ own.flags))) s.table.caches cache c (option_map (merged_with spec) (cache_of s cache)) None
+            (subst (λ (xs : List (Option Cache)). MatchOption (get_or xs c None) ⊥ (λ live. IsCacheOf own live.layout live.flags)) (sym caches)
+            (at_written (λ (x : Option Cache). MatchOption x ⊥ (λ live. IsCacheOf own live.layout live.flags)) s.table.caches cache c (option_map (merged_with spec) (cache_of s cache)) None
             (λ e. absurd (not-merged c own of e)) of.live))) (coherent.shaped.checked.those c);
         all = λ c. at-merged (λ x. IfSome x (λ live. is_checked live.flags ≡ is_some (checked_of s c))) c (flags-still (is_some (checked_of s c))) (coherent.shaped.checked.all c);
       }) coherent

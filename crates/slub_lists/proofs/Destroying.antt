@@ -18,7 +18,7 @@ use Rattle.slub_red_zone.specs.Objects.{shape_at}
 use Rattle.slub_lists.specs.declared.lists.Slab.{Slab}
 use Rattle.slub_lists.specs.State.{State}
 use Rattle.slub_lists.specs.Alloc.{cache_of, checked_of, slab_of}
-use Rattle.slub_lists.specs.Coherent.{Agrees, AreChecked, IsCheckedOf, IsCoherent, IsPlaced, IsShaped, IsSlabOf, idle_in}
+use Rattle.slub_lists.specs.Coherent.{Agrees, AreChecked, IsCacheOf, IsCheckedOf, IsCoherent, IsPlaced, IsShaped, IsSlabOf, idle_in}
 use Rattle.slub_lists.specs.Destroy.{without}
 use Rattle.slub_lists.specs.Shrink.{has_slab, is_slab_of}
 use Rattle.slub_lists.proofs.Emptied.{idle-none}
@@ -108,7 +108,7 @@ module _ (s : State) (table : Table) (checked : List (Option CheckedState)) (coh
     }
 
   -- a checked cache whose slabs stand where they stood, under the same flags and layout
-  tabled-checked : (cache : ℕ) (slabs : CheckedState) → MatchOption (live_cache table cache) ⊥ (λ live. (live.layout ≡ slabs.layout) × (live.flags ≡ slabs.flags)) → IsCheckedOf s cache slabs → IsCheckedOf tabled cache slabs
+  pub tabled-checked : (cache : ℕ) (slabs : CheckedState) → MatchOption (live_cache table cache) ⊥ (λ live. IsCacheOf slabs live.layout live.flags) → IsCheckedOf s cache slabs → IsCheckedOf tabled cache slabs
   tabled-checked cache slabs live is = record {
     sound = is.sound;
     number = is.number;
@@ -149,7 +149,7 @@ module _ (s : State) (name : List ℕ) (cache : ℕ) (coherent : IsCoherent s) (
       record {
         numbers = are.numbers;
         those = λ c. some_weaker (checked_of s c) (IsCheckedOf s c) (IsCheckedOf (tabled s fewer s.checked coherent sound) c)
-            (λ slabs is. tabled-checked s fewer s.checked coherent sound c slabs (keeps-match (λ layout flags. (layout ≡ slabs.layout) × (flags ≡ slabs.flags)) c is.live) is) (are.those c);
+            (λ slabs is. tabled-checked s fewer s.checked coherent sound c slabs (keeps-match (λ layout flags. IsCacheOf slabs layout flags) c is.live) is) (are.those c);
         all = λ c. keeps-if (λ layout flags. is_checked flags ≡ is_some (checked_of s c)) c (are.all c);
       }
 
@@ -207,7 +207,7 @@ module _ (s : State) (name : List ℕ) (cache : ℕ) (coherent : IsCoherent s) (
           | inl e ↦ subst (λ x. IfSome x (IsCheckedOf t c)) (sym (none-there s.checked c e)) tt
           | inr ne ↦ subst (λ x. IfSome x (IsCheckedOf t c)) (sym (get_or-set_other s.checked cache c None None ne))
               (some_weaker (checked_of s c) (IsCheckedOf s c) (IsCheckedOf t c)
-              (λ slabs is. tabled-checked s rest kept-checked coherent sound c slabs (subst (λ x. MatchOption x ⊥ (λ live. (live.layout ≡ slabs.layout) × (live.flags ≡ slabs.flags))) (sym (other-live c ne)) is.live) is) (are.those c))
+              (λ slabs is. tabled-checked s rest kept-checked coherent sound c slabs (subst (λ x. MatchOption x ⊥ (λ live. IsCacheOf slabs live.layout live.flags)) (sym (other-live c ne)) is.live) is) (are.those c))
         ];
         all = λ c. elim (cases_eq c cache) [
           | inl e ↦ subst (λ (x : Option Cache). IfSome x (λ live. is_checked live.flags ≡ is_some (get_or kept-checked c None))) (sym (none-there s.table.caches c e)) tt

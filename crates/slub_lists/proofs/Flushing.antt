@@ -260,7 +260,7 @@ rest-both a b c ab bc = record {
   checked = bc.checked ∙ ab.checked;
 }
 
-same-all : (s : State) → KeepsChecked s s
+pub same-all : (s : State) → KeepsChecked s s
 same-all s = record { held = record { frames = refl; cpus = refl; table = refl; board = refl; gone = refl; live = refl }; checked = refl }
 
 pub rest-discarded : (s : State) (frame : ℕ) → KeepsChecked s (discarded s frame)

@@ -40,3 +40,6 @@ pub mod ObjectWords
 pub mod Apart
 pub mod Spared
 pub mod Places
+pub mod Tuning
+pub mod Trimming
+pub mod FlushingCpu

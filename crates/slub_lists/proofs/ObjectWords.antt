@@ -29,7 +29,7 @@ use Rattle.slub_lists.proofs.Kept.{coherent-of, consistent-of}
 use Rattle.slub_lists.proofs.CheckedSlabs.{at_some, found-with, held-live, keeps-consistent, match_weaker, memory-consistent, reports-from, was-checked}
 use Rattle.slub_common.proofs.Writes.{inside-of}
 use Rattle.slub_lists.proofs.CheckedGiving.{layout-live, slab-sized, the-value}
-use Rattle.slub_lists.proofs.CheckedTaking.{checked-layout, held-frame, held-objects, held-slab, held-used, same-layout}
+use Rattle.slub_lists.proofs.CheckedTaking.{checked-set, held-frame, held-objects, held-slab, held-used}
 
 -- ---- whose object it is
 
@@ -120,7 +120,7 @@ module _ (s : State) (held : Held) (layout : Layout) (is : IsHeld s held) (has :
   pub used-word : (word : ℕ) → is_word layout word ≡ true → (slabs : CheckedState) → checked_of s held.cache ≡ Some slabs → IsUsed slabs (slot_of_held held) × (8 * (word + 1) ≤ slabs.layout.object_size)
   used-word word inside slabs was =
       let of = was-checked s held.cache slabs slabs was coherent.shaped.checked in
-      let same = same-layout s held.cache layout slabs.layout has (checked-layout s held.cache slabs of) in
+      let same = checked-set s held.cache layout slabs has of in
       (held-used s is.object held slabs is.here was consistent, subst (λ (l : Layout). 8 * (word + 1) ≤ l.object_size) same (word-ends layout word inside))
 
 -- an object is there where its index is below the number of objects

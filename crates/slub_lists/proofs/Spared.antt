@@ -21,7 +21,7 @@ use Rattle.slub_answers.specs.declared.reply.Reply.TheVariants.{NotHeld, OutOfOb
 use Rattle.slub_lists.specs.State.{State}
 use Rattle.slub_lists.specs.Alloc.{cache_of, checked_of, IsLive}
 use Rattle.slub_lists.specs.Checked.{slot_of_held, with_checked}
-use Rattle.slub_lists.specs.Coherent.{IsCoherent, held_under}
+use Rattle.slub_lists.specs.Coherent.{IsCoherent, IsSetFrom, held_under}
 use Rattle.slub_lists.specs.Laws.{HasByte, KeepsWords, Names}
 use Rattle.slub_lists.specs.Words.{Writes, WritesHeld, held_by, is_word, with_word, word_at, word_of}
 use Rattle.slub_lists.proofs.Apart.{held-apart, one-number}
@@ -29,7 +29,7 @@ use Rattle.slub_lists.proofs.Kept.{consistent-of}
 use Rattle.slub_lists.proofs.CheckedSlabs.{was-checked}
 use Rattle.slub_common.proofs.Writes.{inside-of}
 use Rattle.slub_lists.proofs.CheckedGiving.{layout-live, the-value}
-use Rattle.slub_lists.proofs.CheckedTaking.{checked-layout, held-has, held-index, same-layout}
+use Rattle.slub_lists.proofs.CheckedTaking.{checked-set, held-has, held-index}
 use Rattle.slub_lists.proofs.ObjectWords.{own-is, word-ends}
 
 -- ---- lists of bytes
@@ -98,13 +98,13 @@ module _ (s : State) (one other : ℕ) (a b : Held) (la lb : Layout) (names_a : 
 
   -- in one slab of one cache
   module _ (slabs : CheckedState) (was : checked_of s a.cache ≡ Some slabs) (also : checked_of s b.cache ≡ Some slabs) (v w value : ℕ) (inside_a : is_word la v ≡ true) (inside_b : is_word lb w ≡ true) where
-    layout_a : la ≡ slabs.layout
-    layout_a = same-layout s a.cache la slabs.layout names_a.live (checked-layout s a.cache slabs (was-checked s a.cache slabs slabs was coherent.shaped.checked))
+    layout_a : IsSetFrom slabs.layout la
+    layout_a = checked-set s a.cache la slabs names_a.live (was-checked s a.cache slabs slabs was coherent.shaped.checked)
 
-    layout_b : lb ≡ slabs.layout
-    layout_b = same-layout s b.cache lb slabs.layout names_b.live (checked-layout s b.cache slabs (was-checked s b.cache slabs slabs also coherent.shaped.checked))
+    layout_b : IsSetFrom slabs.layout lb
+    layout_b = checked-set s b.cache lb slabs names_b.live (was-checked s b.cache slabs slabs also coherent.shaped.checked)
 
-    live : IsLive slabs.layout
+    live : IsLive (record slabs.layout { min_partial = la.min_partial })
     live = subst IsLive layout_a (good s one a la names_a coherent)
 
     ends_a : 8 * (v + 1) ≤ slabs.layout.object_size

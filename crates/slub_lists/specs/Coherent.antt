@@ -3,6 +3,7 @@ use Rattle.std.specs.Prelude.{◌≡◌, ◌≢◌, ℕ, ◌+◌, ◌*◌, ◌%�
 use Rattle.std.specs.Option.{option_map, option_map_or}
 use Rattle.slub_page_pool.specs.FreeFrames as pool
 use Rattle.slub_common.specs.Times.{times}
+use Rattle.slub_object_layout.specs.declared.layout.Flags.{Flags}
 use Rattle.slub_object_layout.specs.declared.layout.Layout.{Layout}
 use Rattle.slub_object_layout.specs.Layout.{is_checked}
 use Rattle.slub_cache_create.specs.Sound.{IsSound as IsSoundTable}
@@ -135,13 +136,20 @@ Agrees cache (Some slab) None = slab.cache ≢ cache
 Agrees cache (Some slab) (Some shape) =
     (slab.cache ≡ cache) × (slab.order ≡ shape.0) × (slab.objects ≡ shape.1)
 
+-- a layout that is as it was made, but for `min_partial`, which may have been set since
+abbrev pub IsSetFrom : Layout → Layout → Type 0
+IsSetFrom made layout = layout ≡ record made { min_partial = layout.min_partial }
+
+-- the cache of these slabs has such a layout, and the flags of the slabs
+abbrev pub IsCacheOf : CheckedState → Layout → Flags → Type 0
+IsCacheOf slabs layout flags = IsSetFrom slabs.layout layout × (flags ≡ slabs.flags)
+
 -- these are the slabs of the live checked cache of this number; none of them is current or on a
 -- list, or has a freelist here
 pub record IsCheckedOf (s : State) (cache : ℕ) (slabs : CheckedState) : Type 0 where
   pub sound : IsSoundChecked slabs
   pub number : slabs.cache ≡ cache
-  pub live : MatchOption (cache_of s cache) ⊥
-      (λ live. (live.layout ≡ slabs.layout) × (live.flags ≡ slabs.flags))
+  pub live : MatchOption (cache_of s cache) ⊥ (λ live. IsCacheOf slabs live.layout live.flags)
   pub agrees : (frame : ℕ) → Agrees cache (slab_of s frame) (shape_at slabs frame)
   pub unlisted : (cpu : ℕ) → cpu < s.cpus → lists_of s cache cpu ≡ no_lists
   pub off_node : node_of s cache ≡ []

@@ -10,6 +10,9 @@ pub mod Leaving
 pub mod Shrink
 pub mod Shrinking
 pub mod Destroy
+pub mod Tune
+pub mod Trim
+pub mod Flush
 pub mod Coherent
 pub mod Places
 pub mod Steps

@@ -57,6 +57,10 @@ abbrev pub flushed : ℕ → ℕ → State → ℕ → State
 flushed min_partial cache s cpu =
     moved_partial (put_away s min_partial cache cpu) min_partial cache cpu
 
+-- how many slabs the node list of a live cache keeps
+abbrev pub min_partial_of : State → ℕ → ℕ
+min_partial_of s cache = option_map_or (λ live. live.layout.min_partial) (cache_of s cache) 0
+
 -- none of the first CPUs has, from CPU 0 on
 abbrev pub flushed_below : State → ℕ → ℕ → ℕ → State
 flushed_below s min_partial cache cpus = fold (flushed min_partial cache) s (range_with_len 0 cpus)
@@ -122,9 +126,13 @@ abbrev pub is_slab_of : ℕ → Option Slab → Bool
 is_slab_of cache None = false
 is_slab_of cache (Some slab) = slab.cache == cache
 
--- the cache has a slab
+-- how many slabs the cache has
+abbrev pub slabs_of : State → ℕ → ℕ
+slabs_of s cache = count_by (is_slab_of cache) s.slabs
+
+-- it has one
 abbrev pub has_slab : State → ℕ → Bool
-has_slab s cache = nat_lt 0 (count_by (is_slab_of cache) s.slabs)
+has_slab s cache = nat_lt 0 (slabs_of s cache)
 
 -- how many objects of a cache are held, on the board or set aside
 abbrev pub busy_of : State → ℕ → ℕ

@@ -1,8 +1,9 @@
 -- The texts to the byte. Every line ends with a line feed.
-use Rattle.std.specs.Prelude.{ℕ, ◌-◌, ◌/◌, ◌%◌, Bool, true, false, List, [], ◌∷◌, ◌++◌, length, flat_map, replicate, codes, Result, Ok, Err}
+use Rattle.std.specs.Prelude.{ℕ, ◌-◌, ◌/◌, ◌%◌, ◌<◌, Bool, true, false, List, [], ◌∷◌, ◌++◌, length, flat_map, replicate, codes, slice_index_or, Result, Ok, Err}
 use Rattle.std.specs.Fmt.{decimal, digit_glyph, signed_decimal}
 use Rattle.slub_object_layout.specs.declared.event.Act.{Act}
 use Rattle.slub_object_layout.specs.declared.event.Act.TheVariants.{Alloc, Free, Write, Read, Poke, Trim, Flush}
+use Rattle.slub_object_layout.specs.declared.event.Event.{Event}
 use Rattle.slub_object_layout.specs.declared.layout.Layout.{Layout}
 use Rattle.slub_object_layout.specs.declared.layout.LayoutRefusal.{LayoutRefusal}
 use Rattle.slub_object_layout.specs.declared.layout.LayoutRefusal.TheVariants as refusal
@@ -68,25 +69,27 @@ reply_answer (reply.Trimmed slabs) = codes "discarded " ++ decimal slabs
 reply_answer reply.Checked = codes "checked"
 reply_answer (reply.Flushed slabs) = codes "moved " ++ decimal slabs
 
--- the act of an event that is answered today: no trim and no flush
-abbrev pub IsAnswered : Act → Type 0
-IsAnswered (Trim cache) = ⊥
-IsAnswered Flush = ⊥
-IsAnswered _ = Unit {0}
+-- a trim is of the cache that one of these names names
+abbrev pub IsNamed : List (List ℕ) → Act → Type 0
+IsNamed names (Trim place) = place < length names
+IsNamed names _ = Unit {0}
 
--- what the line of an event says before the answer
-abbrev pub event_words : Act → List ℕ
-event_words (Alloc cache object) = codes "alloc " ++ decimal object
-event_words (Free object) = codes "free " ++ decimal object
-event_words (Write object word value) = codes "write " ++ decimal object ++ 32 ∷ decimal word
-event_words (Read object word) = codes "read " ++ decimal object ++ 32 ∷ decimal word
-event_words (Poke object offset byte) =
+-- what the line of an act says before the answer; the name of a trim and the CPU of a flush too
+abbrev pub act_words : List (List ℕ) → ℕ → Act → List ℕ
+act_words names cpu (Alloc cache object) = codes "alloc " ++ decimal object
+act_words names cpu (Free object) = codes "free " ++ decimal object
+act_words names cpu (Write object word value) =
+    codes "write " ++ decimal object ++ 32 ∷ decimal word
+act_words names cpu (Read object word) = codes "read " ++ decimal object ++ 32 ∷ decimal word
+act_words names cpu (Poke object offset byte) =
     codes "poke " ++ decimal object ++ 32 ∷ signed_decimal offset
-event_words _ = []
+act_words names cpu (Trim place) = codes "trim " ++ slice_index_or names place []
+act_words names cpu Flush = codes "flush " ++ decimal cpu
 
 -- `alloc O: `, `write O WORD: ` or the like, and the answer
-abbrev pub reply_text : Act → Reply → List ℕ
-reply_text act reply = event_words act ++ codes ": " ++ reply_answer reply ++ 10 ∷ []
+abbrev pub reply_text : List (List ℕ) → Event → Reply → List ℕ
+reply_text names event reply =
+    act_words names event.cpu event.act ++ codes ": " ++ reply_answer reply ++ 10 ∷ []
 
 -- ---- items
 

@@ -2,12 +2,12 @@
 
 ghost use Rattle.std.specs.Prelude.{◌≡◌, ℕ, ◌∷◌, ◌++◌, Err, IfOk, OnOk, codes, replicate, slice_index};
 ghost use Rattle.std.specs.Fmt.{decimal, signed_decimal};
-ghost use Rattle.slub_slabinfo_text.specs.Texts.{IsAnswered, answer_text, column, damage_line, damage_words, event_words, header_text, hex_byte, info_text, is_ok_answer, item_line, layout_lines, left, number_line, reply_answer, reply_text, row_numbers, row_objects, row_slabs, row_text, slab_lines, slot_lines, total_line, word_text, zone_text};
+ghost use Rattle.slub_slabinfo_text.specs.Texts.{IsNamed, act_words, answer_text, column, damage_line, damage_words, header_text, hex_byte, info_text, is_ok_answer, item_line, layout_lines, left, number_line, reply_answer, reply_text, row_numbers, row_objects, row_slabs, row_text, slab_lines, slot_lines, total_line, word_text, zone_text};
 
 use crate::counts::{Counts, InfoRow};
 use slub_answers::reply::Reply;
 use slub_common::no_memory::NoMemory;
-use slub_object_layout::event::Act;
+use slub_object_layout::event::{Act, Event};
 use slub_object_layout::layout::{Layout, LayoutRefusal};
 use slub_object_layout::name::Name;
 use slub_red_zone::zones::{Damage, Report, Zone};
@@ -45,23 +45,31 @@ pub enum ItemAnswer {
     Checked,
 }
 
-/// The line that answers an event, with its line feed. A trim and a flush aren't answered.
-pub fn reply_line(alloc: Global, act: &Act, reply: &Reply) -> Result<Vec<u8>, NoMemory>
-    requires { IsAnswered act.now }
-    ensures { IfOk result (λ text. text.items ≡ reply_text act.now reply.now) }
+/// The line that answers an event, with its line feed. The cache of a trim is named by its place in
+/// `names`.
+pub fn reply_line(
+    alloc: Global,
+    names: &[Name],
+    event: &Event,
+    reply: &Reply,
+) -> Result<Vec<u8>, NoMemory>
+    requires { IsNamed names.now event.now.act }
+    ensures { IfOk result (λ text. text.items ≡ reply_text names.now event.now reply.now) }
 {
-    let mut text = event_text(alloc, act)?;
+    let mut text = event_text(alloc, names, event)?;
     push_words(&mut text, b": ")?;
     push_reply(alloc, &mut text, reply)?;
     push_words(&mut text, b"\n")?;
     Ok(text)
 }
 
-/// What the line of an event says before the answer: nothing of a trim and of a flush.
-fn event_text(alloc: Global, act: &Act) -> Result<Vec<u8>, NoMemory>
-    ensures { IfOk result (λ text. text.items ≡ event_words act.now) }
+/// What the line of an event says before the answer.
+fn event_text(alloc: Global, names: &[Name], event: &Event) -> Result<Vec<u8>, NoMemory>
+    requires { IsNamed names.now event.now.act }
+    ensures { IfOk result (λ text. text.items ≡ act_words names.now event.now.cpu event.now.act) }
 {
-    match act {
+    let cpu = event.cpu;
+    match &event.act {
         Act::Alloc { cache: _, object } => Ok(format!(in alloc; "alloc {object}")?.into_bytes()),
         Act::Free { object } => Ok(format!(in alloc; "free {object}")?.into_bytes()),
         Act::Write {
@@ -75,8 +83,18 @@ fn event_text(alloc: Global, act: &Act) -> Result<Vec<u8>, NoMemory>
             offset,
             byte: _,
         } => Ok(format!(in alloc; "poke {object} {offset}")?.into_bytes()),
-        Act::Trim { cache: _ } | Act::Flush => Ok(Vec::new(alloc)),
+        Act::Trim { cache } => trim_text(alloc, &names[*cache as usize]),
+        Act::Flush => Ok(format!(in alloc; "flush {cpu}")?.into_bytes()),
     }
+}
+
+/// What the line of a trim says before the answer.
+fn trim_text(alloc: Global, name: &Name) -> Result<Vec<u8>, NoMemory>
+    ensures { IfOk result (λ text. text.items ≡ codes "trim " ++ name.now) }
+{
+    let mut text = Vec::from_slice(alloc, b"trim ")?;
+    push_words(&mut text, name.as_bytes())?;
+    Ok(text)
 }
 
 fn push_reply(alloc: Global, text: &mut Vec<u8>, reply: &Reply) -> Result<(), NoMemory>

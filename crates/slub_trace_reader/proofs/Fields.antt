@@ -1,17 +1,12 @@
 -- Words taken off the front, and what stands there.
 use Rattle.std.proofs.Common.{◌≡◌, ◌≢◌, ℕ, ◌<◌, ◌≤◌, ◌^◌, true, false, not, ◌&&◌, min, Result, Ok, Err, Option, Some, None, Bor, List, [], ◌∷◌, ◌++◌, length, get_or, refl, ap, arith, eq-eqb, eqb, leb, inl, inr, subst, All, ◌⊎◌}
-use Rattle.std.specs.Prelude.{IfSome, IfNone, MatchOption, MatchResult, SomeIff, IsUtf8}
+use Rattle.std.specs.Prelude.{IsSome, IfSome, IfNone, MatchOption, MatchResult, SomeIff, IsUtf8}
 use Rattle.std.specs.List.{list_all}
-use Rattle.std.specs.Str.Parse.{AllDigits, digits_value, ParsesUnsigned, IsNumeral, without_leading_plus}
 use Rattle.std.proofs.lemmas.Bool.{false≢true, cases_Bool, eqb-true, eqb-false, ne_eqb, and_parts, and_from, leb-true, le-leb, false_from_ne_true}
 use Rattle.std.proofs.lemmas.List.Elements.{All-cons, All-nil, All-tail}
 use Rattle.std.proofs.lemmas.Bool.Decides.{nat_tests}
-use Rattle.std.proofs.lemmas.Fmt.{IsAscii-from_digits}
-use Rattle.std.proofs.lemmas.Str.{IsUtf8-from_ascii}
-use Rattle.std.proofs.lemmas.Str.Parse.{IsNumeralModel, numerals_by_value, tells_digits, parse_plain, digit_at}
 use Rattle.slub_object_layout.specs.Name.{IsName, IsLetterOrDigit, IsNameByte}
-use Rattle.slub_trace_reader.specs.Forms.{Gives, strip, field, number_of, name_of, is_name, is_letter_or_digit, is_name_byte}
-use Rattle.slub_trace_reader.specs.Words.{is_digit, is_number}
+use Rattle.slub_trace_reader.specs.Forms.{Gives, strip, field, name_of, is_name, is_letter_or_digit, is_name_byte}
 
 -- ---- a fixed text in front
 
@@ -116,60 +111,6 @@ pub fields : (bytes : List ℕ) (r : Option (Bor (List ℕ) × Bor (List ℕ))) 
 fields bytes None found none = field_none bytes none
 fields bytes (Some x) found none = rw (found.0) (field_found x.0.now x.1.now found.1)
 
--- ---- numbers
-
--- decimal digits, and the number that they write
-digits : IsNumeralModel (AllDigits 10) (digits_value 10)
-digits = numerals_by_value (AllDigits 10) tells_digits
-
--- a digit by its test
-pub digit_within : (c : ℕ) → is_digit c ≡ true → (48 ≤ c) × (c ≤ 57)
-digit_within c is = let parts = and_parts (leb 48 c) (leb c 57) is in (leb-true 48 c parts.0, leb-true c 57 parts.1)
-
--- digits by their tests
-pub all_digits : (cs : List ℕ) → list_all is_digit cs ≡ true → AllDigits 10 cs
-all_digits [] is = tt
-all_digits (c ∷ cs) is =
-    let parts = and_parts (is_digit c) (list_all is_digit cs) is in
-    tells_digits.more c cs (digit_within c parts.0) (all_digits cs parts.1)
-
--- a number has digits alone, and some
-pub number_digits : (word : List ℕ) → is_number word ≡ true → AllDigits 10 word × (0 < length word)
-number_digits [] is = absurd (false≢true is)
-number_digits (c ∷ []) is = (tells_digits.more c [] (digit_within c is) tt, omega arith)
-number_digits (c ∷ d ∷ cs) is = (all_digits (c ∷ d ∷ cs) (and_parts (not (eqb c 48)) (list_all is_digit (c ∷ d ∷ cs)) is).1, omega arith)
-
--- no plus stands in front of digits
-no_plus : (word : List ℕ) → AllDigits 10 word → 0 < length word → get_or word 0 0 ≢ 43
-no_plus word all some plus = let range = digit_at word 0 all some in absurd (omega arith)
-
--- what is parsed of a number, cut at 2 ^ 64
-pub parsed : {E : Type 0} (word : List ℕ) (r : Result ℕ E) → is_number word ≡ true → ParsesUnsigned 64 10 word r
-    → MatchResult r (λ n. Some n ≡ number_of word) (λ _. Some (2 ^ 64) ≡ number_of word)
-unfolding number_of
-parsed {E} word (Ok n) is parses =
-    let all = number_digits word is in
-    let means = parse_plain digits {E = E} 64 word (Ok n) parses (no_plus word all.0 all.1) in
-    let cut : min (digits_value 10 word) (2 ^ 64) ≡ n = omega (arith, means.0.2, means.1) in
-    rw (is, cut) refl
-parsed {E} word (Err e) is parses =
-    let all = number_digits word is in
-    let means = parse_plain digits {E = E} 64 word (Err e) parses (no_plus word all.0 all.1) in
-    let great : (digits_value 10 word < 2 ^ 64) → ⊥ = λ low. means (all.0, all.1, low) in
-    let cut : min (digits_value 10 word) (2 ^ 64) ≡ 2 ^ 64 = omega (arith, great) in
-    rw (is, cut) refl
-
--- the same of the code's answer where it is an error
-pub great : (word text : List ℕ) → text ≡ word → is_number word ≡ true
-    → ((IsNumeral 10 (without_leading_plus text) × (digits_value 10 (without_leading_plus text) < 2 ^ 64)) → ⊥) → Some 18446744073709551616 ≡ number_of word
-great word text same is none =
-    let P : List ℕ → Type 0 = λ t. (IsNumeral 10 (without_leading_plus t) × (digits_value 10 (without_leading_plus t) < 2 ^ 64)) → ⊥ in
-    parsed {E = ℕ} word (Err 0) is (subst P same none)
-
--- a number is text
-pub number_utf8 : (word : List ℕ) → is_number word ≡ true → IsUtf8 word
-number_utf8 word is = IsUtf8-from_ascii word (IsAscii-from_digits word (number_digits word is).0)
-
 -- ---- names
 
 -- a letter or a digit by its test
@@ -208,3 +149,8 @@ pub names : (word : List ℕ) (r : Option (List ℕ)) → SomeIff r (IsName word
 unfolding name_of
 names word None is = rw (false_from_ne_true (is_name word) (λ named. is ((name_tells word).0 named))) refl
 names word (Some x) is = rw ((name_tells word).1 is.0) (ap (λ t. Some t) is.1)
+
+-- a text that passes the test is a name
+pub names_some : (word : List ℕ) (r : Option (List ℕ)) → is_name word ≡ true → SomeIff r (IsName word) word → IsSome r
+names_some word None is some = absurd (some ((name_tells word).0 is))
+names_some word (Some x) is some = refl

@@ -1,7 +1,12 @@
+pub mod ClassNames
+pub mod ClientTexts
 pub mod Fields
+pub mod LineTexts
 pub mod LinesBelow
+pub mod Runs
 pub mod ReadingLaws
 pub mod Readings
 pub mod Reasons
 pub mod Soundness
 pub mod Texts
+pub mod WordTexts

@@ -3,7 +3,7 @@ use Rattle.std.proofs.Common.{◌≡◌, ℕ, suc, ◌+◌, ◌≤◌, Some, Lis
 use Rattle.std.proofs.lemmas.List.{append-nil}
 use Rattle.std.proofs.lemmas.Bool.{cases_order}
 use Rattle.slub_trace_reader.specs.declared.line.Line.{Line}
-use Rattle.slub_trace_reader.specs.declared.line.Line.TheVariants.{Passed, Slubtrace, Machine, Cache, Shrink, Destroy, Slabinfo, Round, Alloc, Free, Write, Read, Poke, Done, End}
+use Rattle.slub_trace_reader.specs.declared.line.Line.TheVariants.{Passed, Slubtrace, Machine, Cache, Shrink, Destroy, Tune, Slabinfo, Client, Round, Alloc, Free, Write, Read, Poke, Trim, Flush, Done, End}
 use Rattle.slub_trace_reader.specs.declared.place.Place.TheVariants.{After}
 use Rattle.slub_trace_reader.specs.declared.reading.TraceFault.{TraceFault}
 use Rattle.slub_trace_reader.specs.declared.reading.TraceFault.TheVariants.{ReadFault, TooLong, BadLine, NoMemory}
@@ -17,7 +17,7 @@ use Rattle.slub_trace_reader.specs.Parsing.{Refuses, StopsAt, Takes, Tells}
 use Rattle.slub_trace_reader.specs.Reads.{IsBadAt}
 use Rattle.slub_trace_reader.specs.State.{IsModest}
 use Rattle.slub_trace_reader.proofs.Reasons.{one_line, kept_line, good_not_bad}
-use Rattle.slub_trace_reader.proofs.Texts.{line_again}
+use Rattle.slub_trace_reader.proofs.LineTexts.{line_again}
 
 -- ---- workers and CPUs are few
 
@@ -31,13 +31,17 @@ modest_after a text (Machine frames cpus tid) modest good = record { workers = o
 modest_after a text (Cache name size align flags) modest good = record { workers = modest.workers; cpus = modest.cpus }
 modest_after a text (Shrink name) modest good = record { workers = modest.workers; cpus = modest.cpus }
 modest_after a text (Destroy name) modest good = record { workers = modest.workers; cpus = modest.cpus }
+modest_after a text (Tune name knob number) modest good = record { workers = modest.workers; cpus = modest.cpus }
 modest_after a text Slabinfo modest good = record { workers = modest.workers; cpus = modest.cpus }
+modest_after a text (Client line) modest good = record { workers = modest.workers; cpus = modest.cpus }
 modest_after a text (Round workers) modest good = record { workers = good.range.1; cpus = modest.cpus }
 modest_after a text (Alloc worker cpu name object) modest good = record { workers = modest.workers; cpus = modest.cpus }
 modest_after a text (Free worker cpu object) modest good = record { workers = modest.workers; cpus = modest.cpus }
 modest_after a text (Write worker object word value) modest good = record { workers = modest.workers; cpus = modest.cpus }
 modest_after a text (Read worker object word) modest good = record { workers = modest.workers; cpus = modest.cpus }
 modest_after a text (Poke worker object negative offset byte) modest good = record { workers = modest.workers; cpus = modest.cpus }
+modest_after a text (Trim worker name) modest good = record { workers = modest.workers; cpus = modest.cpus }
+modest_after a text (Flush worker cpu) modest good = record { workers = modest.workers; cpus = modest.cpus }
 modest_after a text Done modest good = record { workers = omega arith; cpus = modest.cpus }
 modest_after a text End modest good = record { workers = omega arith; cpus = modest.cpus }
 
@@ -55,13 +59,17 @@ count_after a (Machine frames cpus tid) = refl
 count_after a (Cache name size align flags) = refl
 count_after a (Shrink name) = refl
 count_after a (Destroy name) = refl
+count_after a (Tune name knob number) = refl
 count_after a Slabinfo = refl
+count_after a (Client line) = refl
 count_after a (Round workers) = refl
 count_after a (Alloc worker cpu name object) = refl
 count_after a (Free worker cpu object) = refl
 count_after a (Write worker object word value) = refl
 count_after a (Read worker object word) = refl
 count_after a (Poke worker object negative offset byte) = refl
+count_after a (Trim worker name) = refl
+count_after a (Flush worker cpu) = refl
 count_after a Done = refl
 count_after a End = refl
 

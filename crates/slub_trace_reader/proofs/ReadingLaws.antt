@@ -1,13 +1,15 @@
 -- The reading as a function is the grammar: what it reads is a trace, and a fault is the first bad line.
-use Rattle.std.proofs.Common.{◌≡◌, ◌≢◌, ℕ, ◌+◌, ◌<◌, ◌≤◌, Bool, true, false, not, ◌&&◌, Result, Ok, Err, Option, Some, None, List, [], ◌∷◌, ◌++◌, length, refl, sym, ap, ◌∙◌, arith, subst, inl, inr, eqb}
-use Rattle.std.specs.List.{list_any}
+use Rattle.std.proofs.Common.{◌≡◌, ◌≢◌, ℕ, ◌+◌, ◌<◌, ◌≤◌, Bool, true, false, not, ◌&&◌, Result, Ok, Err, Option, Some, None, List, [], ◌∷◌, ◌++◌, length, refl, sym, ap, ◌∙◌, arith, subst, inl, inr, All, eqb, leb, ltb}
+use Rattle.std.specs.List.{list_all, list_any}
 use Rattle.std.specs.Str.{bytes_eq}
 use Rattle.std.proofs.Common.{nat_eq}
-use Rattle.std.proofs.lemmas.Bool.{false≢true, true≢false, cases_Bool, and_parts, and_from, eqb-true, eqb-false, not-true, not_from_false, false_from_ne_true}
+use Rattle.std.proofs.lemmas.Bool.{false≢true, true≢false, cases_Bool, and_parts, and_from, eqb-true, eqb-false, not-true, not_from_false, false_from_ne_true, leb-true, le-leb}
 use Rattle.std.proofs.lemmas.Bool.Decides.{nat_tests}
-use Rattle.std.proofs.lemmas.List.Elements.{All-cons, All-nil}
+use Rattle.std.proofs.lemmas.List.Elements.{All-cons, All-nil, All-head, All-tail}
+use Rattle.slub_trace_reader.specs.declared.client.ClientLine.{ClientLine}
+use Rattle.slub_trace_reader.specs.declared.client.ClientLine.TheVariants.{Kmalloc, Kget, Krealloc, Bulk, Bulkfree, Mempool, Mget, Mput}
 use Rattle.slub_trace_reader.specs.declared.line.Line.{Line}
-use Rattle.slub_trace_reader.specs.declared.line.Line.TheVariants.{Passed, Slubtrace, Machine, Cache, Shrink, Destroy, Slabinfo, Round, Alloc, Free, Write, Read, Poke, Done, End}
+use Rattle.slub_trace_reader.specs.declared.line.Line.TheVariants.{Passed, Slubtrace, Machine, Cache, Shrink, Destroy, Tune, Slabinfo, Client, Round, Alloc, Free, Write, Read, Poke, Trim, Flush, Done, End}
 use Rattle.slub_trace_reader.specs.declared.place.Place.{Place}
 use Rattle.slub_trace_reader.specs.declared.place.Place.TheVariants.{First, Second, Between, Within, After}
 use Rattle.slub_trace_reader.specs.declared.reading.Why.{Why}
@@ -16,9 +18,10 @@ use Rattle.slub_trace_reader.specs.declared.trace.Trace.{Trace}
 use Rattle.slub_trace_reader.specs.Above.{Above, start, after, workers_in, is_spot}
 use Rattle.slub_trace_reader.specs.Faults.{Finished, IsBad, IsFirstReason, IsFirstBad, rank}
 use Rattle.slub_trace_reader.specs.Forms.{is_passed, line_of}
-use Rattle.slub_trace_reader.specs.Grammar.{MayStand, InRange, IsTid, IsObject, IsOffset, IsInRound, HasRoom, HasCache, IsFresh, IsKnown, IsWritten, IsAmong, IsApart, IsLine, IsOneLine, IsTrace, name_in, object_in, needs_in, reads_in}
+use Rattle.slub_trace_reader.specs.Grammar.{MayStand, InRange, ClientInRange, IsTid, IsObject, AreObjects, IsOffset, IsInRound, HasRoom, HasCache, HasSource, IsFresh, IsKnown, IsWritten, IsLine, IsOneLine, IsTrace}
 use Rattle.slub_trace_reader.specs.Lines.{IsPassed}
-use Rattle.slub_trace_reader.specs.Reading.{cut_lines, with_byte, is_first, is_second, is_between, is_in_round, is_after, may_stand, is_tid, is_object, is_offset, in_range, has_room, among, apart, first_of, lack_of, good_or, judged, judge, end_of, read_from, reading}
+use Rattle.slub_trace_reader.specs.Numbers.{allocates, needs}
+use Rattle.slub_trace_reader.specs.Reading.{cut_lines, with_byte, is_first, is_second, is_between, is_in_round, is_after, may_stand, is_tid, is_object, are_objects, is_offset, client_in_range, in_range, has_room, has_source, has_cache, are_fresh, are_known, is_written, first_of, lack_of, good_or, judged, judge, end_of, read_from, reading}
 use Rattle.slub_trace_reader.specs.State.{IsModest, Lacks}
 use Rattle.slub_trace_reader.proofs.LinesBelow.{Went, went_start, went_modest, went_more, went_bad, went_unfinished, went_no_end, went_all, tells_trace, trace_once, bad_no_trace, bad_once}
 use Rattle.slub_trace_reader.proofs.Reasons.{first_form, first_reason, fit_line, none_said}
@@ -65,26 +68,33 @@ round_tells Between = (λ is. absurd (false≢true is), λ is. absurd is)
 round_tells (Within n) = (λ is. tt, λ is. refl)
 round_tells After = (λ is. absurd (false≢true is), λ is. absurd is)
 
-stand_tells : (line : Line) (place : Place) → Tells (may_stand line place) (MayStand line place)
-unfolding may_stand
-stand_tells Passed place = (λ is. tt, λ is. refl)
-stand_tells (Slubtrace version) place = first_tells place
-stand_tells (Machine frames cpus tid) place = second_tells place
-stand_tells (Cache name size align flags) place = between_tells place
-stand_tells (Shrink name) place = between_tells place
-stand_tells (Destroy name) place = between_tells place
-stand_tells Slabinfo place = between_tells place
-stand_tells (Round workers) place = between_tells place
-stand_tells (Alloc worker cpu name object) place = round_tells place
-stand_tells (Free worker cpu object) place = round_tells place
-stand_tells (Write worker object word value) place = round_tells place
-stand_tells (Read worker object word) place = round_tells place
-stand_tells (Poke worker object negative offset byte) place = round_tells place
-stand_tells Done place = round_tells place
-stand_tells End place = between_tells place
-
 both_tell : (s t : Bool) (P Q : Type 0) → Tells s P → Tells t Q → Tells (s && t) (P × Q)
 both_tell s t P Q p q = (λ is. (let parts = and_parts s t is in (p.0 parts.0, q.0 parts.1)), λ is. and_from s t (p.1 is.0) (q.1 is.1))
+
+least_tells : (least n : ℕ) → Tells (leb least n) (least ≤ n)
+least_tells least n = (λ is. leb-true least n is, λ is. le-leb least n is)
+
+stand_tells : (line : Line) (version : ℕ) (place : Place) → Tells (may_stand line version place) (MayStand line version place)
+unfolding may_stand
+stand_tells Passed version place = (λ is. tt, λ is. refl)
+stand_tells (Slubtrace named) version place = first_tells place
+stand_tells (Machine frames cpus tid) version place = second_tells place
+stand_tells (Cache name size align flags) version place = between_tells place
+stand_tells (Shrink name) version place = between_tells place
+stand_tells (Destroy name) version place = between_tells place
+stand_tells (Tune name knob number) version place = both_tell _ _ _ _ (least_tells 2 version) (between_tells place)
+stand_tells Slabinfo version place = between_tells place
+stand_tells (Client line) version place = both_tell _ _ _ _ (least_tells 3 version) (between_tells place)
+stand_tells (Round workers) version place = between_tells place
+stand_tells (Alloc worker cpu name object) version place = round_tells place
+stand_tells (Free worker cpu object) version place = round_tells place
+stand_tells (Write worker object word value) version place = round_tells place
+stand_tells (Read worker object word) version place = round_tells place
+stand_tells (Poke worker object negative offset byte) version place = round_tells place
+stand_tells (Trim worker name) version place = both_tell _ _ _ _ (least_tells 4 version) (round_tells place)
+stand_tells (Flush worker cpu) version place = both_tell _ _ _ _ (least_tells 4 version) (round_tells place)
+stand_tells Done version place = round_tells place
+stand_tells End version place = between_tells place
 
 object_tells : (object : ℕ) → Tells (is_object object) (IsObject object)
 object_tells object = (λ is. grind (arith, nat_tests), λ is. grind (arith, nat_tests))
@@ -96,6 +106,23 @@ tid_tells cpus (Some tid) = (λ is. grind (arith, nat_tests), λ is. grind (arit
 offset_tells : (negative : Bool) (size : ℕ) → Tells (is_offset negative size) (IsOffset negative size)
 offset_tells true size = (λ is. grind (arith, nat_tests), λ is. grind (arith, nat_tests))
 offset_tells false size = (λ is. grind (arith, nat_tests), λ is. grind (arith, nat_tests))
+
+objects_tell : (most first count : ℕ) → Tells (are_objects most first count) (AreObjects most first count)
+objects_tell most first count = (λ is. grind (arith, nat_tests), λ is. grind (arith, nat_tests))
+
+below_tells : (n most : ℕ) → Tells (ltb n most) (n < most)
+below_tells n most = (λ is. grind (arith, nat_tests), λ is. grind (arith, nat_tests))
+
+client_range_tells : (a : Above) (line : ClientLine) → Tells (client_in_range a line) (ClientInRange a line)
+unfolding client_in_range
+client_range_tells a Kmalloc = (λ is. tt, λ is. refl)
+client_range_tells a (Kget cpu size object) = (λ is. grind (arith, nat_tests), λ is. grind (arith, nat_tests))
+client_range_tells a (Krealloc cpu object size fresh) = (λ is. grind (arith, nat_tests), λ is. grind (arith, nat_tests))
+client_range_tells a (Bulk cpu name first count) = both_tell _ _ _ _ (below_tells cpu a.cpus) (objects_tell 1024 first count)
+client_range_tells a (Bulkfree cpu first count) = both_tell _ _ _ _ (below_tells cpu a.cpus) (objects_tell 1024 first count)
+client_range_tells a (Mempool pool name min first) = objects_tell 64 first min
+client_range_tells a (Mget cpu pool object) = (λ is. grind (arith, nat_tests), λ is. grind (arith, nat_tests))
+client_range_tells a (Mput cpu pool object) = (λ is. grind (arith, nat_tests), λ is. grind (arith, nat_tests))
 
 range_tells : (a : Above) (line : Line) → Tells (in_range a line) (InRange a line)
 unfolding in_range
@@ -112,7 +139,9 @@ range_tells a (Machine frames cpus tid) =
 range_tells a (Cache name size align flags) = (λ is. grind (arith, nat_tests), λ is. grind (arith, nat_tests))
 range_tells a (Shrink name) = (λ is. tt, λ is. refl)
 range_tells a (Destroy name) = (λ is. tt, λ is. refl)
+range_tells a (Tune name knob number) = (λ is. grind (arith, nat_tests), λ is. grind (arith, nat_tests))
 range_tells a Slabinfo = (λ is. tt, λ is. refl)
+range_tells a (Client line) = client_range_tells a line
 range_tells a (Round workers) = (λ is. grind (arith, nat_tests), λ is. grind (arith, nat_tests))
 range_tells a (Alloc worker cpu name object) = (λ is. grind (arith, nat_tests), λ is. grind (arith, nat_tests))
 range_tells a (Free worker cpu object) = (λ is. grind (arith, nat_tests), λ is. grind (arith, nat_tests))
@@ -126,6 +155,8 @@ range_tells a (Poke worker object negative offset byte) =
           (low.0, low.1, t.0 parts.1)),
       λ is. (let last = t.1 is.2 in and_from _ (is_offset negative offset) (grind (arith, nat_tests, is)) last),
     )
+range_tells a (Trim worker name) = (λ is. grind (arith, nat_tests), λ is. grind (arith, nat_tests))
+range_tells a (Flush worker cpu) = (λ is. grind (arith, nat_tests), λ is. grind (arith, nat_tests))
 range_tells a Done = (λ is. tt, λ is. refl)
 range_tells a End = (λ is. tt, λ is. refl)
 
@@ -137,27 +168,94 @@ room_tells a (Machine frames cpus tid) = (λ is. tt, λ is. refl)
 room_tells a (Cache name size align flags) = (λ is. tt, λ is. refl)
 room_tells a (Shrink name) = (λ is. tt, λ is. refl)
 room_tells a (Destroy name) = (λ is. tt, λ is. refl)
+room_tells a (Tune name knob number) = (λ is. tt, λ is. refl)
 room_tells a Slabinfo = (λ is. tt, λ is. refl)
+room_tells a (Client line) = (λ is. grind (arith, nat_tests), λ is. grind (arith, nat_tests))
 room_tells a (Round workers) = (λ is. grind (arith, nat_tests), λ is. grind (arith, nat_tests))
 room_tells a (Alloc worker cpu name object) = (λ is. tt, λ is. refl)
 room_tells a (Free worker cpu object) = (λ is. tt, λ is. refl)
 room_tells a (Write worker object word value) = (λ is. tt, λ is. refl)
 room_tells a (Read worker object word) = (λ is. tt, λ is. refl)
 room_tells a (Poke worker object negative offset byte) = (λ is. tt, λ is. refl)
+room_tells a (Trim worker name) = (λ is. tt, λ is. refl)
+room_tells a (Flush worker cpu) = (λ is. tt, λ is. refl)
 room_tells a Done = (λ is. tt, λ is. refl)
 room_tells a End = (λ is. tt, λ is. refl)
 
-among_tells : {X : Type 0} (eq : X → X → Bool) (o : Option X) (xs : List X) → Tells (among eq o xs) (IsAmong eq o xs)
-among_tells eq None xs = (λ is. tt, λ is. refl)
-among_tells eq (Some x) xs = (λ is. is, λ is. is)
+source_tells : (a : Above) (line : ClientLine) → Tells (has_source a line) (HasSource a line)
+unfolding has_source
+source_tells a Kmalloc = (λ is. tt, λ is. refl)
+source_tells a (Kget cpu size object) = (λ is. is, λ is. is)
+source_tells a (Krealloc cpu object size fresh) = (λ is. is, λ is. is)
+source_tells a (Bulk cpu name first count) = (λ is. is, λ is. is)
+source_tells a (Bulkfree cpu first count) = (λ is. tt, λ is. refl)
+source_tells a (Mempool pool name min first) = (λ is. is, λ is. is)
+source_tells a (Mget cpu pool object) = (λ is. is, λ is. is)
+source_tells a (Mput cpu pool object) = (λ is. is, λ is. is)
 
-apart_tells : {X : Type 0} (eq : X → X → Bool) (o : Option X) (xs : List X) → Tells (apart eq o xs) (IsApart eq o xs)
-apart_tells eq None xs = (λ is. tt, λ is. refl)
-apart_tells eq (Some x) xs = (λ is. not-true (list_any (eq x) xs) is, λ is. not_from_false (list_any (eq x) xs) is)
+cache_tells : (a : Above) (line : Line) → Tells (has_cache a line) (HasCache a line)
+unfolding has_cache
+cache_tells a Passed = (λ is. tt, λ is. refl)
+cache_tells a (Slubtrace version) = (λ is. tt, λ is. refl)
+cache_tells a (Machine frames cpus tid) = (λ is. tt, λ is. refl)
+cache_tells a (Cache name size align flags) = (λ is. tt, λ is. refl)
+cache_tells a (Shrink name) = (λ is. is, λ is. is)
+cache_tells a (Destroy name) = (λ is. is, λ is. is)
+cache_tells a (Tune name knob number) = (λ is. is, λ is. is)
+cache_tells a Slabinfo = (λ is. tt, λ is. refl)
+cache_tells a (Client line) = source_tells a line
+cache_tells a (Round workers) = (λ is. tt, λ is. refl)
+cache_tells a (Alloc worker cpu name object) = (λ is. is, λ is. is)
+cache_tells a (Free worker cpu object) = (λ is. tt, λ is. refl)
+cache_tells a (Write worker object word value) = (λ is. tt, λ is. refl)
+cache_tells a (Read worker object word) = (λ is. tt, λ is. refl)
+cache_tells a (Poke worker object negative offset byte) = (λ is. tt, λ is. refl)
+cache_tells a (Trim worker name) = (λ is. is, λ is. is)
+cache_tells a (Flush worker cpu) = (λ is. tt, λ is. refl)
+cache_tells a Done = (λ is. tt, λ is. refl)
+cache_tells a End = (λ is. tt, λ is. refl)
+
+written_tells : (a : Above) (line : Line) → Tells (is_written a line) (IsWritten a line)
+unfolding is_written
+written_tells a Passed = (λ is. tt, λ is. refl)
+written_tells a (Slubtrace version) = (λ is. tt, λ is. refl)
+written_tells a (Machine frames cpus tid) = (λ is. tt, λ is. refl)
+written_tells a (Cache name size align flags) = (λ is. tt, λ is. refl)
+written_tells a (Shrink name) = (λ is. tt, λ is. refl)
+written_tells a (Destroy name) = (λ is. tt, λ is. refl)
+written_tells a (Tune name knob number) = (λ is. tt, λ is. refl)
+written_tells a Slabinfo = (λ is. tt, λ is. refl)
+written_tells a (Client line) = (λ is. tt, λ is. refl)
+written_tells a (Round workers) = (λ is. tt, λ is. refl)
+written_tells a (Alloc worker cpu name object) = (λ is. tt, λ is. refl)
+written_tells a (Free worker cpu object) = (λ is. tt, λ is. refl)
+written_tells a (Write worker object word value) = (λ is. tt, λ is. refl)
+written_tells a (Read worker object word) = (λ is. is, λ is. is)
+written_tells a (Poke worker object negative offset byte) = (λ is. tt, λ is. refl)
+written_tells a (Trim worker name) = (λ is. tt, λ is. refl)
+written_tells a (Flush worker cpu) = (λ is. tt, λ is. refl)
+written_tells a Done = (λ is. tt, λ is. refl)
+written_tells a End = (λ is. tt, λ is. refl)
+
+-- a test of each element
+each_tells : {X : Type 0} (p : X → Bool) (P : X → Type 0) → ((x : X) → Tells (p x) (P x)) → (xs : List X) → Tells (list_all p xs) (All P xs)
+each_tells p P tells [] = (λ is. All-nil P, λ is. refl)
+each_tells p P tells (x ∷ xs) =
+    let more = each_tells p P tells xs in (
+      λ is. (let parts = and_parts (p x) (list_all p xs) is in All-cons P x xs ((tells x).0 parts.0) (more.0 parts.1)),
+      λ is. and_from (p x) (list_all p xs) ((tells x).1 (All-head P x xs is)) (more.1 (All-tail P x xs is)),
+    )
+
+fresh_tells : (a : Above) (objects : List ℕ) → Tells (are_fresh a objects) (All (λ object. list_any (nat_eq object) a.objects ≡ false) objects)
+fresh_tells a objects =
+    each_tells _ _ (λ object. (λ is. not-true (list_any (nat_eq object) a.objects) is, λ is. not_from_false (list_any (nat_eq object) a.objects) is)) objects
+
+known_tells : (a : Above) (objects : List ℕ) → Tells (are_known a objects) (All (λ object. list_any (nat_eq object) a.objects ≡ true) objects)
+known_tells a objects = each_tells _ _ (λ object. (λ is. is, λ is. is)) objects
 
 -- ---- one line
 
-choose : (a : Above) (line : Line) (s r m n f k w : Bool) → Tells s (MayStand line a.place) → Tells r (InRange a line) → Tells m (HasRoom a line) → Tells n (HasCache a line)
+choose : (a : Above) (line : Line) (s r m n f k w : Bool) → Tells s (MayStand line a.version a.place) → Tells r (InRange a line) → Tells m (HasRoom a line) → Tells n (HasCache a line)
     → Tells f (IsFresh a line) → Tells k (IsKnown a line) → Tells w (IsWritten a line) → Lacks a line (first_of s r m n f k w)
 choose a line false r m n f k w ts tr tm tn tf tk tw = λ is. false≢true (ts.1 is)
 choose a line true false m n f k w ts tr tm tn tf tk tw = (ts.0 refl, λ is. false≢true (tr.1 is))
@@ -179,8 +277,8 @@ choose a line true true true true true true true ts tr tm tn tf tk tw = record {
 lack_tells : (a : Above) (line : Line) → Lacks a line (lack_of a line)
 unfolding lack_of
 lack_tells a line =
-    choose a line _ _ _ _ _ _ _ (stand_tells line a.place) (range_tells a line) (room_tells a line) (among_tells bytes_eq (name_in line) a.names)
-    (apart_tells nat_eq (object_in line) a.objects) (among_tells nat_eq (needs_in line) a.objects) (among_tells is_spot (reads_in line) a.written)
+    choose a line _ _ _ _ _ _ _ (stand_tells line a.version a.place) (range_tells a line) (room_tells a line) (cache_tells a line)
+    (fresh_tells a (allocates line)) (known_tells a (needs line)) (written_tells a line)
 
 -- what judging says is so
 abbrev pub Judges : Above → List ℕ → Result Line Why → Type 0

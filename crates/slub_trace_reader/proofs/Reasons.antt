@@ -1,19 +1,23 @@
 -- Which reason a line is bad for first.
 use Rattle.std.proofs.Common.{◌≡◌, ℕ, ◌<◌, ◌≤◌, ◌^◌, true, false, Some, None, List, refl, sym, ap, ◌∙◌, arith, subst}
+use Rattle.slub_numbers.specs.Numbers.{cut_number}
+use Rattle.slub_trace_reader.specs.declared.client.ClientLine.{ClientLine}
+use Rattle.slub_trace_reader.specs.declared.client.ClientLine.TheVariants.{Kmalloc, Kget, Krealloc, Bulk, Bulkfree, Mempool, Mget, Mput}
 use Rattle.slub_trace_reader.specs.declared.line.Line.{Line}
-use Rattle.slub_trace_reader.specs.declared.line.Line.TheVariants.{Passed, Slubtrace, Machine, Cache, Shrink, Destroy, Slabinfo, Round, Alloc, Free, Write, Read, Poke, Done, End}
+use Rattle.slub_trace_reader.specs.declared.line.Line.TheVariants.{Passed, Slubtrace, Machine, Cache, Shrink, Destroy, Tune, Slabinfo, Client, Round, Alloc, Free, Write, Read, Poke, Trim, Flush, Done, End}
 use Rattle.slub_trace_reader.specs.declared.place.Place.{Place}
-use Rattle.slub_trace_reader.specs.declared.place.Place.TheVariants.{After}
+use Rattle.slub_trace_reader.specs.declared.place.Place.TheVariants.{Between, After}
 use Rattle.slub_trace_reader.specs.declared.reading.Why.{Why}
 use Rattle.slub_trace_reader.specs.declared.reading.Why.TheVariants.{Unfinished, AfterEnd, Form, Range, TooManyRounds, UnknownCache, ObjectTwice, UnknownObject, ReadBeforeWrite, NoEnd}
 use Rattle.slub_trace_reader.specs.Above.{Above}
-use Rattle.slub_trace_reader.specs.Cut.{cut_number, cut_line}
+use Rattle.slub_trace_reader.specs.Cut.{cut_client, cut_line}
 use Rattle.slub_trace_reader.specs.Faults.{Finished, IsFormWithout, IsBad, IsFirstReason, rank}
 use Rattle.slub_trace_reader.specs.Forms.{line_of}
-use Rattle.slub_trace_reader.specs.Grammar.{MayStand, InRange, HasRoom, HasCache, IsFresh, IsKnown, IsWritten, IsLine}
+use Rattle.slub_trace_reader.specs.Grammar.{MayStand, InRange, ClientInRange, HasRoom, HasCache, IsFresh, IsKnown, IsWritten, IsLine}
 use Rattle.slub_trace_reader.specs.Lines.{Says, IsPassed}
 use Rattle.slub_trace_reader.specs.State.{IsModest, IsFit, Lacks}
-use Rattle.slub_trace_reader.proofs.Texts.{line_again, line_said, same_some}
+use Rattle.slub_trace_reader.proofs.LineTexts.{line_again, line_said}
+use Rattle.slub_trace_reader.proofs.WordTexts.{same_some}
 
 -- ---- a line and the same with its numbers cut
 
@@ -25,6 +29,79 @@ uncut n most small below = omega arith
 small : (n most : ℕ) → n ≤ most → most ≤ 2 ^ 64 → cut_number n ≡ n
 small n most low below = omega arith
 
+-- the same of the numbers of a client's line
+uncut_client : (a : Above) (line : ClientLine) → IsModest a → ClientInRange a (cut_client line) → cut_client line ≡ line
+uncut_client a Kmalloc modest is = refl
+uncut_client a (Kget cpu size object) modest is =
+    let e0 : cut_number cpu ≡ cpu = omega arith in
+    let e1 : cut_number size ≡ size = omega arith in
+    let e2 : cut_number object ≡ object = omega arith in
+    rw (e0, e1, e2) refl
+uncut_client a (Krealloc cpu object size fresh) modest is =
+    let e0 : cut_number cpu ≡ cpu = omega arith in
+    let e1 : cut_number object ≡ object = omega arith in
+    let e2 : cut_number size ≡ size = omega arith in
+    let e3 : cut_number fresh ≡ fresh = omega arith in
+    rw (e0, e1, e2, e3) refl
+uncut_client a (Bulk cpu name first count) modest is =
+    let e0 : cut_number cpu ≡ cpu = omega arith in
+    let e1 : cut_number first ≡ first = omega arith in
+    let e2 : cut_number count ≡ count = omega arith in
+    rw (e0, e1, e2) refl
+uncut_client a (Bulkfree cpu first count) modest is =
+    let e0 : cut_number cpu ≡ cpu = omega arith in
+    let e1 : cut_number first ≡ first = omega arith in
+    let e2 : cut_number count ≡ count = omega arith in
+    rw (e0, e1, e2) refl
+uncut_client a (Mempool pool name min first) modest is =
+    let e0 : cut_number min ≡ min = omega arith in
+    let e1 : cut_number first ≡ first = omega arith in
+    rw (e0, e1) refl
+uncut_client a (Mget cpu pool object) modest is =
+    let e0 : cut_number cpu ≡ cpu = omega arith in
+    let e1 : cut_number object ≡ object = omega arith in
+    rw (e0, e1) refl
+uncut_client a (Mput cpu pool object) modest is =
+    let e0 : cut_number cpu ≡ cpu = omega arith in
+    let e1 : cut_number object ≡ object = omega arith in
+    rw (e0, e1) refl
+
+kept_client : (a : Above) (line : ClientLine) → IsModest a → ClientInRange a line → cut_client line ≡ line
+kept_client a Kmalloc modest is = refl
+kept_client a (Kget cpu size object) modest is =
+    let e0 : cut_number cpu ≡ cpu = omega arith in
+    let e1 : cut_number size ≡ size = omega arith in
+    let e2 : cut_number object ≡ object = omega arith in
+    rw (e0, e1, e2) refl
+kept_client a (Krealloc cpu object size fresh) modest is =
+    let e0 : cut_number cpu ≡ cpu = omega arith in
+    let e1 : cut_number object ≡ object = omega arith in
+    let e2 : cut_number size ≡ size = omega arith in
+    let e3 : cut_number fresh ≡ fresh = omega arith in
+    rw (e0, e1, e2, e3) refl
+kept_client a (Bulk cpu name first count) modest is =
+    let e0 : cut_number cpu ≡ cpu = omega arith in
+    let e1 : cut_number first ≡ first = omega arith in
+    let e2 : cut_number count ≡ count = omega arith in
+    rw (e0, e1, e2) refl
+kept_client a (Bulkfree cpu first count) modest is =
+    let e0 : cut_number cpu ≡ cpu = omega arith in
+    let e1 : cut_number first ≡ first = omega arith in
+    let e2 : cut_number count ≡ count = omega arith in
+    rw (e0, e1, e2) refl
+kept_client a (Mempool pool name min first) modest is =
+    let e0 : cut_number min ≡ min = omega arith in
+    let e1 : cut_number first ≡ first = omega arith in
+    rw (e0, e1) refl
+kept_client a (Mget cpu pool object) modest is =
+    let e0 : cut_number cpu ≡ cpu = omega arith in
+    let e1 : cut_number object ≡ object = omega arith in
+    rw (e0, e1) refl
+kept_client a (Mput cpu pool object) modest is =
+    let e0 : cut_number cpu ≡ cpu = omega arith in
+    let e1 : cut_number object ≡ object = omega arith in
+    rw (e0, e1) refl
+
 -- where the numbers of a line are in range after the cut, nothing was cut
 pub uncut_line : (a : Above) (line : Line) → IsModest a → InRange a (cut_line line) → cut_line line ≡ line
 uncut_line a Passed modest is = refl
@@ -34,7 +111,9 @@ uncut_line a (Machine frames cpus (Some tid)) modest is = (let f : cut_number fr
 uncut_line a (Cache name size align flags) modest is = (let e0 : cut_number size ≡ size = omega arith in let e1 : cut_number align ≡ align = omega arith in rw (e0, e1) refl)
 uncut_line a (Shrink name) modest is = refl
 uncut_line a (Destroy name) modest is = refl
+uncut_line a (Tune name knob number) modest is = (let e0 : cut_number number ≡ number = omega arith in rw (e0) refl)
 uncut_line a Slabinfo modest is = refl
+uncut_line a (Client line) modest is = ap Client (uncut_client a line modest is)
 uncut_line a (Round workers) modest is = (let e0 : cut_number workers ≡ workers = omega arith in rw (e0) refl)
 uncut_line a (Alloc worker cpu name object) modest is = (let e0 : cut_number worker ≡ worker = omega arith in let e1 : cut_number cpu ≡ cpu = omega arith in let e2 : cut_number object ≡ object = omega arith in rw (e0, e1, e2) refl)
 uncut_line a (Free worker cpu object) modest is = (let e0 : cut_number worker ≡ worker = omega arith in let e1 : cut_number cpu ≡ cpu = omega arith in let e2 : cut_number object ≡ object = omega arith in rw (e0, e1, e2) refl)
@@ -42,6 +121,8 @@ uncut_line a (Write worker object word value) modest is = (let e0 : cut_number w
 uncut_line a (Read worker object word) modest is = (let e0 : cut_number worker ≡ worker = omega arith in let e1 : cut_number object ≡ object = omega arith in let e2 : cut_number word ≡ word = omega arith in rw (e0, e1, e2) refl)
 uncut_line a (Poke worker object true offset byte) modest is = (let w : cut_number worker ≡ worker = omega arith in let ob : cut_number object ≡ object = omega arith in let z : cut_number offset ≡ offset = omega arith in rw (w, ob, z) refl)
 uncut_line a (Poke worker object false offset byte) modest is = (let w : cut_number worker ≡ worker = omega arith in let ob : cut_number object ≡ object = omega arith in let z : cut_number offset ≡ offset = omega arith in rw (w, ob, z) refl)
+uncut_line a (Trim worker name) modest is = (let e0 : cut_number worker ≡ worker = omega arith in rw (e0) refl)
+uncut_line a (Flush worker cpu) modest is = (let e0 : cut_number worker ≡ worker = omega arith in let e1 : cut_number cpu ≡ cpu = omega arith in rw (e0, e1) refl)
 uncut_line a Done modest is = refl
 uncut_line a End modest is = refl
 
@@ -54,7 +135,9 @@ kept_line a (Machine frames cpus (Some tid)) modest is = (let f : cut_number fra
 kept_line a (Cache name size align flags) modest is = (let e0 : cut_number size ≡ size = omega arith in let e1 : cut_number align ≡ align = omega arith in rw (e0, e1) refl)
 kept_line a (Shrink name) modest is = refl
 kept_line a (Destroy name) modest is = refl
+kept_line a (Tune name knob number) modest is = (let e0 : cut_number number ≡ number = omega arith in rw (e0) refl)
 kept_line a Slabinfo modest is = refl
+kept_line a (Client line) modest is = ap Client (kept_client a line modest is)
 kept_line a (Round workers) modest is = (let e0 : cut_number workers ≡ workers = omega arith in rw (e0) refl)
 kept_line a (Alloc worker cpu name object) modest is = (let e0 : cut_number worker ≡ worker = omega arith in let e1 : cut_number cpu ≡ cpu = omega arith in let e2 : cut_number object ≡ object = omega arith in rw (e0, e1, e2) refl)
 kept_line a (Free worker cpu object) modest is = (let e0 : cut_number worker ≡ worker = omega arith in let e1 : cut_number cpu ≡ cpu = omega arith in let e2 : cut_number object ≡ object = omega arith in rw (e0, e1, e2) refl)
@@ -62,61 +145,75 @@ kept_line a (Write worker object word value) modest is = (let e0 : cut_number wo
 kept_line a (Read worker object word) modest is = (let e0 : cut_number worker ≡ worker = omega arith in let e1 : cut_number object ≡ object = omega arith in let e2 : cut_number word ≡ word = omega arith in rw (e0, e1, e2) refl)
 kept_line a (Poke worker object true offset byte) modest is = (let w : cut_number worker ≡ worker = omega arith in let ob : cut_number object ≡ object = omega arith in let z : cut_number offset ≡ offset = omega arith in rw (w, ob, z) refl)
 kept_line a (Poke worker object false offset byte) modest is = (let w : cut_number worker ≡ worker = omega arith in let ob : cut_number object ≡ object = omega arith in let z : cut_number offset ≡ offset = omega arith in rw (w, ob, z) refl)
+kept_line a (Trim worker name) modest is = (let e0 : cut_number worker ≡ worker = omega arith in rw (e0) refl)
+kept_line a (Flush worker cpu) modest is = (let e0 : cut_number worker ≡ worker = omega arith in let e1 : cut_number cpu ≡ cpu = omega arith in rw (e0, e1) refl)
 kept_line a Done modest is = refl
 kept_line a End modest is = refl
 
 -- a cut line may stand where the line may
-pub stands_uncut : (line : Line) (place : Place) → MayStand (cut_line line) place → MayStand line place
-stands_uncut Passed place is = is
-stands_uncut (Slubtrace version) place is = is
-stands_uncut (Machine frames cpus tid) place is = is
-stands_uncut (Cache name size align flags) place is = is
-stands_uncut (Shrink name) place is = is
-stands_uncut (Destroy name) place is = is
-stands_uncut Slabinfo place is = is
-stands_uncut (Round workers) place is = is
-stands_uncut (Alloc worker cpu name object) place is = is
-stands_uncut (Free worker cpu object) place is = is
-stands_uncut (Write worker object word value) place is = is
-stands_uncut (Read worker object word) place is = is
-stands_uncut (Poke worker object negative offset byte) place is = is
-stands_uncut Done place is = is
-stands_uncut End place is = is
+pub stands_uncut : (line : Line) (version : ℕ) (place : Place) → MayStand (cut_line line) version place → MayStand line version place
+stands_uncut Passed version place is = is
+stands_uncut (Slubtrace named) version place is = is
+stands_uncut (Machine frames cpus tid) version place is = is
+stands_uncut (Cache name size align flags) version place is = is
+stands_uncut (Shrink name) version place is = is
+stands_uncut (Destroy name) version place is = is
+stands_uncut (Tune name knob number) version place is = is
+stands_uncut Slabinfo version place is = is
+stands_uncut (Client line) version place is = is
+stands_uncut (Round workers) version place is = is
+stands_uncut (Alloc worker cpu name object) version place is = is
+stands_uncut (Free worker cpu object) version place is = is
+stands_uncut (Write worker object word value) version place is = is
+stands_uncut (Read worker object word) version place is = is
+stands_uncut (Poke worker object negative offset byte) version place is = is
+stands_uncut (Trim worker name) version place is = is
+stands_uncut (Flush worker cpu) version place is = is
+stands_uncut Done version place is = is
+stands_uncut End version place is = is
 
-pub stands_cut : (line : Line) (place : Place) → MayStand line place → MayStand (cut_line line) place
-stands_cut Passed place is = is
-stands_cut (Slubtrace version) place is = is
-stands_cut (Machine frames cpus tid) place is = is
-stands_cut (Cache name size align flags) place is = is
-stands_cut (Shrink name) place is = is
-stands_cut (Destroy name) place is = is
-stands_cut Slabinfo place is = is
-stands_cut (Round workers) place is = is
-stands_cut (Alloc worker cpu name object) place is = is
-stands_cut (Free worker cpu object) place is = is
-stands_cut (Write worker object word value) place is = is
-stands_cut (Read worker object word) place is = is
-stands_cut (Poke worker object negative offset byte) place is = is
-stands_cut Done place is = is
-stands_cut End place is = is
+pub stands_cut : (line : Line) (version : ℕ) (place : Place) → MayStand line version place → MayStand (cut_line line) version place
+stands_cut Passed version place is = is
+stands_cut (Slubtrace named) version place is = is
+stands_cut (Machine frames cpus tid) version place is = is
+stands_cut (Cache name size align flags) version place is = is
+stands_cut (Shrink name) version place is = is
+stands_cut (Destroy name) version place is = is
+stands_cut (Tune name knob number) version place is = is
+stands_cut Slabinfo version place is = is
+stands_cut (Client line) version place is = is
+stands_cut (Round workers) version place is = is
+stands_cut (Alloc worker cpu name object) version place is = is
+stands_cut (Free worker cpu object) version place is = is
+stands_cut (Write worker object word value) version place is = is
+stands_cut (Read worker object word) version place is = is
+stands_cut (Poke worker object negative offset byte) version place is = is
+stands_cut (Trim worker name) version place is = is
+stands_cut (Flush worker cpu) version place is = is
+stands_cut Done version place is = is
+stands_cut End version place is = is
 
 -- after `end` a line that may stand is passed over
-passed_after : (text : List ℕ) (line : Line) → Says text line → MayStand line After → IsPassed text
-passed_after text Passed says is = says
-passed_after text (Slubtrace version) says is = cc
-passed_after text (Machine frames cpus tid) says is = cc
-passed_after text (Cache name size align flags) says is = cc
-passed_after text (Shrink name) says is = cc
-passed_after text (Destroy name) says is = cc
-passed_after text Slabinfo says is = cc
-passed_after text (Round workers) says is = cc
-passed_after text (Alloc worker cpu name object) says is = absurd is
-passed_after text (Free worker cpu object) says is = absurd is
-passed_after text (Write worker object word value) says is = absurd is
-passed_after text (Read worker object word) says is = absurd is
-passed_after text (Poke worker object negative offset byte) says is = absurd is
-passed_after text Done says is = absurd is
-passed_after text End says is = cc
+passed_after : (text : List ℕ) (line : Line) (version : ℕ) → Says text line → MayStand line version After → IsPassed text
+passed_after text Passed version says is = says
+passed_after text (Slubtrace named) version says is = cc
+passed_after text (Machine frames cpus tid) version says is = cc
+passed_after text (Cache name size align flags) version says is = cc
+passed_after text (Shrink name) version says is = cc
+passed_after text (Destroy name) version says is = cc
+passed_after text (Tune name knob number) version says is = (let never : After ≡ Between = is.1 in cc)
+passed_after text Slabinfo version says is = cc
+passed_after text (Client line) version says is = (let never : After ≡ Between = is.1 in cc)
+passed_after text (Round workers) version says is = cc
+passed_after text (Alloc worker cpu name object) version says is = absurd is
+passed_after text (Free worker cpu object) version says is = absurd is
+passed_after text (Write worker object word value) version says is = absurd is
+passed_after text (Read worker object word) version says is = absurd is
+passed_after text (Poke worker object negative offset byte) version says is = absurd is
+passed_after text (Trim worker name) version says is = absurd is.1
+passed_after text (Flush worker cpu) version says is = absurd is.1
+passed_after text Done version says is = absurd is
+passed_after text End version says is = cc
 
 -- ---- the line of a text
 
@@ -174,10 +271,10 @@ Passes a c ReadBeforeWrite = IsWritten a c
 Passes a c NoEnd = Unit {0}
 
 -- a line that may stand, in range, isn't bad for a reason that it passes
-refuted : (a : Above) (text : List ℕ) (c : Line) → IsModest a → line_of text ≡ Some c → MayStand c a.place → InRange a c → (why : Why) → Passes a c why → IsBad a text why → ⊥
+refuted : (a : Above) (text : List ℕ) (c : Line) → IsModest a → line_of text ≡ Some c → MayStand c a.version a.place → InRange a c → (why : Why) → Passes a c why → IsBad a text why → ⊥
 unfolding Passes
 refuted a text c modest is stands range Unfinished pass bad = bad
-refuted a text c modest is stands range AfterEnd pass bad = bad.1 (passed_after text c (says_it a text c modest is range) (subst (λ (p : Place). MayStand c p) bad.0 stands))
+refuted a text c modest is stands range AfterEnd pass bad = bad.1 (passed_after text c a.version (says_it a text c modest is range) (subst (λ (p : Place). MayStand c a.version p) bad.0 stands))
 refuted a text c modest is stands range Form pass bad = bad c (says_it a text c modest is range) stands
 refuted a text c modest is stands range Range pass bad = apart a text c (InRange a) modest is range pass bad
 refuted a text c modest is stands range TooManyRounds pass bad = apart a text c (HasRoom a) modest is range pass bad
@@ -272,7 +369,7 @@ pub none_said : (text : List ℕ) (line : Line) → None ≡ line_of text → Sa
 none_said text line is says = (let never : None ≡ Some (cut_line line) = is ∙ line_again text line says in cc)
 
 -- a text that says no line of any form is of a bad form first
-pub first_form : (a : Above) (text : List ℕ) → ((a.place ≡ After) × ¬ IsPassed text → ⊥) → ((line : Line) → Says text line → MayStand line a.place → ⊥) → IsFirstReason a (Finished text) Form
+pub first_form : (a : Above) (text : List ℕ) → ((a.place ≡ After) × ¬ IsPassed text → ⊥) → ((line : Line) → Says text line → MayStand line a.version a.place → ⊥) → IsFirstReason a (Finished text) Form
 first_form a text on none = record {
   holds = none;
   first = λ other. elim other as (λ w. rank w < 2 → IsBad a text w → ⊥) [
@@ -290,16 +387,16 @@ first_form a text on none = record {
 }
 
 -- a line of its place that is out of range is so first
-pub first_range : (a : Above) (text : List ℕ) (c : Line) → IsModest a → line_of text ≡ Some c → MayStand c a.place → (InRange a c → ⊥) → IsFirstReason a (Finished text) Range
+pub first_range : (a : Above) (text : List ℕ) (c : Line) → IsModest a → line_of text ≡ Some c → MayStand c a.version a.place → (InRange a c → ⊥) → IsFirstReason a (Finished text) Range
 first_range a text c modest is stands out =
     let said = line_said text c is in
-    let may : MayStand said.0 a.place = stands_uncut said.0 a.place (subst (λ (l : Line). MayStand l a.place) said.2 stands) in
+    let may : MayStand said.0 a.version a.place = stands_uncut said.0 a.version a.place (subst (λ (l : Line). MayStand l a.version a.place) said.2 stands) in
     let out_too : InRange a said.0 → ⊥ = λ range. out (subst (λ (l : Line). InRange a l) (sym (said.2 ∙ kept_line a said.0 modest range)) range) in
     record {
       holds = (said.0, said.1, may, out_too);
       first = λ other. elim other as (λ w. rank w < 3 → IsBad a text w → ⊥) [
         | Unfinished ↦ λ low bad. bad
-        | AfterEnd ↦ λ low bad. bad.1 (passed_after text said.0 said.1 (subst (λ (p : Place). MayStand said.0 p) bad.0 may))
+        | AfterEnd ↦ λ low bad. bad.1 (passed_after text said.0 a.version said.1 (subst (λ (p : Place). MayStand said.0 a.version p) bad.0 may))
         | Form ↦ λ low bad. bad said.0 said.1 may
         | Range ↦ λ low bad. absurd (let never : ⊥ = omega arith in never)
         | TooManyRounds ↦ λ low bad. absurd (let never : ⊥ = omega arith in never)
@@ -312,7 +409,7 @@ first_range a text c modest is stands out =
     }
 
 -- a line that is in range is bad first for the first thing that it lacks
-first_other : (a : Above) (text : List ℕ) (c : Line) (why : Why) → IsModest a → line_of text ≡ Some c → MayStand c a.place → InRange a c → Lacks a c (Some why) → IsBad a text why → IsFirstReason a (Finished text) why
+first_other : (a : Above) (text : List ℕ) (c : Line) (why : Why) → IsModest a → line_of text ≡ Some c → MayStand c a.version a.place → InRange a c → Lacks a c (Some why) → IsBad a text why → IsFirstReason a (Finished text) why
 first_other a text c why modest is stands range lacks bad = record {
   holds = bad;
   first = λ other low. refuted a text c modest is stands range other (earlier a c why other lacks range low);
@@ -323,7 +420,7 @@ pub first_reason : (a : Above) (text : List ℕ) (c : Line) (why : Why) → IsMo
 first_reason a text c Unfinished modest on is lacks = absurd lacks
 first_reason a text c AfterEnd modest on is lacks = absurd lacks
 first_reason a text c Form modest on is lacks = first_form a text on (λ line says stands.
-    lacks (subst (λ (l : Line). MayStand l a.place) (same_some (cut_line line) c (sym (line_again text line says) ∙ is)) (stands_cut line a.place stands)))
+    lacks (subst (λ (l : Line). MayStand l a.version a.place) (same_some (cut_line line) c (sym (line_again text line says) ∙ is)) (stands_cut line a.version a.place stands)))
 first_reason a text c Range modest on is lacks = first_range a text c modest is lacks.0 lacks.1
 first_reason a text c TooManyRounds modest on is lacks = first_other a text c TooManyRounds modest is lacks.0 lacks.1 lacks (c, says_it a text c modest is lacks.1, lacks.0, lacks.2)
 first_reason a text c UnknownCache modest on is lacks = first_other a text c UnknownCache modest is lacks.0 lacks.1 lacks (c, says_it a text c modest is lacks.1, lacks.0, lacks.3)

@@ -1,17 +1,28 @@
 -- What the lines above a line say.
-use Rattle.std.specs.Prelude.{ℕ, ◌+◌, Bool, true, false, ◌&&◌, nat_eq, List, [], ◌∷◌, ◌++◌, unwrap_or, if◌then◌else◌, pos, neg_ℤ, ℤ, fold, max}
+use Rattle.std.specs.Prelude.{ℕ, ◌+◌, Bool, true, false, ◌&&◌, ◌||◌, nat_eq, List, [], ◌∷◌, ◌++◌, unwrap_or, if◌then◌else◌, pos, neg_ℤ, ℤ, fold, max}
 use Rattle.std.specs.List.{list_any, position_or_len}
 use Rattle.std.specs.Str.{bytes_eq}
 use Rattle.slub_object_layout.specs.declared.event.Act.{Act}
 use Rattle.slub_object_layout.specs.declared.event.Act.TheVariants as act
 use Rattle.slub_object_layout.specs.declared.event.Event.{Event}
+use Rattle.slub_object_layout.specs.declared.layout.Setting.{Setting}
+use Rattle.slub_object_layout.specs.declared.layout.Setting.TheVariants as setting
+use Rattle.slub_object_layout.specs.declared.layout.Spec.{Spec}
+use Rattle.slub_trace_reader.specs.declared.client.ClientLine.{ClientLine}
+use Rattle.slub_trace_reader.specs.declared.client.ClientLine.TheVariants.{Kmalloc, Kget, Krealloc, Bulk, Bulkfree, Mempool, Mget, Mput}
+use Rattle.slub_trace_reader.specs.declared.line.Knob.{Knob}
+use Rattle.slub_trace_reader.specs.declared.line.Knob.TheVariants.{MinPartial, CpuPartial}
 use Rattle.slub_trace_reader.specs.declared.line.Line.{Line}
-use Rattle.slub_trace_reader.specs.declared.line.Line.TheVariants.{Passed, Slubtrace, Machine, Cache, Shrink, Destroy, Slabinfo, Round, Alloc, Free, Write, Read, Poke, Done, End}
+use Rattle.slub_trace_reader.specs.declared.line.Line.TheVariants.{Passed, Slubtrace, Machine, Cache, Shrink, Destroy, Tune, Slabinfo, Client, Round, Alloc, Free, Write, Read, Poke, Trim, Flush, Done, End}
 use Rattle.slub_trace_reader.specs.declared.place.Place.{Place}
 use Rattle.slub_trace_reader.specs.declared.place.Place.TheVariants.{First, Second, Between, Within, After}
+use Rattle.slub_trace_reader.specs.declared.trace.Client.{Client as Asked}
+use Rattle.slub_trace_reader.specs.declared.trace.Client.TheVariants as client
 use Rattle.slub_trace_reader.specs.declared.trace.Item.{Item}
 use Rattle.slub_trace_reader.specs.declared.trace.Item.TheVariants as item
 use Rattle.slub_trace_reader.specs.declared.trace.Trace.{Trace}
+use Rattle.slub_trace_reader.specs.Classes.{class_names}
+use Rattle.slub_trace_reader.specs.Numbers.{client_allocates}
 
 -- what some lines say, passed-over lines counted
 pub record Above : Type 0 where
@@ -23,11 +34,16 @@ pub record Above : Type 0 where
   pub frames : ℕ
   pub cpus : ℕ
   pub tid : ℕ
-  -- each name of a cache line once, in the order of the first lines that have them
+  -- each name of a cache line once, in the order of the first lines that have them; a kmalloc line
+  -- counts as one of each class
   pub names : List (List ℕ)
-  -- the objects of the alloc lines, each once
+  -- each name of a mempool's reserve once
+  pub pools : List (List ℕ)
+  -- a kmalloc line is among them
+  pub kmalloc : Bool
+  -- the numbers that they may allocate
   pub objects : List ℕ
-  -- how many round lines there are
+  -- how many rounds they begin, each client's line counted as two
   pub rounds : ℕ
   -- the worker, object and word of the write lines of the last round, each once
   pub written : List (ℕ × ℕ × ℕ)
@@ -45,6 +61,8 @@ start = record {
   cpus = 0;
   tid = 0;
   names = [];
+  pools = [];
+  kmalloc = false;
   objects = [];
   rounds = 0;
   written = [];
@@ -65,6 +83,10 @@ place_of name names = position_or_len (bytes_eq name) names
 -- each name once
 abbrev pub with_name : List (List ℕ) → List ℕ → List (List ℕ)
 with_name names name = with_one bytes_eq names name
+
+-- some more names, each once
+unfoldable pub with_names : List (List ℕ) → List (List ℕ) → List (List ℕ)
+with_names names more = fold with_name names more
 
 -- ---- words
 
@@ -90,6 +112,48 @@ with_event a worker cpu act = record a {
 abbrev pub with_item : Above → Item → Above
 with_item a item = record a { count = a.count + 1; items = a.items ++ item ∷ [] }
 
+-- ---- items
+
+-- what a tune line sets, and to which number
+abbrev pub setting_of : Knob → ℕ → Setting
+setting_of MinPartial number = setting.MinPartial number
+setting_of CpuPartial number = setting.CpuPartial number
+
+-- what a client's line asks, by the place of its name
+abbrev pub asked_of : List (List ℕ) → ClientLine → Asked
+asked_of names Kmalloc = client.Kmalloc
+asked_of names (Kget cpu size object) = client.Kget cpu size object
+asked_of names (Krealloc cpu object size fresh) = client.Krealloc cpu object size fresh
+asked_of names (Bulk cpu name first count) = client.Bulk cpu (place_of name names) first count
+asked_of names (Bulkfree cpu first count) = client.Bulkfree cpu first count
+asked_of names (Mempool pool name min first) = client.Mempool pool (place_of name names) min first
+asked_of names (Mget cpu pool object) = client.Mget cpu pool object
+asked_of names (Mput cpu pool object) = client.Mput cpu pool object
+
+-- the names of caches below a client's line
+abbrev pub names_below : List (List ℕ) → ClientLine → List (List ℕ)
+names_below names Kmalloc = with_names names class_names
+names_below names _ = names
+
+-- the names of reserves below a client's line
+abbrev pub pools_below : List (List ℕ) → ClientLine → List (List ℕ)
+pools_below pools (Mempool pool name min first) = with_name pools pool
+pools_below pools _ = pools
+
+abbrev pub is_kmalloc : ClientLine → Bool
+is_kmalloc Kmalloc = true
+is_kmalloc _ = false
+
+-- a client's line more
+abbrev pub with_client : Above → ClientLine → Above
+with_client a line = record (with_item a (item.Client (asked_of a.names line))) {
+  names = names_below a.names line;
+  pools = pools_below a.pools line;
+  kmalloc = a.kmalloc || is_kmalloc line;
+  objects = a.objects ++ client_allocates line;
+  rounds = a.rounds + 2;
+}
+
 -- the workers of the round that isn't ended
 abbrev pub workers_in : Place → ℕ
 workers_in First = 0
@@ -104,23 +168,47 @@ abbrev pub after : Above → Line → Above
 after a Passed = record a { count = a.count + 1 }
 after a (Slubtrace version) = record a { count = a.count + 1; place = Second; version = version }
 after a (Machine frames cpus tid) =
-    record a { count = a.count + 1; place = Between; frames = frames; cpus = cpus; tid = unwrap_or tid 0 }
+    record a {
+      count = a.count + 1;
+      place = Between;
+      frames = frames;
+      cpus = cpus;
+      tid = unwrap_or tid 0;
+    }
 after a (Cache name size align flags) =
-    record (with_item a (item.Cache (place_of name a.names) (record { size = size; align = align; flags = flags }))) { names = with_name a.names name }
+    let spec : Spec = record { size = size; align = align; flags = flags } in
+    record (with_item a (item.Cache (place_of name a.names) spec)) {
+      names = with_name a.names name;
+    }
 after a (Shrink name) = with_item a (item.Shrink (place_of name a.names))
 after a (Destroy name) = with_item a (item.Destroy (place_of name a.names))
+after a (Tune name knob number) =
+    with_item a (item.Tune (place_of name a.names) (setting_of knob number))
 after a Slabinfo = with_item a item.Slabinfo
+after a (Client line) = with_client a line
 after a (Round workers) =
-    record a { count = a.count + 1; place = Within workers; rounds = a.rounds + 1; written = []; events = [] }
+    record a {
+      count = a.count + 1;
+      place = Within workers;
+      rounds = a.rounds + 1;
+      written = [];
+      events = [];
+    }
 after a (Alloc worker cpu name object) =
-    record (with_event a worker cpu (act.Alloc (place_of name a.names) object)) { objects = with_one nat_eq a.objects object }
+    record (with_event a worker cpu (act.Alloc (place_of name a.names) object))
+    { objects = a.objects ++ object ∷ [] }
 after a (Free worker cpu object) = with_event a worker cpu (act.Free object)
 after a (Write worker object word value) =
-    record (with_event a worker 0 (act.Write object word value)) { written = with_one is_spot a.written (worker, object, word) }
+    record (with_event a worker 0 (act.Write object word value))
+    { written = with_one is_spot a.written (worker, object, word) }
 after a (Read worker object word) = with_event a worker 0 (act.Read object word)
-after a (Poke worker object negative offset byte) = with_event a worker 0 (act.Poke object (offset_of negative offset) byte)
+after a (Poke worker object negative offset byte) =
+    with_event a worker 0 (act.Poke object (offset_of negative offset) byte)
+after a (Trim worker name) = with_event a worker 0 (act.Trim (place_of name a.names))
+after a (Flush worker cpu) = with_event a worker cpu act.Flush
 after a Done =
-    record (with_item a (item.Round (record { workers = workers_in a.place; events = a.events }))) { place = Between; events = [] }
+    record (with_item a (item.Round (record { workers = workers_in a.place; events = a.events })))
+    { place = Between; events = [] }
 after a End = record a { count = a.count + 1; place = After }
 
 -- what lines say, the first of them below those above

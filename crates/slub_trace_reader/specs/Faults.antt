@@ -22,13 +22,14 @@ GoesOn bytes Nothing = bytes ≡ []
 
 -- a line of a form of its place for which something doesn't hold
 abbrev pub IsFormWithout : Above → List ℕ → (Line → Type 0) → Type 0
-IsFormWithout a text Holds = (line : Line) × Says text line × MayStand line a.place × ¬ Holds line
+IsFormWithout a text Holds =
+    (line : Line) × Says text line × MayStand line a.version a.place × ¬ Holds line
 
 -- a finished line is bad for this reason
 abbrev pub IsBad : Above → List ℕ → Why → Type 0
 IsBad a text Unfinished = ⊥
 IsBad a text AfterEnd = (a.place ≡ After) × ¬ IsPassed text
-IsBad a text Form = (line : Line) → Says text line → MayStand line a.place → ⊥
+IsBad a text Form = (line : Line) → Says text line → MayStand line a.version a.place → ⊥
 IsBad a text Range = IsFormWithout a text (InRange a)
 IsBad a text TooManyRounds = IsFormWithout a text (HasRoom a)
 IsBad a text UnknownCache = IsFormWithout a text (HasCache a)

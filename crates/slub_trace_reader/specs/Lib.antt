@@ -1,9 +1,11 @@
 pub mod Above
+pub mod Classes
 pub mod Cut
 pub mod Faults
 pub mod Forms
 pub mod Grammar
 pub mod Lines
+pub mod Numbers
 pub mod Parsing
 pub mod Reading
 pub mod Reads

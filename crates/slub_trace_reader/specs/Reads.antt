@@ -24,7 +24,8 @@ IsNoTrace bytes = (length bytes ≤ 16777216) × ((trace : Trace) → IsTrace by
 pub record IsBadAt (bytes : List ℕ) (line : ℕ) (why : Why) : Type 0 where
   pub none : IsNoTrace bytes
   pub first : IsFirstBad bytes line why
-  pub only : (number : ℕ) (other : Why) → IsFirstBad bytes number other → (number ≡ line) × (other ≡ why)
+  pub only : (number : ℕ) (other : Why) → IsFirstBad bytes number other → (number ≡ line)
+      × (other ≡ why)
 
 -- bytes, those that the source tells where it tells them, are no trace for this
 pub record IsBadIn (told : Option (List ℕ)) (line : ℕ) (why : Why) : Type 0 where
@@ -36,10 +37,12 @@ pub record IsBadIn (told : Option (List ℕ)) (line : ℕ) (why : Why) : Type 0 
 abbrev pub IsTooLong : List ℕ → Type 0
 IsTooLong bytes = 16777216 < length bytes
 
--- what is told and left are the bytes to come before and after, old and new the counts of faults; no read failed but at ReadFault
+-- what is told and left are the bytes to come before and after, old and new the counts of faults;
+-- no read failed but at ReadFault
 abbrev pub Reads : Option (List ℕ) → Option (List ℕ) → ℕ → ℕ → Result Trace TraceFault → Type 0
 Reads told left old new (Ok trace) = Spells told trace × IsAtEnd left × (new ≡ old)
-Reads told left old new (Err (BadLine line why)) = IsBadIn told line why × IsAtEnd left × (new ≡ old)
+Reads told left old new (Err (BadLine line why)) =
+    IsBadIn told line why × IsAtEnd left × (new ≡ old)
 Reads told left old new (Err TooLong) = IfSome told IsTooLong × (new ≡ old)
 Reads told left old new (Err ReadFault) = Rose old new
 Reads told left old new (Err NoMemory) = new ≡ old

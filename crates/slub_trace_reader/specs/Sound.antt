@@ -1,16 +1,20 @@
 -- What holds of every trace that is read, in the words of the trace alone.
-use Rattle.std.specs.Prelude.{◌≡◌, ℕ, ◌^◌, ◌<◌, ◌≤◌, pos, neg_ℤ, ◌≤ℤ◌, List, [], length, Option, Some, None, All, filter_map, flat_map, nat_eq, ⊤}
-use Rattle.std.specs.List.{IsDistinct}
+use Rattle.std.specs.Prelude.{◌≡◌, ℕ, ◌+◌, ◌-◌, ◌^◌, ◌<◌, ◌≤◌, pos, neg_ℤ, ◌≤ℤ◌, List, [], ◌∷◌, length, Option, Some, None, All, filter_map, flat_map, nat_eq, ⊤}
+use Rattle.std.specs.List.{IsDistinct, range_with_len}
 use Rattle.std.specs.Str.{bytes_eq}
 use Rattle.slub_object_layout.specs.declared.event.Act.{Act}
 use Rattle.slub_object_layout.specs.declared.event.Act.TheVariants as act
 use Rattle.slub_object_layout.specs.declared.event.Event.{Event}
 use Rattle.slub_object_layout.specs.declared.event.Round.{Round as Events}
 use Rattle.slub_object_layout.specs.Name.{IsName}
+use Rattle.slub_object_layout.specs.declared.layout.Setting.{Setting}
+use Rattle.slub_object_layout.specs.declared.layout.Setting.TheVariants.{MinPartial, CpuPartial}
+use Rattle.slub_trace_reader.specs.declared.trace.Client.{Client as Asked}
+use Rattle.slub_trace_reader.specs.declared.trace.Client.TheVariants.{Kmalloc, Kget, Krealloc, Bulk, Bulkfree, Mempool, Mget, Mput}
 use Rattle.slub_trace_reader.specs.declared.trace.Item.{Item}
 use Rattle.slub_trace_reader.specs.declared.trace.Item.TheVariants.{Cache, Round, Shrink, Destroy, Slabinfo, Tune, Client}
 use Rattle.slub_trace_reader.specs.declared.trace.Trace.{Trace}
-use Rattle.slub_trace_reader.specs.Grammar.{IsTid}
+use Rattle.slub_trace_reader.specs.Grammar.{IsAskedSize, IsTid}
 
 -- ---- objects
 
@@ -28,7 +32,18 @@ allocated act.Flush = None
 abbrev pub objects_of : List Event → List ℕ
 objects_of events = filter_map (λ event. allocated event.act) events
 
--- the objects that an item allocates
+-- the numbers that a client may allocate
+abbrev pub asked_objects : Asked → List ℕ
+asked_objects Kmalloc = []
+asked_objects (Kget cpu size object) = object ∷ []
+asked_objects (Krealloc cpu object size fresh) = fresh ∷ []
+asked_objects (Bulk cpu place first count) = range_with_len first count
+asked_objects (Bulkfree cpu first count) = []
+asked_objects (Mempool pool place min first) = range_with_len first min
+asked_objects (Mget cpu pool object) = object ∷ []
+asked_objects (Mput cpu pool object) = []
+
+-- the objects that an item may allocate
 abbrev pub objects_in : Item → List ℕ
 objects_in (Cache name spec) = []
 objects_in (Round round) = objects_of round.events
@@ -36,7 +51,7 @@ objects_in (Shrink name) = []
 objects_in (Destroy name) = []
 objects_in Slabinfo = []
 objects_in (Tune name setting) = []
-objects_in (Client client) = []
+objects_in (Client client) = asked_objects client
 
 -- the events of an item
 abbrev pub events_in : Item → List Event
@@ -52,14 +67,16 @@ events_in (Client client) = []
 
 -- object numbers of the trace, words and offsets of their ranges
 abbrev pub IsSoundAct : Trace → Act → Type 0
-IsSoundAct trace (act.Alloc place object) = (place < length trace.names) × (1 ≤ object) × (object ≤ trace.objects)
+IsSoundAct trace (act.Alloc place object) =
+    (place < length trace.names) × (1 ≤ object) × (object ≤ trace.objects)
 IsSoundAct trace (act.Free object) = (1 ≤ object) × (object ≤ trace.objects)
-IsSoundAct trace (act.Write object word value) = (1 ≤ object) × (object ≤ trace.objects) × (word ≤ 4095)
+IsSoundAct trace (act.Write object word value) =
+    (1 ≤ object) × (object ≤ trace.objects) × (word ≤ 4095)
 IsSoundAct trace (act.Read object word) = (1 ≤ object) × (object ≤ trace.objects) × (word ≤ 4095)
 IsSoundAct trace (act.Poke object offset byte) =
     (1 ≤ object) × (object ≤ trace.objects) × (neg_ℤ (pos 32768) ≤ℤ offset) × (offset ≤ℤ pos 32767)
-IsSoundAct trace (act.Trim place) = ⊥
-IsSoundAct trace act.Flush = ⊥
+IsSoundAct trace (act.Trim place) = place < length trace.names
+IsSoundAct trace act.Flush = ⊤
 
 -- CPU 0 is named where an act needs none
 abbrev pub IsSoundCpu : Act → ℕ → Type 0
@@ -68,7 +85,7 @@ IsSoundCpu (act.Free object) cpu = ⊤
 IsSoundCpu (act.Write object word value) cpu = cpu ≡ 0
 IsSoundCpu (act.Read object word) cpu = cpu ≡ 0
 IsSoundCpu (act.Poke object offset byte) cpu = cpu ≡ 0
-IsSoundCpu (act.Trim place) cpu = ⊤
+IsSoundCpu (act.Trim place) cpu = cpu ≡ 0
 IsSoundCpu act.Flush cpu = ⊤
 
 -- by a worker of its round, on a CPU of the machine
@@ -84,19 +101,51 @@ pub record IsSoundRound (trace : Trace) (round : Events) : Type 0 where
   pub workers : (1 ≤ round.workers) × (round.workers ≤ 16)
   pub events : All (IsSoundEvent trace round.workers) round.events
 
+-- the number that is set of a cache is in its range
+abbrev pub IsSoundSetting : Setting → Type 0
+IsSoundSetting (MinPartial number) = number ≤ 4096
+IsSoundSetting (CpuPartial number) = number ≤ 4096
+
+-- an object number of the trace
+abbrev pub IsSoundObject : Trace → ℕ → Type 0
+IsSoundObject trace object = (1 ≤ object) × (object ≤ trace.objects)
+
+-- at most so many object numbers of the trace, from the first on
+abbrev pub AreSoundObjects : Trace → ℕ → ℕ → ℕ → Type 0
+AreSoundObjects trace most first count =
+    (1 ≤ first) × (1 ≤ count) × (count ≤ most) × (first + count - 1 ≤ trace.objects)
+
+-- on CPUs of the machine, with places, names and object numbers of the trace
+abbrev pub IsSoundClient : Trace → Asked → Type 0
+IsSoundClient trace Kmalloc = ⊤
+IsSoundClient trace (Kget cpu size object) =
+    (cpu < trace.cpus) × IsAskedSize size × IsSoundObject trace object
+IsSoundClient trace (Krealloc cpu object size fresh) =
+    (cpu < trace.cpus) × IsSoundObject trace object × IsAskedSize size × IsSoundObject trace fresh
+IsSoundClient trace (Bulk cpu place first count) =
+    (cpu < trace.cpus) × (place < length trace.names) × AreSoundObjects trace 1024 first count
+IsSoundClient trace (Bulkfree cpu first count) =
+    (cpu < trace.cpus) × AreSoundObjects trace 1024 first count
+IsSoundClient trace (Mempool pool place min first) =
+    IsName pool × (place < length trace.names) × AreSoundObjects trace 64 first min
+IsSoundClient trace (Mget cpu pool object) =
+    (cpu < trace.cpus) × IsName pool × IsSoundObject trace object
+IsSoundClient trace (Mput cpu pool object) =
+    (cpu < trace.cpus) × IsName pool × IsSoundObject trace object
+
 abbrev pub IsSoundItem : Trace → Item → Type 0
 IsSoundItem trace (Cache name spec) = name < length trace.names
 IsSoundItem trace (Round round) = IsSoundRound trace round
 IsSoundItem trace (Shrink name) = name < length trace.names
 IsSoundItem trace (Destroy name) = name < length trace.names
 IsSoundItem trace Slabinfo = ⊤
-IsSoundItem trace (Tune name setting) = ⊥
-IsSoundItem trace (Client client) = ⊥
+IsSoundItem trace (Tune name setting) = (name < length trace.names) × IsSoundSetting setting
+IsSoundItem trace (Client client) = IsSoundClient trace client
 
 -- ---- the trace
 
 pub record IsSound (trace : Trace) : Type 0 where
-  pub version : trace.version ≡ 1
+  pub version : (1 ≤ trace.version) × (trace.version ≤ 4)
   pub frames : (2 ≤ trace.frames) × (trace.frames ≤ 4096)
   pub cpus : (1 ≤ trace.cpus) × (trace.cpus ≤ 16)
   pub tid : IsTid trace.cpus (Some trace.tid)

@@ -1,7 +1,9 @@
 -- For proofs and private clauses: what the reader keeps of the lines above.
-use Rattle.std.specs.Prelude.{◌≡◌, ◌≤◌, length, fold, max, Option, Some, None, ⊤}
+use Rattle.std.specs.Prelude.{◌≡◌, ◌+◌, ◌*◌, ◌<◌, ◌≤◌, ◌^◌, length, fold, max, Option, Some, None, ⊤}
+use Rattle.slub_trace_reader.specs.declared.client.ClientLine.{ClientLine}
+use Rattle.slub_trace_reader.specs.declared.client.ClientLine.TheVariants.{Kmalloc, Kget, Krealloc, Bulk, Bulkfree, Mempool, Mget, Mput}
 use Rattle.slub_trace_reader.specs.declared.line.Line.{Line}
-use Rattle.slub_trace_reader.specs.declared.line.Line.TheVariants.{Slubtrace, Machine, Alloc, Free, Write, Read, Poke}
+use Rattle.slub_trace_reader.specs.declared.line.Line.TheVariants.{Slubtrace, Machine, Alloc, Free, Write, Read, Poke, Trim, Flush}
 use Rattle.slub_trace_reader.specs.declared.reading.Why.{Why}
 use Rattle.slub_trace_reader.specs.declared.reading.Why.TheVariants.{Unfinished, AfterEnd, Form, Range, TooManyRounds, UnknownCache, ObjectTwice, UnknownObject, ReadBeforeWrite, NoEnd}
 use Rattle.slub_trace_reader.specs.declared.state.State.{State}
@@ -18,6 +20,8 @@ above s = record {
   cpus = s.cpus;
   tid = s.tid;
   names = s.names.keys;
+  pools = s.pools.keys;
+  kmalloc = s.kmalloc;
   objects = s.objects.keys;
   rounds = s.rounds;
   written = s.written.keys;
@@ -25,10 +29,21 @@ above s = record {
   events = s.events;
 }
 
--- the greatest object is kept beside them, and each name came with a line
+-- the greatest object is kept beside them, and a line brings thirteen names at most
 pub record Keeps (s : State) : Type 0 where
   pub greatest : s.greatest ≡ fold max 0 s.objects.keys
-  pub names : length s.names.keys ≤ s.count
+  pub names : length s.names.keys ≤ 13 * s.count
+
+-- the numbers that a client's line may allocate have 32 bits
+abbrev pub AreSmall : ClientLine → Type 0
+AreSmall Kmalloc = ⊤
+AreSmall (Kget cpu size object) = object < 2 ^ 31
+AreSmall (Krealloc cpu object size fresh) = fresh < 2 ^ 31
+AreSmall (Bulk cpu name first count) = first + count < 2 ^ 31
+AreSmall (Bulkfree cpu first count) = ⊤
+AreSmall (Mempool pool name min first) = first + min < 2 ^ 31
+AreSmall (Mget cpu pool object) = object < 2 ^ 31
+AreSmall (Mput cpu pool object) = ⊤
 
 -- the workers of the round and the CPUs are few
 pub record IsModest (a : Above) : Type 0 where
@@ -37,7 +52,7 @@ pub record IsModest (a : Above) : Type 0 where
 
 -- the line may come next
 pub record IsFit (a : Above) (line : Line) : Type 0 where
-  pub stands : MayStand line a.place
+  pub stands : MayStand line a.version a.place
   pub range : InRange a line
   pub room : HasRoom a line
   pub named : HasCache a line
@@ -58,6 +73,8 @@ IsEvent (Free worker cpu object) = ⊤
 IsEvent (Write worker object word value) = ⊤
 IsEvent (Read worker object word) = ⊤
 IsEvent (Poke worker object negative offset byte) = ⊤
+IsEvent (Trim worker name) = ⊤
+IsEvent (Flush worker cpu) = ⊤
 IsEvent _ = ⊥
 
 -- one of the others
@@ -69,13 +86,19 @@ abbrev pub Lacks : Above → Line → Option Why → Type 0
 Lacks a line None = IsFit a line
 Lacks a line (Some Unfinished) = ⊥
 Lacks a line (Some AfterEnd) = ⊥
-Lacks a line (Some Form) = ¬ MayStand line a.place
-Lacks a line (Some Range) = MayStand line a.place × ¬ InRange a line
-Lacks a line (Some TooManyRounds) = MayStand line a.place × InRange a line × ¬ HasRoom a line
-Lacks a line (Some UnknownCache) = MayStand line a.place × InRange a line × HasRoom a line × ¬ HasCache a line
-Lacks a line (Some ObjectTwice) = MayStand line a.place × InRange a line × HasRoom a line × HasCache a line × ¬ IsFresh a line
+Lacks a line (Some Form) = ¬ MayStand line a.version a.place
+Lacks a line (Some Range) = MayStand line a.version a.place × ¬ InRange a line
+Lacks a line (Some TooManyRounds) =
+    MayStand line a.version a.place × InRange a line × ¬ HasRoom a line
+Lacks a line (Some UnknownCache) =
+    MayStand line a.version a.place × InRange a line × HasRoom a line × ¬ HasCache a line
+Lacks a line (Some ObjectTwice) =
+    MayStand line a.version a.place × InRange a line × HasRoom a line × HasCache a line
+    × ¬ IsFresh a line
 Lacks a line (Some UnknownObject) =
-    MayStand line a.place × InRange a line × HasRoom a line × HasCache a line × IsFresh a line × ¬ IsKnown a line
+    MayStand line a.version a.place × InRange a line × HasRoom a line × HasCache a line
+    × IsFresh a line × ¬ IsKnown a line
 Lacks a line (Some ReadBeforeWrite) =
-    MayStand line a.place × InRange a line × HasRoom a line × HasCache a line × IsFresh a line × IsKnown a line × ¬ IsWritten a line
+    MayStand line a.version a.place × InRange a line × HasRoom a line × HasCache a line
+    × IsFresh a line × IsKnown a line × ¬ IsWritten a line
 Lacks a line (Some NoEnd) = ⊥

@@ -1,25 +1,11 @@
--- The words of a line: numbers, offsets, names, flags and bytes.
+-- The words of a line: offsets, flags and bytes.
 use Rattle.std.specs.Prelude.{◌≡◌, ℕ, ◌+◌, ◌-◌, ◌*◌, ◌==◌, Bool, true, false, not, ◌&&◌, ◌||◌, List, [], ◌∷◌, length, codes, nat_eq, nat_le, if◌then◌else◌}
 use Rattle.std.specs.List.{list_any, list_all}
 use Rattle.std.specs.Cmp.Lexicographic.{pointwise}
-use Rattle.std.specs.Str.Parse.{digits_value}
+use Rattle.slub_numbers.specs.Numbers.{Writes, is_digit}
 use Rattle.slub_object_layout.specs.declared.layout.Flags.{Flags}
 
--- ---- numbers
-
-abbrev pub is_digit : ℕ → Bool
-is_digit c = nat_le 48 c && nat_le c 57
-
--- decimal digits, with no zero in front of others
-abbrev pub is_number : List ℕ → Bool
-is_number [] = false
-is_number (c ∷ []) = is_digit c
-is_number (c ∷ d ∷ cs) = not (c == 48) && list_all is_digit (c ∷ d ∷ cs)
-
--- the digits write this number, of any length
-pub record Writes (word : List ℕ) (n : ℕ) : Type 0 where
-  pub form : is_number word ≡ true
-  pub value : n ≡ digits_value 10 word
+-- ---- offsets
 
 -- a number with a sign or none: `-0` is 0
 abbrev pub WritesOffset : List ℕ → Bool → ℕ → Type 0
@@ -42,7 +28,9 @@ are_distinct (c ∷ cs) = not (stands_in c cs) && are_distinct cs
 
 -- `-`, or some of the letters, in any order and none twice
 abbrev pub are_flags : List ℕ → Bool
-are_flags word = pointwise nat_eq word (codes "-") || (not (length word == 0) && list_all is_letter word && are_distinct word)
+are_flags word =
+    pointwise nat_eq word (codes "-")
+    || (not (length word == 0) && list_all is_letter word && are_distinct word)
 
 -- the flags whose letters stand in the word
 abbrev pub flags_in : List ℕ → Flags

@@ -1,18 +1,26 @@
 //! Whether a line may come next.
 
-ghost use Rattle.std.specs.Prelude.{◌≡◌, ◌<◌, ◌↔◌, IsTrue, IfOk, IfErr};
+ghost use Rattle.std.specs.Prelude.{◌≡◌, ◌<◌, ◌^◌, ◌↔◌, IsTrue, IfOk, IfErr};
 ghost use Rattle.std.specs.List.{list_any};
 ghost use Rattle.slub_trace_reader.specs.Above.{workers_in, is_spot};
 ghost use Rattle.slub_trace_reader.specs.Faults.{IsFirstReason, Finished};
-ghost use Rattle.slub_trace_reader.specs.Grammar.{InRange, HasRoom, HasCache, IsFresh, IsKnown, IsWritten, IsLine, IsObject, IsOffset, IsTid, step_of};
+ghost use Rattle.slub_trace_reader.specs.Grammar.{InRange, ClientInRange, HasRoom, HasCache, HasSource, IsFresh, IsKnown, IsWritten, IsLine, IsObject, AreObjects, IsAskedSize, IsOffset, IsTid, step_of};
 ghost use Rattle.slub_trace_reader.specs.Lines.{IsPassed};
 ghost use Rattle.slub_trace_reader.specs.State.{above, IsModest, Lacks};
 
+use crate::client::ClientLine;
 use crate::line::{Line, is_skipped, say};
+use crate::numbers::{has_all, has_none};
 use crate::place::Place;
 use crate::reading::Why;
 use crate::state::State;
 use slub_common::limits::ROUNDS_MAX;
+
+/// The most numbers of a `bulk` or `bulkfree` line.
+const COUNT_MAX: u128 = 1024;
+
+/// The most numbers of a `mempool` line.
+const MIN_MAX: u128 = 64;
 
 /// The least power of two that is not below 1 to 16 CPUs.
 fn step(cpus: u128) -> u128
@@ -54,6 +62,20 @@ fn is_offset(negative: bool, size: u128) -> bool
     } else {
         size <= 32767
     }
+}
+
+/// Whether so many numbers from the first on are object numbers, at most `most`.
+fn are_objects(most: u128, first: u128, count: u128) -> bool
+    requires { most < 2 ^ 32 }
+    ensures { IsTrue result ↔ AreObjects most first count }
+{
+    is_object(first) && 1 <= count && count <= most && first + count - 1 <= 1048576
+}
+
+fn is_asked_size(size: u128) -> bool
+    ensures { IsTrue result ↔ IsAskedSize size }
+{
+    1 <= size && size <= 4294967295
 }
 
 impl State {
@@ -113,7 +135,44 @@ impl State {
                 offset,
                 ..
             } => self.is_worker(*worker) && is_object(*object) && is_offset(*negative, *offset),
+            Line::Tune { number, .. } => *number <= 4096,
+            Line::Client(line) => self.is_client_in_range(line),
+            Line::Trim { worker, .. } => self.is_worker(*worker),
+            Line::Flush { worker, cpu } => self.is_worker(*worker) && self.is_cpu(*cpu),
             _ => true,
+        }
+    }
+
+    /// Whether each number of a client's line is in its range.
+    fn is_client_in_range(&self, line: &ClientLine) -> bool
+        ensures { IsTrue result ↔ ClientInRange (above self.now) line.now }
+    {
+        match line {
+            ClientLine::Kmalloc => true,
+            ClientLine::Kget { cpu, size, object } => {
+                self.is_cpu(*cpu) && is_asked_size(*size) && is_object(*object)
+            }
+            ClientLine::Krealloc {
+                cpu,
+                object,
+                size,
+                fresh,
+            } => {
+                self.is_cpu(*cpu) && is_object(*object) && is_asked_size(*size) && is_object(*fresh)
+            }
+            ClientLine::Bulk {
+                cpu,
+                first,
+                count,
+                ..
+            }
+            | ClientLine::Bulkfree { cpu, first, count } => {
+                self.is_cpu(*cpu) && are_objects(COUNT_MAX, *first, *count)
+            }
+            ClientLine::Mempool { min, first, .. } => are_objects(MIN_MAX, *first, *min),
+            ClientLine::Mget { cpu, object, .. } | ClientLine::Mput { cpu, object, .. } => {
+                self.is_cpu(*cpu) && is_object(*object)
+            }
         }
     }
 
@@ -122,6 +181,7 @@ impl State {
     {
         match line {
             Line::Round { .. } => self.rounds < ROUNDS_MAX,
+            Line::Client(_) => self.rounds < ROUNDS_MAX - 1,
             _ => true,
         }
     }
@@ -130,10 +190,29 @@ impl State {
         ensures { IsTrue result ↔ HasCache (above self.now) line.now }
     {
         match line {
-            Line::Shrink { name } | Line::Destroy { name } | Line::Alloc { name, .. } => {
+            Line::Shrink { name }
+            | Line::Destroy { name }
+            | Line::Tune { name, .. }
+            | Line::Alloc { name, .. }
+            | Line::Trim { name, .. } => self.names.contains(name),
+            Line::Client(line) => self.has_source(line),
+            _ => true,
+        }
+    }
+
+    /// Whether a client's line has what it takes from.
+    fn has_source(&self, line: &ClientLine) -> bool
+        ensures { IsTrue result ↔ HasSource (above self.now) line.now }
+    {
+        match line {
+            ClientLine::Kmalloc | ClientLine::Bulkfree { .. } => true,
+            ClientLine::Kget { .. } | ClientLine::Krealloc { .. } => self.kmalloc,
+            ClientLine::Bulk { name, .. } | ClientLine::Mempool { name, .. } => {
                 self.names.contains(name)
             }
-            _ => true,
+            ClientLine::Mget { pool, .. } | ClientLine::Mput { pool, .. } => {
+                self.pools.contains(pool)
+            }
         }
     }
 
@@ -142,7 +221,28 @@ impl State {
         ensures { IsTrue result ↔ IsFresh (above self.now) line.now }
     {
         match line {
-            Line::Alloc { object, .. } => !self.objects.contains(&(*object as u32)),
+            Line::Alloc { object, .. } => has_none(&self.objects, *object as u32, 1),
+            Line::Client(line) => self.is_client_fresh(line),
+            _ => true,
+        }
+    }
+
+    /// Whether no line above may allocate what a client's line may.
+    fn is_client_fresh(&self, line: &ClientLine) -> bool
+        requires { ClientInRange (above self.now) line.now }
+        ensures { IsTrue result ↔ IsFresh (above self.now) (Line.Client line.now) }
+    {
+        match line {
+            ClientLine::Kget { object, .. } | ClientLine::Mget { object, .. } => {
+                has_none(&self.objects, *object as u32, 1)
+            }
+            ClientLine::Krealloc { fresh, .. } => has_none(&self.objects, *fresh as u32, 1),
+            ClientLine::Bulk { first, count, .. } => {
+                has_none(&self.objects, *first as u32, *count as u32)
+            }
+            ClientLine::Mempool { first, min, .. } => {
+                has_none(&self.objects, *first as u32, *min as u32)
+            }
             _ => true,
         }
     }
@@ -155,7 +255,24 @@ impl State {
             Line::Free { object, .. }
             | Line::Write { object, .. }
             | Line::Read { object, .. }
-            | Line::Poke { object, .. } => self.objects.contains(&(*object as u32)),
+            | Line::Poke { object, .. } => has_all(&self.objects, *object as u32, 1),
+            Line::Client(line) => self.is_client_known(line),
+            _ => true,
+        }
+    }
+
+    /// Whether lines above may allocate what a client's line needs.
+    fn is_client_known(&self, line: &ClientLine) -> bool
+        requires { ClientInRange (above self.now) line.now }
+        ensures { IsTrue result ↔ IsKnown (above self.now) (Line.Client line.now) }
+    {
+        match line {
+            ClientLine::Krealloc { object, .. } | ClientLine::Mput { object, .. } => {
+                has_all(&self.objects, *object as u32, 1)
+            }
+            ClientLine::Bulkfree { first, count, .. } => {
+                has_all(&self.objects, *first as u32, *count as u32)
+            }
             _ => true,
         }
     }
@@ -187,7 +304,7 @@ impl State {
     fn lacks(&self, line: &Line) -> Option<Why>
         ensures { Lacks (above self.now) line.now result }
     {
-        if !self.place.takes(line) {
+        if !self.place.takes(line, self.version) {
             return Some(Why::Form);
         }
         if !self.is_in_range(line) {

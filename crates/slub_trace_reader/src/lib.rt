@@ -15,12 +15,18 @@
 #![tactic(auto)]
 
 mod check;
+pub mod classes;
+pub mod client;
 pub mod laws;
 pub mod line;
+mod numbers;
 pub mod place;
 pub mod reading;
 mod state;
+mod taking;
 #[cfg(test)]
 mod tests;
 pub mod trace;
+#[cfg(test)]
+mod version_tests;
 mod words;

@@ -6,13 +6,22 @@
 
 ghost use Rattle.std.specs.Prelude.{◌≡◌, ◌↔◌, IsTrue};
 ghost use Rattle.slub_trace_reader.specs.Lines.{IsPassed};
-ghost use Rattle.slub_trace_reader.specs.Forms.{machine_end, machine_line, cache_line, shrink_line, destroy_line, round_line, alloc_line, free_line, write_line, read_line, poke_line, plain_line, event_line, item_line, line_of, is_passed};
+ghost use Rattle.slub_trace_reader.specs.Forms.{slubtrace_line, machine_end, machine_line, cache_line, shrink_line, destroy_line, tune_line, round_line, alloc_line, free_line, write_line, read_line, poke_line, trim_line, flush_line, plain_line, event_line, item_line, line_of, is_passed};
 
+use crate::client::{ClientLine, client};
 use crate::words::{
-    after, byte, field_of, flags, name, name_field, number, number_field, offset_field,
+    after, byte, field_of, flags, knob_field, name, name_field, number_field, offset_field, version,
 };
+use slub_numbers::numbers::number;
 use slub_object_layout::layout::Flags;
 use slub_object_layout::name::Name;
+
+/// What a `tune` line sets.
+#[derive(Clone, Copy, Debug, PartialEq, Eq)]
+pub enum Knob {
+    MinPartial,
+    CpuPartial,
+}
 
 /// A line by its form. A number of a line may be any, as long as its digits are.
 #[derive(Clone, Copy, Debug)]
@@ -39,7 +48,13 @@ pub enum Line {
     Destroy {
         name: Name,
     },
+    Tune {
+        name: Name,
+        knob: Knob,
+        number: u128,
+    },
     Slabinfo,
+    Client(ClientLine),
     Round {
         workers: u128,
     },
@@ -73,6 +88,14 @@ pub enum Line {
         offset: u128,
         byte: u8,
     },
+    Trim {
+        worker: u128,
+        name: Name,
+    },
+    Flush {
+        worker: u128,
+        cpu: u128,
+    },
     Done,
     End,
 }
@@ -88,7 +111,11 @@ pub(crate) fn say(text: &[u8]) -> Option<Line>
     if let Some(line) = event(text) {
         return Some(line);
     }
-    item(text)
+    if let Some(line) = item(text) {
+        return Some(line);
+    }
+    let line = client(text)?;
+    Some(Line::Client(line))
 }
 
 /// Whether a line is passed over: empty, or a comment.
@@ -119,9 +146,6 @@ fn plain(text: &[u8]) -> Option<Line>
     if text == b"end".as_slice() {
         return Some(Line::End);
     }
-    if text == b"slubtrace 1".as_slice() {
-        return Some(Line::Slubtrace { version: 1 });
-    }
     None
 }
 
@@ -142,7 +166,13 @@ fn event(text: &[u8]) -> Option<Line>
     if let Some(line) = read(text) {
         return Some(line);
     }
-    poke(text)
+    if let Some(line) = poke(text) {
+        return Some(line);
+    }
+    if let Some(line) = trim(text) {
+        return Some(line);
+    }
+    flush(text)
 }
 
 /// A line between rounds.
@@ -162,7 +192,22 @@ fn item(text: &[u8]) -> Option<Line>
     if let Some(line) = cache(text) {
         return Some(line);
     }
-    machine(text)
+    if let Some(line) = tune(text) {
+        return Some(line);
+    }
+    if let Some(line) = machine(text) {
+        return Some(line);
+    }
+    slubtrace(text)
+}
+
+#[tactic(auto, unfolding(crate::specs::Forms::slubtrace_line))]
+fn slubtrace(text: &[u8]) -> Option<Line>
+    ensures { result ≡ slubtrace_line text.now }
+{
+    let rest = after(text, b"slubtrace ")?;
+    let version = version(rest)?;
+    Some(Line::Slubtrace { version })
 }
 
 #[tactic(auto, unfolding(crate::specs::Forms::machine_line))]
@@ -232,6 +277,19 @@ fn destroy(text: &[u8]) -> Option<Line>
     let rest = after(text, b"destroy ")?;
     let name = name(rest)?;
     Some(Line::Destroy { name })
+}
+
+#[tactic(auto, unfolding(crate::specs::Forms::tune_line))]
+fn tune(text: &[u8]) -> Option<Line>
+    ensures { result ≡ tune_line text.now }
+{
+    let rest = after(text, b"tune ")?;
+    let Some((name, rest)) = name_field(rest) else {
+        return None;
+    };
+    let (knob, rest) = knob_field(rest)?;
+    let number = number(rest)?;
+    Some(Line::Tune { name, knob, number })
 }
 
 #[tactic(auto, unfolding(crate::specs::Forms::round_line))]
@@ -325,4 +383,24 @@ fn poke(text: &[u8]) -> Option<Line>
         offset,
         byte,
     })
+}
+
+#[tactic(auto, unfolding(crate::specs::Forms::trim_line))]
+fn trim(text: &[u8]) -> Option<Line>
+    ensures { result ≡ trim_line text.now }
+{
+    let rest = after(text, b"trim ")?;
+    let (worker, rest) = number_field(rest)?;
+    let name = name(rest)?;
+    Some(Line::Trim { worker, name })
+}
+
+#[tactic(auto, unfolding(crate::specs::Forms::flush_line))]
+fn flush(text: &[u8]) -> Option<Line>
+    ensures { result ≡ flush_line text.now }
+{
+    let rest = after(text, b"flush ")?;
+    let (worker, rest) = number_field(rest)?;
+    let cpu = number(rest)?;
+    Some(Line::Flush { worker, cpu })
 }

@@ -46,9 +46,9 @@ impl Place {
         matches!(self, Place::Within { .. })
     }
 
-    /// Whether a line of this form may stand here.
-    pub(crate) fn takes(&self, line: &Line) -> bool
-        ensures { IsTrue result ↔ MayStand line.now self.now }
+    /// Whether a line of this form may stand here, in a trace of this version.
+    pub(crate) fn takes(&self, line: &Line, version: u32) -> bool
+        ensures { IsTrue result ↔ MayStand line.now version self.now }
     {
         match line {
             Line::Passed => true,
@@ -60,6 +60,9 @@ impl Place {
             | Line::Read { .. }
             | Line::Poke { .. }
             | Line::Done => self.is_in_round(),
+            Line::Trim { .. } | Line::Flush { .. } => 4 <= version && self.is_in_round(),
+            Line::Tune { .. } => 2 <= version && matches!(self, Place::Between),
+            Line::Client(_) => 3 <= version && matches!(self, Place::Between),
             _ => matches!(self, Place::Between),
         }
     }

@@ -2,7 +2,7 @@
 //!
 //! Last bytes without a line feed are an unfinished line, whatever they say. Comments may stand
 //! before the `slubtrace` line, and count as lines. A `cache` line above counts for its name,
-//! whatever it answers when it runs.
+//! whatever it answers when it runs, and a `kmalloc` line for the names of its thirteen classes.
 
 ghost use Rattle.std.specs.Prelude.{◌≡◌, ◌-◌, ◌<◌, ◌≤◌, ◌^◌, ◌∷◌, ◌++◌, length, IfOk, IfErr, OnOk, IfSome, IfNone};
 ghost use Rattle.slub_trace_reader.specs.declared.reading.TraceFault.TheVariants.{NoMemory};
@@ -32,13 +32,13 @@ pub enum Why {
     Form,
     /// A number of it is out of its range.
     Range,
-    /// It begins round 257.
+    /// It begins round 257, a client's line counted as two rounds.
     TooManyRounds,
-    /// No `cache` line above has its name.
+    /// No `cache` line above has its name, or a client's line has nothing to take from.
     UnknownCache,
-    /// It allocates an object that a line above allocates.
+    /// It may allocate a number that a line above may allocate.
     ObjectTwice,
-    /// No line above allocates its object.
+    /// No line above may allocate a number that it needs.
     UnknownObject,
     /// No `write` above in this round has its worker, object and word.
     ReadBeforeWrite,
@@ -123,7 +123,7 @@ fn parse(alloc: Global, bytes: &[u8]) -> Result<Trace, TraceFault>
 
 /// Takes one line.
 fn take_line(alloc: Global, state: &mut State, text: &[u8]) -> Result<(), TraceFault>
-    requires room { state.old.count < 2 ^ 32 - 1 }
+    requires room { state.old.count < 2 ^ 28 }
     requires keeps { Keeps state.old }
     requires modest { IsModest (above state.old) }
     ensures taken { OnOk result (Takes (above state.old) text.now (above state.new)) }

@@ -5,17 +5,18 @@ ghost use Rattle.std.specs.List.{list_any};
 ghost use Rattle.std.specs.Str.{bytes_eq};
 ghost use Rattle.slub_object_layout.specs.declared.event.Act.TheVariants as act;
 ghost use Rattle.slub_trace_reader.specs.declared.trace.Item.TheVariants as item;
-ghost use Rattle.slub_trace_reader.specs.Above.{start, after, with_event, with_item, with_name, place_of, workers_in, trace_of, offset_of};
+ghost use Rattle.slub_trace_reader.specs.Above.{start, after, with_event, with_item, with_name, place_of, workers_in, trace_of, offset_of, setting_of};
 ghost use Rattle.slub_trace_reader.specs.Grammar.{InRange};
 ghost use Rattle.slub_trace_reader.specs.State.{above, Keeps, IsFit, IsHead, IsItem, IsEvent};
 
-use crate::line::Line;
+use crate::line::{Knob, Line};
+use crate::numbers::allocate;
 use crate::place::Place;
 use crate::trace::{Item, Trace};
 use indexmap::IndexSet;
 use slub_common::sequence::Sequence;
 use slub_object_layout::event::{Act, Event, Round};
-use slub_object_layout::layout::{Flags, Spec};
+use slub_object_layout::layout::{Flags, Setting, Spec};
 use slub_object_layout::name::Name;
 use std::alloc::{AllocError, Global};
 use std::mem;
@@ -31,9 +32,14 @@ pub(crate) struct State {
     pub(crate) cpus: u32,
     pub(crate) tid: u32,
     pub(crate) names: IndexSet<Name>,
+    /// The reserves' names.
+    pub(crate) pools: IndexSet<Name>,
+    /// Whether a `kmalloc` line is among them.
+    pub(crate) kmalloc: bool,
     pub(crate) objects: IndexSet<u32>,
     /// The greatest of the objects, or 0.
     pub(crate) greatest: u32,
+    /// The rounds, each client's line counted as two.
     pub(crate) rounds: u32,
     /// The worker, object and word of each write of this round.
     pub(crate) written: IndexSet<(u32, u32, u32)>,
@@ -56,6 +62,8 @@ impl State {
             cpus: 0,
             tid: 0,
             names: IndexSet::new(alloc),
+            pools: IndexSet::new(alloc),
+            kmalloc: false,
             objects: IndexSet::new(alloc),
             greatest: 0,
             rounds: 0,
@@ -67,7 +75,7 @@ impl State {
 
     /// One event more, on the line that comes next.
     fn push_event(&mut self, worker: u32, cpu: u32, act: Act) -> Result<(), AllocError>
-        requires room { self.old.count < 2 ^ 32 - 1 }
+        requires room { self.old.count < 2 ^ 28 }
         requires keeps { Keeps self.old }
         ensures pushed { OnOk result (above self.new ≡ with_event (above self.old) worker cpu act) }
         ensures keeps { OnOk result (Keeps self.new) }
@@ -83,8 +91,8 @@ impl State {
     }
 
     /// One item more.
-    fn push_item(&mut self, item: Item) -> Result<(), AllocError>
-        requires room { self.old.count < 2 ^ 32 - 1 }
+    pub(crate) fn push_item(&mut self, item: Item) -> Result<(), AllocError>
+        requires room { self.old.count < 2 ^ 28 }
         requires keeps { Keeps self.old }
         ensures pushed { OnOk result (above self.new ≡ with_item (above self.old) item) }
         ensures keeps { OnOk result (Keeps self.new) }
@@ -95,8 +103,8 @@ impl State {
     }
 
     /// Where a name of a `cache` line stands among the names.
-    fn find(&self, name: &Name) -> u32
-        requires small { self.now.count < 2 ^ 32 }
+    pub(crate) fn find(&self, name: &Name) -> u32
+        requires small { self.now.count < 2 ^ 28 }
         requires keeps { Keeps self.now }
         requires known { list_any (bytes_eq name.now) self.now.names.keys ≡ true }
         ensures { result ≡ place_of name.now self.now.names.keys }
@@ -114,7 +122,7 @@ impl State {
     }
 
     /// The number of a CPU of the machine.
-    fn cpu(&self, cpu: u128) -> u32
+    pub(crate) fn cpu(&self, cpu: u128) -> u32
         requires { cpu < self.now.cpus }
         ensures { result ≡ cpu }
     {
@@ -124,7 +132,7 @@ impl State {
 
     /// Takes a `cache` line.
     fn take_cache(&mut self, name: Name, spec: Spec) -> Result<(), AllocError>
-        requires room { self.old.count < 2 ^ 32 - 1 }
+        requires room { self.old.count < 2 ^ 28 }
         requires keeps { Keeps self.old }
         ensures taken { OnOk result (above self.new ≡ after (above self.old) (Line.Cache name spec.size spec.align spec.flags)) }
         ensures keeps { OnOk result (Keeps self.new) }
@@ -143,15 +151,14 @@ impl State {
         name: &Name,
         object: u32,
     ) -> Result<(), AllocError>
-        requires room { self.old.count < 2 ^ 32 - 1 }
+        requires room { self.old.count < 2 ^ 28 }
         requires keeps { Keeps self.old }
         requires fit { IsFit (above self.old) (Line.Alloc worker cpu name.now object) }
         ensures taken { OnOk result (above self.new ≡ after (above self.old) (Line.Alloc worker cpu name.now object)) }
         ensures keeps { OnOk result (Keeps self.new) }
     {
         let cache = self.find(name);
-        self.objects.insert(object)?;
-        self.greatest = self.greatest.max(object);
+        self.greatest = allocate(&mut self.objects, self.greatest, object, 1)?;
         self.push_event(worker, cpu, Act::Alloc { cache, object })
     }
 
@@ -163,7 +170,7 @@ impl State {
         word: u32,
         value: u64,
     ) -> Result<(), AllocError>
-        requires room { self.old.count < 2 ^ 32 - 1 }
+        requires room { self.old.count < 2 ^ 28 }
         requires keeps { Keeps self.old }
         ensures taken { OnOk result (above self.new ≡ after (above self.old) (Line.Write worker object word value)) }
         ensures keeps { OnOk result (Keeps self.new) }
@@ -182,7 +189,7 @@ impl State {
 
     /// Takes a `round` line.
     fn take_round(&mut self, alloc: Global, workers: u32)
-        requires room { self.old.count < 2 ^ 32 - 1 }
+        requires room { self.old.count < 2 ^ 28 }
         requires keeps { Keeps self.old }
         requires rounds { self.old.rounds < 256 }
         ensures taken { above self.new ≡ after (above self.old) (Line.Round workers) }
@@ -197,7 +204,7 @@ impl State {
 
     /// Takes a `done` line.
     fn take_done(&mut self, alloc: Global) -> Result<(), AllocError>
-        requires room { self.old.count < 2 ^ 32 - 1 }
+        requires room { self.old.count < 2 ^ 28 }
         requires keeps { Keeps self.old }
         ensures taken { OnOk result (above self.new ≡ after (above self.old) Line.Done) }
         ensures keeps { OnOk result (Keeps self.new) }
@@ -211,7 +218,7 @@ impl State {
 
     /// Takes the `slubtrace` line or the `machine` line.
     fn take_head(&mut self, line: &Line)
-        requires room { self.old.count < 2 ^ 32 - 1 }
+        requires room { self.old.count < 2 ^ 28 }
         requires keeps { Keeps self.old }
         requires head { IsHead line.now }
         requires fit { InRange (above self.old) line.now }
@@ -236,7 +243,7 @@ impl State {
 
     /// Takes a line that is passed over.
     fn pass(&mut self)
-        requires room { self.old.count < 2 ^ 32 - 1 }
+        requires room { self.old.count < 2 ^ 28 }
         requires keeps { Keeps self.old }
         ensures taken { above self.new ≡ after (above self.old) Line.Passed }
         ensures keeps { Keeps self.new }
@@ -246,7 +253,7 @@ impl State {
 
     /// Takes a line between rounds, but the `slubtrace` line and the `machine` line.
     fn take_item(&mut self, alloc: Global, line: &Line) -> Result<(), AllocError>
-        requires room { self.old.count < 2 ^ 32 - 1 }
+        requires room { self.old.count < 2 ^ 28 }
         requires keeps { Keeps self.old }
         requires item { IsItem line.now }
         requires fit { IsFit (above self.old) line.now }
@@ -268,7 +275,13 @@ impl State {
                 let name = self.find(name);
                 self.push_item(Item::Destroy { name })
             }
+            Line::Tune { name, knob, number } => {
+                let name = self.find(name);
+                let setting = setting_by(*knob, *number as u32);
+                self.push_item(Item::Tune { name, setting })
+            }
             Line::Slabinfo => self.push_item(Item::Slabinfo),
+            Line::Client(line) => self.take_client(line),
             Line::Round { workers } => {
                 self.take_round(alloc, *workers as u32);
                 Ok(())
@@ -288,7 +301,7 @@ impl State {
 
     /// Takes a line of a round.
     fn take_event(&mut self, line: &Line) -> Result<(), AllocError>
-        requires room { self.old.count < 2 ^ 32 - 1 }
+        requires room { self.old.count < 2 ^ 28 }
         requires keeps { Keeps self.old }
         requires event { IsEvent line.now }
         requires fit { IsFit (above self.old) line.now }
@@ -352,13 +365,22 @@ impl State {
                     },
                 )
             }
+            Line::Trim { worker, name } => {
+                let worker = self.worker(*worker);
+                let cache = self.find(name);
+                self.push_event(worker, 0, Act::Trim { cache })
+            }
+            Line::Flush { worker, cpu } => {
+                let (worker, cpu) = (self.worker(*worker), self.cpu(*cpu));
+                self.push_event(worker, cpu, Act::Flush)
+            }
             _ => Ok(()),
         }
     }
 
     /// Takes a line.
     pub(crate) fn take(&mut self, alloc: Global, line: &Line) -> Result<(), AllocError>
-        requires room { self.old.count < 2 ^ 32 - 1 }
+        requires room { self.old.count < 2 ^ 28 }
         requires keeps { Keeps self.old }
         requires fit { IsFit (above self.old) line.now }
         ensures taken { OnOk result (above self.new ≡ after (above self.old) line.now) }
@@ -373,7 +395,9 @@ impl State {
             | Line::Free { .. }
             | Line::Write { .. }
             | Line::Read { .. }
-            | Line::Poke { .. } => self.take_event(line),
+            | Line::Poke { .. }
+            | Line::Trim { .. }
+            | Line::Flush { .. } => self.take_event(line),
             _ => self.take_item(alloc, line),
         }
     }
@@ -423,5 +447,15 @@ fn offset_by(negative: bool, size: u32) -> i32
         -(size as i32)
     } else {
         size as i32
+    }
+}
+
+/// What a `tune` line sets, and to which number.
+fn setting_by(knob: Knob, number: u32) -> Setting
+    ensures { result ≡ setting_of knob number }
+{
+    match knob {
+        Knob::MinPartial => Setting::MinPartial(number),
+        Knob::CpuPartial => Setting::CpuPartial(number),
     }
 }

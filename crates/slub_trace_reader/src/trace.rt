@@ -77,9 +77,10 @@ pub struct Trace {
     pub cpus: u32,
     /// The transaction id that the CPUs start at.
     pub tid: u32,
-    /// The greatest object number, or 0.
+    /// The greatest object number that a line may allocate, or 0.
     pub objects: u32,
-    /// Each name of a `cache` line once, in the order of the first lines that have them.
+    /// Each name of a `cache` line once, in the order of the first lines that have them; a `kmalloc`
+    /// line counts as one of each of its thirteen names, in rising order of the classes.
     pub names: Sequence<Name>,
     pub items: Sequence<Item>,
 }

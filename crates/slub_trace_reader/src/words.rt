@@ -2,14 +2,13 @@
 
 ghost use Rattle.std.specs.Prelude.{◌≡◌, ◌≢◌, ◌∷◌, ◌++◌, All, IfSome, IfNone, true};
 ghost use Rattle.std.specs.List.{list_all};
-ghost use Rattle.slub_trace_reader.specs.Forms.{Gives, strip, field, number_of, offset_of, name_of, flags_of, byte_of, number_at, name_at, offset_at};
-ghost use Rattle.slub_trace_reader.specs.Words.{is_digit, is_number, is_letter, stands_in, are_distinct, are_flags, flags_in, is_hex, hex_value};
+ghost use Rattle.slub_trace_reader.specs.Forms.{Gives, strip, field, offset_of, name_of, flags_of, byte_of, knob_of, version_of, number_at, name_at, offset_at, knob_at};
+ghost use Rattle.slub_trace_reader.specs.Words.{is_letter, stands_in, are_distinct, are_flags, flags_in, is_hex, hex_value};
 
+use crate::line::Knob;
+use slub_numbers::numbers::{is_decimal, number};
 use slub_object_layout::layout::Flags;
 use slub_object_layout::name::Name;
-
-/// As great as every number that 64 bits don't hold.
-const GREAT: u128 = 18446744073709551616;
 
 /// What follows a fixed text.
 pub(crate) fn after<'a>(bytes: &'a [u8], text: &[u8]) -> Option<&'a [u8]>
@@ -32,46 +31,6 @@ pub(crate) fn cut(bytes: &[u8], end: u8) -> Option<(&[u8], &[u8])>
 {
     let at = bytes.iter().position(|b| *b == end)?;
     Some((&bytes[..at], &bytes[at + 1..]))
-}
-
-fn is_decimal(c: u8) -> bool
-    ensures { result ≡ is_digit c }
-{
-    b'0' <= c && c <= b'9'
-}
-
-fn are_digits(word: &[u8]) -> bool
-    ensures { result ≡ list_all is_digit word.now }
-{
-    word.iter().all(|c| is_decimal(*c))
-}
-
-/// Whether a word is a number: digits, with no zero in front of others.
-fn is_numeral(word: &[u8]) -> bool
-    ensures { result ≡ is_number word.now }
-{
-    match word {
-        [] => false,
-        [c] => is_decimal(*c),
-        [c, ..] => *c != b'0' && are_digits(word),
-    }
-}
-
-/// The number of a word, as great as `GREAT` where 64 bits don't hold it.
-#[tactic(auto, unfolding(crate::specs::Forms::number_of))]
-pub(crate) fn number(word: &[u8]) -> Option<u128>
-    ensures { result ≡ number_of word.now }
-{
-    if !is_numeral(word) {
-        return None;
-    }
-    let Ok(text) = str::from_utf8(word) else {
-        return None;
-    };
-    match text.parse::<u64>() {
-        Ok(n) => Some(u128::from(n)),
-        Err(_) => Some(GREAT),
-    }
 }
 
 /// The sign and the size of an offset.
@@ -174,6 +133,31 @@ pub(crate) fn byte(word: &[u8]) -> Option<u8>
     }
 }
 
+/// What a `tune` line sets.
+#[tactic(auto, unfolding(crate::specs::Forms::knob_of))]
+fn knob(word: &[u8]) -> Option<Knob>
+    ensures { result ≡ knob_of word.now }
+{
+    if word == b"min_partial".as_slice() {
+        return Some(Knob::MinPartial);
+    }
+    if word == b"cpu_partial".as_slice() {
+        return Some(Knob::CpuPartial);
+    }
+    None
+}
+
+/// The version of a digit from 1 to 4.
+#[tactic(auto, unfolding(crate::specs::Forms::version_of))]
+pub(crate) fn version(word: &[u8]) -> Option<u32>
+    ensures { result ≡ version_of word.now }
+{
+    match word {
+        [digit] if b'1' <= *digit && *digit <= b'4' => Some(u32::from(*digit - b'0')),
+        _ => None,
+    }
+}
+
 /// The number in front, with a space behind it, and what follows.
 #[tactic(auto, unfolding(crate::specs::Forms::number_at))]
 pub(crate) fn number_field(bytes: &[u8]) -> Option<(u128, &[u8])>
@@ -202,4 +186,14 @@ pub(crate) fn offset_field(bytes: &[u8]) -> Option<((bool, u128), &[u8])>
     let (word, rest) = field_of(bytes)?;
     let n = offset(word)?;
     Some((n, rest))
+}
+
+/// What a `tune` line sets, in front with a space behind it, and what follows.
+#[tactic(auto, unfolding(crate::specs::Forms::knob_at))]
+pub(crate) fn knob_field(bytes: &[u8]) -> Option<(Knob, &[u8])>
+    ensures { Gives (λ x. (x.0, x.1.now)) result (knob_at bytes.now) }
+{
+    let (word, rest) = field_of(bytes)?;
+    let found = knob(word)?;
+    Some((found, rest))
 }

@@ -1,4 +1,5 @@
 use Rattle.std.proofs.Common.{refl}
+use Rattle.slub_engine.specs.Steps.{object_of}
 use Rattle.slub_engine.proofs.Reports.{same_keeps}
 use Rattle.slub_engine.proofs.Unheld.{alloc_keeps, alloc_unheld, board_keeps, free_keeps}
 use Rattle.slub_engine.proofs.item.answer.Goals as goal
@@ -25,3 +26,15 @@ returns-in-Read-clause-unheld c = board_keeps c.args.lists.now c.args.lists.now 
 
 pub returns-in-Poke-clause-unheld : goal.returns-in-Poke-clause-unheld
 returns-in-Poke-clause-unheld c = board_keeps c.args.lists.now c.poke.new.self _ c.poke.ensures.board
+
+pub returns-in-Trim-clause-others : goal.returns-in-Trim-clause-others
+returns-in-Trim-clause-others c = c.trim.ensures.others (object_of c.args.event.now.act)
+
+pub returns-in-Trim-clause-unheld : goal.returns-in-Trim-clause-unheld
+returns-in-Trim-clause-unheld c = board_keeps c.args.lists.now c.trim.new.self _ c.trim.ensures.board
+
+pub returns-in-Flush-clause-others : goal.returns-in-Flush-clause-others
+returns-in-Flush-clause-others c = c.flush.ensures.others (object_of c.args.event.now.act)
+
+pub returns-in-Flush-clause-unheld : goal.returns-in-Flush-clause-unheld
+returns-in-Flush-clause-unheld c = board_keeps c.args.lists.now c.flush.new.self _ c.flush.ensures.board

@@ -1,5 +1,5 @@
 use Rattle.std.proofs.Common.{◌≡◌, get_or, ◌∙◌}
-use Rattle.slub_journal.proofs.Items.{does_creation, does_destroy, does_round, does_shrink, does_slabinfo}
+use Rattle.slub_journal.proofs.Items.{does_creation, does_destroy, does_round, does_shrink, does_slabinfo, does_tune}
 use Rattle.slub_engine.proofs.Ready.{ready_kept, ready_round, ready_same, round_ready}
 use Rattle.slub_engine.proofs.item.item.Goals as goal
 
@@ -66,3 +66,14 @@ pub returns-in_ok-info_rows-in-Slabinfo-clause-ready : goal.returns-in_ok-info_r
 returns-in_ok-info_rows-in-Slabinfo-clause-ready c =
     let at : c.index-as_slice-number.result ≡ get_or c.args.trace.now.items c.args.number c.index-as_slice-number.result = rw (← c.as_slice.ensures) c.index-as_slice-number.is in
     ready_same c.args.lists.now c.args.trace.now c.args.number _ c.requires.sound c.requires.ready c.requires.within at
+
+pub returns-in-Tune-clause-done : goal.returns-in-Tune-clause-done
+returns-in-Tune-clause-done c =
+    let at : c.index-as_slice-number.result ≡ get_or c.args.trace.now.items c.args.number c.index-as_slice-number.result = rw (← c.as_slice.ensures) c.index-as_slice-number.is in
+    does_tune c.args.lists.now c.args.trace.now c.args.number _ _ _ _ c.tune.new.self c.requires.within at c.in-Tune.is (rw c.name_of-in-Tune.ensures at c.tune.ensures.tunes)
+
+pub returns-in-Tune-clause-ready : goal.returns-in-Tune-clause-ready
+returns-in-Tune-clause-ready c =
+    let at : c.index-as_slice-number.result ≡ get_or c.args.trace.now.items c.args.number c.index-as_slice-number.result = rw (← c.as_slice.ensures) c.index-as_slice-number.is in
+    ready_kept c.args.lists.now c.tune.new.self c.args.trace.now c.args.number _ c.requires.sound c.requires.ready c.requires.within at
+    c.tune.ensures.coherent c.tune.ensures.kept c.tune.ensures.board

@@ -3,7 +3,7 @@ use Rattle.std.specs.Slice.Iter.{iter_rest}
 use Rattle.std.specs.Iterator.Adapters.{zip_first, zip_second}
 use Rattle.std.proofs.lemmas.List.Elements.{All-get_or}
 use Rattle.std.proofs.lemmas.Slice.Zip.{zip_turn, zip_end}
-use Rattle.slub_slabinfo_text.specs.Texts.{IsAnswered}
+use Rattle.slub_slabinfo_text.specs.Texts.{IsNamed}
 use Rattle.slub_journal.specs.Text.{event_text}
 use Rattle.slub_journal.proofs.Zips.{length-snoc, pieces_more, pieces_whole}
 use Rattle.slub_journal.proofs.text.events_text.Goals as goal
@@ -13,7 +13,7 @@ event_text-requires c =
     let first : iter_rest (zip_first c.into_iter-event-iterator.result) ≡ c.args.events.now = cc in
     let second : iter_rest (zip_second c.into_iter-event-iterator.result) ≡ c.args.answers.now = cc in
     let turn = zip_turn c.args.events.now c.args.answers.now c.loop-event.yielded c.into_iter-event-iterator.result c.loop-event.event-iterator c.next.new.self c.next.result first second c.loop-event.yielded_by (c.in-Some.event, c.in-Some.reply) c.in-Some.is c.next.ensures.steps in
-    let answered : IsAnswered (get_or c.args.events.now (length c.loop-event.yielded) c.in-Some.event.now).act = All-get_or (λ event. IsAnswered event.act) c.args.events.now _ _ turn.0 c.requires in
+    let answered : IsNamed c.args.names.now (get_or c.args.events.now (length c.loop-event.yielded) c.in-Some.event.now).act = All-get_or (λ event. IsNamed c.args.names.now event.act) c.args.events.now _ _ turn.0 c.requires in
     rw (turn.2 c.in-Some.event.now) answered
 
 pub loop-event-preserved : goal.loop-event-preserved
@@ -22,13 +22,13 @@ loop-event-preserved c =
     let second : iter_rest (zip_second c.into_iter-event-iterator.result) ≡ c.args.answers.now = cc in
     let turn = zip_turn c.args.events.now c.args.answers.now c.loop-event.yielded c.into_iter-event-iterator.result c.loop-event.event-iterator c.next.new.self c.next.result first second c.loop-event.yielded_by (c.in-Some.event, c.in-Some.reply) c.in-Some.is c.next.ensures.steps in
     let n : length (c.loop-event.yielded ++ (c.in-Some.event, c.in-Some.reply) ∷ []) ≡ length c.loop-event.yielded + 1 = length-snoc _ _ in
-    let line : c.in_ok-line.line.items ≡ event_text c.args.replies (c.in-Some.event.now, c.in-Some.reply.now) = c.in_ok-line.ensures in
+    let line : c.in_ok-line.line.items ≡ event_text c.args.replies c.args.names.now (c.in-Some.event.now, c.in-Some.reply.now) = c.in_ok-line.ensures in
     let grown : c.extend_from_slice.new.self.items ≡ c.loop-event.text.items ++ c.in_ok-line.line.items = c.in_ok-extend_from_slice.ensures.items ∙ rw c.as_slice.ensures.value refl in
-    rw n (pieces_more (event_text c.args.replies) c.args.events.now c.args.answers.now _ _ _ _ _ _ turn.0 turn.1 (turn.2 _) (turn.3 _) c.loop-event.invariant line grown)
+    rw n (pieces_more (event_text c.args.replies c.args.names.now) c.args.events.now c.args.answers.now _ _ _ _ _ _ turn.0 turn.1 (turn.2 _) (turn.3 _) c.loop-event.invariant line grown)
 
 pub returns : goal.returns
 returns c =
     let first : iter_rest (zip_first c.into_iter-event-iterator.result) ≡ c.args.events.now = cc in
     let second : iter_rest (zip_second c.into_iter-event-iterator.result) ≡ c.args.answers.now = cc in
     let ended = zip_end c.args.events.now c.args.answers.now c.loop-event.yielded c.into_iter-event-iterator.result c.loop-event.event-iterator c.next.new.self c.next.result first second c.loop-event.yielded_by c.in-None.is c.next.ensures.steps in
-    pieces_whole (event_text c.args.replies) _ _ _ _ ended c.loop-event.invariant
+    pieces_whole (event_text c.args.replies c.args.names.now) _ _ _ _ ended c.loop-event.invariant

@@ -1,9 +1,9 @@
 use Rattle.std.proofs.Common.{◌≡◌, get_or, ℕ, List, [], IfOk, subst, refl, sym, ◌∙◌}
 use Rattle.slub_slabinfo_text.specs.declared.text.ItemWord.TheVariants as word
 use Rattle.slub_journal.specs.Text.{answer_line, done_text, round_text}
-use Rattle.slub_journal.proofs.Items.{creation_text, destroy_text, events_text, no_creation_text, no_destroy_text, no_events_text, no_other_text, no_shrink_text, no_slabinfo_text, shrink_text, slabinfo_text, text_at_is}
+use Rattle.slub_journal.proofs.Items.{creation_text, destroy_text, events_text, no_creation_text, no_destroy_text, no_events_text, no_client_text, no_shrink_text, no_slabinfo_text, no_tune_text, shrink_text, slabinfo_text, text_at_is, tune_text}
 use Rattle.slub_journal.proofs.text.text_of_item.Goals as goal
-use Rattle.slub_journal.proofs.text.text_of_item.Goals.{in_default-via-in-Cache+in_default, in_default-via-in-Round+in_default, in_default-via-in-Shrink+in_default, in_default-via-in-Destroy+in_default, in_default-via-in-Slabinfo+in_default, in_default-via-in_default}
+use Rattle.slub_journal.proofs.text.text_of_item.Goals.{in_default-via-in-Cache+in_default, in_default-via-in-Round+in_default, in_default-via-in-Shrink+in_default, in_default-via-in-Destroy+in_default, in_default-via-in-Slabinfo+in_default, in_default-via-in-Tune+in_default, in_default-via-in_default}
 
 pub returns-in_default : goal.returns-in_default
 returns-in_default c =
@@ -18,7 +18,8 @@ returns-in_default c =
       | in_default-via-in-Shrink+in_default w ↦ rw w.in_default.is-0 (no_shrink_text c.args.replies c.args.trace.now _ c.args.done.now w.in_default.not-Shrunk-1)
       | in_default-via-in-Destroy+in_default w ↦ rw w.in_default.is-0 (no_destroy_text c.args.replies c.args.trace.now _ c.args.done.now w.in_default.not-Destroyed-1)
       | in_default-via-in-Slabinfo+in_default w ↦ rw w.in_default.is-0 (no_slabinfo_text c.args.replies c.args.trace.now c.args.done.now w.in_default.not-Slabinfo-1)
-      | in_default-via-in_default w ↦ no_other_text c.args.replies c.args.trace.now _ c.args.done.now w.in_default.not-Cache-0 w.in_default.not-Round-0 w.in_default.not-Shrink-0 w.in_default.not-Destroy-0 w.in_default.not-Slabinfo-0
+      | in_default-via-in-Tune+in_default w ↦ rw w.in_default.is-0 (no_tune_text c.args.replies c.args.trace.now _ _ c.args.done.now w.in_default.not-Tuned-1)
+      | in_default-via-in_default w ↦ rw w.in_default.is-0 (no_client_text c.args.replies c.args.trace.now _ c.args.done.now)
     ]
 
 pub returns-in-Cache-Created : goal.returns-in-Cache-Created
@@ -49,8 +50,8 @@ pub returns-in-Round-Round : goal.returns-in-Round-Round
 returns-in-Round-Round c =
     let at : c.index-as_slice-number.result ≡ get_or c.args.trace.now.items c.args.number c.index-as_slice-number.result = rw (← c.as_slice.ensures) c.index-as_slice-number.is in
     let text = text_at_is c.args.replies c.args.trace.now c.args.number c.index-as_slice-number.result c.args.done.now c.requires.within at in
-    let lines : done_text c.args.replies c.args.trace.now c.index-as_slice-number.result c.args.done.now ≡ round_text c.args.replies c.in-Round-Round.round c.in-Round-Round.outcome =
-    rw (c.in-Round-Round.is-0, c.in-Round-Round.is-1) (events_text c.args.replies c.args.trace.now _ _) in
+    let lines : done_text c.args.replies c.args.trace.now c.index-as_slice-number.result c.args.done.now ≡ round_text c.args.replies c.as_slice-in-Round-Round.result.now c.in-Round-Round.round c.in-Round-Round.outcome =
+    rw (c.in-Round-Round.is-0, c.in-Round-Round.is-1, c.as_slice-in-Round-Round.ensures) (events_text c.args.replies c.args.trace.now _ _) in
     subst (λ (lines : List ℕ). IfOk c.round_text.result (λ text. text.items ≡ lines)) (sym (text ∙ lines)) c.round_text.ensures
 
 pub returns-in_ok-slabinfo_text-in-Slabinfo-Slabinfo : goal.returns-in_ok-slabinfo_text-in-Slabinfo-Slabinfo
@@ -59,3 +60,11 @@ returns-in_ok-slabinfo_text-in-Slabinfo-Slabinfo c =
     let text = text_at_is c.args.replies c.args.trace.now c.args.number c.index-as_slice-number.result c.args.done.now c.requires.within at in
     let line = c.in_ok-slabinfo_text-in-Slabinfo-Slabinfo.ensures in
     rw (text, c.in-Slabinfo-Slabinfo.is-0, c.in-Slabinfo-Slabinfo.is-1, slabinfo_text, line, c.as_slice-in-Slabinfo-Slabinfo.ensures) refl
+
+pub returns-in-Tune-Tuned : goal.returns-in-Tune-Tuned
+returns-in-Tune-Tuned c =
+    let at : c.index-as_slice-number.result ≡ get_or c.args.trace.now.items c.args.number c.index-as_slice-number.result = rw (← c.as_slice.ensures) c.index-as_slice-number.is in
+    let text = text_at_is c.args.replies c.args.trace.now c.args.number c.index-as_slice-number.result c.args.done.now c.requires.within at in
+    let line : done_text c.args.replies c.args.trace.now c.index-as_slice-number.result c.args.done.now ≡ answer_line c.args.replies word.Tune c.name_of-in-Tune-Tuned.result.now c.tuned_answer-answer.result =
+    rw (c.in-Tune-Tuned.is-0, c.in-Tune-Tuned.is-1, c.name_of-in-Tune-Tuned.ensures, c.tuned_answer-answer.ensures) (tune_text c.args.replies c.args.trace.now _ _ _) in
+    subst (λ (lines : List ℕ). IfOk c.line_of-in-Tune-Tuned.result (λ text. text.items ≡ lines)) (sym (text ∙ line)) c.line_of-in-Tune-Tuned.ensures

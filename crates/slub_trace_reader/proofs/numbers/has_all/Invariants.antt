@@ -1,0 +1,9 @@
+use Rattle.std.proofs.Common.{ℕ, ◌≡◌, ◌<◌, ◌≤◌, true, nat_eq}
+use Rattle.std.specs.List.{list_any}
+use Rattle.slub_trace_reader.proofs.numbers.has_all.Given as goal
+
+abbrev pub invariant-loop-object : goal.invariant-loop-object
+invariant-loop-object l = record {
+  low : l.fn.first ≤ l.object-counter;
+  each : (n : ℕ) → l.fn.first ≤ n → n < l.object-counter → list_any (nat_eq n) l.fn.objects.keys ≡ true;
+}

@@ -1,0 +1,1 @@
+-- What one event finds and leaves.

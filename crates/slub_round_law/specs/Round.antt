@@ -1,6 +1,6 @@
 -- Which rounds are lawful: by their events, replies and ledgers and by the machine before and after alone, whatever the
 -- number of workers and however their steps came after one another.
-use Rattle.std.specs.Prelude.{◌≡◌, ◌≢◌, ℕ, ◌+◌, ◌*◌, ◌^◌, ◌<◌, ◌≤◌, ◌↔◌, ◌⊎◌, if◌then◌else◌, Bool, true, false, List, length, count_by, Option, Some, None, IsSome, IfSome, MatchOption, ⊤, All, nat_eq, slice_index, slice_index_or}
+use Rattle.std.specs.Prelude.{◌≡◌, ◌≢◌, ℕ, ◌+◌, ◌*◌, ◌^◌, ◌<◌, ◌≤◌, ◌↔◌, ◌⊎◌, if◌then◌else◌, Bool, true, false, List, length, count_by, Option, Some, None, IsSome, IfSome, MatchOption, ⊤, All, Contains, nat_eq, slice_index, slice_index_or}
 use Rattle.std.specs.List.{IsDistinct, fold, zip}
 use Rattle.std.specs.Option.{option_and_then, option_map, option_map_or}
 use Rattle.slub_object_layout.specs.declared.event.Act.{Act}
@@ -154,12 +154,8 @@ IsGiftOf before object spot (event, reply.Given address) = (is_alloc_of object e
 IsGiftOf before object spot (event, reply) = ⊥
 
 -- one of the events did
-pub record WasGivenAt (before : State) (answers : List Answered) (object : ℕ) (spot : Spot) : Type 0 where
-  pub number : ℕ
-  pub one : Answered
-  pub there : slice_index_or answers number one ≡ one
-  pub within : number < length answers
-  pub gift : IsGiftOf before object spot one
+abbrev pub WasGivenAt : State → List Answered → ℕ → Spot → Type 0
+WasGivenAt before answers object spot = (one : Answered) × Contains answers one × IsGiftOf before object spot one
 
 -- the board after is the board before and what was given, less what was freed
 pub record IsBoardAfter (before : State) (answers : List Answered) (after : State) : Type 0 where
@@ -204,4 +200,4 @@ pub record IsRound (before : State) (round : Round) (result : RoundResult) (afte
   -- a report tells of another byte than the wanted one, and objects are set aside with a report alone
   pub damages : All (λ found. found.report.damage.found ≢ found.report.damage.wanted) result.damages
   pub aside : (cache frame : ℕ) → aside_at before cache frame < aside_at after cache frame
-      → (number : ℕ) × (found : Found) × (number < length result.damages) × (slice_index_or result.damages number found ≡ found) × IsOfSlab after cache frame found.report
+      → (found : Found) × Contains result.damages found × IsOfSlab after cache frame found.report

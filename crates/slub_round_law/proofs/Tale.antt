@@ -47,11 +47,11 @@ pub record Moves (before : State) (past : List Answered) (s : State) (one : Answ
 -- ---- numbers and workers
 
 -- a number with no object
-no-object : (x : Option Held) → one_where (is_some x) ≡ 0 → x ≡ None
+pub no-object : (x : Option Held) → one_where (is_some x) ≡ 0 → x ≡ None
 no-object None none = refl
 no-object (Some held) none = absurd (omega (arith, none))
 
-some-object : (x : Option Held) → IsSome x → one_where (is_some x) ≡ 1
+pub some-object : (x : Option Held) → IsSome x → one_where (is_some x) ≡ 1
 some-object None some = absurd (cc)
 some-object (Some held) some = refl
 
@@ -67,10 +67,10 @@ own-some worker held = by (is_worker worker held.worker)
     by true = refl
     by false = refl
 
-held-by-none : (s : State) (worker object : ℕ) → held_under s object ≡ None → is_some (held_by s worker object) ≡ false
+pub held-by-none : (s : State) (worker object : ℕ) → held_under s object ≡ None → is_some (held_by s worker object) ≡ false
 held-by-none s worker object none = ap (λ x. is_some (option_and_then (own worker) x)) none
 
-held-by-some : (s : State) (worker object : ℕ) (held : Held) → held_under s object ≡ Some held → is_some (held_by s worker object) ≡ is_worker worker held.worker
+pub held-by-some : (s : State) (worker object : ℕ) (held : Held) → held_under s object ≡ Some held → is_some (held_by s worker object) ≡ is_worker worker held.worker
 held-by-some s worker object held is = ap (λ x. is_some (option_and_then (own worker) x)) is ∙ own-some worker held
 
 -- ---- the worker of an object holds it
@@ -156,10 +156,10 @@ gift-by before object spot (event, answer) address is did asked = rw is (by (is_
     by true e = refl
     by false e = e
 
-injected : {A : Type 0} {x y : A} → Some x ≡ Some y → x ≡ y
+pub injected : {A : Type 0} {x y : A} → Some x ≡ Some y → x ≡ y
 injected e = cc
 
-same-worker : (free worker : ℕ) → eqb free worker ≡ true → free ≡ worker
+pub same-worker : (free worker : ℕ) → eqb free worker ≡ true → free ≡ worker
 same-worker free worker is = grind (arith, nat_tests, is)
 
 abbrev pub Spots : State → List Answered → State → Type 0
@@ -194,7 +194,7 @@ spots-step before past s one after table turns spots = λ worker object held the
 -- ---- what is on the board
 
 -- on the board before
-on-before : (before : State) (object : ℕ) (held : Held) → held_under before object ≡ Some held → on_board object before ≡ 1
+pub on-before : (before : State) (object : ℕ) (held : Held) → held_under before object ≡ Some held → on_board object before ≡ 1
 on-before before object held is = ap (λ x. one_where (is_some x)) is
 
 pub record Boards (before : State) (past : List Answered) (s : State) : Type 0 where
@@ -243,3 +243,109 @@ boards-step before past s one after table new turns boards = record {
     given object held here none (stays was_held slabs checked had may now gone not_given freed bad) =
         let was = boards.given object was_held had none in
         (was.0, ap (spot_of before) (injected (sym here ∙ now)) ∙ was.1, given-more before past one object was.0 was.2)
+
+-- ---- who took what was on the board
+
+pub record Takens (before : State) (past : List Answered) (s : State) : Type 0 where
+  pub taken : (object worker : ℕ) → IsSome (held_under before object) → 0 < times_taken object (of_worker worker past)
+      → (held_under s object ≡ None) ⊎ ((held : Held) × (held_under s object ≡ Some held) × (held.worker ≡ Some worker))
+  pub one_worker : (object one other : ℕ) → IsSome (held_under before object) → 0 < times_taken object (of_worker one past) → 0 < times_taken object (of_worker other past) → one ≡ other
+  pub holder : (object worker : ℕ) (held : Held) → IsSome (held_under before object) → held_under s object ≡ Some held → held.worker ≡ Some worker → 0 < times_taken object past
+
+module _ (before : State) (past : List Answered) (s : State) (one : Answered) (after : State) (new : (object : ℕ) → gave object one ≡ true → on_board object before + times_given object past ≡ 0) (takens : Takens before past s) where
+  abbrev took : ℕ → Bool
+  took object = did_free object one || found_bad object one
+
+  own-grown : (object worker : ℕ) → times_taken object (of_worker worker (past ++ one ∷ [])) ≡ times_taken object (of_worker worker past) + one_where (is_by worker one && took object)
+  own-grown object worker = count-own (λ one. did_free object one || found_bad object one) worker past one
+
+  never-new : (object : ℕ) {A : Type 0} → IsSome (held_under before object) → gave object one ≡ true → A
+  never-new object some did = absurd (omega (arith, new object did, some-object (held_under before object) some))
+
+  -- one that was freed or kept before by a worker that isn't this one can't be freed or kept now
+  only-own : (object worker : ℕ) (held : Held) → IsSome (held_under before object) → held_under s object ≡ Some held → is_freeable one.0.worker held.worker ≡ true
+      → 0 < times_taken object (of_worker worker (past ++ one ∷ [])) → one.0.worker ≡ worker
+  only-own object worker held some was may taken = by (is_by worker one) refl
+    where
+      earlier : (held_under s object ≡ None) ⊎ ((held : Held) × (held_under s object ≡ Some held) × (held.worker ≡ Some worker)) → one.0.worker ≡ worker
+      earlier (inl none) = absurd (let never : None ≡ Some held = sym none ∙ was in cc)
+      earlier (inr there) =
+          let same : held.worker ≡ Some worker = ap (λ (h : Held). h.worker) (injected (sym was ∙ there.1)) ∙ there.2 in
+          sym (same-worker worker one.0.worker (subst (λ w. is_freeable one.0.worker w ≡ true) same may))
+
+      by : (b : Bool) → is_by worker one ≡ b → one.0.worker ≡ worker
+      by true is = same-worker one.0.worker worker is
+      by false is =
+          let none : one_where (is_by worker one && took object) ≡ 0 = rw is refl in
+          earlier (takens.taken object worker some (omega (arith, taken, own-grown object worker, none)))
+
+  quiet-own : (object worker : ℕ) → did_free object one ≡ false → found_bad object one ≡ false → 0 < times_taken object (of_worker worker (past ++ one ∷ [])) → 0 < times_taken object (of_worker worker past)
+  quiet-own object worker freed bad more =
+      let none : one_where (is_by worker one && took object) ≡ 0 = rw (freed, bad) (by (is_by worker one)) in
+      omega (arith, more, own-grown object worker, none)
+    where
+      by : (b : Bool) → one_where (b && false) ≡ 0
+      by true = refl
+      by false = refl
+
+  taken-by : (object worker : ℕ) → IsSome (held_under before object) → 0 < times_taken object (of_worker worker (past ++ one ∷ [])) → Turn s one after object
+      → (held_under after object ≡ None) ⊎ ((held : Held) × (held_under after object ≡ Some held) × (held.worker ≡ Some worker))
+  taken-by object worker some more (rests board gone not_given freed bad) = elim (takens.taken object worker some (quiet-own object worker freed bad more)) [
+    | inl none ↦ inl (board ∙ none)
+    | inr there ↦ inr (there.0, board ∙ there.1, there.2)
+  ]
+  taken-by object worker some more (comes place address come unheld now gone mine did freed bad asks is asked spot) = never-new object some did
+  taken-by object worker some more (goes address was_held had may now gone not_given freed bad asks is spot) = inl now
+  taken-by object worker some more (stays was_held slabs checked had may now gone not_given freed bad) =
+      inr (record was_held { worker = Some one.0.worker }, now, ap Some (only-own object worker was_held some had may more))
+
+  one-by : (object first other : ℕ) → IsSome (held_under before object) → 0 < times_taken object (of_worker first (past ++ one ∷ [])) → 0 < times_taken object (of_worker other (past ++ one ∷ [])) → Turn s one after object → first ≡ other
+  one-by object first other some more also (rests board gone not_given freed bad) =
+      takens.one_worker object first other some (quiet-own object first freed bad more) (quiet-own object other freed bad also)
+  one-by object first other some more also (comes place address come unheld now gone mine did freed bad asks is asked spot) = never-new object some did
+  one-by object first other some more also (goes address was_held had may now gone not_given freed bad asks is spot) =
+      sym (only-own object first was_held some had may more) ∙ only-own object other was_held some had may also
+  one-by object first other some more also (stays was_held slabs checked had may now gone not_given freed bad) =
+      sym (only-own object first was_held some had may more) ∙ only-own object other was_held some had may also
+
+  holder-by : (object worker : ℕ) (held : Held) → IsSome (held_under before object) → held_under after object ≡ Some held → held.worker ≡ Some worker → Turn s one after object → 0 < times_taken object (past ++ one ∷ [])
+  holder-by object worker held some here mine (rests board gone not_given freed bad) =
+      omega (arith, takens.holder object worker held some (sym board ∙ here) mine, count-more (λ one. did_free object one || found_bad object one) past one)
+  holder-by object worker held some here mine (comes place address come unheld now gone owner did freed bad asks is asked spot) = never-new object some did
+  holder-by object worker held some here mine (goes address was_held had may now gone not_given freed bad asks is spot) = absurd (let never : None ≡ Some held = sym now ∙ here in cc)
+  holder-by object worker held some here mine (stays was_held slabs checked had may now gone not_given freed bad) =
+      let here : one_where (took object) ≡ 1 = rw (freed, bad) refl in
+      omega (arith, here, count-more (λ one. did_free object one || found_bad object one) past one)
+
+  pub takens-step : ((object : ℕ) → Turn s one after object) → Takens before (past ++ one ∷ []) after
+  takens-step turns = record {
+    taken = λ object worker some more. taken-by object worker some more (turns object);
+    one_worker = λ object first other some more also. one-by object first other some more also (turns object);
+    holder = λ object worker held some here mine. holder-by object worker held some here mine (turns object);
+  }
+
+-- ---- the count of a number
+
+pub count-step : (before : State) (past : List Answered) (s : State) (one : Answered) (after : State) → ((object : ℕ) → Turn s one after object)
+    → ((object : ℕ) → on_board object s + times_freed object past ≡ on_board object before + times_given object past)
+    → (object : ℕ) → on_board object after + times_freed object (past ++ one ∷ []) ≡ on_board object before + times_given object (past ++ one ∷ [])
+count-step before past s one after turns count object = by (turns object)
+  where
+    freed-more : times_freed object (past ++ one ∷ []) ≡ times_freed object past + one_where (did_free object one)
+    freed-more = count-more (did_free object) past one
+
+    given-grown : times_given object (past ++ one ∷ []) ≡ times_given object past + one_where (gave object one)
+    given-grown = count-more (gave object) past one
+
+    is-on : (t : State) (held : Held) → held_under t object ≡ Some held → on_board object t ≡ 1
+    is-on t held is = ap (λ x. one_where (is_some x)) is
+
+    is-off : (t : State) → held_under t object ≡ None → on_board object t ≡ 0
+    is-off t is = ap (λ x. one_where (is_some x)) is
+
+    by : Turn s one after object → on_board object after + times_freed object (past ++ one ∷ []) ≡ on_board object before + times_given object (past ++ one ∷ [])
+    by (rests board gone not_given freed bad) = omega (arith, count object, freed-more, given-grown, ap one_where freed, ap one_where not_given, ap (λ x. one_where (is_some x)) board)
+    by (comes place address come unheld now gone owner did freed bad asks is asked spot) = omega (arith, count object, freed-more, given-grown, ap one_where freed, ap one_where did, is-on after come now, is-off s unheld)
+    by (goes address was_held had may now gone not_given freed bad asks is spot) = omega (arith, count object, freed-more, given-grown, ap one_where freed, ap one_where not_given, is-off after now, is-on s was_held had)
+    by (stays was_held slabs checked had may now gone not_given freed bad) =
+        omega (arith, count object, freed-more, given-grown, ap one_where freed, ap one_where not_given, is-on after _ now, is-on s was_held had)

@@ -1,0 +1,168 @@
+-- A round that is done event by event is lawful.
+use Rattle.std.proofs.Common.{◌≡◌, ◌≢◌, ℕ, ◌+◌, ◌<◌, ◌≤◌, ◌&&◌, Bool, true, false, cond, List, [], ◌∷◌, ◌++◌, length, get_or, set, map, refl, sym, ◌∙◌, ap, subst, arith, All, nat_eq, Option, Some, None, IsSome, IfSome, MatchOption, inl, inr, ◌⊎◌, is_some, fold, count_by, length-set}
+use Rattle.std.specs.List.{IsDistinct, zip}
+use Rattle.std.specs.Option.{option_and_then, option_map, option_map_or}
+use Rattle.std.proofs.lemmas.Bool.{cases_eq}
+use Rattle.std.proofs.lemmas.List.{append_assoc, append-nil}
+use Rattle.std.proofs.lemmas.List.Elements.{All-head, All-tail}
+use Rattle.slub_object_layout.specs.declared.event.Act.{Act}
+use Rattle.slub_object_layout.specs.declared.event.Act.TheVariants.{Alloc, Free, Write, Read, Poke, Trim, Flush}
+use Rattle.slub_object_layout.specs.declared.event.Event.{Event}
+use Rattle.slub_object_layout.specs.declared.event.Round.{Round}
+use Rattle.slub_object_layout.specs.declared.layout.Layout.{Layout}
+use Rattle.slub_object_layout.specs.Layout.{address_of}
+use Rattle.slub_cache_create.specs.Table.{Table, cache_of as live_cache, name_at, number_of}
+use Rattle.slub_cache_create.specs.declared.caches.Cache.{Cache}
+use Rattle.slub_lists.specs.declared.lists.Held.{Held}
+use Rattle.slub_lists.specs.declared.reply.Reply.{Reply}
+use Rattle.slub_lists.specs.declared.reply.Reply.TheVariants as reply
+use Rattle.slub_lists.specs.State.{State}
+use Rattle.slub_lists.specs.Alloc.{cache_of, named}
+use Rattle.slub_lists.specs.Coherent.{IsCoherent, all_on_board, held_under, laid_down}
+use Rattle.slub_lists.specs.Steps.{HasLayout, IsLive}
+use Rattle.slub_lists.proofs.CheckedGiving.{layout-live}
+use Rattle.slub_lists.proofs.Apart.{held-apart}
+use Rattle.slub_lists.specs.Laws.{HasByte}
+use Rattle.slub_trace_reader.specs.Sound.{objects_of}
+use Rattle.slub_engine.specs.Lawful.{Answers, RunsEvents, is_by}
+use Rattle.slub_engine.specs.Steps.{IsKnown, IsKnownAct, KeepsCaches}
+use Rattle.slub_engine.proofs.Rounds.{known_kept}
+use Rattle.slub_round_law.specs.Answered.{Answered, IsAfter, gave, holding, of_worker, times_freed, times_given, times_taken}
+use Rattle.slub_round_law.specs.Round.{AllocCause, Cause, IsSpare, Spot, spot_by, spot_of, spot_under}
+use Rattle.slub_round_law.proofs.Runs.{Turn, on_board, turn}
+use Rattle.slub_round_law.proofs.Steps.{Keeps, Step, event-step, frees, gives, keeps, lacks, nameless, pokes, pokes_not, reads, reads_none, reads_not, refuses, word-keeps, writes, writes_none, writes_not}
+use Rattle.slub_round_law.proofs.Tale.{Boards, Holdings, Spots, Takens, boards-step, count-step, holdings-step, injected, no-object, on-before, some-object, spots-step, takens-step}
+use Rattle.slub_round_law.proofs.Times.{counted_append, one_where}
+use Rattle.slub_round_law.proofs.Values.{Values, values-step}
+
+-- ---- how far a round has come
+
+pub record Tale (before : State) (past : List Answered) (s : State) : Type 0 where
+  pub coherent : IsCoherent s
+  pub caches : KeepsCaches before s
+  pub count : (object : ℕ) → on_board object s + times_freed object past ≡ on_board object before + times_given object past
+  pub holds : Holdings past s
+  pub spots : Spots before past s
+  pub boards : Boards before past s
+  pub takens : Takens before past s
+  pub values : Values past s
+
+-- one more event
+pub record Moves (before : State) (past : List Answered) (s : State) (one : Answered) (after : State) : Type 0 where
+  pub answers : Answers s one.0 one.0.act one.1 after
+  pub coherent : IsCoherent after
+  pub known : IsKnownAct before one.0.act
+  -- what is given was never given before, and was not on the board
+  pub new : (object : ℕ) → gave object one ≡ true → on_board object before + times_given object past ≡ 0
+
+-- what a step leaves of the table and the sizes
+step-caches : (before s : State) (event : Event) (answer : Reply) (after : State) → Step s event answer after → KeepsCaches before s → KeepsCaches before after
+step-caches before s event answer after step caches = then_kept (by step)
+  where
+    then_kept : KeepsCaches s after → KeepsCaches before after
+    then_kept kept = record { cpus = kept.cpus ∙ caches.cpus; table = kept.table ∙ caches.table; board = kept.board ∙ caches.board }
+
+    still : after ≡ s → KeepsCaches s after
+    still same = record { cpus = ap (λ (t : State). t.cpus) same; table = ap (λ (t : State). t.table) same; board = ap (λ (t : State). length t.board) same }
+
+    of : Keeps s after → KeepsCaches s after
+    of kept = record { cpus = kept.cpus; table = kept.table; board = ap (λ (b : List (Option Held)). length b) kept.board }
+
+    by : Step s event answer after → KeepsCaches s after
+    by (gives place object live held asks names is_live mine is unheld board gone table memory cpus) = record { cpus = cpus; table = table; board = ap (λ (b : List (Option Held)). length b) board ∙ length-set s.board object (Some held) }
+    by (lacks place object cache asks names why kept) = of kept
+    by (nameless place object asks none is now) = still now
+    by (frees object live held asks was may is_live is board gone table memory cpus) = record { cpus = cpus; table = table; board = ap (λ (b : List (Option Held)). length b) board ∙ length-set s.board object None }
+    by (keeps object damage held slabs asks was may checked taken is now) = record {
+      cpus = ap (λ (t : State). t.cpus) now;
+      table = ap (λ (t : State). t.table) now;
+      board = ap (λ (t : State). length t.board) now ∙ length-set s.board object (Some (record held { worker = Some event.worker }));
+    }
+    by (refuses object asks why is now) = still now
+    by (writes object word value live held asks holds within is now) =
+        let kept = word-keeps s live.layout held word value in
+        record { cpus = ap (λ (t : State). t.cpus) now ∙ kept.cpus; table = ap (λ (t : State). t.table) now ∙ kept.table; board = ap (λ (t : State). length t.board) now ∙ ap (λ (b : List (Option Held)). length b) kept.board }
+    by (writes_none object word value live held asks holds past is now) = still now
+    by (writes_not object word value asks none is now) = still now
+    by (reads object word live held asks holds within is now) = still now
+    by (reads_none object word live held asks holds past is now) = still now
+    by (reads_not object word asks none is now) = still now
+    by (pokes object offset byte held slabs asks knows checked is now) = record { cpus = ap (λ (t : State). t.cpus) now; table = ap (λ (t : State). t.table) now; board = ap (λ (t : State). length t.board) now }
+    by (pokes_not object offset byte asks why now) = still now
+
+module _ (before : State) (past : List Answered) (s : State) (one : Answered) (after : State) (moves : Moves before past s one after) (tale : Tale before past s) where
+  pub step-of : Step s one.0 one.1 after
+  step-of = event-step s one.0 one.1 after moves.answers
+
+  -- what is given has no object yet
+  new-unheld : (object : ℕ) → gave object one ≡ true → held_under s object ≡ None
+  new-unheld object did = no-object (held_under s object) (let none : one_where (is_some (held_under s object)) ≡ 0 = omega (arith, moves.new object did, tale.count object) in none)
+
+  pub turns-of : (object : ℕ) → Turn s one after object
+  turns-of object = turn s one after object tale.coherent (new-unheld object) (known_kept before s one.0.act (ap (λ (t : Table). length t.kept) tale.caches.table) tale.caches.board moves.known) step-of
+
+  pub tale-step : Tale before (past ++ one ∷ []) after
+  tale-step =
+      let caches = step-caches s s one.0 one.1 after step-of (record { cpus = refl; table = refl; board = refl }) in
+      record {
+        coherent = moves.coherent;
+        caches = step-caches before s one.0 one.1 after step-of tale.caches;
+        count = count-step before past s one after turns-of tale.count;
+        holds = holdings-step past s one after turns-of tale.holds;
+        spots = spots-step before past s one after tale.caches.table turns-of tale.spots;
+        boards = boards-step before past s one after tale.caches.table moves.new turns-of tale.boards;
+        takens = takens-step before past s one after moves.new tale.takens turns-of;
+        values = values-step past s one after tale.coherent moves.coherent caches.table tale.values step-of turns-of;
+      }
+
+-- ---- all events
+
+-- the events are answered one after the other
+abbrev pub Runs : State → List Answered → State → List Answered → State → Type 0
+Runs before past s [] after = after ≡ s
+Runs before past s (one ∷ answers) after = (mid : State) × Moves before past s one mid × Runs before (past ++ one ∷ []) mid answers after
+
+-- each event after those before it
+pub record Reaches (before : State) (past : List Answered) (one : Answered) : Type 0 where
+  pub mid : State
+  pub next : State
+  pub tale : Tale before past mid
+  pub moves : Moves before past mid one next
+
+pub runs-reach : (before : State) (past : List Answered) (s : State) (front : List Answered) (one : Answered) (back : List Answered) (after : State) → Tale before past s
+    → Runs before past s (front ++ one ∷ back) after → Reaches before (past ++ front) one
+runs-reach before past s [] one back after tale runs =
+    subst (λ (l : List Answered). Reaches before l one) (sym (append-nil past)) (record { mid = s; next = runs.0; tale = tale; moves = runs.1 })
+runs-reach before past s (first ∷ front) one back after tale runs =
+    subst (λ (l : List Answered). Reaches before l one) (append_assoc past (first ∷ []) front)
+    (runs-reach before (past ++ first ∷ []) runs.0 front one back after (tale-step before past s first runs.0 runs.1 tale) runs.2)
+
+pub runs-tale : (before : State) (past : List Answered) (s : State) (answers : List Answered) (after : State) → Tale before past s → Runs before past s answers after → Tale before (past ++ answers) after
+runs-tale before past s [] after tale runs = subst (λ (l : List Answered). Tale before l after) (sym (append-nil past)) (subst (Tale before past) (sym runs) tale)
+runs-tale before past s (one ∷ answers) after tale runs =
+    subst (λ (l : List Answered). Tale before l after) (append_assoc past (one ∷ []) answers) (runs-tale before (past ++ one ∷ []) runs.0 answers after (tale-step before past s one runs.0 runs.1 tale) runs.2)
+
+-- what was given more often than it could be wasn't
+once-new : (before : State) (past : List Answered) (one : Answered) (rest : List Answered) → ((object : ℕ) → on_board object before + times_given object (past ++ one ∷ rest) ≤ 1)
+    → (object : ℕ) → gave object one ≡ true → on_board object before + times_given object past ≡ 0
+once-new before past one rest once object did =
+    omega (arith, once object, counted_append (gave object) past (one ∷ rest), counted_append (gave object) (one ∷ []) rest, ap one_where did)
+
+pub runs-of : (before : State) (workers : ℕ) (past : List Answered) (s : State) (events : List Event) (replies : List Reply) (after : State) → All (IsKnown before workers) events
+    → ((object : ℕ) → on_board object before + times_given object (past ++ zip events replies) ≤ 1) → RunsEvents s events replies after → Runs before past s (zip events replies) after
+runs-of before workers past s [] [] after known once runs = runs
+runs-of before workers past s [] (answer ∷ replies) after known once runs = absurd runs
+runs-of before workers past s (event ∷ events) [] after known once runs = absurd runs
+runs-of before workers past s (event ∷ events) (answer ∷ replies) after known once runs =
+    let first = All-head (IsKnown before workers) event events known in (
+      runs.0,
+      record { answers = runs.1; coherent = runs.2; known = first.act; new = once-new before past (event, answer) (zip events replies) once },
+      runs-of before workers (past ++ (event, answer) ∷ []) runs.0 events replies after (All-tail (IsKnown before workers) event events known)
+      (λ object. subst (λ (l : List Answered). on_board object before + times_given object l ≤ 1) (sym (append_assoc past ((event, answer) ∷ []) (zip events replies))) (once object)) runs.3,
+    )
+
+pub runs-even : (s : State) (events : List Event) (replies : List Reply) (after : State) → RunsEvents s events replies after → length replies ≡ length events
+runs-even s [] [] after runs = refl
+runs-even s [] (answer ∷ replies) after runs = absurd runs
+runs-even s (event ∷ events) [] after runs = absurd runs
+runs-even s (event ∷ events) (answer ∷ replies) after runs = let rest = runs-even runs.0 events replies after runs.3 in omega (arith, rest)

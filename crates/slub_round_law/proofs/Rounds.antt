@@ -30,7 +30,7 @@ use Rattle.slub_engine.proofs.Rounds.{known_kept}
 use Rattle.slub_round_law.specs.Answered.{Answered, IsAfter, gave, holding, of_worker, times_freed, times_given, times_taken}
 use Rattle.slub_round_law.specs.Round.{AllocCause, Cause, IsSpare, Spot, spot_by, spot_of, spot_under}
 use Rattle.slub_round_law.proofs.Runs.{Turn, on_board, turn}
-use Rattle.slub_round_law.proofs.Steps.{Keeps, Step, event-step, frees, gives, keeps, lacks, nameless, pokes, pokes_not, reads, reads_none, reads_not, refuses, word-keeps, writes, writes_none, writes_not}
+use Rattle.slub_round_law.proofs.Steps.{Keeps, Step, event-step, frees, gives, keeps, lacks, nameless, pokes, pokes_not, reads, reads_none, reads_not, refuses, wants, word-keeps, writes, writes_none, writes_not}
 use Rattle.slub_round_law.proofs.Tale.{Boards, Holdings, Spots, Takens, boards-step, count-step, holdings-step, injected, no-object, on-before, some-object, spots-step, takens-step}
 use Rattle.slub_round_law.proofs.Times.{counted_append, one_where}
 use Rattle.slub_round_law.proofs.Values.{Values, values-step}
@@ -69,10 +69,11 @@ step-caches before s event answer after step caches = then_kept (by step)
     of kept = record { cpus = kept.cpus; table = kept.table; board = ap (λ (b : List (Option Held)). length b) kept.board }
 
     by : Step s event answer after → KeepsCaches s after
-    by (gives place object live held asks names is_live mine is unheld board gone table memory cpus) = record { cpus = cpus; table = table; board = ap (λ (b : List (Option Held)). length b) board ∙ length-set s.board object (Some held) }
-    by (lacks place object cache asks names why kept) = of kept
+    by (gives place object live held asks names is_live mine is unheld board gone table memory cpus dry) = record { cpus = cpus; table = table; board = ap (λ (b : List (Option Held)). length b) board ∙ length-set s.board object (Some held) }
+    by (lacks place object cache live asks names is_live is board gone table memory cpus dry) = record { cpus = cpus; table = table; board = ap (λ (b : List (Option Held)). length b) board }
+    by (wants place object cache live slabs asks names is_live checked is kept) = of kept
     by (nameless place object asks none is now) = still now
-    by (frees object live held asks was may is_live is board gone table memory cpus) = record { cpus = cpus; table = table; board = ap (λ (b : List (Option Held)). length b) board ∙ length-set s.board object None }
+    by (frees object live held asks was may is_live is board gone table memory cpus dry) = record { cpus = cpus; table = table; board = ap (λ (b : List (Option Held)). length b) board ∙ length-set s.board object None }
     by (keeps object damage held slabs asks was may checked taken is now) = record {
       cpus = ap (λ (t : State). t.cpus) now;
       table = ap (λ (t : State). t.table) now;
@@ -95,7 +96,7 @@ module _ (before : State) (past : List Answered) (s : State) (one : Answered) (a
   step-of = event-step s one.0 one.1 after moves.answers
 
   -- what is given has no object yet
-  new-unheld : (object : ℕ) → gave object one ≡ true → held_under s object ≡ None
+  pub new-unheld : (object : ℕ) → gave object one ≡ true → held_under s object ≡ None
   new-unheld object did = no-object (held_under s object) (let none : one_where (is_some (held_under s object)) ≡ 0 = omega (arith, moves.new object did, tale.count object) in none)
 
   pub turns-of : (object : ℕ) → Turn s one after object

@@ -24,7 +24,7 @@ use Rattle.slub_engine.specs.Lawful.{Answers, RunsEvents, is_by, is_freed, is_gi
 use Rattle.slub_engine.specs.Steps.{IsKnown, IsKnownAct}
 use Rattle.slub_round_law.specs.Answered.{Answered, did_free, found_bad, gave, is_alloc_of, is_corrupt, is_free_of, of_worker, times_freed, times_given}
 use Rattle.slub_round_law.specs.Round.{Spot, spot_asked, spot_of}
-use Rattle.slub_round_law.proofs.Steps.{Keeps, Step, event-step, frees, gives, keeps, lacks, nameless, pokes, pokes_not, reads, reads_none, reads_not, refuses, word-keeps, writes, writes_none, writes_not}
+use Rattle.slub_round_law.proofs.Steps.{Keeps, Step, event-step, frees, gives, keeps, lacks, nameless, pokes, pokes_not, reads, reads_none, reads_not, refuses, wants, word-keeps, writes, writes_none, writes_not}
 use Rattle.slub_round_law.proofs.Times.{counted_append, one_where}
 
 -- ---- lists of answered events
@@ -167,7 +167,7 @@ module _ (s : State) (one : Answered) (after : State) (object : ℕ) (coherent :
   alloc-inside place is = let here : IsKnownAct s (Alloc place object) = subst (IsKnownAct s) is known in here.1
 
   pub turn : Step s one.0 one.1 after → Turn s one after object
-  turn (gives place other live held asks names is_live mine is unheld_slot board gone table memory cpus) = elim (cases_eq other object) [
+  turn (gives place other live held asks names is_live mine is unheld_slot board gone table memory cpus dry) = elim (cases_eq other object) [
     | inl same ↦
         let here : one.0.act ≡ Alloc place object = asks ∙ ap (Alloc place) same in
         let did : gave object one ≡ true = rw (here, is, eq-eqb object object refl) refl in
@@ -177,12 +177,10 @@ module _ (s : State) (one : Answered) (after : State) (object : ℕ) (coherent :
         (rw (here, names) refl) (rw is_live refl)
     | inr differ ↦ others-rest s one after object other (Some held) None differ board (inl gone) (other-alloc object other place one differ asks)
   ]
-  turn (lacks place other cache asks names why kept) = rests-by s one after object kept.board kept.gone (elim why [
-    | inl is ↦ silent-by object one reply.NoFrames is refl refl refl
-    | inr is ↦ silent-by object one reply.NoMemory is.0 refl refl refl
-  ])
+  turn (lacks place other cache live asks names is_live is board gone table memory cpus dry) = rests-by s one after object board gone (silent-by object one reply.NoFrames is refl refl refl)
+  turn (wants place other cache live slabs asks names is_live checked is kept) = rests-by s one after object kept.board kept.gone (silent-by object one reply.NoMemory is refl refl refl)
   turn (nameless place other asks none is same) = same-rests s one after object same (silent-by object one reply.NoSuchCache is refl refl refl)
-  turn (frees other live held asks was may is_live is board gone table memory cpus) = elim (cases_eq other object) [
+  turn (frees other live held asks was may is_live is board gone table memory cpus dry) = elim (cases_eq other object) [
     | inl same ↦
         let here : one.0.act ≡ Free object = asks ∙ ap Free same in
         let there : held_under s object ≡ Some held = ap (held_under s) (sym same) ∙ was in

@@ -1,5 +1,5 @@
 -- What an event does to the board, to what was freed, to the table and to the words of the frames.
-use Rattle.std.proofs.Common.{◌≡◌, ℕ, ◌+◌, Bool, true, false, cond, List, [], ◌∷◌, get_or, set, refl, sym, ◌∙◌, ap, Option, Some, None, MatchBool, MatchOption, MatchResult, Result, Ok, Err, inl, inr, ◌⊎◌, ℤ, nat_lt, IsSome, fold, sum_by}
+use Rattle.std.proofs.Common.{◌≡◌, ℕ, ◌+◌, Bool, true, false, cond, List, [], ◌∷◌, get_or, set, refl, sym, ◌∙◌, ap, Option, Some, None, MatchBool, MatchOption, MatchResult, Result, Ok, Err, inl, inr, ◌⊎◌, ℤ, nat_lt, IsSome, fold, sum_by, min, ◌-◌, ◌^◌}
 use Rattle.std.specs.Option.{option_map_or}
 use Rattle.slub_page_pool.specs.FreeFrames.{FreeFrames}
 use Rattle.slub_object_layout.specs.declared.event.Act.{Act}
@@ -21,7 +21,7 @@ use Rattle.slub_lists.specs.declared.lists.Run.{Run}
 use Rattle.slub_lists.specs.declared.reply.Reply.{Reply}
 use Rattle.slub_lists.specs.declared.reply.Reply.TheVariants as reply
 use Rattle.slub_lists.specs.State.{State}
-use Rattle.slub_lists.specs.Alloc.{AllocatesNew, Gives, batch_of, cache_of, checked_of, from_current, from_free, from_node, from_partial, from_slabs, held_here, lists_of, named, node_of, own_free, retired, stocked, with_held, with_lists, with_new_slab}
+use Rattle.slub_lists.specs.Alloc.{AllocatesNew, FindsRun, Gives, batch_of, cache_of, checked_of, from_current, from_free, from_node, from_partial, from_slabs, held_here, lists_of, named, node_of, own_free, retired, stocked, with_held, with_lists, with_new_slab}
 use Rattle.slub_lists.specs.Named.{AllocatesFrom, AllocatesNamed}
 use Rattle.slub_lists.specs.Checked.{GivesOrMakes, GivesSlot, IsFreedOrKept, LacksMemory, LacksRun, discarded_where, first_slot, kept_by, slot_of_held, with_checked, with_checked_slab}
 use Rattle.slub_lists.specs.Free.{FreesUnchecked, discarded, drained, freed, freed_here, is_current, is_freeable, is_frozen, is_spare, moved, moved_all, put_partial, settled, trimmed, with_freed, with_gone, with_partial, with_taken, without_slab}
@@ -37,6 +37,7 @@ pub record Keeps (s after : State) : Type 0 where
   pub table : after.table ≡ s.table
   pub memory : after.memory ≡ s.memory
   pub cpus : after.cpus ≡ s.cpus
+  pub dry : after.pool.dry ≡ s.pool.dry
 
 pub keeps_both : (s mid after : State) → Keeps s mid → Keeps mid after → Keeps s after
 keeps_both s mid after first second = record {
@@ -45,10 +46,11 @@ keeps_both s mid after first second = record {
   table = second.table ∙ first.table;
   memory = second.memory ∙ first.memory;
   cpus = second.cpus ∙ first.cpus;
+  dry = second.dry ∙ first.dry;
 }
 
 pub keeps_refl : (s : State) → Keeps s s
-keeps_refl s = record { board = refl; gone = refl; table = refl; memory = refl; cpus = refl }
+keeps_refl s = record { board = refl; gone = refl; table = refl; memory = refl; cpus = refl; dry = refl }
 
 -- something is written, and is the machine after
 pub keeps_is : (s mid after : State) → after ≡ mid → Keeps s mid → Keeps s after
@@ -58,6 +60,7 @@ keeps_is s mid after is keeps = record {
   table = ap (λ (t : State). t.table) is ∙ keeps.table;
   memory = ap (λ (t : State). t.memory) is ∙ keeps.memory;
   cpus = ap (λ (t : State). t.cpus) is ∙ keeps.cpus;
+  dry = ap (λ (t : State). t.pool.dry) is ∙ keeps.dry;
 }
 
 pub keeps_either : (s one other : State) (b : Bool) → Keeps s one → Keeps s other → Keeps s (cond b one other)
@@ -86,19 +89,26 @@ pub record Holds (s : State) (worker object : ℕ) (held : Held) (live : Cache) 
   pub here : held_by s worker object ≡ Some held
   pub cache : cache_of s held.cache ≡ Some live
 
+-- one more want of this order is counted, as far as the count goes
+abbrev pub counted : List ℕ → ℕ → List ℕ
+counted dry order = set dry order (min (get_or dry order 0 + 1) (2 ^ 64 - 1))
+
 pub data Step (s : State) (event : Event) (answer : Reply) (after : State) : Type 0 where
   -- an object of a live cache, which nobody has, comes on the board
   gives : (place object : ℕ) (live : Cache) (held : Held) → event.act ≡ Alloc place object → named s place ≡ Some held.cache → cache_of s held.cache ≡ Some live
       → held.worker ≡ Some event.worker → answer ≡ reply.Given (address_of held.frame held.index live.layout) → sum_by (held_here held.frame held.index) s.board ≡ 0
-      → after.board ≡ set s.board object (Some held) → after.gone ≡ s.gone → after.table ≡ s.table → after.memory ≡ s.memory → after.cpus ≡ s.cpus → Step s event answer after
-  -- none does
-  lacks : (place object cache : ℕ) → event.act ≡ Alloc place object → named s place ≡ Some cache → (answer ≡ reply.NoFrames) ⊎ ((answer ≡ reply.NoMemory) × IsSome (checked_of s cache))
+      → after.board ≡ set s.board object (Some held) → after.gone ≡ s.gone → after.table ≡ s.table → after.memory ≡ s.memory → after.cpus ≡ s.cpus → after.pool.dry ≡ s.pool.dry → Step s event answer after
+  -- none does, for want of a run: it is counted
+  lacks : (place object cache : ℕ) (live : Cache) → event.act ≡ Alloc place object → named s place ≡ Some cache → cache_of s cache ≡ Some live → answer ≡ reply.NoFrames
+      → after.board ≡ s.board → after.gone ≡ s.gone → after.table ≡ s.table → after.memory ≡ s.memory → after.cpus ≡ s.cpus → after.pool.dry ≡ counted s.pool.dry live.layout.min_order → Step s event answer after
+  -- or for want of memory
+  wants : (place object cache : ℕ) (live : Cache) (slabs : CheckedState) → event.act ≡ Alloc place object → named s place ≡ Some cache → cache_of s cache ≡ Some live → checked_of s cache ≡ Some slabs → answer ≡ reply.NoMemory
       → Keeps s after → Step s event answer after
   nameless : (place object : ℕ) → event.act ≡ Alloc place object → named s place ≡ None → answer ≡ reply.NoSuchCache → after ≡ s → Step s event answer after
   -- one that is there goes
   frees : (object : ℕ) (live : Cache) (held : Held) → event.act ≡ Free object → get_or s.board object None ≡ Some held → is_freeable event.worker held.worker ≡ true → cache_of s held.cache ≡ Some live
       → answer ≡ reply.Freed (address_of held.frame held.index live.layout)
-      → after.board ≡ set s.board object None → after.gone ≡ set s.gone object (Some (record held { worker = Some event.worker })) → after.table ≡ s.table → after.memory ≡ s.memory → after.cpus ≡ s.cpus → Step s event answer after
+      → after.board ≡ set s.board object None → after.gone ≡ set s.gone object (Some (record held { worker = Some event.worker })) → after.table ≡ s.table → after.memory ≡ s.memory → after.cpus ≡ s.cpus → after.pool.dry ≡ s.pool.dry → Step s event answer after
   -- or is damaged, and stays
   keeps : (object : ℕ) (damage : Damage) (held : Held) (slabs : CheckedState) → event.act ≡ Free object → get_or s.board object None ≡ Some held → is_freeable event.worker held.worker ≡ true
       → checked_of s held.cache ≡ Some slabs → TakesBack slabs (slot_of_held held) (Err damage) slabs → answer ≡ reply.Corrupt damage
@@ -133,15 +143,15 @@ KeepsIn s (Err after) = Keeps s after
 module _ (s : State) (cache cpu batch : ℕ) where
   from-node : (mid : State) → Keeps s mid → (frames : List ℕ) → KeepsIn s (from_node mid cache cpu batch frames)
   from-node mid kept [] = kept
-  from-node mid kept (frame ∷ frames) = record { board = kept.board; gone = kept.gone; table = kept.table; memory = kept.memory; cpus = kept.cpus }
+  from-node mid kept (frame ∷ frames) = record { board = kept.board; gone = kept.gone; table = kept.table; memory = kept.memory; cpus = kept.cpus; dry = kept.dry }
 
   from-partial : (mid : State) → Keeps s mid → (frames : List ℕ) → KeepsIn s (from_partial mid cache cpu batch frames)
   from-partial mid kept [] = from-node mid kept (node_of mid cache)
-  from-partial mid kept (frame ∷ frames) = record { board = kept.board; gone = kept.gone; table = kept.table; memory = kept.memory; cpus = kept.cpus }
+  from-partial mid kept (frame ∷ frames) = record { board = kept.board; gone = kept.gone; table = kept.table; memory = kept.memory; cpus = kept.cpus; dry = kept.dry }
 
   from-current : (frame : ℕ) (free : List ℕ) → KeepsIn s (from_current s cache cpu batch frame free)
-  from-current frame [] = let rest : State = retired s cache cpu frame in from-partial rest (record { board = refl; gone = refl; table = refl; memory = refl; cpus = refl }) (lists_of rest cache cpu).partial
-  from-current frame (index ∷ free) = record { board = refl; gone = refl; table = refl; memory = refl; cpus = refl }
+  from-current frame [] = let rest : State = retired s cache cpu frame in from-partial rest (record { board = refl; gone = refl; table = refl; memory = refl; cpus = refl; dry = refl }) (lists_of rest cache cpu).partial
+  from-current frame (index ∷ free) = record { board = refl; gone = refl; table = refl; memory = refl; cpus = refl; dry = refl }
 
   from-slabs : (current : Option ℕ) → KeepsIn s (from_slabs s cache cpu batch current)
   from-slabs None = from-partial s (keeps_refl s) (lists_of s cache cpu).partial
@@ -153,6 +163,15 @@ module _ (s : State) (cache cpu batch : ℕ) where
 
 -- ---- allocation
 
+-- where a run is found nothing is counted
+finds-some : (old : FreeFrames) (layout : Layout) (run : Run) (new : FreeFrames) → FindsRun old layout (Some run) new → new.dry ≡ old.dry
+finds-some old layout run new (inl wide) = ap (λ (p : FreeFrames). p.dry) wide.2.1
+finds-some old layout run new (inr least) = ap (λ (p : FreeFrames). p.dry) least.4.1
+
+-- where none is, the want is
+finds-none : (old : FreeFrames) (layout : Layout) (new : FreeFrames) → FindsRun old layout None new → new.dry ≡ counted old.dry layout.min_order
+finds-none old layout new finds = ap (λ (p : FreeFrames). p.dry) finds.1.0
+
 module _ (s : State) (event : Event) (place object : ℕ) (answer : Reply) (after : State) (allocates : event.act ≡ Alloc place object)
     (cache : ℕ) (live : Cache) (names : named s place ≡ Some cache) (is_live : cache_of s cache ≡ Some live) where
   abbrev GivesOne : Type 0
@@ -163,52 +182,53 @@ module _ (s : State) (event : Event) (place object : ℕ) (answer : Reply) (afte
   gave mid frame index kept unheld is now =
       let held : Held = record { frame = frame; index = index; cache = cache; worker = Some event.worker } in
       gives place object live held allocates names is_live refl is (ap (λ (board : List (Option Held)). sum_by (held_here frame index) board) (sym kept.board) ∙ unheld)
-      (ap (λ (t : State). t.board) now ∙ ap (λ (board : List (Option Held)). set board object (Some held)) kept.board) (ap (λ (t : State). t.gone) now ∙ kept.gone) (ap (λ (t : State). t.table) now ∙ kept.table) (ap (λ (t : State). t.memory) now ∙ kept.memory) (ap (λ (t : State). t.cpus) now ∙ kept.cpus)
+      (ap (λ (t : State). t.board) now ∙ ap (λ (board : List (Option Held)). set board object (Some held)) kept.board) (ap (λ (t : State). t.gone) now ∙ kept.gone) (ap (λ (t : State). t.table) now ∙ kept.table) (ap (λ (t : State). t.memory) now ∙ kept.memory) (ap (λ (t : State). t.cpus) now ∙ kept.cpus) (ap (λ (t : State). t.pool.dry) now ∙ kept.dry)
 
   of-cpu : (mid : State) → Keeps s mid → Gives mid live.layout cache event.cpu event.worker object answer after → GivesOne
   of-cpu mid kept given =
       gave (with_lists mid cache event.cpu (record { current = Some given.frame; free = given.rest; partial = (lists_of mid cache event.cpu).partial })) given.frame given.index
-      (record { board = kept.board; gone = kept.gone; table = kept.table; memory = kept.memory; cpus = kept.cpus }) given.unheld given.address given.given
+      (record { board = kept.board; gone = kept.gone; table = kept.table; memory = kept.memory; cpus = kept.cpus; dry = kept.dry }) given.unheld given.address given.given
 
-  no-run : (mid : State) (pool : FreeFrames) → Keeps s mid → LacksRun mid pool answer after → GivesOne
-  no-run mid pool kept none = lacks place object cache allocates names (inl none.0) (keeps_is s (record mid { pool = pool }) after none.1 (record { board = kept.board; gone = kept.gone; table = kept.table; memory = kept.memory; cpus = kept.cpus }))
+  no-run : (mid : State) (pool : FreeFrames) → Keeps s mid → FindsRun mid.pool live.layout None pool → LacksRun mid pool answer after → GivesOne
+  no-run mid pool kept finds none =
+      lacks place object cache live allocates names is_live none.0 (ap (λ (t : State). t.board) none.1 ∙ kept.board) (ap (λ (t : State). t.gone) none.1 ∙ kept.gone) (ap (λ (t : State). t.table) none.1 ∙ kept.table)
+      (ap (λ (t : State). t.memory) none.1 ∙ kept.memory) (ap (λ (t : State). t.cpus) none.1 ∙ kept.cpus)
+      (ap (λ (t : State). t.pool.dry) none.1 ∙ finds-none mid.pool live.layout pool finds ∙ ap (λ (dry : List ℕ). counted dry live.layout.min_order) kept.dry)
 
-  of-new : (bare : State) (pool : FreeFrames) (run : Option Run) → Keeps s bare
+  of-new : (bare : State) (pool : FreeFrames) (run : Option Run) → Keeps s bare → FindsRun bare.pool live.layout run pool
       → MatchOption run (LacksRun bare pool answer after) (λ run. Gives (with_new_slab bare cache event.cpu pool run) live.layout cache event.cpu event.worker object answer after) → GivesOne
-  of-new bare pool None kept none = no-run bare pool kept none
-  of-new bare pool (Some run) kept given = of-cpu (with_new_slab bare cache event.cpu pool run) (record { board = kept.board; gone = kept.gone; table = kept.table; memory = kept.memory; cpus = kept.cpus }) given
+  of-new bare pool None kept finds none = no-run bare pool kept finds none
+  of-new bare pool (Some run) kept finds given =
+      of-cpu (with_new_slab bare cache event.cpu pool run) (record { board = kept.board; gone = kept.gone; table = kept.table; memory = kept.memory; cpus = kept.cpus; dry = finds-some bare.pool live.layout run pool finds ∙ kept.dry }) given
 
   of-stock : (found : Result State State) → KeepsIn s found
       → MatchResult found (λ stocked. Gives stocked live.layout cache event.cpu event.worker object answer after) (λ bare. AllocatesNew bare live.layout cache event.cpu event.worker object answer after)
       → GivesOne
   of-stock (Ok mid) kept given = of-cpu mid kept given
-  of-stock (Err bare) kept new = of-new bare new.1 new.0 kept new.3
+  of-stock (Err bare) kept new = of-new bare new.1 new.0 kept new.2 new.3
 
   of-slot : (mid : State) (slot : Slot) → Keeps s mid → GivesSlot mid live.layout cache event.worker object slot answer after → GivesOne
   of-slot mid slot kept given = gave mid slot.frame slot.index kept given.unheld given.address given.given
 
   module _ (first : CheckedState) (was : checked_of s cache ≡ Some first) where
-    of-run : (mid : State) (slabs : CheckedState) (pool : FreeFrames) (run : Option Run) → Keeps s mid
+    of-run : (mid : State) (slabs : CheckedState) (pool : FreeFrames) (run : Option Run) → Keeps s mid → FindsRun mid.pool live.layout run pool
         → MatchOption run (LacksRun mid pool answer after) (λ run. LacksMemory mid pool run answer after ⊎ GivesSlot (with_checked_slab mid cache pool run slabs) live.layout cache event.worker object (first_slot run) answer after)
         → GivesOne
-    of-run mid slabs pool None kept none = no-run mid pool kept none
-    of-run mid slabs pool (Some run) kept (inl none) =
-        lacks place object cache allocates names (inr (none.0, ap is_there was)) (keeps_is s _ after none.1 (record { board = kept.board; gone = kept.gone; table = kept.table; memory = kept.memory; cpus = kept.cpus }))
-      where
-        is_there : Option CheckedState → Bool
-        is_there None = false
-        is_there (Some slabs) = true
-    of-run mid slabs pool (Some run) kept (inr given) =
-        of-slot (with_checked_slab mid cache pool run slabs) (first_slot run) (record { board = kept.board; gone = kept.gone; table = kept.table; memory = kept.memory; cpus = kept.cpus }) given
+    of-run mid slabs pool None kept finds none = no-run mid pool kept finds none
+    of-run mid slabs pool (Some run) kept finds (inl none) =
+        wants place object cache live first allocates names is_live was none.0
+        (keeps_is s _ after none.1 (record { board = kept.board; gone = kept.gone; table = kept.table; memory = kept.memory; cpus = kept.cpus; dry = finds-some mid.pool live.layout run pool finds ∙ kept.dry }))
+    of-run mid slabs pool (Some run) kept finds (inr given) =
+        of-slot (with_checked_slab mid cache pool run slabs) (first_slot run) (record { board = kept.board; gone = kept.gone; table = kept.table; memory = kept.memory; cpus = kept.cpus; dry = finds-some mid.pool live.layout run pool finds ∙ kept.dry }) given
 
     of-checked : (mid : State) (slabs : CheckedState) (found : CheckedGive) → Keeps s mid → GivesOrMakes mid live.layout cache slabs event.worker object found answer after → GivesOne
     of-checked mid slabs (give.Given slot) kept given = of-slot mid slot kept given
-    of-checked mid slabs give.Empty kept makes = of-run mid slabs makes.1 makes.0 kept makes.3
+    of-checked mid slabs give.Empty kept makes = of-run mid slabs makes.1 makes.0 kept makes.2 makes.3
 
   of-cache : AllocatesFrom s live.layout cache event.cpu event.worker object answer after → GivesOne
   of-cache done = match_either (checked_of s cache) _ _ GivesOne done
       (λ unchecked done. of-stock (stocked s live.layout cache event.cpu) (from-free s cache event.cpu (batch_of live.layout) (lists_of s cache event.cpu).free) done)
-      (λ slabs was done. of-checked slabs was (with_checked s cache done.1) done.1 done.0 (record { board = refl; gone = refl; table = refl; memory = refl; cpus = refl }) done.3)
+      (λ slabs was done. of-checked slabs was (with_checked s cache done.1) done.1 done.0 (record { board = refl; gone = refl; table = refl; memory = refl; cpus = refl; dry = refl }) done.3)
 
 alloc-step : (s : State) (event : Event) (place object : ℕ) (answer : Reply) (after : State) → event.act ≡ Alloc place object
     → AllocatesNamed s place event.cpu event.worker object answer after → Step s event answer after
@@ -220,22 +240,22 @@ alloc-step s event place object answer after allocates done = match_either (name
 
 module _ (min_partial cache : ℕ) where
   moved-kept : (s : State) (frame : ℕ) → Keeps s (moved min_partial cache s frame)
-  moved-kept s frame = keeps_either s _ _ (is_spare s min_partial cache frame) (record { board = refl; gone = refl; table = refl; memory = refl; cpus = refl }) (record { board = refl; gone = refl; table = refl; memory = refl; cpus = refl })
+  moved-kept s frame = keeps_either s _ _ (is_spare s min_partial cache frame) (record { board = refl; gone = refl; table = refl; memory = refl; cpus = refl; dry = refl }) (record { board = refl; gone = refl; table = refl; memory = refl; cpus = refl; dry = refl })
 
   all-moved : (s : State) (frames : List ℕ) → Keeps s (fold (moved min_partial cache) s frames)
   all-moved s [] = keeps_refl s
   all-moved s (frame ∷ frames) = keeps_both s (moved min_partial cache s frame) _ (moved-kept s frame) (all-moved (moved min_partial cache s frame) frames)
 
 trimmed-kept : (s : State) (min_partial cache frame : ℕ) → Keeps s (trimmed s min_partial cache frame)
-trimmed-kept s min_partial cache frame = keeps_either s (discarded (without_slab s cache frame) frame) s _ (record { board = refl; gone = refl; table = refl; memory = refl; cpus = refl }) (keeps_refl s)
+trimmed-kept s min_partial cache frame = keeps_either s (discarded (without_slab s cache frame) frame) s _ (record { board = refl; gone = refl; table = refl; memory = refl; cpus = refl; dry = refl }) (keeps_refl s)
 
 drained-kept : (s : State) (layout : Layout) (cache cpu : ℕ) → Keeps s (drained s layout cache cpu)
 drained-kept s layout cache cpu =
     let bare : State = with_partial s cache cpu [] in
-    keeps_either s _ s _ (keeps_both s bare _ (record { board = refl; gone = refl; table = refl; memory = refl; cpus = refl }) (all-moved layout.min_partial cache bare (lists_of s cache cpu).partial)) (keeps_refl s)
+    keeps_either s _ s _ (keeps_both s bare _ (record { board = refl; gone = refl; table = refl; memory = refl; cpus = refl; dry = refl }) (all-moved layout.min_partial cache bare (lists_of s cache cpu).partial)) (keeps_refl s)
 
 put-kept : (s : State) (layout : Layout) (cache cpu frame : ℕ) → Keeps s (put_partial s layout cache cpu frame)
-put-kept s layout cache cpu frame = let kept = drained-kept s layout cache cpu in record { board = kept.board; gone = kept.gone; table = kept.table; memory = kept.memory; cpus = kept.cpus }
+put-kept s layout cache cpu frame = let kept = drained-kept s layout cache cpu in record { board = kept.board; gone = kept.gone; table = kept.table; memory = kept.memory; cpus = kept.cpus; dry = kept.dry }
 
 settled-kept : (s : State) (layout : Layout) (cache cpu frame : ℕ) (own : List ℕ) → Keeps s (settled s layout cache cpu frame own)
 settled-kept s layout cache cpu frame [] = keeps_either s s _ (is_frozen s frame) (keeps_refl s) (put-kept s layout cache cpu frame)
@@ -244,12 +264,12 @@ settled-kept s layout cache cpu frame (index ∷ free) = keeps_either s s _ (is_
 freed-kept : (s : State) (layout : Layout) (cache cpu frame index : ℕ) → Keeps s (freed s layout cache cpu frame index)
 freed-kept s layout cache cpu frame index =
     let own : State = with_freed s frame index in
-    keeps_either s (freed_here s cache cpu index) _ (is_current frame (lists_of s cache cpu).current) (record { board = refl; gone = refl; table = refl; memory = refl; cpus = refl })
-    (keeps_both s own _ (record { board = refl; gone = refl; table = refl; memory = refl; cpus = refl }) (settled-kept own layout cache cpu frame (own_free s frame)))
+    keeps_either s (freed_here s cache cpu index) _ (is_current frame (lists_of s cache cpu).current) (record { board = refl; gone = refl; table = refl; memory = refl; cpus = refl; dry = refl })
+    (keeps_both s own _ (record { board = refl; gone = refl; table = refl; memory = refl; cpus = refl; dry = refl }) (settled-kept own layout cache cpu frame (own_free s frame)))
 
 discarded-kept : (s : State) (frame : ℕ) (run : Option SlabRun) → Keeps s (discarded_where s frame run)
 discarded-kept s frame None = keeps_refl s
-discarded-kept s frame (Some run) = record { board = refl; gone = refl; table = refl; memory = refl; cpus = refl }
+discarded-kept s frame (Some run) = record { board = refl; gone = refl; table = refl; memory = refl; cpus = refl; dry = refl }
 
 module _ (s : State) (event : Event) (object : ℕ) (held : Held) (answer : Reply) (after : State) (asks : event.act ≡ Free object)
     (was : get_or s.board object None ≡ Some held) (may : is_freeable event.worker held.worker ≡ true) where
@@ -261,7 +281,7 @@ module _ (s : State) (event : Event) (object : ℕ) (held : Held) (answer : Repl
   took live last is_live is kept now =
       frees object live held asks was may is_live is (ap (λ (t : State). t.board) now ∙ kept.board)
       (ap (λ (t : State). t.gone) now ∙ ap (λ (gone : List (Option Held)). set gone object (Some (record held { worker = Some event.worker }))) kept.gone)
-      (ap (λ (t : State). t.table) now ∙ kept.table) (ap (λ (t : State). t.memory) now ∙ kept.memory) (ap (λ (t : State). t.cpus) now ∙ kept.cpus)
+      (ap (λ (t : State). t.table) now ∙ kept.table) (ap (λ (t : State). t.memory) now ∙ kept.memory) (ap (λ (t : State). t.cpus) now ∙ kept.cpus) (ap (λ (t : State). t.pool.dry) now ∙ kept.dry)
 
   freed-unchecked : (live : Cache) → cache_of s held.cache ≡ Some live → FreesUnchecked s live.layout event.cpu event.worker object held answer after → FreesOne
   freed-unchecked live is_live done = took live _ is_live done.0 (freed-kept (with_taken s object held.cache) live.layout held.cache event.cpu held.frame held.index) done.1
@@ -271,7 +291,7 @@ module _ (s : State) (event : Event) (object : ℕ) (held : Held) (answer : Repl
   freed-or-kept live slabs rest (Err damage) is_live checked taken done = keeps object damage held slabs asks was may checked (taken.0, refl) done.0 done.1
   freed-or-kept live slabs rest (Ok x) is_live checked taken done =
       let mid : State = with_checked (with_taken s object held.cache) held.cache done.2 in
-      took live _ is_live done.0 (keeps_both (with_taken s object held.cache) mid _ (record { board = refl; gone = refl; table = refl; memory = refl; cpus = refl }) (discarded-kept mid held.frame done.1)) done.4
+      took live _ is_live done.0 (keeps_both (with_taken s object held.cache) mid _ (record { board = refl; gone = refl; table = refl; memory = refl; cpus = refl; dry = refl }) (discarded-kept mid held.frame done.1)) done.4
 
   held-freed : FreesHeld s event.cpu event.worker object held answer after → FreesOne
   held-freed done = match_some (cache_of s held.cache) _ FreesOne done (λ live is_live done.

@@ -27,21 +27,22 @@ use Rattle.slub_lists.proofs.Spared.{writes-spare}
 use Rattle.slub_engine.specs.Lawful.{is_by}
 use Rattle.slub_round_law.specs.Answered.{Answered, gave, is_alloc_of, last_written, of_worker, written_after}
 use Rattle.slub_round_law.proofs.Runs.{Turn, comes, fold-own, goes, rests, stays}
-use Rattle.slub_round_law.proofs.Steps.{Holds, Step, frees, gives, keeps, lacks, nameless, pokes, pokes_not, reads, reads_none, reads_not, refuses, word-keeps, writes, writes_none, writes_not}
+use Rattle.slub_round_law.proofs.Steps.{Holds, Step, frees, gives, keeps, lacks, nameless, pokes, pokes_not, reads, reads_none, reads_not, refuses, wants, word-keeps, writes, writes_none, writes_not}
 use Rattle.slub_round_law.proofs.Tale.{injected, same-worker}
 
 -- ---- which caches are checked
 
 -- a live cache is checked before as after
-pub unchecked-back : (s after : State) (cache : ℕ) (live : Cache) → IsCoherent s → IsCoherent after → after.table ≡ s.table → cache_of s cache ≡ Some live → checked_of after cache ≡ None → checked_of s cache ≡ None
-unchecked-back s after cache live coherent next table is none =
-    let now : is_checked live.flags ≡ is_some (checked_of after cache) = at after (ap (λ (t : Table). live_cache t cache) table ∙ is) (next.shaped.checked.all cache) in
-    let was : is_checked live.flags ≡ is_some (checked_of s cache) = at s is (coherent.shaped.checked.all cache) in
-    gone (checked_of s cache) (sym was ∙ now ∙ ap is_some none)
+pub checked-kept : (s after : State) (cache : ℕ) (live : Cache) → IsCoherent s → IsCoherent after → after.table ≡ s.table → cache_of s cache ≡ Some live → is_some (checked_of s cache) ≡ is_some (checked_of after cache)
+checked-kept s after cache live coherent next table is =
+    sym (at s is (coherent.shaped.checked.all cache)) ∙ at after (ap (λ (t : Table). live_cache t cache) table ∙ is) (next.shaped.checked.all cache)
   where
     at : (t : State) → cache_of t cache ≡ Some live → IfSome (cache_of t cache) (λ live. is_checked live.flags ≡ is_some (checked_of t cache)) → is_checked live.flags ≡ is_some (checked_of t cache)
     at t is all = subst (λ x. IfSome x (λ live. is_checked live.flags ≡ is_some (checked_of t cache))) is all
 
+unchecked-back : (s after : State) (cache : ℕ) (live : Cache) → IsCoherent s → IsCoherent after → after.table ≡ s.table → cache_of s cache ≡ Some live → checked_of after cache ≡ None → checked_of s cache ≡ None
+unchecked-back s after cache live coherent next table is none = gone (checked_of s cache) (checked-kept s after cache live coherent next table is ∙ ap is_some none)
+  where
     gone : (x : Option CheckedState) → is_some x ≡ false → x ≡ None
     gone None e = refl
     gone (Some slabs) e = absurd (cc)
@@ -80,10 +81,11 @@ pub data Words (s : State) (one : Answered) (after : State) : Type 0 where
       → one.1 ≡ reply.Wrote → after ≡ with_word s live.layout held word value → Words s one after
 
 pub words-of : (s : State) (one : Answered) (after : State) → Step s one.0 one.1 after → Words s one after
-words-of s one after (gives place object live held asks names is_live mine is unheld board gone table memory cpus) = unwrote memory (ap is_wrote is)
-words-of s one after (lacks place object cache asks names why kept) = unwrote kept.memory (elim why [ inl is ↦ ap is_wrote is | inr is ↦ ap is_wrote is.0 ])
+words-of s one after (gives place object live held asks names is_live mine is unheld board gone table memory cpus dry) = unwrote memory (ap is_wrote is)
+words-of s one after (lacks place object cache live asks names is_live is board gone table memory cpus dry) = unwrote memory (ap is_wrote is)
+words-of s one after (wants place object cache live slabs asks names is_live checked is kept) = unwrote kept.memory (ap is_wrote is)
 words-of s one after (nameless place object asks none is now) = unwrote (ap (λ (t : State). t.memory) now) (ap is_wrote is)
-words-of s one after (frees object live held asks was may is_live is board gone table memory cpus) = unwrote memory (ap is_wrote is)
+words-of s one after (frees object live held asks was may is_live is board gone table memory cpus dry) = unwrote memory (ap is_wrote is)
 words-of s one after (keeps object damage held slabs asks was may checked taken is now) = unwrote (ap (λ (t : State). t.memory) now) (ap is_wrote is)
 words-of s one after (refuses object asks why is now) = unwrote (ap (λ (t : State). t.memory) now) (ap is_wrote is)
 words-of s one after (writes object word value live held asks holds within is now) = wrote object word value live held asks holds within is now
@@ -107,7 +109,7 @@ Values past s = (worker object word value : ℕ) (held : Held) (live : Cache) �
 has-layout : (s : State) (held : Held) (live : Cache) → cache_of s held.cache ≡ Some live → HasLayout s held.cache live.layout
 has-layout s held live is = rw is refl
 
-own-worker : (worker : ℕ) (x : Option Held) (held : Held) → option_and_then (own worker) x ≡ Some held → held.worker ≡ Some worker
+pub own-worker : (worker : ℕ) (x : Option Held) (held : Held) → option_and_then (own worker) x ≡ Some held → held.worker ≡ Some worker
 own-worker worker None held e = absurd (cc)
 own-worker worker (Some other) held e = by (is_worker worker other.worker) refl e
   where

@@ -39,7 +39,7 @@ use Rattle.slub_round_law.proofs.Values.{checked-kept, own-worker}
 
 -- ---- what is there
 
-if-some : {A : Type 0} (x : Option A) (P : A → Type 0) → ((y : A) → x ≡ Some y → P y) → IfSome x P
+pub if-some : {A : Type 0} (x : Option A) (P : A → Type 0) → ((y : A) → x ≡ Some y → P y) → IfSome x P
 if-some None P each = tt
 if-some (Some y) P each = each y refl
 

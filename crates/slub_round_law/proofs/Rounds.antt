@@ -29,6 +29,7 @@ use Rattle.slub_engine.specs.Steps.{IsKnown, IsKnownAct, KeepsCaches}
 use Rattle.slub_engine.proofs.Rounds.{known_kept}
 use Rattle.slub_round_law.specs.Answered.{Answered, IsAfter, gave, holding, of_worker, times_freed, times_given, times_taken}
 use Rattle.slub_round_law.specs.Round.{AllocCause, Cause, IsSpare, Spot, spot_by, spot_of, spot_under}
+use Rattle.slub_round_law.proofs.Dry.{Dry, dry-step}
 use Rattle.slub_round_law.proofs.Runs.{Turn, on_board, turn}
 use Rattle.slub_round_law.proofs.Steps.{Keeps, Step, event-step, frees, gives, keeps, lacks, nameless, pokes, pokes_not, reads, reads_none, reads_not, refuses, wants, word-keeps, writes, writes_none, writes_not}
 use Rattle.slub_round_law.proofs.Tale.{Boards, Holdings, Spots, Takens, boards-step, count-step, holdings-step, injected, no-object, on-before, some-object, spots-step, takens-step}
@@ -46,6 +47,7 @@ pub record Tale (before : State) (past : List Answered) (s : State) : Type 0 whe
   pub boards : Boards before past s
   pub takens : Takens before past s
   pub values : Values past s
+  pub dry : Dry before past s
 
 -- one more event
 pub record Moves (before : State) (past : List Answered) (s : State) (one : Answered) (after : State) : Type 0 where
@@ -114,6 +116,7 @@ module _ (before : State) (past : List Answered) (s : State) (one : Answered) (a
         boards = boards-step before past s one after tale.caches.table moves.new turns-of tale.boards;
         takens = takens-step before past s one after moves.new tale.takens turns-of;
         values = values-step past s one after tale.coherent moves.coherent caches.table tale.values step-of turns-of;
+        dry = dry-step before past s one after tale.coherent tale.caches.table tale.dry step-of;
       }
 
 -- ---- all events

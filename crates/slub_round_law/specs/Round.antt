@@ -10,12 +10,12 @@ use Rattle.slub_object_layout.specs.declared.layout.Layout.{Layout}
 use Rattle.slub_object_layout.specs.Layout.{address_of}
 use Rattle.slub_red_zone.specs.declared.zones.Damage.{Damage}
 use Rattle.slub_red_zone.specs.declared.zones.Report.{Report}
-use Rattle.slub_red_zone.specs.State.{aside_in, slab_of as checked_slab}
+use Rattle.slub_red_zone.specs.State.{aside_in, objects_in, slab_of as checked_slab}
 use Rattle.slub_lists.specs.declared.lists.Held.{Held}
 use Rattle.slub_lists.specs.declared.reply.Reply.{Reply}
 use Rattle.slub_lists.specs.declared.reply.Reply.TheVariants as reply
 use Rattle.slub_lists.specs.State.{State}
-use Rattle.slub_lists.specs.Alloc.{cache_of, checked_of, named, slab_of}
+use Rattle.slub_lists.specs.Alloc.{cache_of, checked_of, named}
 use Rattle.slub_lists.specs.Coherent.{IsCoherent, held_under}
 use Rattle.slub_lists.specs.Words.{is_word}
 use Rattle.slub_trace_reader.specs.Sound.{objects_of}
@@ -180,7 +180,7 @@ aside_at s cache frame = option_map_or (λ slabs. aside_in (checked_slab slabs f
 -- the report names an object of the slab at this frame
 abbrev pub IsOfSlab : State → ℕ → ℕ → Report → Type 0
 IsOfSlab s cache frame report =
-    (report.cache ≡ cache) × (frame * 4096 ≤ report.address) × MatchOption (slab_of s frame) ⊥ (λ slab. report.address < (frame + 2 ^ slab.order) * 4096)
+    (report.cache ≡ cache) × MatchOption (checked_of s cache) ⊥ (λ slabs. (index : ℕ) × (index < objects_in (checked_slab slabs frame)) × (report.address ≡ address_of frame index slabs.layout))
 
 -- ---- the round
 

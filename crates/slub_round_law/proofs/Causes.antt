@@ -1,20 +1,16 @@
 -- Each reply has its cause.
-use Rattle.std.proofs.Common.{◌≡◌, ◌≢◌, ℕ, ◌+◌, ◌<◌, ◌≤◌, ◌&&◌, ◌||◌, Bool, true, false, cond, List, [], ◌∷◌, ◌++◌, length, get_or, set, get_or-set_other, get_or-set_same, refl, sym, ◌∙◌, ap, subst, arith, Option, Some, None, IsSome, IfSome, MatchOption, inl, inr, ◌⊎◌, is_some, count_by}
+use Rattle.std.proofs.Common.{◌≡◌, ◌≢◌, ℕ, ◌<◌, ◌≤◌, ◌||◌, Bool, true, false, cond, List, [], ◌∷◌, ◌++◌, get_or, set, get_or-set_other, get_or-set_same, refl, sym, ◌∙◌, ap, subst, arith, Option, Some, None, IsSome, IfSome, MatchOption, inl, inr, ◌⊎◌, is_some}
 use Rattle.std.specs.Option.{option_and_then, option_map, option_map_or}
 use Rattle.std.proofs.lemmas.Bool.{cases_eq, eq-eqb}
 use Rattle.std.proofs.lemmas.List.Sums.{sum_by-cons}
 use Rattle.slub_object_layout.specs.declared.event.Act.{Act}
-use Rattle.slub_object_layout.specs.declared.event.Act.TheVariants.{Alloc, Free, Write, Read, Poke, Trim, Flush}
-use Rattle.slub_object_layout.specs.declared.event.Event.{Event}
-use Rattle.slub_object_layout.specs.declared.layout.Layout.{Layout}
+use Rattle.slub_object_layout.specs.declared.event.Act.TheVariants.{Alloc}
 use Rattle.slub_object_layout.specs.Layout.{address_of}
 use Rattle.slub_cache_create.specs.Table.{Table, cache_of as live_cache, name_at, number_of}
 use Rattle.slub_cache_create.specs.declared.caches.Cache.{Cache}
 use Rattle.slub_red_zone.specs.State.{CheckedState}
-use Rattle.slub_red_zone.specs.declared.zones.Damage.{Damage}
 use Rattle.slub_lists.specs.declared.lists.Held.{Held}
 use Rattle.slub_lists.specs.declared.reply.Reply.{Reply}
-use Rattle.slub_lists.specs.declared.reply.Reply.TheVariants as reply
 use Rattle.slub_lists.specs.State.{State}
 use Rattle.slub_lists.specs.Alloc.{cache_of, checked_of, named}
 use Rattle.slub_lists.specs.Coherent.{IsCoherent, held_under, laid_down}
@@ -25,15 +21,14 @@ use Rattle.slub_lists.specs.Words.{held_by, is_word, is_worker, own, word_of}
 use Rattle.slub_lists.proofs.Apart.{held-apart}
 use Rattle.slub_lists.proofs.CheckedGiving.{layout-live}
 use Rattle.slub_lists.proofs.ObjectWords.{memory-read, own-is}
-use Rattle.slub_engine.specs.Lawful.{is_by}
 use Rattle.slub_engine.specs.Steps.{IsKnownAct}
-use Rattle.slub_round_law.specs.Answered.{Answered, did_free, found_bad, gave, holding, last_written, of_worker, times_freed, times_given, times_taken}
-use Rattle.slub_round_law.specs.Round.{AllocCause, Cause, FreeCause, IsFreeable, IsOwnValue, IsSpare, ReadCause, Spot, WriteCause, has_word, layout_of, spot_by, spot_of, spot_under}
+use Rattle.slub_round_law.specs.Answered.{Answered, did_free, found_bad, gave, holding, last_written, of_worker, times_freed, times_taken}
+use Rattle.slub_round_law.specs.Round.{Cause, IsFreeable, IsOwnValue, IsSpare, Spot, has_word, layout_of, spot_by, spot_of, spot_under}
 use Rattle.slub_round_law.proofs.Damages.{damage-differs, damage-taken}
-use Rattle.slub_round_law.proofs.Rounds.{Moves, Tale, new-unheld, step-of, turns-of}
-use Rattle.slub_round_law.proofs.Runs.{Turn, comes, goes, on_board, rests, stays}
+use Rattle.slub_round_law.proofs.Rounds.{Moves, Tale, new-unheld, step-of}
+use Rattle.slub_round_law.proofs.Runs.{on_board}
 use Rattle.slub_round_law.proofs.Steps.{Holds, Step, frees, gives, keeps, lacks, nameless, pokes, pokes_not, reads, reads_none, reads_not, refuses, wants, writes, writes_none, writes_not}
-use Rattle.slub_round_law.proofs.Tale.{held-by-some, injected, on-before, same-worker, some-object, spot-kept}
+use Rattle.slub_round_law.proofs.Tale.{held-by-some, injected, some-object}
 use Rattle.slub_round_law.proofs.Times.{counted_append, one_where}
 use Rattle.slub_round_law.proofs.Values.{checked-kept, own-worker}
 
@@ -259,7 +254,7 @@ module _ (before : State) (past : List Answered) (s : State) (one : Answered) (a
   cause-by coherent (frees object live held asks was may is_live is board gone table memory cpus dry) = as-is _ _ asks is (
     freeable object held was may,
     subst (λ (x : Option Spot). MatchOption x ⊥ (λ spot. spot.address ≡ address_of held.frame held.index live.layout))
-    (sym (tale.spots one.0.worker object held was may ∙ the-spot before held live (live-before held.cache live is_live))) refl,
+        (sym (tale.spots one.0.worker object held was may ∙ the-spot before held live (live-before held.cache live is_live))) refl,
   )
   cause-by coherent (keeps object damage held slabs asks was may checked taken is now) = as-is _ _ asks is (freeable object held was may, damage-differs slabs.layout _ _ damage (damage-taken slabs.layout slabs.flags _ damage taken.0))
   cause-by coherent (refuses object asks why is now) = as-is _ _ asks is (refused object why)

@@ -1,38 +1,24 @@
 -- A round that is done event by event is lawful.
-use Rattle.std.proofs.Common.{◌≡◌, ◌≢◌, ℕ, ◌+◌, ◌<◌, ◌≤◌, ◌&&◌, Bool, true, false, cond, List, [], ◌∷◌, ◌++◌, length, get_or, set, map, refl, sym, ◌∙◌, ap, subst, arith, All, nat_eq, Option, Some, None, IsSome, IfSome, MatchOption, inl, inr, ◌⊎◌, is_some, fold, count_by, length-set}
-use Rattle.std.specs.List.{IsDistinct, zip}
-use Rattle.std.specs.Option.{option_and_then, option_map, option_map_or}
-use Rattle.std.proofs.lemmas.Bool.{cases_eq}
+use Rattle.std.proofs.Common.{◌≡◌, ℕ, ◌+◌, ◌≤◌, true, List, [], ◌∷◌, ◌++◌, length, refl, sym, ◌∙◌, ap, subst, arith, All, Option, Some, None, is_some, length-set}
+use Rattle.std.specs.List.{zip}
 use Rattle.std.proofs.lemmas.List.{append_assoc, append-nil}
 use Rattle.std.proofs.lemmas.List.Elements.{All-head, All-tail}
-use Rattle.slub_object_layout.specs.declared.event.Act.{Act}
-use Rattle.slub_object_layout.specs.declared.event.Act.TheVariants.{Alloc, Free, Write, Read, Poke, Trim, Flush}
 use Rattle.slub_object_layout.specs.declared.event.Event.{Event}
-use Rattle.slub_object_layout.specs.declared.event.Round.{Round}
-use Rattle.slub_object_layout.specs.declared.layout.Layout.{Layout}
-use Rattle.slub_object_layout.specs.Layout.{address_of}
-use Rattle.slub_cache_create.specs.Table.{Table, cache_of as live_cache, name_at, number_of}
-use Rattle.slub_cache_create.specs.declared.caches.Cache.{Cache}
+use Rattle.slub_cache_create.specs.Table.{Table}
 use Rattle.slub_lists.specs.declared.lists.Held.{Held}
 use Rattle.slub_lists.specs.declared.reply.Reply.{Reply}
-use Rattle.slub_lists.specs.declared.reply.Reply.TheVariants as reply
 use Rattle.slub_lists.specs.State.{State}
-use Rattle.slub_lists.specs.Alloc.{cache_of, named}
-use Rattle.slub_lists.specs.Coherent.{IsCoherent, all_on_board, held_under, laid_down}
-use Rattle.slub_lists.specs.Steps.{HasLayout, IsLive}
-use Rattle.slub_lists.proofs.CheckedGiving.{layout-live}
-use Rattle.slub_lists.proofs.Apart.{held-apart}
-use Rattle.slub_lists.specs.Laws.{HasByte}
-use Rattle.slub_trace_reader.specs.Sound.{objects_of}
-use Rattle.slub_engine.specs.Lawful.{Answers, RunsEvents, is_by}
+use Rattle.slub_lists.specs.Coherent.{IsCoherent, held_under}
+use Rattle.slub_engine.specs.Lawful.{Answers, RunsEvents}
 use Rattle.slub_engine.specs.Steps.{IsKnown, IsKnownAct, KeepsCaches}
 use Rattle.slub_engine.proofs.Rounds.{known_kept}
-use Rattle.slub_round_law.specs.Answered.{Answered, IsAfter, gave, holding, of_worker, times_freed, times_given, times_taken}
-use Rattle.slub_round_law.specs.Round.{AllocCause, Cause, IsSpare, Spot, spot_by, spot_of, spot_under}
+use Rattle.slub_round_law.specs.Answered.{Answered, gave, times_freed, times_given}
 use Rattle.slub_round_law.proofs.Dry.{Dry, dry-step}
+use Rattle.slub_round_law.proofs.Reports.{Reports, event-told, reports-more}
 use Rattle.slub_round_law.proofs.Runs.{Turn, on_board, turn}
+use Rattle.slub_round_law.proofs.Slabs.{event-slabs}
 use Rattle.slub_round_law.proofs.Steps.{Keeps, Step, event-step, frees, gives, keeps, lacks, nameless, pokes, pokes_not, reads, reads_none, reads_not, refuses, wants, word-keeps, writes, writes_none, writes_not}
-use Rattle.slub_round_law.proofs.Tale.{Boards, Holdings, Spots, Takens, boards-step, count-step, holdings-step, injected, no-object, on-before, some-object, spots-step, takens-step}
+use Rattle.slub_round_law.proofs.Tale.{Boards, Holdings, Spots, Takens, boards-step, count-step, holdings-step, no-object, spots-step, takens-step}
 use Rattle.slub_round_law.proofs.Times.{counted_append, one_where}
 use Rattle.slub_round_law.proofs.Values.{Values, values-step}
 
@@ -48,6 +34,7 @@ pub record Tale (before : State) (past : List Answered) (s : State) : Type 0 whe
   pub takens : Takens before past s
   pub values : Values past s
   pub dry : Dry before past s
+  pub reports : Reports before s
 
 -- one more event
 pub record Moves (before : State) (past : List Answered) (s : State) (one : Answered) (after : State) : Type 0 where
@@ -117,6 +104,7 @@ module _ (before : State) (past : List Answered) (s : State) (one : Answered) (a
         takens = takens-step before past s one after moves.new tale.takens turns-of;
         values = values-step past s one after tale.coherent moves.coherent caches.table tale.values step-of turns-of;
         dry = dry-step before past s one after tale.coherent tale.caches.table tale.dry step-of;
+        reports = reports-more before s after tale.reports (event-told s one after tale.coherent (event-slabs s one.0 one.1 after moves.answers));
       }
 
 -- ---- all events
@@ -162,7 +150,7 @@ runs-of before workers past s (event ∷ events) (answer ∷ replies) after know
       runs.0,
       record { answers = runs.1; coherent = runs.2; known = first.act; new = once-new before past (event, answer) (zip events replies) once },
       runs-of before workers (past ++ (event, answer) ∷ []) runs.0 events replies after (All-tail (IsKnown before workers) event events known)
-      (λ object. subst (λ (l : List Answered). on_board object before + times_given object l ≤ 1) (sym (append_assoc past ((event, answer) ∷ []) (zip events replies))) (once object)) runs.3,
+          (λ object. subst (λ (l : List Answered). on_board object before + times_given object l ≤ 1) (sym (append_assoc past ((event, answer) ∷ []) (zip events replies))) (once object)) runs.3,
     )
 
 pub runs-even : (s : State) (events : List Event) (replies : List Reply) (after : State) → RunsEvents s events replies after → length replies ≡ length events

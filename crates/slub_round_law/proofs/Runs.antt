@@ -1,16 +1,10 @@
 -- How the events of a round turn the board, one after the other.
-use Rattle.std.proofs.Common.{◌≡◌, ◌≢◌, ℕ, ◌+◌, ◌<◌, ◌≤◌, ◌&&◌, ◌||◌, Bool, true, false, cond, eqb, not, List, [], ◌∷◌, ◌++◌, length, get_or, set, refl, sym, ◌∙◌, ap, subst, arith, All, Option, Some, None, inl, inr, ◌⊎◌, is_some, filter, fold, count_by, get_or-set_other, get_or-set_same, length-set}
-use Rattle.std.specs.List.{zip}
+use Rattle.std.proofs.Common.{◌≡◌, ◌≢◌, ℕ, ◌+◌, ◌<◌, ◌&&◌, Bool, true, false, cond, List, [], ◌∷◌, ◌++◌, length, get_or, set, refl, sym, ◌∙◌, ap, subst, arith, Option, Some, None, inl, inr, ◌⊎◌, is_some, filter, fold, count_by, get_or-set_other, get_or-set_same}
 use Rattle.std.proofs.lemmas.Bool.{cases_eq, eq-eqb, ne_eqb}
-use Rattle.std.proofs.lemmas.List.{append_assoc, append-nil}
-use Rattle.std.proofs.lemmas.List.Elements.{All-head, All-tail, filter-append}
+use Rattle.std.proofs.lemmas.List.Elements.{filter-append}
 use Rattle.std.proofs.lemmas.List.Sums.{fold-append}
-use Rattle.slub_object_layout.specs.declared.event.Act.{Act}
-use Rattle.slub_object_layout.specs.declared.event.Act.TheVariants.{Alloc, Free, Write, Read, Poke, Trim, Flush}
-use Rattle.slub_object_layout.specs.declared.event.Event.{Event}
+use Rattle.slub_object_layout.specs.declared.event.Act.TheVariants.{Alloc, Free}
 use Rattle.slub_object_layout.specs.Layout.{address_of}
-use Rattle.slub_cache_create.specs.Table.{Table}
-use Rattle.slub_cache_create.specs.declared.caches.Cache.{Cache}
 use Rattle.slub_red_zone.specs.State.{CheckedState}
 use Rattle.slub_lists.specs.declared.lists.Held.{Held}
 use Rattle.slub_lists.specs.declared.reply.Reply.{Reply}
@@ -20,11 +14,11 @@ use Rattle.slub_lists.specs.Alloc.{checked_of}
 use Rattle.slub_lists.specs.Coherent.{IsCoherent, held_under}
 use Rattle.slub_lists.specs.Free.{is_freeable}
 use Rattle.slub_lists.proofs.CheckedSlabs.{inside-of}
-use Rattle.slub_engine.specs.Lawful.{Answers, RunsEvents, is_by, is_freed, is_given}
-use Rattle.slub_engine.specs.Steps.{IsKnown, IsKnownAct}
-use Rattle.slub_round_law.specs.Answered.{Answered, did_free, found_bad, gave, is_alloc_of, is_corrupt, is_free_of, of_worker, times_freed, times_given}
-use Rattle.slub_round_law.specs.Round.{Spot, spot_asked, spot_of}
-use Rattle.slub_round_law.proofs.Steps.{Keeps, Step, event-step, frees, gives, keeps, lacks, nameless, pokes, pokes_not, reads, reads_none, reads_not, refuses, wants, word-keeps, writes, writes_none, writes_not}
+use Rattle.slub_engine.specs.Lawful.{is_by, is_freed, is_given}
+use Rattle.slub_engine.specs.Steps.{IsKnownAct}
+use Rattle.slub_round_law.specs.Answered.{Answered, did_free, found_bad, gave, is_alloc_of, is_corrupt, is_free_of, of_worker}
+use Rattle.slub_round_law.specs.Round.{spot_asked, spot_of}
+use Rattle.slub_round_law.proofs.Steps.{Step, frees, gives, keeps, lacks, nameless, pokes, pokes_not, reads, reads_none, reads_not, refuses, wants, word-keeps, writes, writes_none, writes_not}
 use Rattle.slub_round_law.proofs.Times.{counted_append, one_where}
 
 -- ---- lists of answered events
@@ -162,7 +156,6 @@ others-rest s one after object other held gone differ board was silent =
 
 module _ (s : State) (one : Answered) (after : State) (object : ℕ) (coherent : IsCoherent s)
     (unheld : gave object one ≡ true → held_under s object ≡ None) (known : IsKnownAct s one.0.act) where
-
   alloc-inside : (place : ℕ) → one.0.act ≡ Alloc place object → object < length s.board
   alloc-inside place is = let here : IsKnownAct s (Alloc place object) = subst (IsKnownAct s) is known in here.1
 

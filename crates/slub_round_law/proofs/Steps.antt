@@ -1,5 +1,5 @@
 -- What an event does to the board, to what was freed, to the table and to the words of the frames.
-use Rattle.std.proofs.Common.{◌≡◌, ℕ, ◌+◌, Bool, true, false, cond, List, [], ◌∷◌, get_or, set, refl, sym, ◌∙◌, ap, Option, Some, None, MatchBool, MatchOption, MatchResult, Result, Ok, Err, inl, inr, ◌⊎◌, ℤ, nat_lt, IsSome, fold, sum_by, min, ◌-◌, ◌^◌}
+use Rattle.std.proofs.Common.{◌≡◌, ℕ, ◌+◌, Bool, true, false, cond, List, [], ◌∷◌, get_or, set, refl, sym, ◌∙◌, ap, Option, Some, None, MatchBool, MatchOption, MatchResult, Result, Ok, Err, inl, inr, ◌⊎◌, ℤ, nat_lt, fold, sum_by, min, ◌-◌, ◌^◌}
 use Rattle.std.specs.Option.{option_map_or}
 use Rattle.slub_page_pool.specs.FreeFrames.{FreeFrames}
 use Rattle.slub_object_layout.specs.declared.event.Act.{Act}
@@ -8,7 +8,6 @@ use Rattle.slub_object_layout.specs.declared.event.Event.{Event}
 use Rattle.slub_object_layout.specs.declared.layout.Layout.{Layout}
 use Rattle.slub_object_layout.specs.Layout.{address_of}
 use Rattle.slub_cache_create.specs.declared.caches.Cache.{Cache}
-use Rattle.slub_cache_create.specs.Table.{Table}
 use Rattle.slub_red_zone.specs.State.{CheckedState, objects_in, slab_of as checked_slab}
 use Rattle.slub_red_zone.specs.Steps.{TakesBack, with_byte, with_word as slab_word}
 use Rattle.slub_red_zone.specs.declared.checked.CheckedGive.{CheckedGive}
@@ -24,7 +23,7 @@ use Rattle.slub_lists.specs.State.{State}
 use Rattle.slub_lists.specs.Alloc.{AllocatesNew, FindsRun, Gives, batch_of, cache_of, checked_of, from_current, from_free, from_node, from_partial, from_slabs, held_here, lists_of, named, node_of, own_free, retired, stocked, with_held, with_lists, with_new_slab}
 use Rattle.slub_lists.specs.Named.{AllocatesFrom, AllocatesNamed}
 use Rattle.slub_lists.specs.Checked.{GivesOrMakes, GivesSlot, IsFreedOrKept, LacksMemory, LacksRun, discarded_where, first_slot, kept_by, slot_of_held, with_checked, with_checked_slab}
-use Rattle.slub_lists.specs.Free.{FreesUnchecked, discarded, drained, freed, freed_here, is_current, is_freeable, is_frozen, is_spare, moved, moved_all, put_partial, settled, trimmed, with_freed, with_gone, with_partial, with_taken, without_slab}
+use Rattle.slub_lists.specs.Free.{FreesUnchecked, discarded, drained, freed, freed_here, is_current, is_freeable, is_frozen, is_spare, moved, put_partial, settled, trimmed, with_freed, with_gone, with_partial, with_taken, without_slab}
 use Rattle.slub_lists.specs.Freeing.{Frees, FreesHeld}
 use Rattle.slub_lists.specs.Words.{PokesChecked, Pokes, Reads, Writes, held_by, inside, is_word, known_to, outside, with_word, word_at, word_of}
 use Rattle.slub_engine.specs.Lawful.{Answers}

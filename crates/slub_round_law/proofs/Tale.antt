@@ -1,30 +1,26 @@
 -- What the answers so far tell of each number is so.
-use Rattle.std.proofs.Common.{◌≡◌, ◌≢◌, ℕ, ◌+◌, ◌<◌, ◌≤◌, ◌&&◌, ◌||◌, Bool, true, false, cond, eqb, not, List, [], ◌∷◌, ◌++◌, length, get_or, set, refl, sym, ◌∙◌, ap, subst, arith, Option, Some, None, IsSome, inl, inr, ◌⊎◌, is_some, filter, fold, count_by, length-set}
+use Rattle.std.proofs.Common.{◌≡◌, ℕ, ◌+◌, ◌<◌, ◌&&◌, ◌||◌, Bool, true, false, cond, eqb, List, [], ◌∷◌, ◌++◌, refl, sym, ◌∙◌, ap, subst, arith, Option, Some, None, IsSome, inl, inr, ◌⊎◌, is_some}
 use Rattle.std.specs.Option.{option_and_then, option_map}
-use Rattle.std.proofs.lemmas.Bool.{cases_eq, eq-eqb, ne_eqb}
 use Rattle.std.proofs.lemmas.Bool.Decides.{nat_tests}
 use Rattle.std.proofs.lemmas.List.Elements.{Contains-append_left, Contains-append_right}
 use Rattle.slub_object_layout.specs.declared.event.Act.{Act}
-use Rattle.slub_object_layout.specs.declared.event.Act.TheVariants.{Alloc, Free}
-use Rattle.slub_object_layout.specs.declared.event.Event.{Event}
+use Rattle.slub_object_layout.specs.declared.event.Act.TheVariants.{Alloc}
 use Rattle.slub_object_layout.specs.Layout.{address_of}
 use Rattle.slub_cache_create.specs.Table.{Table, cache_of as live_cache, name_at, number_of}
 use Rattle.slub_cache_create.specs.declared.caches.Cache.{Cache}
 use Rattle.slub_lists.specs.declared.lists.Held.{Held}
-use Rattle.slub_lists.specs.declared.reply.Reply.{Reply}
 use Rattle.slub_lists.specs.declared.reply.Reply.TheVariants as reply
 use Rattle.slub_lists.specs.State.{State}
-use Rattle.slub_lists.specs.Alloc.{cache_of, named}
 use Rattle.slub_lists.specs.Coherent.{IsCoherent, held_under, laid_down}
 use Rattle.slub_lists.specs.Free.{is_freeable}
 use Rattle.slub_lists.specs.Words.{held_by, is_worker, own}
 use Rattle.slub_engine.specs.Lawful.{Answers, is_by}
-use Rattle.slub_engine.specs.Steps.{IsKnown, KeepsCaches}
+use Rattle.slub_engine.specs.Steps.{KeepsCaches}
 use Rattle.slub_round_law.specs.Answered.{Answered, did_free, found_bad, gave, holding, holds_after, is_alloc_of, of_worker, times_freed, times_given, times_taken}
 use Rattle.slub_round_law.specs.Round.{IsGiftOf, Spot, WasGivenAt, spot_after, spot_asked, spot_by, spot_of, spot_under}
-use Rattle.slub_round_law.proofs.Runs.{Turn, comes, count-more, count-own, fold-own, goes, gone_under, on_board, rests, stays, turn}
+use Rattle.slub_round_law.proofs.Runs.{Turn, comes, count-more, count-own, fold-own, goes, on_board, rests, stays}
 use Rattle.slub_round_law.proofs.Steps.{Step}
-use Rattle.slub_round_law.proofs.Times.{counted_append, one_where}
+use Rattle.slub_round_law.proofs.Times.{one_where}
 
 -- ---- one step of a round
 

@@ -1,7 +1,7 @@
 -- What the steps on the slabs of a checked cache tell: reports of damage, and which objects are set aside.
-use Rattle.std.proofs.Common.{◌≡◌, ◌≢◌, ℕ, zero, suc, ◌+◌, ◌<◌, ◌≤◌, Bool, true, false, cond, eqb, not, List, [], ◌∷◌, ◌++◌, length, get_or, set, map, refl, sym, ◌∙◌, ap, subst, arith, All, Option, Some, None, unwrap_or, inl, inr, ◌⊎◌, count_by, replicate, filter, length-set, Result, Ok, Err, ℤ}
+use Rattle.std.proofs.Common.{◌≡◌, ◌≢◌, ℕ, zero, suc, ◌<◌, ◌≤◌, false, cond, List, [], ◌∷◌, ◌++◌, length, set, map, refl, sym, ◌∙◌, ap, subst, arith, All, Option, Some, None, unwrap_or, inl, inr, ◌⊎◌, count_by, length-set}
 use Rattle.std.specs.List.{Contains}
-use Rattle.std.proofs.lemmas.Bool.{cases_eq, cases_lt}
+use Rattle.std.proofs.lemmas.Bool.{cases_lt}
 use Rattle.std.proofs.lemmas.List.{append_assoc, append-nil}
 use Rattle.std.proofs.lemmas.List.Elements.{All-append, Contains-append_left, Contains-append_right}
 use Rattle.std.proofs.lemmas.List.Sums.{sum_by-cons}
@@ -9,12 +9,12 @@ use Rattle.slub_object_layout.specs.Layout.{address_of}
 use Rattle.slub_red_zone.specs.declared.zones.Damage.{Damage}
 use Rattle.slub_red_zone.specs.declared.zones.Report.{Report}
 use Rattle.slub_red_zone.specs.declared.slab.ObjectState.{ObjectState}
-use Rattle.slub_red_zone.specs.declared.slab.ObjectState.TheVariants.{Free, Used, Aside}
+use Rattle.slub_red_zone.specs.declared.slab.ObjectState.TheVariants.{Free, Used}
 use Rattle.slub_red_zone.specs.declared.checked.CheckedGive.{CheckedGive}
 use Rattle.slub_red_zone.specs.declared.checked.Run.{Run}
 use Rattle.slub_red_zone.specs.declared.checked.Slot.{Slot}
 use Rattle.slub_red_zone.specs.State.{CheckedState, SlabState, aside_in, is_aside, no_slab, objects_in, slab_at, slab_of, slot_of, with_slab}
-use Rattle.slub_red_zone.specs.Steps.{Gives, IsNext, damage_of_free, new_slab, next_is_damaged, next_is_whole, nothing_listed, report_of, set_aside, slab_set_aside, slab_with_given, slab_with_taken, with_byte, with_damaged, with_given, with_new_slab, with_taken, with_word, without_slab}
+use Rattle.slub_red_zone.specs.Steps.{Gives, IsNext, damage_of_free, new_slab, next_is_damaged, next_is_whole, nothing_listed, report_of, set_aside, slab_set_aside, slab_with_given, slab_with_taken, with_damaged, with_given, with_new_slab, with_taken, without_slab}
 use Rattle.slub_red_zone.specs.Sound.{IsSound}
 use Rattle.slub_red_zone.proofs.Counting.{new-kinds}
 use Rattle.slub_red_zone.proofs.Given.{damaged-sound, next-object}

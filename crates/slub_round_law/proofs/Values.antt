@@ -1,11 +1,8 @@
 -- A word of an object that isn't checked is what its worker wrote there last.
-use Rattle.std.proofs.Common.{◌≡◌, ◌≢◌, ℕ, ◌+◌, ◌/◌, ◌<◌, ◌&&◌, Bool, true, false, cond, eqb, List, [], ◌∷◌, ◌++◌, length, get_or, set, refl, sym, ◌∙◌, ap, subst, arith, Option, Some, None, IsSome, IfSome, MatchOption, inl, inr, ◌⊎◌, is_some, fold, get_or-set_other, get_or-set_same}
+use Rattle.std.proofs.Common.{◌≡◌, ◌≢◌, ℕ, ◌&&◌, Bool, true, false, cond, eqb, List, [], ◌∷◌, ◌++◌, get_or, set, refl, sym, ◌∙◌, ap, subst, arith, Option, Some, None, IfSome, inl, inr, is_some, get_or-set_other, get_or-set_same}
 use Rattle.std.specs.Option.{option_and_then, option_map_or}
 use Rattle.std.proofs.lemmas.Bool.{cases_eq, eq-eqb, ne_eqb}
-use Rattle.slub_object_layout.specs.declared.event.Act.{Act}
-use Rattle.slub_object_layout.specs.declared.event.Act.TheVariants.{Alloc, Free, Write}
-use Rattle.slub_object_layout.specs.declared.event.Event.{Event}
-use Rattle.slub_object_layout.specs.declared.layout.Layout.{Layout}
+use Rattle.slub_object_layout.specs.declared.event.Act.TheVariants.{Write}
 use Rattle.slub_object_layout.specs.Layout.{is_checked}
 use Rattle.slub_cache_create.specs.Table.{Table, cache_of as live_cache}
 use Rattle.slub_cache_create.specs.declared.caches.Cache.{Cache}
@@ -18,11 +15,10 @@ use Rattle.slub_lists.specs.State.{State}
 use Rattle.slub_lists.specs.Alloc.{cache_of, checked_of}
 use Rattle.slub_lists.specs.Checked.{slot_of_held, with_checked}
 use Rattle.slub_lists.specs.Coherent.{IsCoherent, held_under}
-use Rattle.slub_lists.specs.Laws.{KeepsWords, Names}
+use Rattle.slub_lists.specs.Laws.{Names}
 use Rattle.slub_lists.specs.Steps.{HasLayout}
-use Rattle.slub_lists.specs.Words.{Writes, held_by, is_word, is_worker, own, with_word, word_at, word_of}
-use Rattle.slub_lists.specs.WordSteps.{IsHeld}
-use Rattle.slub_lists.proofs.ObjectWords.{held-is, memory-read, own-is, word-inside, writes-word}
+use Rattle.slub_lists.specs.Words.{Writes, is_word, is_worker, own, with_word, word_at}
+use Rattle.slub_lists.proofs.ObjectWords.{memory-read, own-is, word-inside, writes-word}
 use Rattle.slub_lists.proofs.Spared.{writes-spare}
 use Rattle.slub_engine.specs.Lawful.{is_by}
 use Rattle.slub_round_law.specs.Answered.{Answered, gave, is_alloc_of, last_written, of_worker, written_after}
@@ -122,7 +118,6 @@ own-worker worker (Some other) held e = by (is_worker worker other.worker) refl 
     by false is e = absurd (cc)
 
 module _ (past : List Answered) (s : State) (one : Answered) (after : State) (coherent : IsCoherent s) (next : IsCoherent after) (table : after.table ≡ s.table) (values : Values past s) where
-
   -- the last write, where this event is none of the word
   unwritten : (worker object word : ℕ) → ((last : Option ℕ) → written_after object word last one ≡ last) → last_written object word (of_worker worker (past ++ one ∷ [])) ≡ last_written object word (of_worker worker past)
   unwritten worker object word other = fold-own (written_after object word) None worker past one ∙ pick (is_by worker one)

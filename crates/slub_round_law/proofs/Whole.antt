@@ -1,30 +1,34 @@
 -- The whole of a round.
-use Rattle.std.proofs.Common.{◌≡◌, ◌≢◌, ℕ, ◌+◌, ◌<◌, ◌≤◌, Bool, true, false, cond, List, [], ◌∷◌, ◌++◌, length, get_or, map, refl, sym, ◌∙◌, ap, subst, arith, All, nat_eq, Option, Some, None, IsSome, IfSome, inl, inr, ◌⊎◌, is_some, count_by, zero, suc}
-use Rattle.std.specs.List.{zip}
-use Rattle.std.specs.Option.{option_map, option_and_then}
+use Rattle.std.proofs.Common.{◌≡◌, ◌≢◌, ℕ, ◌+◌, ◌<◌, ◌≤◌, Bool, true, false, List, [], ◌∷◌, ◌++◌, length, get_or, map, refl, sym, ◌∙◌, ap, subst, arith, All, Option, Some, None, IsSome, MatchOption, inl, inr, ◌⊎◌, is_some, zero, suc}
+use Rattle.std.specs.List.{Contains, zip}
+use Rattle.std.specs.Option.{option_map, option_map_or, option_and_then}
 use Rattle.std.specs.Prelude.{◌↔◌}
 use Rattle.std.proofs.lemmas.List.{length-map}
 use Rattle.slub_object_layout.specs.declared.event.Round.{Round}
+use Rattle.slub_object_layout.specs.Layout.{address_of}
+use Rattle.slub_red_zone.specs.State.{CheckedState, aside_in, objects_in, slab_of as checked_slab}
 use Rattle.slub_lists.specs.declared.lists.Held.{Held}
 use Rattle.slub_lists.specs.State.{State}
+use Rattle.slub_lists.specs.Alloc.{checked_of}
 use Rattle.slub_lists.specs.Coherent.{IsCoherent, all_on_board, held_under, laid_down}
 use Rattle.slub_lists.proofs.Coherence.{all_on_board-consistent}
 use Rattle.slub_lists.proofs.Kept.{coherent-of, consistent-of}
-use Rattle.slub_lists.specs.Free.{is_freeable}
 use Rattle.slub_lists.specs.Words.{held_by, is_worker}
 use Rattle.slub_lists.proofs.CheckedSlabs.{at_some}
 use Rattle.slub_red_zone.proofs.Comings.{counted-there}
 use Rattle.slub_trace_reader.specs.Sound.{objects_of}
 use Rattle.slub_common.specs.Times.{times}
+use Rattle.slub_engine.specs.declared.journal.Found.{Found}
 use Rattle.slub_engine.specs.declared.journal.RoundResult.{RoundResult}
 use Rattle.slub_engine.specs.Lawful.{DoesRound, IsUnheld, is_by}
 use Rattle.slub_engine.specs.Steps.{KeepsCaches}
-use Rattle.slub_round_law.specs.Answered.{Answered, IsAfter, gave, of_worker, times_freed, times_given, times_taken}
-use Rattle.slub_round_law.specs.Round.{Cause, Fits, IsAtRest, IsBoardAfter, IsRound, Spot, WasGivenAt, spot_of, spot_under}
+use Rattle.slub_round_law.specs.Answered.{Answered, IsAfter, of_worker, times_freed, times_given}
+use Rattle.slub_round_law.specs.Round.{Cause, Fits, IsAtRest, IsBoardAfter, IsOfSlab, IsRound, Spot, WasGivenAt, aside_at, spot_of, spot_under}
 use Rattle.slub_round_law.proofs.Causes.{cause-of, if-some}
+use Rattle.slub_round_law.proofs.Reports.{found-aside, found-differ, reports-none}
 use Rattle.slub_round_law.proofs.Rounds.{Reaches, Runs, Tale, runs-even, runs-of, runs-reach, runs-tale}
 use Rattle.slub_round_law.proofs.Runs.{gone_under, on_board, splits}
-use Rattle.slub_round_law.proofs.Tale.{held-by-none, held-by-some, injected, no-object, on-before, same-worker, some-object, spot-kept}
+use Rattle.slub_round_law.proofs.Tale.{held-by-none, held-by-some, injected, on-before, same-worker, some-object, spot-kept}
 use Rattle.slub_round_law.proofs.Times.{events_given, once_times, one_where}
 
 -- ---- before the first event
@@ -75,6 +79,7 @@ start before rest = record {
   };
   values = λ worker object word value held live there mine unchecked is_live within last. absurd (let never : None ≡ Some value = last in cc);
   dry = λ order within room. omega arith;
+  reports = reports-none before;
 }
   where
     laid : (object : ℕ) (held : Held) → held_under before object ≡ Some held → held.worker ≡ None
@@ -202,6 +207,20 @@ module _ (before : State) (round : Round) (result : RoundResult) (after : State)
           let same : given.0 ≡ spot = injected (sym given.1 ∙ sym (spot-kept before after last after-caches.table) ∙ here) in
           subst (WasGivenAt before answers object) same given.2
 
+  -- the slabs of checked caches are those after the last event
+  after-checked : after.checked ≡ does.last.checked
+  after-checked = ap (λ (t : State). t.checked) does.after_is
+
+  aside : (cache frame : ℕ) → aside_at before cache frame < aside_at after cache frame → (found : Found) × Contains result.damages found × IsOfSlab after cache frame found.report
+  aside cache frame more =
+      let same : checked_of after cache ≡ checked_of does.last cache = ap (λ (l : List (Option CheckedState)). get_or l cache None) after-checked in
+      let less : aside_at before cache frame < aside_at does.last cache frame = subst (λ n. aside_at before cache frame < n) (ap (λ x. option_map_or (λ slabs. aside_in (checked_slab slabs frame)) x 0) same) more in
+      let found = found-aside before does.last tale.reports tale.coherent cache frame less in (
+        found.0,
+        subst (λ l. Contains l found.0) (sym does.damages) found.1,
+        (found.2.0, subst (λ x. MatchOption x ⊥ (λ slabs. (index : ℕ) × (index < objects_in (checked_slab slabs frame)) × (found.0.report.address ≡ address_of frame index slabs.layout))) (sym same) found.2.1),
+      )
+
   pub lawful : IsRound before round result after
   lawful = record {
     replies = runs-even before round.events result.replies does.last does.runs;
@@ -211,6 +230,6 @@ module _ (before : State) (round : Round) (result : RoundResult) (after : State)
     board = board;
     ledgers = does.ledgers;
     dry = λ order within room. ap (λ (t : State). get_or t.pool.dry order 0) does.after_is ∙ tale.dry order within room;
-    damages = ?;
-    aside = ?;
+    damages = subst (All (λ (found : Found). found.report.damage.found ≢ found.report.damage.wanted)) (sym does.damages) (found-differ before does.last tale.reports);
+    aside = aside;
   }

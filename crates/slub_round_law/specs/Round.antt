@@ -1,6 +1,6 @@
 -- Which rounds are lawful: by their events, replies and ledgers and by the machine before and after alone, whatever the
 -- number of workers and however their steps came after one another.
-use Rattle.std.specs.Prelude.{◌≡◌, ◌≢◌, ℕ, ◌+◌, ◌*◌, ◌^◌, ◌<◌, ◌≤◌, ◌↔◌, ◌⊎◌, if◌then◌else◌, Bool, true, false, List, length, count_by, Option, Some, None, IsSome, IfSome, MatchOption, ⊤, All, Contains, nat_eq, slice_index, slice_index_or}
+use Rattle.std.specs.Prelude.{◌≡◌, ◌≢◌, ℕ, ◌+◌, ◌^◌, ◌<◌, ◌≤◌, ◌↔◌, ◌⊎◌, if◌then◌else◌, Bool, true, false, List, length, count_by, Option, Some, None, IsSome, IfSome, MatchOption, ⊤, All, Contains, nat_eq, slice_index, slice_index_or}
 use Rattle.std.specs.List.{IsDistinct, fold, zip}
 use Rattle.std.specs.Option.{option_and_then, option_map, option_map_or}
 use Rattle.slub_object_layout.specs.declared.event.Act.{Act}
@@ -8,7 +8,6 @@ use Rattle.slub_object_layout.specs.declared.event.Act.TheVariants.{Alloc, Free,
 use Rattle.slub_object_layout.specs.declared.event.Round.{Round}
 use Rattle.slub_object_layout.specs.declared.layout.Layout.{Layout}
 use Rattle.slub_object_layout.specs.Layout.{address_of}
-use Rattle.slub_red_zone.specs.declared.zones.Damage.{Damage}
 use Rattle.slub_red_zone.specs.declared.zones.Report.{Report}
 use Rattle.slub_red_zone.specs.State.{aside_in, objects_in, slab_of as checked_slab}
 use Rattle.slub_lists.specs.declared.lists.Held.{Held}

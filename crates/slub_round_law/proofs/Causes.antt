@@ -10,7 +10,7 @@ use Rattle.slub_cache_create.specs.Table.{Table, cache_of as live_cache, name_at
 use Rattle.slub_cache_create.specs.declared.caches.Cache.{Cache}
 use Rattle.slub_red_zone.specs.State.{CheckedState}
 use Rattle.slub_lists.specs.declared.lists.Held.{Held}
-use Rattle.slub_lists.specs.declared.reply.Reply.{Reply}
+use Rattle.slub_answers.specs.declared.reply.Reply.{Reply}
 use Rattle.slub_lists.specs.State.{State}
 use Rattle.slub_lists.specs.Alloc.{cache_of, checked_of, named}
 use Rattle.slub_lists.specs.Coherent.{IsCoherent, held_under, laid_down}
@@ -21,7 +21,6 @@ use Rattle.slub_lists.specs.Words.{held_by, is_word, is_worker, own, word_of}
 use Rattle.slub_lists.proofs.Apart.{held-apart}
 use Rattle.slub_lists.proofs.CheckedGiving.{layout-live}
 use Rattle.slub_lists.proofs.ObjectWords.{memory-read, own-is}
-use Rattle.slub_engine.specs.Steps.{IsKnownAct}
 use Rattle.slub_round_law.specs.Answered.{Answered, did_free, found_bad, gave, holding, last_written, of_worker, times_freed, times_taken}
 use Rattle.slub_round_law.specs.Round.{Cause, IsFreeable, IsOwnValue, IsSpare, Spot, has_word, layout_of, spot_by, spot_of, spot_under}
 use Rattle.slub_round_law.proofs.Damages.{damage-differs, damage-taken}
@@ -233,25 +232,24 @@ module _ (before : State) (past : List Answered) (s : State) (one : Answered) (a
   others-kept : (object : ℕ) (held : Option Held) → after.board ≡ set s.board object held → (other : ℕ) → other ≢ object → held_under after other ≡ held_under s other
   others-kept object held board other differ = ap (λ (b : List (Option Held)). get_or b other None) board ∙ get_or-set_other s.board object other held None differ
 
-  on-after : (place object : ℕ) (held : Held) → one.0.act ≡ Alloc place object → after.board ≡ set s.board object (Some held) → held_under after object ≡ Some held
-  on-after place object held asks board =
-      let known : IsKnownAct before (Alloc place object) = subst (IsKnownAct before) asks moves.known in
-      ap (λ (b : List (Option Held)). get_or b object None) board ∙ get_or-set_same s.board object (Some held) None (omega (arith, known.1, tale.caches.board))
+  on-after : (object : ℕ) (held : Held) → gave object one ≡ true → after.board ≡ set s.board object (Some held) → held_under after object ≡ Some held
+  on-after object held did board =
+      ap (λ (b : List (Option Held)). get_or b object None) board ∙ get_or-set_same s.board object (Some held) None (omega (arith, moves.inside object did, tale.caches.board))
 
   as-is : (act : Act) (answer : Reply) → one.0.act ≡ act → one.1 ≡ answer → Cause before answers mine act answer → Cause before answers mine one.0.act one.1
   as-is act answer asks is cause = subst (λ a. Cause before answers mine a one.1) (sym asks) (subst (λ r. Cause before answers mine act r) (sym is) cause)
 
   cause-by : IsCoherent before → Step s one.0 one.1 after → Cause before answers mine one.0.act one.1
-  cause-by coherent (gives place object live held asks names is_live owner is unheld board gone table memory cpus dry) =
+  cause-by coherent (gives place object live held asks names is_live owner is unheld board gone table memory cpus frames dry) =
       let did : gave object one ≡ true = rw (asks, is, eq-eqb object object refl) refl in
       let none = new-unheld before past s one after moves tale object did in
-      as-is _ _ asks is (ap is_some (sym (named-before place) ∙ names), spare object held live is_live (on-after place object held asks board) none table (others-kept object (Some held) board))
-  cause-by coherent (lacks place object cache live asks names is_live is board gone table memory cpus dry) = as-is _ _ asks is (ap is_some (sym (named-before place) ∙ names))
+      as-is _ _ asks is (ap is_some (sym (named-before place) ∙ names), spare object held live is_live (on-after object held did board) none table (others-kept object (Some held) board))
+  cause-by coherent (lacks place object cache live asks names is_live is board gone table memory cpus frames dry) = as-is _ _ asks is (ap is_some (sym (named-before place) ∙ names))
   cause-by coherent (wants place object cache live slabs asks names is_live checked is kept) =
       as-is _ _ asks is (subst (λ (x : Option ℕ). MatchOption x ⊥ (λ cache. IsSome (checked_of before cache))) (sym names ∙ named-before place)
       (checked-kept before s cache live coherent tale.coherent tale.caches.table (live-before cache live is_live) ∙ ap is_some checked))
   cause-by coherent (nameless place object asks none is now) = as-is _ _ asks is (sym (named-before place) ∙ none)
-  cause-by coherent (frees object live held asks was may is_live is board gone table memory cpus dry) = as-is _ _ asks is (
+  cause-by coherent (frees object live held asks was may is_live is board gone table memory cpus frames dry) = as-is _ _ asks is (
     freeable object held was may,
     subst (λ (x : Option Spot). MatchOption x ⊥ (λ spot. spot.address ≡ address_of held.frame held.index live.layout))
         (sym (tale.spots one.0.worker object held was may ∙ the-spot before held live (live-before held.cache live is_live))) refl,

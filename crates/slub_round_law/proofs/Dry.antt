@@ -6,12 +6,12 @@ use Rattle.slub_page_pool.specs.FreeFrames.{FreeFrames}
 use Rattle.slub_object_layout.specs.declared.event.Act.TheVariants.{Alloc}
 use Rattle.slub_cache_create.specs.Table.{Table, cache_of as live_cache, name_at, number_of}
 use Rattle.slub_cache_create.specs.declared.caches.Cache.{Cache}
-use Rattle.slub_lists.specs.declared.reply.Reply.{Reply}
-use Rattle.slub_lists.specs.declared.reply.Reply.TheVariants as reply
+use Rattle.slub_answers.specs.declared.reply.Reply.{Reply}
+use Rattle.slub_answers.specs.declared.reply.Reply.TheVariants as reply
 use Rattle.slub_lists.specs.State.{State}
 use Rattle.slub_lists.specs.Alloc.{cache_of, named}
 use Rattle.slub_lists.specs.Coherent.{IsCoherent}
-use Rattle.slub_engine.specs.Lawful.{is_order, lacks as lacks_run, least_order_of, min_order_of}
+use Rattle.slub_journal.specs.Lawful.{is_order, lacks as lacks_run, least_order_of, min_order_of}
 use Rattle.slub_round_law.specs.Answered.{Answered}
 use Rattle.slub_round_law.proofs.Runs.{count-more}
 use Rattle.slub_round_law.proofs.Steps.{Step, counted, frees, gives, keeps, lacks, nameless, pokes, pokes_not, reads, reads_none, reads_not, refuses, wants, word-keeps, writes, writes_none, writes_not}
@@ -65,11 +65,11 @@ module _ (before : State) (past : List Answered) (s : State) (one : Answered) (a
       counts = asked one asks is ∙ ap (is_order order) least
 
   pub dry-step : Step s one.0 one.1 after → Dry before (past ++ one ∷ []) after
-  dry-step (gives place object live held asks names is_live mine is unheld board gone table memory cpus same) = quiet same (ap is_lack is)
-  dry-step (lacks place object cache live asks names is_live is board gone table memory cpus now) = lacked place object cache live asks names is_live is now
+  dry-step (gives place object live held asks names is_live mine is unheld board gone table memory cpus frames same) = quiet same (ap is_lack is)
+  dry-step (lacks place object cache live asks names is_live is board gone table memory cpus frames now) = lacked place object cache live asks names is_live is now
   dry-step (wants place object cache live slabs asks names is_live checked is kept) = quiet kept.dry (ap is_lack is)
   dry-step (nameless place object asks none is now) = quiet (ap (λ (t : State). t.pool.dry) now) (ap is_lack is)
-  dry-step (frees object live held asks was may is_live is board gone table memory cpus same) = quiet same (ap is_lack is)
+  dry-step (frees object live held asks was may is_live is board gone table memory cpus frames same) = quiet same (ap is_lack is)
   dry-step (keeps object damage held slabs asks was may checked taken is now) = quiet (ap (λ (t : State). t.pool.dry) now) (ap is_lack is)
   dry-step (refuses object asks why is now) = quiet (ap (λ (t : State). t.pool.dry) now) (ap is_lack is)
   dry-step (writes object word value live held asks holds within is now) =

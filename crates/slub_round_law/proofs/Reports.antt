@@ -17,9 +17,10 @@ use Rattle.slub_lists.specs.State.{State}
 use Rattle.slub_lists.specs.Alloc.{checked_of}
 use Rattle.slub_lists.specs.Checked.{first_slot}
 use Rattle.slub_lists.specs.Coherent.{IsCheckedOf, IsCoherent}
-use Rattle.slub_lists.proofs.CheckedSlabs.{at_some, inside-of}
-use Rattle.slub_engine.specs.declared.journal.Found.{Found}
-use Rattle.slub_engine.specs.Lawful.{cache_numbers, found_in, found_of, reports_of, title_of}
+use Rattle.slub_common.proofs.Writes.{inside-of}
+use Rattle.slub_lists.proofs.CheckedSlabs.{at_some}
+use Rattle.slub_journal.specs.declared.journal.Found.{Found}
+use Rattle.slub_journal.specs.Lawful.{cache_numbers, found_in, found_of, reports_of, title_of}
 use Rattle.slub_round_law.specs.Answered.{Answered}
 use Rattle.slub_round_law.specs.Round.{IsOfSlab, aside_at}
 use Rattle.slub_round_law.proofs.Slabs.{Slabs, Swaps, gave, made, poked, same, took, wrote}

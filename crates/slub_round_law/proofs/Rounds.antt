@@ -1,18 +1,21 @@
 -- A round that is done event by event is lawful.
-use Rattle.std.proofs.Common.{◌≡◌, ℕ, ◌+◌, ◌≤◌, true, List, [], ◌∷◌, ◌++◌, length, refl, sym, ◌∙◌, ap, subst, arith, All, Option, Some, None, is_some, length-set}
+use Rattle.std.proofs.Common.{◌<◌, ◌&&◌, Bool, false, inl, inr, eqb, ◌≡◌, ℕ, ◌+◌, ◌≤◌, true, List, [], ◌∷◌, ◌++◌, length, refl, sym, ◌∙◌, ap, subst, arith, All, Option, Some, None, is_some, length-set}
 use Rattle.std.specs.List.{zip}
 use Rattle.std.proofs.lemmas.List.{append_assoc, append-nil}
-use Rattle.std.proofs.lemmas.List.Elements.{All-head, All-tail}
+use Rattle.std.proofs.lemmas.Bool.Decides.{nat_tests}
+use Rattle.std.proofs.lemmas.List.Elements.{All-cons, All-head, All-tail}
+use Rattle.slub_object_layout.specs.declared.event.Act.TheVariants.{Alloc, Free, Write, Read, Poke, Trim, Flush}
+use Rattle.slub_object_layout.specs.declared.event.Act.{Act}
 use Rattle.slub_object_layout.specs.declared.event.Event.{Event}
 use Rattle.slub_cache_create.specs.Table.{Table}
 use Rattle.slub_lists.specs.declared.lists.Held.{Held}
-use Rattle.slub_lists.specs.declared.reply.Reply.{Reply}
+use Rattle.slub_answers.specs.declared.reply.Reply.{Reply}
 use Rattle.slub_lists.specs.State.{State}
 use Rattle.slub_lists.specs.Coherent.{IsCoherent, held_under}
-use Rattle.slub_engine.specs.Lawful.{Answers, RunsEvents}
-use Rattle.slub_engine.specs.Steps.{IsKnown, IsKnownAct, KeepsCaches}
-use Rattle.slub_engine.proofs.Rounds.{known_kept}
-use Rattle.slub_round_law.specs.Answered.{Answered, gave, times_freed, times_given}
+use Rattle.slub_trace_reader.specs.Sound.{objects_of}
+use Rattle.slub_answers.specs.Kinds.{is_given}
+use Rattle.slub_journal.specs.Lawful.{Answers, RunsEvents}
+use Rattle.slub_round_law.specs.Answered.{Answered, is_alloc_of, gave, times_freed, times_given}
 use Rattle.slub_round_law.proofs.Dry.{Dry, dry-step}
 use Rattle.slub_round_law.proofs.Reports.{Reports, event-told, reports-more}
 use Rattle.slub_round_law.proofs.Runs.{Turn, on_board, turn}
@@ -22,11 +25,18 @@ use Rattle.slub_round_law.proofs.Tale.{Boards, Holdings, Spots, Takens, boards-s
 use Rattle.slub_round_law.proofs.Times.{counted_append, one_where}
 use Rattle.slub_round_law.proofs.Values.{Values, values-step}
 
+-- the sizes of the machine, its names and its caches are as before
+pub record SameCaches (s after : State) : Type 0 where
+  pub frames : after.frames ≡ s.frames
+  pub cpus : after.cpus ≡ s.cpus
+  pub table : after.table ≡ s.table
+  pub board : length after.board ≡ length s.board
+
 -- ---- how far a round has come
 
 pub record Tale (before : State) (past : List Answered) (s : State) : Type 0 where
   pub coherent : IsCoherent s
-  pub caches : KeepsCaches before s
+  pub caches : SameCaches before s
   pub count : (object : ℕ) → on_board object s + times_freed object past ≡ on_board object before + times_given object past
   pub holds : Holdings past s
   pub spots : Spots before past s
@@ -40,30 +50,31 @@ pub record Tale (before : State) (past : List Answered) (s : State) : Type 0 whe
 pub record Moves (before : State) (past : List Answered) (s : State) (one : Answered) (after : State) : Type 0 where
   pub answers : Answers s one.0 one.0.act one.1 after
   pub coherent : IsCoherent after
-  pub known : IsKnownAct before one.0.act
+  pub inside : (object : ℕ) → gave object one ≡ true → object < length before.board
   -- what is given was never given before, and was not on the board
   pub new : (object : ℕ) → gave object one ≡ true → on_board object before + times_given object past ≡ 0
 
 -- what a step leaves of the table and the sizes
-step-caches : (before s : State) (event : Event) (answer : Reply) (after : State) → Step s event answer after → KeepsCaches before s → KeepsCaches before after
+step-caches : (before s : State) (event : Event) (answer : Reply) (after : State) → Step s event answer after → SameCaches before s → SameCaches before after
 step-caches before s event answer after step caches = then_kept (by step)
   where
-    then_kept : KeepsCaches s after → KeepsCaches before after
-    then_kept kept = record { cpus = kept.cpus ∙ caches.cpus; table = kept.table ∙ caches.table; board = kept.board ∙ caches.board }
+    then_kept : SameCaches s after → SameCaches before after
+    then_kept kept = record { frames = kept.frames ∙ caches.frames; cpus = kept.cpus ∙ caches.cpus; table = kept.table ∙ caches.table; board = kept.board ∙ caches.board }
 
-    still : after ≡ s → KeepsCaches s after
-    still same = record { cpus = ap (λ (t : State). t.cpus) same; table = ap (λ (t : State). t.table) same; board = ap (λ (t : State). length t.board) same }
+    still : after ≡ s → SameCaches s after
+    still same = record { frames = ap (λ (t : State). t.frames) same; cpus = ap (λ (t : State). t.cpus) same; table = ap (λ (t : State). t.table) same; board = ap (λ (t : State). length t.board) same }
 
-    of : Keeps s after → KeepsCaches s after
-    of kept = record { cpus = kept.cpus; table = kept.table; board = ap (λ (b : List (Option Held)). length b) kept.board }
+    of : Keeps s after → SameCaches s after
+    of kept = record { frames = kept.frames; cpus = kept.cpus; table = kept.table; board = ap (λ (b : List (Option Held)). length b) kept.board }
 
-    by : Step s event answer after → KeepsCaches s after
-    by (gives place object live held asks names is_live mine is unheld board gone table memory cpus dry) = record { cpus = cpus; table = table; board = ap (λ (b : List (Option Held)). length b) board ∙ length-set s.board object (Some held) }
-    by (lacks place object cache live asks names is_live is board gone table memory cpus dry) = record { cpus = cpus; table = table; board = ap (λ (b : List (Option Held)). length b) board }
+    by : Step s event answer after → SameCaches s after
+    by (gives place object live held asks names is_live mine is unheld board gone table memory cpus frames dry) = record { frames = frames; cpus = cpus; table = table; board = ap (λ (b : List (Option Held)). length b) board ∙ length-set s.board object (Some held) }
+    by (lacks place object cache live asks names is_live is board gone table memory cpus frames dry) = record { frames = frames; cpus = cpus; table = table; board = ap (λ (b : List (Option Held)). length b) board }
     by (wants place object cache live slabs asks names is_live checked is kept) = of kept
     by (nameless place object asks none is now) = still now
-    by (frees object live held asks was may is_live is board gone table memory cpus dry) = record { cpus = cpus; table = table; board = ap (λ (b : List (Option Held)). length b) board ∙ length-set s.board object None }
+    by (frees object live held asks was may is_live is board gone table memory cpus frames dry) = record { frames = frames; cpus = cpus; table = table; board = ap (λ (b : List (Option Held)). length b) board ∙ length-set s.board object None }
     by (keeps object damage held slabs asks was may checked taken is now) = record {
+      frames = ap (λ (t : State). t.frames) now;
       cpus = ap (λ (t : State). t.cpus) now;
       table = ap (λ (t : State). t.table) now;
       board = ap (λ (t : State). length t.board) now ∙ length-set s.board object (Some (record held { worker = Some event.worker }));
@@ -71,13 +82,13 @@ step-caches before s event answer after step caches = then_kept (by step)
     by (refuses object asks why is now) = still now
     by (writes object word value live held asks holds within is now) =
         let kept = word-keeps s live.layout held word value in
-        record { cpus = ap (λ (t : State). t.cpus) now ∙ kept.cpus; table = ap (λ (t : State). t.table) now ∙ kept.table; board = ap (λ (t : State). length t.board) now ∙ ap (λ (b : List (Option Held)). length b) kept.board }
+        record { frames = ap (λ (t : State). t.frames) now ∙ kept.frames; cpus = ap (λ (t : State). t.cpus) now ∙ kept.cpus; table = ap (λ (t : State). t.table) now ∙ kept.table; board = ap (λ (t : State). length t.board) now ∙ ap (λ (b : List (Option Held)). length b) kept.board }
     by (writes_none object word value live held asks holds past is now) = still now
     by (writes_not object word value asks none is now) = still now
     by (reads object word live held asks holds within is now) = still now
     by (reads_none object word live held asks holds past is now) = still now
     by (reads_not object word asks none is now) = still now
-    by (pokes object offset byte held slabs asks knows checked is now) = record { cpus = ap (λ (t : State). t.cpus) now; table = ap (λ (t : State). t.table) now; board = ap (λ (t : State). length t.board) now }
+    by (pokes object offset byte held slabs asks knows checked is now) = record { frames = ap (λ (t : State). t.frames) now; cpus = ap (λ (t : State). t.cpus) now; table = ap (λ (t : State). t.table) now; board = ap (λ (t : State). length t.board) now }
     by (pokes_not object offset byte asks why now) = still now
 
 module _ (before : State) (past : List Answered) (s : State) (one : Answered) (after : State) (moves : Moves before past s one after) (tale : Tale before past s) where
@@ -89,11 +100,11 @@ module _ (before : State) (past : List Answered) (s : State) (one : Answered) (a
   new-unheld object did = no-object (held_under s object) (let none : one_where (is_some (held_under s object)) ≡ 0 = omega (arith, moves.new object did, tale.count object) in none)
 
   pub turns-of : (object : ℕ) → Turn s one after object
-  turns-of object = turn s one after object tale.coherent (new-unheld object) (known_kept before s one.0.act (ap (λ (t : Table). length t.kept) tale.caches.table) tale.caches.board moves.known) step-of
+  turns-of object = turn s one after object tale.coherent (new-unheld object) (λ did. omega (arith, moves.inside object did, tale.caches.board)) step-of
 
   pub tale-step : Tale before (past ++ one ∷ []) after
   tale-step =
-      let caches = step-caches s s one.0 one.1 after step-of (record { cpus = refl; table = refl; board = refl }) in
+      let caches = step-caches s s one.0 one.1 after step-of (record { frames = refl; cpus = refl; table = refl; board = refl }) in
       record {
         coherent = moves.coherent;
         caches = step-caches before s one.0 one.1 after step-of tale.caches;
@@ -134,22 +145,51 @@ runs-tale before past s [] after tale runs = subst (λ (l : List Answered). Tale
 runs-tale before past s (one ∷ answers) after tale runs =
     subst (λ (l : List Answered). Tale before l after) (append_assoc past (one ∷ []) answers) (runs-tale before (past ++ one ∷ []) runs.0 answers after (tale-step before past s one runs.0 runs.1 tale) runs.2)
 
+given-alloc : (object : ℕ) (one : Answered) → gave object one ≡ true → is_alloc_of object one.0.act ≡ true
+given-alloc object one did = by (is_alloc_of object one.0.act) did
+  where
+    by : (b : Bool) → (b && is_given one.1) ≡ true → b ≡ true
+    by true e = refl
+    by false e = e
+
 -- what was given more often than it could be wasn't
 once-new : (before : State) (past : List Answered) (one : Answered) (rest : List Answered) → ((object : ℕ) → on_board object before + times_given object (past ++ one ∷ rest) ≤ 1)
     → (object : ℕ) → gave object one ≡ true → on_board object before + times_given object past ≡ 0
 once-new before past one rest once object did =
     omega (arith, once object, counted_append (gave object) past (one ∷ rest), counted_append (gave object) (one ∷ []) rest, ap one_where did)
 
-pub runs-of : (before : State) (workers : ℕ) (past : List Answered) (s : State) (events : List Event) (replies : List Reply) (after : State) → All (IsKnown before workers) events
+-- the numbers that an event allocates are the machine's
+abbrev Within : State → Event → Type 0
+Within before event = (object : ℕ) → is_alloc_of object event.act ≡ true → object < length before.board
+
+pub all-within : (before : State) (events : List Event) → All (λ object. object < length before.board) (objects_of events) → All (Within before) events
+all-within before [] within = λ k d past. absurd (omega (arith, past))
+all-within before (event ∷ events) within =
+    All-cons (Within before) event events (by event.act refl) (all-within before events (λ k d inside. rest event.act refl k d inside))
+  where
+    by : (act : Act) → event.act ≡ act → Within before event
+    by (Alloc place other) is object did =
+        let same : other ≡ object = grind (arith, nat_tests, subst (λ a. is_alloc_of object a ≡ true) is did) in
+        let all : objects_of (event ∷ events) ≡ other ∷ objects_of events = rw is refl in
+        subst (λ n. n < length before.board) same (subst (All (λ object. object < length before.board)) all within 0 other (omega arith))
+    by _ is object did = absurd (let never : false ≡ true = subst (λ a. is_alloc_of object a ≡ true) is did in cc)
+
+    rest : (act : Act) → event.act ≡ act → All (λ object. object < length before.board) (objects_of events)
+    rest (Alloc place other) is =
+        let all : objects_of (event ∷ events) ≡ other ∷ objects_of events = rw is refl in
+        All-tail (λ object. object < length before.board) other (objects_of events) (subst (All (λ object. object < length before.board)) all within)
+    rest _ is = let all : objects_of (event ∷ events) ≡ objects_of events = rw is refl in subst (All (λ object. object < length before.board)) all within
+
+pub runs-of : (before : State) (past : List Answered) (s : State) (events : List Event) (replies : List Reply) (after : State) → All (Within before) events
     → ((object : ℕ) → on_board object before + times_given object (past ++ zip events replies) ≤ 1) → RunsEvents s events replies after → Runs before past s (zip events replies) after
-runs-of before workers past s [] [] after known once runs = runs
-runs-of before workers past s [] (answer ∷ replies) after known once runs = absurd runs
-runs-of before workers past s (event ∷ events) [] after known once runs = absurd runs
-runs-of before workers past s (event ∷ events) (answer ∷ replies) after known once runs =
-    let first = All-head (IsKnown before workers) event events known in (
+runs-of before past s [] [] after known once runs = runs
+runs-of before past s [] (answer ∷ replies) after known once runs = absurd runs
+runs-of before past s (event ∷ events) [] after known once runs = absurd runs
+runs-of before past s (event ∷ events) (answer ∷ replies) after known once runs =
+    let first = All-head (Within before) event events known in (
       runs.0,
-      record { answers = runs.1; coherent = runs.2; known = first.act; new = once-new before past (event, answer) (zip events replies) once },
-      runs-of before workers (past ++ (event, answer) ∷ []) runs.0 events replies after (All-tail (IsKnown before workers) event events known)
+      record { answers = runs.1; coherent = runs.2; inside = λ object did. first object (given-alloc object (event, answer) did); new = once-new before past (event, answer) (zip events replies) once },
+      runs-of before (past ++ (event, answer) ∷ []) runs.0 events replies after (All-tail (Within before) event events known)
           (λ object. subst (λ (l : List Answered). on_board object before + times_given object l ≤ 1) (sym (append_assoc past ((event, answer) ∷ []) (zip events replies))) (once object)) runs.3,
     )
 

@@ -7,15 +7,15 @@ use Rattle.slub_object_layout.specs.declared.event.Act.TheVariants.{Alloc, Free}
 use Rattle.slub_object_layout.specs.Layout.{address_of}
 use Rattle.slub_red_zone.specs.State.{CheckedState}
 use Rattle.slub_lists.specs.declared.lists.Held.{Held}
-use Rattle.slub_lists.specs.declared.reply.Reply.{Reply}
-use Rattle.slub_lists.specs.declared.reply.Reply.TheVariants as reply
+use Rattle.slub_answers.specs.declared.reply.Reply.{Reply}
+use Rattle.slub_answers.specs.declared.reply.Reply.TheVariants as reply
 use Rattle.slub_lists.specs.State.{State}
 use Rattle.slub_lists.specs.Alloc.{checked_of}
 use Rattle.slub_lists.specs.Coherent.{IsCoherent, held_under}
 use Rattle.slub_lists.specs.Free.{is_freeable}
-use Rattle.slub_lists.proofs.CheckedSlabs.{inside-of}
-use Rattle.slub_engine.specs.Lawful.{is_by, is_freed, is_given}
-use Rattle.slub_engine.specs.Steps.{IsKnownAct}
+use Rattle.slub_common.proofs.Writes.{inside-of}
+use Rattle.slub_journal.specs.Lawful.{is_by}
+use Rattle.slub_answers.specs.Kinds.{is_freed, is_given}
 use Rattle.slub_round_law.specs.Answered.{Answered, did_free, found_bad, gave, is_alloc_of, is_corrupt, is_free_of, of_worker}
 use Rattle.slub_round_law.specs.Round.{spot_asked, spot_of}
 use Rattle.slub_round_law.proofs.Steps.{Step, frees, gives, keeps, lacks, nameless, pokes, pokes_not, reads, reads_none, reads_not, refuses, wants, word-keeps, writes, writes_none, writes_not}
@@ -155,25 +155,22 @@ others-rest s one after object other held gone differ board was silent =
     ]) silent.gave_not silent.free_not silent.bad_not
 
 module _ (s : State) (one : Answered) (after : State) (object : ℕ) (coherent : IsCoherent s)
-    (unheld : gave object one ≡ true → held_under s object ≡ None) (known : IsKnownAct s one.0.act) where
-  alloc-inside : (place : ℕ) → one.0.act ≡ Alloc place object → object < length s.board
-  alloc-inside place is = let here : IsKnownAct s (Alloc place object) = subst (IsKnownAct s) is known in here.1
-
+    (unheld : gave object one ≡ true → held_under s object ≡ None) (inside : gave object one ≡ true → object < length s.board) where
   pub turn : Step s one.0 one.1 after → Turn s one after object
-  turn (gives place other live held asks names is_live mine is unheld_slot board gone table memory cpus dry) = elim (cases_eq other object) [
+  turn (gives place other live held asks names is_live mine is unheld_slot board gone table memory cpus frames dry) = elim (cases_eq other object) [
     | inl same ↦
         let here : one.0.act ≡ Alloc place object = asks ∙ ap (Alloc place) same in
         let did : gave object one ≡ true = rw (here, is, eq-eqb object object refl) refl in
         comes place (address_of held.frame held.index live.layout) held (unheld did)
-        (ap (λ (b : List (Option Held)). get_or b object None) board ∙ ap (λ n. get_or (set s.board n (Some held)) object None) same ∙ get_or-set_same s.board object (Some held) None (alloc-inside place here))
+        (ap (λ (b : List (Option Held)). get_or b object None) board ∙ ap (λ n. get_or (set s.board n (Some held)) object None) same ∙ get_or-set_same s.board object (Some held) None (inside did))
         (ap (λ (b : List (Option Held)). get_or b object None) gone) mine did (rw here refl) (rw here refl) here is
         (rw (here, names) refl) (rw is_live refl)
     | inr differ ↦ others-rest s one after object other (Some held) None differ board (inl gone) (other-alloc object other place one differ asks)
   ]
-  turn (lacks place other cache live asks names is_live is board gone table memory cpus dry) = rests-by s one after object board gone (silent-by object one reply.NoFrames is refl refl refl)
+  turn (lacks place other cache live asks names is_live is board gone table memory cpus frames dry) = rests-by s one after object board gone (silent-by object one reply.NoFrames is refl refl refl)
   turn (wants place other cache live slabs asks names is_live checked is kept) = rests-by s one after object kept.board kept.gone (silent-by object one reply.NoMemory is refl refl refl)
   turn (nameless place other asks none is same) = same-rests s one after object same (silent-by object one reply.NoSuchCache is refl refl refl)
-  turn (frees other live held asks was may is_live is board gone table memory cpus dry) = elim (cases_eq other object) [
+  turn (frees other live held asks was may is_live is board gone table memory cpus frames dry) = elim (cases_eq other object) [
     | inl same ↦
         let here : one.0.act ≡ Free object = asks ∙ ap Free same in
         let there : held_under s object ≡ Some held = ap (held_under s) (sym same) ∙ was in

@@ -14,8 +14,8 @@ use Rattle.slub_red_zone.specs.declared.checked.Run.{Run as SlabRun}
 use Rattle.slub_red_zone.specs.declared.zones.Damage.{Damage}
 use Rattle.slub_lists.specs.declared.lists.Held.{Held}
 use Rattle.slub_lists.specs.declared.lists.Run.{Run}
-use Rattle.slub_lists.specs.declared.reply.Reply.{Reply}
-use Rattle.slub_lists.specs.declared.reply.Reply.TheVariants as reply
+use Rattle.slub_answers.specs.declared.reply.Reply.{Reply}
+use Rattle.slub_answers.specs.declared.reply.Reply.TheVariants as reply
 use Rattle.slub_lists.specs.State.{State}
 use Rattle.slub_lists.specs.Alloc.{FindsRun, cache_of, checked_of, lists_of, named, own_free}
 use Rattle.slub_lists.specs.Checked.{GivesOrMakes, IsFreedOrKept, LacksMemory, LacksRun, GivesSlot, discarded_where, first_slot, new_given, slot_of_held, with_checked, with_checked_slab}
@@ -26,7 +26,7 @@ use Rattle.slub_lists.specs.Named.{AllocatesNamed}
 use Rattle.slub_lists.specs.Words.{known_to, word_at}
 use Rattle.slub_lists.proofs.Keeps.{unchecked_keeps}
 use Rattle.slub_lists.proofs.KeepsFreed.{same_settled}
-use Rattle.slub_engine.specs.Lawful.{Answers}
+use Rattle.slub_journal.specs.Lawful.{Answers}
 use Rattle.slub_round_law.proofs.Steps.{Holds, Step, event-step, frees, gives, keeps, lacks, match_bool, match_either, match_some, nameless, pokes, pokes_not, reads, reads_none, reads_not, refuses, wants, writes, writes_none, writes_not}
 
 -- the slabs of one checked cache are others
@@ -116,14 +116,14 @@ free-slabs s event object answer after done = match_either (get_or s.board objec
 -- ---- words and bytes
 
 of-step : (s : State) (event : Event) (answer : Reply) (after : State) → Answers s event event.act answer after → Step s event answer after → Slabs s event answer after
-of-step s event answer after answers (gives place object live held asks names is_live mine is unheld board gone table memory cpus dry) =
+of-step s event answer after answers (gives place object live held asks names is_live mine is unheld board gone table memory cpus frames dry) =
     let done : Answers s event (Alloc place object) answer after = subst (λ act. Answers s event act answer after) asks answers in alloc-slabs s event place object answer after done
-of-step s event answer after answers (lacks place object cache live asks names is_live is board gone table memory cpus dry) =
+of-step s event answer after answers (lacks place object cache live asks names is_live is board gone table memory cpus frames dry) =
     let done : Answers s event (Alloc place object) answer after = subst (λ act. Answers s event act answer after) asks answers in alloc-slabs s event place object answer after done
 of-step s event answer after answers (wants place object cache live slabs asks names is_live checked is kept) =
     let done : Answers s event (Alloc place object) answer after = subst (λ act. Answers s event act answer after) asks answers in alloc-slabs s event place object answer after done
 of-step s event answer after answers (nameless place object asks none is now) = same (ap (λ (t : State). t.checked) now)
-of-step s event answer after answers (frees object live held asks was may is_live is board gone table memory cpus dry) =
+of-step s event answer after answers (frees object live held asks was may is_live is board gone table memory cpus frames dry) =
     let done : Answers s event (Free object) answer after = subst (λ act. Answers s event act answer after) asks answers in free-slabs s event object answer after done
 of-step s event answer after answers (keeps object damage held slabs asks was may checked taken is now) = same (ap (λ (t : State). t.checked) now)
 of-step s event answer after answers (refuses object asks why is now) = same (ap (λ (t : State). t.checked) now)

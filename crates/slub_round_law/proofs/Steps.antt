@@ -17,16 +17,16 @@ use Rattle.slub_red_zone.specs.declared.checked.Slot.{Slot}
 use Rattle.slub_red_zone.specs.declared.zones.Damage.{Damage}
 use Rattle.slub_lists.specs.declared.lists.Held.{Held}
 use Rattle.slub_lists.specs.declared.lists.Run.{Run}
-use Rattle.slub_lists.specs.declared.reply.Reply.{Reply}
-use Rattle.slub_lists.specs.declared.reply.Reply.TheVariants as reply
+use Rattle.slub_answers.specs.declared.reply.Reply.{Reply}
+use Rattle.slub_answers.specs.declared.reply.Reply.TheVariants as reply
 use Rattle.slub_lists.specs.State.{State}
 use Rattle.slub_lists.specs.Alloc.{AllocatesNew, FindsRun, Gives, batch_of, cache_of, checked_of, from_current, from_free, from_node, from_partial, from_slabs, held_here, lists_of, named, node_of, own_free, retired, stocked, with_held, with_lists, with_new_slab}
 use Rattle.slub_lists.specs.Named.{AllocatesFrom, AllocatesNamed}
 use Rattle.slub_lists.specs.Checked.{GivesOrMakes, GivesSlot, IsFreedOrKept, LacksMemory, LacksRun, discarded_where, first_slot, kept_by, slot_of_held, with_checked, with_checked_slab}
-use Rattle.slub_lists.specs.Free.{FreesUnchecked, discarded, drained, freed, freed_here, is_current, is_freeable, is_frozen, is_spare, moved, put_partial, settled, trimmed, with_freed, with_gone, with_partial, with_taken, without_slab}
+use Rattle.slub_lists.specs.Free.{FreesUnchecked, discarded, drained, freed, freed_here, is_current, is_freeable, is_frozen, is_spare, moved, put_partial, settled, without_spare, with_freed, with_gone, with_partial, with_taken, without_slab}
 use Rattle.slub_lists.specs.Freeing.{Frees, FreesHeld}
 use Rattle.slub_lists.specs.Words.{PokesChecked, Pokes, Reads, Writes, held_by, inside, is_word, known_to, outside, with_word, word_at, word_of}
-use Rattle.slub_engine.specs.Lawful.{Answers}
+use Rattle.slub_journal.specs.Lawful.{Answers}
 
 -- ---- what stays
 
@@ -36,6 +36,7 @@ pub record Keeps (s after : State) : Type 0 where
   pub table : after.table ≡ s.table
   pub memory : after.memory ≡ s.memory
   pub cpus : after.cpus ≡ s.cpus
+  pub frames : after.frames ≡ s.frames
   pub dry : after.pool.dry ≡ s.pool.dry
 
 pub keeps_both : (s mid after : State) → Keeps s mid → Keeps mid after → Keeps s after
@@ -45,11 +46,12 @@ keeps_both s mid after first second = record {
   table = second.table ∙ first.table;
   memory = second.memory ∙ first.memory;
   cpus = second.cpus ∙ first.cpus;
+  frames = second.frames ∙ first.frames;
   dry = second.dry ∙ first.dry;
 }
 
 pub keeps_refl : (s : State) → Keeps s s
-keeps_refl s = record { board = refl; gone = refl; table = refl; memory = refl; cpus = refl; dry = refl }
+keeps_refl s = record { board = refl; gone = refl; table = refl; memory = refl; cpus = refl; frames = refl; dry = refl }
 
 -- something is written, and is the machine after
 pub keeps_is : (s mid after : State) → after ≡ mid → Keeps s mid → Keeps s after
@@ -59,6 +61,7 @@ keeps_is s mid after is keeps = record {
   table = ap (λ (t : State). t.table) is ∙ keeps.table;
   memory = ap (λ (t : State). t.memory) is ∙ keeps.memory;
   cpus = ap (λ (t : State). t.cpus) is ∙ keeps.cpus;
+  frames = ap (λ (t : State). t.frames) is ∙ keeps.frames;
   dry = ap (λ (t : State). t.pool.dry) is ∙ keeps.dry;
 }
 
@@ -96,10 +99,10 @@ pub data Step (s : State) (event : Event) (answer : Reply) (after : State) : Typ
   -- an object of a live cache, which nobody has, comes on the board
   gives : (place object : ℕ) (live : Cache) (held : Held) → event.act ≡ Alloc place object → named s place ≡ Some held.cache → cache_of s held.cache ≡ Some live
       → held.worker ≡ Some event.worker → answer ≡ reply.Given (address_of held.frame held.index live.layout) → sum_by (held_here held.frame held.index) s.board ≡ 0
-      → after.board ≡ set s.board object (Some held) → after.gone ≡ s.gone → after.table ≡ s.table → after.memory ≡ s.memory → after.cpus ≡ s.cpus → after.pool.dry ≡ s.pool.dry → Step s event answer after
+      → after.board ≡ set s.board object (Some held) → after.gone ≡ s.gone → after.table ≡ s.table → after.memory ≡ s.memory → after.cpus ≡ s.cpus → after.frames ≡ s.frames → after.pool.dry ≡ s.pool.dry → Step s event answer after
   -- none does, for want of a run: it is counted
   lacks : (place object cache : ℕ) (live : Cache) → event.act ≡ Alloc place object → named s place ≡ Some cache → cache_of s cache ≡ Some live → answer ≡ reply.NoFrames
-      → after.board ≡ s.board → after.gone ≡ s.gone → after.table ≡ s.table → after.memory ≡ s.memory → after.cpus ≡ s.cpus → after.pool.dry ≡ counted s.pool.dry live.layout.min_order → Step s event answer after
+      → after.board ≡ s.board → after.gone ≡ s.gone → after.table ≡ s.table → after.memory ≡ s.memory → after.cpus ≡ s.cpus → after.frames ≡ s.frames → after.pool.dry ≡ counted s.pool.dry live.layout.min_order → Step s event answer after
   -- or for want of memory
   wants : (place object cache : ℕ) (live : Cache) (slabs : CheckedState) → event.act ≡ Alloc place object → named s place ≡ Some cache → cache_of s cache ≡ Some live → checked_of s cache ≡ Some slabs → answer ≡ reply.NoMemory
       → Keeps s after → Step s event answer after
@@ -107,7 +110,7 @@ pub data Step (s : State) (event : Event) (answer : Reply) (after : State) : Typ
   -- one that is there goes
   frees : (object : ℕ) (live : Cache) (held : Held) → event.act ≡ Free object → get_or s.board object None ≡ Some held → is_freeable event.worker held.worker ≡ true → cache_of s held.cache ≡ Some live
       → answer ≡ reply.Freed (address_of held.frame held.index live.layout)
-      → after.board ≡ set s.board object None → after.gone ≡ set s.gone object (Some (record held { worker = Some event.worker })) → after.table ≡ s.table → after.memory ≡ s.memory → after.cpus ≡ s.cpus → after.pool.dry ≡ s.pool.dry → Step s event answer after
+      → after.board ≡ set s.board object None → after.gone ≡ set s.gone object (Some (record held { worker = Some event.worker })) → after.table ≡ s.table → after.memory ≡ s.memory → after.cpus ≡ s.cpus → after.frames ≡ s.frames → after.pool.dry ≡ s.pool.dry → Step s event answer after
   -- or is damaged, and stays
   keeps : (object : ℕ) (damage : Damage) (held : Held) (slabs : CheckedState) → event.act ≡ Free object → get_or s.board object None ≡ Some held → is_freeable event.worker held.worker ≡ true
       → checked_of s held.cache ≡ Some slabs → TakesBack slabs (slot_of_held held) (Err damage) slabs → answer ≡ reply.Corrupt damage
@@ -142,15 +145,15 @@ KeepsIn s (Err after) = Keeps s after
 module _ (s : State) (cache cpu batch : ℕ) where
   from-node : (mid : State) → Keeps s mid → (frames : List ℕ) → KeepsIn s (from_node mid cache cpu batch frames)
   from-node mid kept [] = kept
-  from-node mid kept (frame ∷ frames) = record { board = kept.board; gone = kept.gone; table = kept.table; memory = kept.memory; cpus = kept.cpus; dry = kept.dry }
+  from-node mid kept (frame ∷ frames) = record { board = kept.board; gone = kept.gone; table = kept.table; memory = kept.memory; cpus = kept.cpus; frames = kept.frames; dry = kept.dry }
 
   from-partial : (mid : State) → Keeps s mid → (frames : List ℕ) → KeepsIn s (from_partial mid cache cpu batch frames)
   from-partial mid kept [] = from-node mid kept (node_of mid cache)
-  from-partial mid kept (frame ∷ frames) = record { board = kept.board; gone = kept.gone; table = kept.table; memory = kept.memory; cpus = kept.cpus; dry = kept.dry }
+  from-partial mid kept (frame ∷ frames) = record { board = kept.board; gone = kept.gone; table = kept.table; memory = kept.memory; cpus = kept.cpus; frames = kept.frames; dry = kept.dry }
 
   from-current : (frame : ℕ) (free : List ℕ) → KeepsIn s (from_current s cache cpu batch frame free)
-  from-current frame [] = let rest : State = retired s cache cpu frame in from-partial rest (record { board = refl; gone = refl; table = refl; memory = refl; cpus = refl; dry = refl }) (lists_of rest cache cpu).partial
-  from-current frame (index ∷ free) = record { board = refl; gone = refl; table = refl; memory = refl; cpus = refl; dry = refl }
+  from-current frame [] = let rest : State = retired s cache cpu frame in from-partial rest (record { board = refl; gone = refl; table = refl; memory = refl; cpus = refl; frames = refl; dry = refl }) (lists_of rest cache cpu).partial
+  from-current frame (index ∷ free) = record { board = refl; gone = refl; table = refl; memory = refl; cpus = refl; frames = refl; dry = refl }
 
   from-slabs : (current : Option ℕ) → KeepsIn s (from_slabs s cache cpu batch current)
   from-slabs None = from-partial s (keeps_refl s) (lists_of s cache cpu).partial
@@ -181,24 +184,24 @@ module _ (s : State) (event : Event) (place object : ℕ) (answer : Reply) (afte
   gave mid frame index kept unheld is now =
       let held : Held = record { frame = frame; index = index; cache = cache; worker = Some event.worker } in
       gives place object live held allocates names is_live refl is (ap (λ (board : List (Option Held)). sum_by (held_here frame index) board) (sym kept.board) ∙ unheld)
-      (ap (λ (t : State). t.board) now ∙ ap (λ (board : List (Option Held)). set board object (Some held)) kept.board) (ap (λ (t : State). t.gone) now ∙ kept.gone) (ap (λ (t : State). t.table) now ∙ kept.table) (ap (λ (t : State). t.memory) now ∙ kept.memory) (ap (λ (t : State). t.cpus) now ∙ kept.cpus) (ap (λ (t : State). t.pool.dry) now ∙ kept.dry)
+      (ap (λ (t : State). t.board) now ∙ ap (λ (board : List (Option Held)). set board object (Some held)) kept.board) (ap (λ (t : State). t.gone) now ∙ kept.gone) (ap (λ (t : State). t.table) now ∙ kept.table) (ap (λ (t : State). t.memory) now ∙ kept.memory) (ap (λ (t : State). t.cpus) now ∙ kept.cpus) (ap (λ (t : State). t.frames) now ∙ kept.frames) (ap (λ (t : State). t.pool.dry) now ∙ kept.dry)
 
   of-cpu : (mid : State) → Keeps s mid → Gives mid live.layout cache event.cpu event.worker object answer after → GivesOne
   of-cpu mid kept given =
       gave (with_lists mid cache event.cpu (record { current = Some given.frame; free = given.rest; partial = (lists_of mid cache event.cpu).partial })) given.frame given.index
-      (record { board = kept.board; gone = kept.gone; table = kept.table; memory = kept.memory; cpus = kept.cpus; dry = kept.dry }) given.unheld given.address given.given
+      (record { board = kept.board; gone = kept.gone; table = kept.table; memory = kept.memory; cpus = kept.cpus; frames = kept.frames; dry = kept.dry }) given.unheld given.address given.given
 
   no-run : (mid : State) (pool : FreeFrames) → Keeps s mid → FindsRun mid.pool live.layout None pool → LacksRun mid pool answer after → GivesOne
   no-run mid pool kept finds none =
       lacks place object cache live allocates names is_live none.0 (ap (λ (t : State). t.board) none.1 ∙ kept.board) (ap (λ (t : State). t.gone) none.1 ∙ kept.gone) (ap (λ (t : State). t.table) none.1 ∙ kept.table)
-      (ap (λ (t : State). t.memory) none.1 ∙ kept.memory) (ap (λ (t : State). t.cpus) none.1 ∙ kept.cpus)
+      (ap (λ (t : State). t.memory) none.1 ∙ kept.memory) (ap (λ (t : State). t.cpus) none.1 ∙ kept.cpus) (ap (λ (t : State). t.frames) none.1 ∙ kept.frames)
       (ap (λ (t : State). t.pool.dry) none.1 ∙ finds-none mid.pool live.layout pool finds ∙ ap (λ (dry : List ℕ). counted dry live.layout.min_order) kept.dry)
 
   of-new : (bare : State) (pool : FreeFrames) (run : Option Run) → Keeps s bare → FindsRun bare.pool live.layout run pool
       → MatchOption run (LacksRun bare pool answer after) (λ run. Gives (with_new_slab bare cache event.cpu pool run) live.layout cache event.cpu event.worker object answer after) → GivesOne
   of-new bare pool None kept finds none = no-run bare pool kept finds none
   of-new bare pool (Some run) kept finds given =
-      of-cpu (with_new_slab bare cache event.cpu pool run) (record { board = kept.board; gone = kept.gone; table = kept.table; memory = kept.memory; cpus = kept.cpus; dry = finds-some bare.pool live.layout run pool finds ∙ kept.dry }) given
+      of-cpu (with_new_slab bare cache event.cpu pool run) (record { board = kept.board; gone = kept.gone; table = kept.table; memory = kept.memory; cpus = kept.cpus; frames = kept.frames; dry = finds-some bare.pool live.layout run pool finds ∙ kept.dry }) given
 
   of-stock : (found : Result State State) → KeepsIn s found
       → MatchResult found (λ stocked. Gives stocked live.layout cache event.cpu event.worker object answer after) (λ bare. AllocatesNew bare live.layout cache event.cpu event.worker object answer after)
@@ -216,9 +219,9 @@ module _ (s : State) (event : Event) (place object : ℕ) (answer : Reply) (afte
     of-run mid slabs pool None kept finds none = no-run mid pool kept finds none
     of-run mid slabs pool (Some run) kept finds (inl none) =
         wants place object cache live first allocates names is_live was none.0
-        (keeps_is s _ after none.1 (record { board = kept.board; gone = kept.gone; table = kept.table; memory = kept.memory; cpus = kept.cpus; dry = finds-some mid.pool live.layout run pool finds ∙ kept.dry }))
+        (keeps_is s _ after none.1 (record { board = kept.board; gone = kept.gone; table = kept.table; memory = kept.memory; cpus = kept.cpus; frames = kept.frames; dry = finds-some mid.pool live.layout run pool finds ∙ kept.dry }))
     of-run mid slabs pool (Some run) kept finds (inr given) =
-        of-slot (with_checked_slab mid cache pool run slabs) (first_slot run) (record { board = kept.board; gone = kept.gone; table = kept.table; memory = kept.memory; cpus = kept.cpus; dry = finds-some mid.pool live.layout run pool finds ∙ kept.dry }) given
+        of-slot (with_checked_slab mid cache pool run slabs) (first_slot run) (record { board = kept.board; gone = kept.gone; table = kept.table; memory = kept.memory; cpus = kept.cpus; frames = kept.frames; dry = finds-some mid.pool live.layout run pool finds ∙ kept.dry }) given
 
     of-checked : (mid : State) (slabs : CheckedState) (found : CheckedGive) → Keeps s mid → GivesOrMakes mid live.layout cache slabs event.worker object found answer after → GivesOne
     of-checked mid slabs (give.Given slot) kept given = of-slot mid slot kept given
@@ -227,7 +230,7 @@ module _ (s : State) (event : Event) (place object : ℕ) (answer : Reply) (afte
   of-cache : AllocatesFrom s live.layout cache event.cpu event.worker object answer after → GivesOne
   of-cache done = match_either (checked_of s cache) _ _ GivesOne done
       (λ unchecked done. of-stock (stocked s live.layout cache event.cpu) (from-free s cache event.cpu (batch_of live.layout) (lists_of s cache event.cpu).free) done)
-      (λ slabs was done. of-checked slabs was (with_checked s cache done.1) done.1 done.0 (record { board = refl; gone = refl; table = refl; memory = refl; cpus = refl; dry = refl }) done.3)
+      (λ slabs was done. of-checked slabs was (with_checked s cache done.1) done.1 done.0 (record { board = refl; gone = refl; table = refl; memory = refl; cpus = refl; frames = refl; dry = refl }) done.3)
 
 alloc-step : (s : State) (event : Event) (place object : ℕ) (answer : Reply) (after : State) → event.act ≡ Alloc place object
     → AllocatesNamed s place event.cpu event.worker object answer after → Step s event answer after
@@ -239,36 +242,36 @@ alloc-step s event place object answer after allocates done = match_either (name
 
 module _ (min_partial cache : ℕ) where
   moved-kept : (s : State) (frame : ℕ) → Keeps s (moved min_partial cache s frame)
-  moved-kept s frame = keeps_either s _ _ (is_spare s min_partial cache frame) (record { board = refl; gone = refl; table = refl; memory = refl; cpus = refl; dry = refl }) (record { board = refl; gone = refl; table = refl; memory = refl; cpus = refl; dry = refl })
+  moved-kept s frame = keeps_either s _ _ (is_spare s min_partial cache frame) (record { board = refl; gone = refl; table = refl; memory = refl; cpus = refl; frames = refl; dry = refl }) (record { board = refl; gone = refl; table = refl; memory = refl; cpus = refl; frames = refl; dry = refl })
 
   all-moved : (s : State) (frames : List ℕ) → Keeps s (fold (moved min_partial cache) s frames)
   all-moved s [] = keeps_refl s
   all-moved s (frame ∷ frames) = keeps_both s (moved min_partial cache s frame) _ (moved-kept s frame) (all-moved (moved min_partial cache s frame) frames)
 
-trimmed-kept : (s : State) (min_partial cache frame : ℕ) → Keeps s (trimmed s min_partial cache frame)
-trimmed-kept s min_partial cache frame = keeps_either s (discarded (without_slab s cache frame) frame) s _ (record { board = refl; gone = refl; table = refl; memory = refl; cpus = refl; dry = refl }) (keeps_refl s)
+without_spare-kept : (s : State) (min_partial cache frame : ℕ) → Keeps s (without_spare s min_partial cache frame)
+without_spare-kept s min_partial cache frame = keeps_either s (discarded (without_slab s cache frame) frame) s _ (record { board = refl; gone = refl; table = refl; memory = refl; cpus = refl; frames = refl; dry = refl }) (keeps_refl s)
 
 drained-kept : (s : State) (layout : Layout) (cache cpu : ℕ) → Keeps s (drained s layout cache cpu)
 drained-kept s layout cache cpu =
     let bare : State = with_partial s cache cpu [] in
-    keeps_either s _ s _ (keeps_both s bare _ (record { board = refl; gone = refl; table = refl; memory = refl; cpus = refl; dry = refl }) (all-moved layout.min_partial cache bare (lists_of s cache cpu).partial)) (keeps_refl s)
+    keeps_either s _ s _ (keeps_both s bare _ (record { board = refl; gone = refl; table = refl; memory = refl; cpus = refl; frames = refl; dry = refl }) (all-moved layout.min_partial cache bare (lists_of s cache cpu).partial)) (keeps_refl s)
 
 put-kept : (s : State) (layout : Layout) (cache cpu frame : ℕ) → Keeps s (put_partial s layout cache cpu frame)
-put-kept s layout cache cpu frame = let kept = drained-kept s layout cache cpu in record { board = kept.board; gone = kept.gone; table = kept.table; memory = kept.memory; cpus = kept.cpus; dry = kept.dry }
+put-kept s layout cache cpu frame = let kept = drained-kept s layout cache cpu in record { board = kept.board; gone = kept.gone; table = kept.table; memory = kept.memory; cpus = kept.cpus; frames = kept.frames; dry = kept.dry }
 
 settled-kept : (s : State) (layout : Layout) (cache cpu frame : ℕ) (own : List ℕ) → Keeps s (settled s layout cache cpu frame own)
 settled-kept s layout cache cpu frame [] = keeps_either s s _ (is_frozen s frame) (keeps_refl s) (put-kept s layout cache cpu frame)
-settled-kept s layout cache cpu frame (index ∷ free) = keeps_either s s _ (is_frozen s frame) (keeps_refl s) (trimmed-kept s layout.min_partial cache frame)
+settled-kept s layout cache cpu frame (index ∷ free) = keeps_either s s _ (is_frozen s frame) (keeps_refl s) (without_spare-kept s layout.min_partial cache frame)
 
 freed-kept : (s : State) (layout : Layout) (cache cpu frame index : ℕ) → Keeps s (freed s layout cache cpu frame index)
 freed-kept s layout cache cpu frame index =
     let own : State = with_freed s frame index in
-    keeps_either s (freed_here s cache cpu index) _ (is_current frame (lists_of s cache cpu).current) (record { board = refl; gone = refl; table = refl; memory = refl; cpus = refl; dry = refl })
-    (keeps_both s own _ (record { board = refl; gone = refl; table = refl; memory = refl; cpus = refl; dry = refl }) (settled-kept own layout cache cpu frame (own_free s frame)))
+    keeps_either s (freed_here s cache cpu index) _ (is_current frame (lists_of s cache cpu).current) (record { board = refl; gone = refl; table = refl; memory = refl; cpus = refl; frames = refl; dry = refl })
+    (keeps_both s own _ (record { board = refl; gone = refl; table = refl; memory = refl; cpus = refl; frames = refl; dry = refl }) (settled-kept own layout cache cpu frame (own_free s frame)))
 
 discarded-kept : (s : State) (frame : ℕ) (run : Option SlabRun) → Keeps s (discarded_where s frame run)
 discarded-kept s frame None = keeps_refl s
-discarded-kept s frame (Some run) = record { board = refl; gone = refl; table = refl; memory = refl; cpus = refl; dry = refl }
+discarded-kept s frame (Some run) = record { board = refl; gone = refl; table = refl; memory = refl; cpus = refl; frames = refl; dry = refl }
 
 module _ (s : State) (event : Event) (object : ℕ) (held : Held) (answer : Reply) (after : State) (asks : event.act ≡ Free object)
     (was : get_or s.board object None ≡ Some held) (may : is_freeable event.worker held.worker ≡ true) where
@@ -280,7 +283,7 @@ module _ (s : State) (event : Event) (object : ℕ) (held : Held) (answer : Repl
   took live last is_live is kept now =
       frees object live held asks was may is_live is (ap (λ (t : State). t.board) now ∙ kept.board)
       (ap (λ (t : State). t.gone) now ∙ ap (λ (gone : List (Option Held)). set gone object (Some (record held { worker = Some event.worker }))) kept.gone)
-      (ap (λ (t : State). t.table) now ∙ kept.table) (ap (λ (t : State). t.memory) now ∙ kept.memory) (ap (λ (t : State). t.cpus) now ∙ kept.cpus) (ap (λ (t : State). t.pool.dry) now ∙ kept.dry)
+      (ap (λ (t : State). t.table) now ∙ kept.table) (ap (λ (t : State). t.memory) now ∙ kept.memory) (ap (λ (t : State). t.cpus) now ∙ kept.cpus) (ap (λ (t : State). t.frames) now ∙ kept.frames) (ap (λ (t : State). t.pool.dry) now ∙ kept.dry)
 
   freed-unchecked : (live : Cache) → cache_of s held.cache ≡ Some live → FreesUnchecked s live.layout event.cpu event.worker object held answer after → FreesOne
   freed-unchecked live is_live done = took live _ is_live done.0 (freed-kept (with_taken s object held.cache) live.layout held.cache event.cpu held.frame held.index) done.1
@@ -290,7 +293,7 @@ module _ (s : State) (event : Event) (object : ℕ) (held : Held) (answer : Repl
   freed-or-kept live slabs rest (Err damage) is_live checked taken done = keeps object damage held slabs asks was may checked (taken.0, refl) done.0 done.1
   freed-or-kept live slabs rest (Ok x) is_live checked taken done =
       let mid : State = with_checked (with_taken s object held.cache) held.cache done.2 in
-      took live _ is_live done.0 (keeps_both (with_taken s object held.cache) mid _ (record { board = refl; gone = refl; table = refl; memory = refl; cpus = refl; dry = refl }) (discarded-kept mid held.frame done.1)) done.4
+      took live _ is_live done.0 (keeps_both (with_taken s object held.cache) mid _ (record { board = refl; gone = refl; table = refl; memory = refl; cpus = refl; frames = refl; dry = refl }) (discarded-kept mid held.frame done.1)) done.4
 
   held-freed : FreesHeld s event.cpu event.worker object held answer after → FreesOne
   held-freed done = match_some (cache_of s held.cache) _ FreesOne done (λ live is_live done.
@@ -314,6 +317,7 @@ pub record KeepsBut (s after : State) : Type 0 where
   pub gone : after.gone ≡ s.gone
   pub table : after.table ≡ s.table
   pub cpus : after.cpus ≡ s.cpus
+  pub frames : after.frames ≡ s.frames
   pub pool : after.pool ≡ s.pool
 
 pub word-keeps : (s : State) (layout : Layout) (held : Held) (word value : ℕ) → KeepsBut s (with_word s layout held word value)
@@ -321,8 +325,8 @@ word-keeps s layout held word value = by (checked_of s held.cache)
   where
     by : (slabs : Option CheckedState)
         → KeepsBut s (option_map_or (λ slabs. with_checked s held.cache (slab_word slabs (slot_of_held held) word value)) slabs (record s { memory = set s.memory (word_at layout held word) value }))
-    by None = record { board = refl; gone = refl; table = refl; cpus = refl; pool = refl }
-    by (Some slabs) = record { board = refl; gone = refl; table = refl; cpus = refl; pool = refl }
+    by None = record { board = refl; gone = refl; table = refl; cpus = refl; frames = refl; pool = refl }
+    by (Some slabs) = record { board = refl; gone = refl; table = refl; cpus = refl; frames = refl; pool = refl }
 
 write-step : (s : State) (event : Event) (object word value : ℕ) (answer : Reply) (after : State) → event.act ≡ Write object word value
     → Writes s event.worker object word value answer after → Step s event answer after

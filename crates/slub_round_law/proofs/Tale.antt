@@ -9,36 +9,17 @@ use Rattle.slub_object_layout.specs.Layout.{address_of}
 use Rattle.slub_cache_create.specs.Table.{Table, cache_of as live_cache, name_at, number_of}
 use Rattle.slub_cache_create.specs.declared.caches.Cache.{Cache}
 use Rattle.slub_lists.specs.declared.lists.Held.{Held}
-use Rattle.slub_lists.specs.declared.reply.Reply.TheVariants as reply
+use Rattle.slub_answers.specs.declared.reply.Reply.TheVariants as reply
 use Rattle.slub_lists.specs.State.{State}
 use Rattle.slub_lists.specs.Coherent.{IsCoherent, held_under, laid_down}
 use Rattle.slub_lists.specs.Free.{is_freeable}
 use Rattle.slub_lists.specs.Words.{held_by, is_worker, own}
-use Rattle.slub_engine.specs.Lawful.{Answers, is_by}
-use Rattle.slub_engine.specs.Steps.{KeepsCaches}
+use Rattle.slub_journal.specs.Lawful.{Answers, is_by}
 use Rattle.slub_round_law.specs.Answered.{Answered, did_free, found_bad, gave, holding, holds_after, is_alloc_of, of_worker, times_freed, times_given, times_taken}
 use Rattle.slub_round_law.specs.Round.{IsGiftOf, Spot, WasGivenAt, spot_after, spot_asked, spot_by, spot_of, spot_under}
 use Rattle.slub_round_law.proofs.Runs.{Turn, comes, count-more, count-own, fold-own, goes, on_board, rests, stays}
 use Rattle.slub_round_law.proofs.Steps.{Step}
 use Rattle.slub_round_law.proofs.Times.{one_where}
-
--- ---- one step of a round
-
--- how far a round has come
-pub record Base (before : State) (past : List Answered) (s : State) : Type 0 where
-  pub caches : KeepsCaches before s
-  pub coherent : IsCoherent s
-  pub count : (object : ℕ) → on_board object s + times_freed object past ≡ on_board object before + times_given object past
-
--- one more event
-pub record Moves (before : State) (past : List Answered) (s : State) (one : Answered) (after : State) : Type 0 where
-  pub base : Base before past s
-  pub step : Step s one.0 one.1 after
-  pub answers : Answers s one.0 one.0.act one.1 after
-  pub coherent : IsCoherent after
-  -- what is given was never given before, and was not on the board
-  pub new : (object : ℕ) → gave object one ≡ true → on_board object before + times_given object past ≡ 0
-  pub turns : (object : ℕ) → Turn s one after object
 
 -- ---- numbers and workers
 

@@ -8,9 +8,9 @@ use Rattle.slub_object_layout.specs.declared.event.Act.{Act}
 use Rattle.slub_object_layout.specs.declared.event.Act.TheVariants.{Alloc, Free, Write, Read, Poke, Trim, Flush}
 use Rattle.slub_object_layout.specs.declared.event.Event.{Event}
 use Rattle.slub_common.specs.Times.{times}
-use Rattle.slub_lists.specs.declared.reply.Reply.{Reply}
+use Rattle.slub_answers.specs.declared.reply.Reply.{Reply}
 use Rattle.slub_trace_reader.specs.Sound.{objects_of}
-use Rattle.slub_engine.specs.Lawful.{is_given}
+use Rattle.slub_answers.specs.Kinds.{is_given}
 use Rattle.slub_round_law.specs.Answered.{gave, is_alloc_of}
 
 -- 1 where it is so

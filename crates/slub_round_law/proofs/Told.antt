@@ -18,7 +18,7 @@ use Rattle.slub_red_zone.specs.Steps.{Gives, IsNext, damage_of_free, new_slab, n
 use Rattle.slub_red_zone.specs.Sound.{IsSound}
 use Rattle.slub_red_zone.proofs.Counting.{new-kinds}
 use Rattle.slub_red_zone.proofs.Given.{damaged-sound, next-object}
-use Rattle.slub_red_zone.proofs.Whole.{at_written}
+use Rattle.slub_common.proofs.Writes.{at_written}
 use Rattle.slub_round_law.proofs.Damages.{damage-differs, damage-given}
 use Rattle.slub_round_law.proofs.Times.{one_where}
 

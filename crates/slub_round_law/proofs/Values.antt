@@ -9,8 +9,8 @@ use Rattle.slub_cache_create.specs.declared.caches.Cache.{Cache}
 use Rattle.slub_red_zone.specs.State.{CheckedState}
 use Rattle.slub_red_zone.specs.Steps.{with_word as slab_word}
 use Rattle.slub_lists.specs.declared.lists.Held.{Held}
-use Rattle.slub_lists.specs.declared.reply.Reply.{Reply}
-use Rattle.slub_lists.specs.declared.reply.Reply.TheVariants as reply
+use Rattle.slub_answers.specs.declared.reply.Reply.{Reply}
+use Rattle.slub_answers.specs.declared.reply.Reply.TheVariants as reply
 use Rattle.slub_lists.specs.State.{State}
 use Rattle.slub_lists.specs.Alloc.{cache_of, checked_of}
 use Rattle.slub_lists.specs.Checked.{slot_of_held, with_checked}
@@ -20,7 +20,7 @@ use Rattle.slub_lists.specs.Steps.{HasLayout}
 use Rattle.slub_lists.specs.Words.{Writes, is_word, is_worker, own, with_word, word_at}
 use Rattle.slub_lists.proofs.ObjectWords.{memory-read, own-is, word-inside, writes-word}
 use Rattle.slub_lists.proofs.Spared.{writes-spare}
-use Rattle.slub_engine.specs.Lawful.{is_by}
+use Rattle.slub_journal.specs.Lawful.{is_by}
 use Rattle.slub_round_law.specs.Answered.{Answered, gave, is_alloc_of, last_written, of_worker, written_after}
 use Rattle.slub_round_law.proofs.Runs.{Turn, comes, fold-own, goes, rests, stays}
 use Rattle.slub_round_law.proofs.Steps.{Holds, Step, frees, gives, keeps, lacks, nameless, pokes, pokes_not, reads, reads_none, reads_not, refuses, wants, word-keeps, writes, writes_none, writes_not}
@@ -77,11 +77,11 @@ pub data Words (s : State) (one : Answered) (after : State) : Type 0 where
       → one.1 ≡ reply.Wrote → after ≡ with_word s live.layout held word value → Words s one after
 
 pub words-of : (s : State) (one : Answered) (after : State) → Step s one.0 one.1 after → Words s one after
-words-of s one after (gives place object live held asks names is_live mine is unheld board gone table memory cpus dry) = unwrote memory (ap is_wrote is)
-words-of s one after (lacks place object cache live asks names is_live is board gone table memory cpus dry) = unwrote memory (ap is_wrote is)
+words-of s one after (gives place object live held asks names is_live mine is unheld board gone table memory cpus frames dry) = unwrote memory (ap is_wrote is)
+words-of s one after (lacks place object cache live asks names is_live is board gone table memory cpus frames dry) = unwrote memory (ap is_wrote is)
 words-of s one after (wants place object cache live slabs asks names is_live checked is kept) = unwrote kept.memory (ap is_wrote is)
 words-of s one after (nameless place object asks none is now) = unwrote (ap (λ (t : State). t.memory) now) (ap is_wrote is)
-words-of s one after (frees object live held asks was may is_live is board gone table memory cpus dry) = unwrote memory (ap is_wrote is)
+words-of s one after (frees object live held asks was may is_live is board gone table memory cpus frames dry) = unwrote memory (ap is_wrote is)
 words-of s one after (keeps object damage held slabs asks was may checked taken is now) = unwrote (ap (λ (t : State). t.memory) now) (ap is_wrote is)
 words-of s one after (refuses object asks why is now) = unwrote (ap (λ (t : State). t.memory) now) (ap is_wrote is)
 words-of s one after (writes object word value live held asks holds within is now) = wrote object word value live held asks holds within is now

@@ -18,15 +18,14 @@ use Rattle.slub_lists.proofs.CheckedSlabs.{at_some}
 use Rattle.slub_red_zone.proofs.Comings.{counted-there}
 use Rattle.slub_trace_reader.specs.Sound.{objects_of}
 use Rattle.slub_common.specs.Times.{times}
-use Rattle.slub_engine.specs.declared.journal.Found.{Found}
-use Rattle.slub_engine.specs.declared.journal.RoundResult.{RoundResult}
-use Rattle.slub_engine.specs.Lawful.{DoesRound, IsUnheld, is_by}
-use Rattle.slub_engine.specs.Steps.{KeepsCaches}
+use Rattle.slub_journal.specs.declared.journal.Found.{Found}
+use Rattle.slub_journal.specs.declared.journal.RoundResult.{RoundResult}
+use Rattle.slub_journal.specs.Lawful.{DoesRound, IsAtRest, IsUnheld, is_by}
 use Rattle.slub_round_law.specs.Answered.{Answered, IsAfter, of_worker, times_freed, times_given}
-use Rattle.slub_round_law.specs.Round.{Cause, Fits, IsAtRest, IsBoardAfter, IsOfSlab, IsRound, Spot, WasGivenAt, aside_at, spot_of, spot_under}
+use Rattle.slub_round_law.specs.Round.{Cause, Fits, IsBoardAfter, IsOfSlab, IsRound, Spot, WasGivenAt, aside_at, spot_of, spot_under}
 use Rattle.slub_round_law.proofs.Causes.{cause-of, if-some}
 use Rattle.slub_round_law.proofs.Reports.{found-aside, found-differ, reports-none}
-use Rattle.slub_round_law.proofs.Rounds.{Reaches, Runs, Tale, runs-even, runs-of, runs-reach, runs-tale}
+use Rattle.slub_round_law.proofs.Rounds.{Reaches, Runs, SameCaches, Tale, all-within, runs-even, runs-of, runs-reach, runs-tale}
 use Rattle.slub_round_law.proofs.Runs.{gone_under, on_board, splits}
 use Rattle.slub_round_law.proofs.Tale.{held-by-none, held-by-some, injected, on-before, same-worker, some-object, spot-kept}
 use Rattle.slub_round_law.proofs.Times.{events_given, once_times, one_where}
@@ -60,10 +59,10 @@ given-once before round result fits object = by (held_under before object) refl
         zero-of (suc n) never = absurd (never (omega arith))
 
 -- nothing is answered yet
-start : (before : State) → IsAtRest before → Tale before [] before
-start before rest = record {
-  coherent = rest.coherent;
-  caches = record { cpus = refl; table = refl; board = refl };
+start : (before : State) → IsCoherent before → IsAtRest before → Tale before [] before
+start before coherent rest = record {
+  coherent = coherent;
+  caches = record { frames = refl; cpus = refl; table = refl; board = refl };
   count = λ object. omega arith;
   holds = λ worker object. sym (none-held worker object (held_under before object) refl);
   spots = λ worker object held there may. ap (option_and_then (spot_of before)) there;
@@ -83,7 +82,7 @@ start before rest = record {
 }
   where
     laid : (object : ℕ) (held : Held) → held_under before object ≡ Some held → held.worker ≡ None
-    laid object held there = at_some (held_under before object) held (λ held. held.worker ≡ None) there (rest.unheld object)
+    laid object held there = at_some (held_under before object) held (λ held. held.worker ≡ None) there (rest.laid_down object)
 
     none-held : (worker object : ℕ) (x : Option Held) → held_under before object ≡ x → is_some (held_by before worker object) ≡ false
     none-held worker object None e = held-by-none before worker object e
@@ -104,7 +103,7 @@ none-gone [] object = refl
 none-gone (freed ∷ gone) zero = refl
 none-gone (freed ∷ gone) (suc object) = none-gone gone object
 
-module _ (before : State) (round : Round) (result : RoundResult) (after : State) (rest : IsAtRest before) (fits : Fits before round) (does : DoesRound before round result after) where
+module _ (before : State) (round : Round) (result : RoundResult) (after : State) (coherent : IsCoherent before) (rest : IsAtRest before) (fits : Fits before round) (does : DoesRound before round result after) where
   abbrev answers : List Answered
   answers = zip round.events result.replies
 
@@ -112,12 +111,12 @@ module _ (before : State) (round : Round) (result : RoundResult) (after : State)
   once = given-once before round result fits
 
   tale : Tale before answers does.last
-  tale = runs-tale before [] before answers does.last (start before rest) (runs-of before round.workers [] before round.events result.replies does.last fits.known once does.runs)
+  tale = runs-tale before [] before answers does.last (start before coherent rest) (runs-of before [] before round.events result.replies does.last (all-within before round.events fits.within) once does.runs)
 
   reaches : (front : List Answered) (one : Answered) (back : List Answered) → answers ≡ front ++ one ∷ back → Reaches before front one
   reaches front one back split =
-      runs-reach before [] before front one back does.last (start before rest)
-      (subst (λ (l : List Answered). Runs before [] before l does.last) split (runs-of before round.workers [] before round.events result.replies does.last fits.known once does.runs))
+      runs-reach before [] before front one back does.last (start before coherent rest)
+      (subst (λ (l : List Answered). Runs before [] before l does.last) split (runs-of before [] before round.events result.replies does.last (all-within before round.events fits.within) once does.runs))
 
   causes : (worker : ℕ) (own : List Answered) (one : Answered) → IsAfter answers worker own one → Cause before answers own one.0.act one.1
   causes worker own one is_after =
@@ -126,26 +125,29 @@ module _ (before : State) (round : Round) (result : RoundResult) (after : State)
       let mine : of_worker one.0.worker at.before ≡ own = ap (λ w. of_worker w at.before) (same-worker one.0.worker worker at.is) ∙ at.sifted in
       subst (λ (own : List Answered). Cause before answers own one.0.act one.1) mine
       (subst (λ (all : List Answered). Cause before all (of_worker one.0.worker at.before) one.0.act one.1) (sym at.parts)
-      (cause-of before at.before here.mid one here.next at.behind here.moves here.tale rest.coherent))
+      (cause-of before at.before here.mid one here.next at.behind here.moves here.tale coherent))
 
   -- ---- the board after
 
   now-under : (object : ℕ) → held_under after object ≡ option_map laid_down (held_under does.last object)
   now-under object = ap (λ (t : State). held_under t object) does.after_is ∙ laid-under does.last.board object
 
+  after-coherent : IsCoherent after
+  after-coherent = subst IsCoherent (sym does.after_is) (coherent-of (all_on_board does.last) (all_on_board-consistent does.last (consistent-of does.last tale.coherent)) tale.coherent.kept)
+
   after-rest : IsAtRest after
   after-rest = record {
-    coherent = subst IsCoherent (sym does.after_is) (coherent-of (all_on_board does.last) (all_on_board-consistent does.last (consistent-of does.last tale.coherent)) tale.coherent.kept);
-    unheld = λ object. if-some (held_under after object) _ (λ held there. laid (held_under does.last object) held (sym (now-under object) ∙ there));
-    unknown = λ object. ap (λ (t : State). gone_under t object) does.after_is ∙ none-gone does.last.gone object;
+    laid_down = λ object. if-some (held_under after object) _ (λ held there. laid (held_under does.last object) held (sym (now-under object) ∙ there));
+    forgotten = λ object. ap (λ (t : State). gone_under t object) does.after_is ∙ none-gone does.last.gone object;
   }
     where
       laid : (x : Option Held) (held : Held) → option_map laid_down x ≡ Some held → held.worker ≡ None
       laid None held e = absurd (cc)
       laid (Some last) held e = ap (λ (h : Held). h.worker) (sym (injected e))
 
-  after-caches : KeepsCaches before after
+  after-caches : SameCaches before after
   after-caches = record {
+    frames = ap (λ (t : State). t.frames) does.after_is ∙ tale.caches.frames;
     cpus = ap (λ (t : State). t.cpus) does.after_is ∙ tale.caches.cpus;
     table = ap (λ (t : State). t.table) does.after_is ∙ tale.caches.table;
     board = ap (λ (t : State). length t.board) does.after_is ∙ length-map does.last.board (option_map laid_down) ∙ tale.caches.board;
@@ -193,7 +195,7 @@ module _ (before : State) (round : Round) (result : RoundResult) (after : State)
   }
     where
       was-laid : (object : ℕ) (held : Held) → held_under before object ≡ Some held → laid_down held ≡ held
-      was-laid object held there = ap (λ (w : Option ℕ). record held { worker = w }) (sym (at_some (held_under before object) held (λ held. held.worker ≡ None) there (rest.unheld object)))
+      was-laid object held there = ap (λ (w : Option ℕ). record held { worker = w }) (sym (at_some (held_under before object) held (λ held. held.worker ≡ None) there (rest.laid_down object)))
 
       stays : (object : ℕ) (held : Held) → held_under before object ≡ Some held → (x : Option Held) → held_under does.last object ≡ x → (held_under after object ≡ Some held) ⊎ (held_under after object ≡ None)
       stays object held there None e = inr (now-under object ∙ ap (option_map laid_down) e)
@@ -225,8 +227,12 @@ module _ (before : State) (round : Round) (result : RoundResult) (after : State)
   lawful = record {
     replies = runs-even before round.events result.replies does.last does.runs;
     causes = causes;
+    coherent = after-coherent;
     rest = after-rest;
-    caches = after-caches;
+    frames = after-caches.frames;
+    cpus = after-caches.cpus;
+    objects = after-caches.board;
+    table = after-caches.table;
     board = board;
     ledgers = does.ledgers;
     dry = λ order within room. ap (λ (t : State). get_or t.pool.dry order 0) does.after_is ∙ tale.dry order within room;

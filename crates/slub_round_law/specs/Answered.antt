@@ -1,11 +1,13 @@
 -- The events of a round with their replies, and what they tell of an object number.
-use Rattle.std.specs.Prelude.{◌≡◌, ℕ, ◌&&◌, ◌||◌, ◌==◌, not, if◌then◌else◌, Bool, true, false, List, ◌∷◌, ◌++◌, count_by, filter, fold, Option, Some, None}
+use Rattle.std.specs.Prelude.{◌≡◌, ℕ, ◌&&◌, ◌||◌, ◌==◌, not, if◌then◌else◌, Bool, true, false, List, ◌∷◌, ◌++◌, count_by, Option, Some, None}
+use Rattle.std.specs.List.{filter, fold}
 use Rattle.slub_object_layout.specs.declared.event.Act.{Act}
 use Rattle.slub_object_layout.specs.declared.event.Act.TheVariants.{Alloc, Free, Write}
 use Rattle.slub_object_layout.specs.declared.event.Event.{Event}
-use Rattle.slub_lists.specs.declared.reply.Reply.{Reply}
-use Rattle.slub_lists.specs.declared.reply.Reply.TheVariants as reply
-use Rattle.slub_engine.specs.Lawful.{is_by, is_freed, is_given}
+use Rattle.slub_answers.specs.declared.reply.Reply.{Reply}
+use Rattle.slub_answers.specs.declared.reply.Reply.TheVariants as reply
+use Rattle.slub_answers.specs.Kinds.{is_freed, is_given}
+use Rattle.slub_journal.specs.Lawful.{is_by}
 
 -- an event with its reply
 abbrev pub Answered : Type 0
@@ -16,17 +18,17 @@ Answered = Event × Reply
 -- the act allocates this object
 abbrev pub is_alloc_of : ℕ → Act → Bool
 is_alloc_of object (Alloc place other) = other == object
-is_alloc_of object act = false
+is_alloc_of object _ = false
 
 -- the act frees this object
 abbrev pub is_free_of : ℕ → Act → Bool
 is_free_of object (Free other) = other == object
-is_free_of object act = false
+is_free_of object _ = false
 
--- the object was found damaged
+-- an object was found damaged
 abbrev pub is_corrupt : Reply → Bool
 is_corrupt (reply.Corrupt damage) = true
-is_corrupt reply = false
+is_corrupt _ = false
 
 -- the event was to allocate this object, and it was given
 abbrev pub gave : ℕ → Answered → Bool
@@ -50,7 +52,7 @@ times_given object answers = count_by (gave object) answers
 abbrev pub times_freed : ℕ → List Answered → ℕ
 times_freed object answers = count_by (did_free object) answers
 
--- how often a free of it was answered by more than that it isn't held
+-- how often a free of it found it there: it was freed or found damaged
 abbrev pub times_taken : ℕ → List Answered → ℕ
 times_taken object answers = count_by (λ one. did_free object one || found_bad object one) answers
 
@@ -60,28 +62,33 @@ times_taken object answers = count_by (λ one. did_free object one || found_bad 
 abbrev pub of_worker : ℕ → List Answered → List Answered
 of_worker worker answers = filter (is_by worker) answers
 
--- an event of a worker, and those of the same worker before it
-pub record IsAfter (answers : List Answered) (worker : ℕ) (own : List Answered) (one : Answered) : Type 0 where
+-- an event of a worker; `own` are the events of the same worker before it
+pub record IsAfter (answers : List Answered) (worker : ℕ) (own : List Answered)
+    (one : Answered) : Type 0 where
   pub later : List Answered
   pub split : of_worker worker answers ≡ own ++ one ∷ later
 
 -- a worker holds an object that it was given or found damaged, until it frees it
 abbrev pub holds_after : ℕ → Bool → Answered → Bool
-holds_after object held one = gave object one || found_bad object one || (held && not (did_free object one))
+holds_after object held one =
+    gave object one || found_bad object one || (held && not (did_free object one))
 
 -- the worker to which these events were answered holds the object
 abbrev pub holding : ℕ → List Answered → Bool
 holding object own = fold (holds_after object) false own
 
--- what was written last in a word of an object, since it was given
+-- what an act that was done writes in a word of an object, or else what stood there
+abbrev pub written_by : ℕ → ℕ → Option ℕ → Act → Option ℕ
+written_by object word last (Write other place value) =
+    if (other == object) && (place == word) then Some value else last
+written_by object word last _ = last
+
+-- what was written last in a word of an object since it was given, after one more event
 abbrev pub written_after : ℕ → ℕ → Option ℕ → Answered → Option ℕ
-written_after object word last (event, reply.Wrote) = written_by event.act
-  where
-    written_by : Act → Option ℕ
-    written_by (Write other place value) = if (other == object) && (place == word) then Some value else last
-    written_by act = last
-written_after object word last (event, reply.Given address) = if is_alloc_of object event.act then None else last
-written_after object word last (event, reply) = last
+written_after object word last (event, reply.Wrote) = written_by object word last event.act
+written_after object word last (event, reply.Given address) =
+    if is_alloc_of object event.act then None else last
+written_after object word last _ = last
 
 -- what the worker to which these events were answered wrote last in a word of an object
 abbrev pub last_written : ℕ → ℕ → List Answered → Option ℕ

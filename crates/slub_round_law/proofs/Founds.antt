@@ -38,7 +38,7 @@ use Rattle.slub_lists.proofs.CheckedSlabs.{at_some}
 use Rattle.slub_lists.specs.Alloc.{Allocates, AllocatesNew, FindsRun, Gives, batch_of, cache_of, checked_of, cpu_place, from_current, from_free, from_node, from_partial, from_slabs, held_here, lists_of, no_lists, node_of, own_free, retired, stocked, taken_up, with_lists, with_new_slab, with_node}
 use Rattle.slub_round_law.specs.Event.{HasNoObject, IsFree, first_free, in_checked, in_frames, on_cpu, on_current, on_node, on_partial}
 
-injected : {A : Type 0} {x y : A} → Some x ≡ Some y → x ≡ y
+pub injected : {A : Type 0} {x y : A} → Some x ≡ Some y → x ≡ y
 injected e = cc
 
 -- what is written at a place of a CPU is there

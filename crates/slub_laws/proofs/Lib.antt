@@ -8,3 +8,4 @@ pub mod Places
 pub mod AddsUp
 pub mod Times
 pub mod Moved
+mod Rounds

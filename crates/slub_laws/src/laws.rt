@@ -9,6 +9,7 @@ ghost use Rattle.slub_slabinfo_text.specs.Counts.{counts_of};
 ghost use Rattle.slub_trace_reader.specs.Sound.{IsSound};
 ghost use Rattle.slub_journal.specs.Lawful.{IsLawful, IsReady, opening_of};
 ghost use Rattle.slub_laws.specs.Freed.{freed_times, given_times};
+ghost use Rattle.slub_laws.specs.Rounds.{HasLawfulRounds};
 
 use slub_journal::journal::Journal;
 use slub_trace_reader::trace::Trace;
@@ -22,6 +23,14 @@ pub fn no_number_is_freed_twice(trace: &Trace, journal: &Journal)
     ensures given_first { (object : ℕ) →
         freed_times object trace.now journal.now ≤ given_times object trace.now journal.now }
     ensures given_once { (object : ℕ) → given_times object trace.now journal.now ≤ 1 }
+{}
+
+/// Each round of a lawful journal is a lawful round (`IsRound` of `slub_round_law`), for the machine
+/// before it.
+pub fn rounds_of_a_journal_are_lawful(trace: &Trace, journal: &Journal)
+    requires sound { IsSound trace.now }
+    requires lawful { IsLawful trace.now journal.now }
+    ensures { HasLawfulRounds trace.now journal.now }
 {}
 
 /// What was given less what was freed is live.

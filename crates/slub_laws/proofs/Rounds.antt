@@ -1,11 +1,11 @@
 -- Each round of a lawful journal is lawful.
-use Rattle.std.proofs.Common.{◌≡◌, ℕ, zero, suc, eqb, ◌+◌, ◌<◌, ◌≤◌, Bool, true, false, List, [], ◌∷◌, ◌++◌, length, take, drop, get_or, flat_map, refl, sym, ◌∙◌, ap, subst, arith, All, nat_eq, Option, Some, None, IsSome, IfSome, MatchOption, Result, Ok, Err, inl, inr, ◌⊎◌, replicate}
+use Rattle.std.proofs.Common.{◌≡◌, ℕ, zero, suc, eqb, ◌+◌, ◌<◌, ◌≤◌, Bool, true, false, List, [], ◌∷◌, length, take, get_or, flat_map, refl, sym, ◌∙◌, ap, subst, arith, All, nat_eq, Option, Some, None, IsSome, IfSome, Result, Ok, Err, inl, inr, ◌⊎◌, replicate}
 use Rattle.std.specs.List.{AllByRecursion, IsDistinct, zip}
 use Rattle.std.proofs.lemmas.Bool.Decides.{nat_tests}
 use Rattle.std.proofs.lemmas.Map.Keys.{IsDistinct-cons}
 use Rattle.std.proofs.lemmas.List.Elements.{All-cons, All-head, All-tail}
 use Rattle.slub_common.specs.Times.{times}
-use Rattle.slub_common.proofs.Times.{times-cons, times-cons_same, Contains-times, times-append, times-contained}
+use Rattle.slub_common.proofs.Times.{times-cons, times-cons_same, times-append, times-contained}
 use Rattle.slub_object_layout.specs.declared.event.Act.{Act}
 use Rattle.slub_object_layout.specs.declared.event.Act.TheVariants as act
 use Rattle.slub_object_layout.specs.declared.event.Event.{Event}
@@ -36,14 +36,14 @@ use Rattle.slub_journal.specs.declared.journal.Done.{Done}
 use Rattle.slub_journal.specs.declared.journal.Done.TheVariants as done
 use Rattle.slub_journal.specs.declared.journal.Journal.{Journal}
 use Rattle.slub_journal.specs.declared.journal.RoundResult.{RoundResult}
-use Rattle.slub_journal.specs.Lawful.{CreatesName, Does, DoesRound, IsAtRest, IsLawful, IsUnheld, RunsItems, opening_of}
+use Rattle.slub_journal.specs.Lawful.{CreatesName, Does, DoesRound, IsAtRest, IsLawful, RunsItems, opening_of}
 use Rattle.slub_journal.proofs.Laws.{opened_ready}
 use Rattle.slub_round_law.specs.Answered.{times_given}
 use Rattle.slub_round_law.specs.Round.{Fits, IsRound}
 use Rattle.slub_round_law.proofs.Times.{events_given, once_times}
 use Rattle.slub_round_law.proofs.Whole.{lawful}
 use Rattle.slub_laws.specs.Rounds.{HasLawfulRounds, IsRoundOf, RunsRounds}
-use Rattle.slub_laws.proofs.Keeping.{Keeps, keeps_both, keeps_held, keeps_same, keeps_written, match_some}
+use Rattle.slub_laws.proofs.Keeping.{match_some}
 
 -- ---- items that are no round
 

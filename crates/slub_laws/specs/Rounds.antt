@@ -27,4 +27,4 @@ RunsRounds s trace _ _ after = ⊥
 abbrev pub HasLawfulRounds : Trace → Journal → Type 0
 HasLawfulRounds trace journal =
     (last : State) × RunsRounds (opening_of trace) trace
-      (take (length journal.items) trace.items) journal.items last
+    (take (length journal.items) trace.items) journal.items last

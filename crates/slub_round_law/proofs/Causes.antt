@@ -4,7 +4,6 @@ use Rattle.std.specs.Option.{option_and_then, option_map, option_map_or}
 use Rattle.std.proofs.lemmas.Bool.{cases_eq, eq-eqb}
 use Rattle.std.proofs.lemmas.List.Sums.{sum_by-cons}
 use Rattle.slub_object_layout.specs.declared.event.Act.{Act}
-use Rattle.slub_object_layout.specs.declared.event.Act.TheVariants.{Alloc}
 use Rattle.slub_object_layout.specs.Layout.{address_of}
 use Rattle.slub_cache_create.specs.Table.{Table, cache_of as live_cache, name_at, number_of}
 use Rattle.slub_cache_create.specs.declared.caches.Cache.{Cache}
@@ -16,7 +15,7 @@ use Rattle.slub_lists.specs.Alloc.{cache_of, checked_of, named}
 use Rattle.slub_lists.specs.Coherent.{IsCoherent, held_under, laid_down}
 use Rattle.slub_lists.specs.Free.{is_freeable}
 use Rattle.slub_lists.specs.Laws.{HasByte}
-use Rattle.slub_lists.specs.Steps.{HasLayout, IsLive}
+use Rattle.slub_lists.specs.Alloc.{HasLayout, IsLive}
 use Rattle.slub_lists.specs.Words.{held_by, is_word, is_worker, own, word_of}
 use Rattle.slub_lists.proofs.Apart.{held-apart}
 use Rattle.slub_lists.proofs.CheckedGiving.{layout-live}

@@ -1,5 +1,5 @@
 -- What an allocation finds, from the cache that a name names.
-use Rattle.std.proofs.Common.{◌≡◌, ◌≢◌, ℕ, zero, suc, ◌+◌, ◌*◌, ◌<◌, ◌≤◌, List, [], ◌∷◌, length, get_or, set, refl, sym, ◌∙◌, ap, subst, arith, Option, Some, None, IsSome, IfSome, MatchOption, inl, inr, ◌⊎◌, sum_by, get_or-set_same}
+use Rattle.std.proofs.Common.{◌≡◌, ◌≢◌, ℕ, zero, suc, ◌+◌, ◌*◌, ◌<◌, ◌≤◌, List, [], ◌∷◌, length, get_or, set, sym, ◌∙◌, ap, subst, arith, Option, Some, None, IfSome, inl, inr, ◌⊎◌, sum_by, get_or-set_same}
 use Rattle.std.specs.Option.{option_map}
 use Rattle.std.proofs.lemmas.Nat.{row_fits}
 use Rattle.slub_common.proofs.Writes.{inside-of}
@@ -15,10 +15,8 @@ use Rattle.slub_lists.specs.State.{State}
 use Rattle.slub_lists.specs.Alloc.{cache_of, checked_of, cpu_place, held_here, named}
 use Rattle.slub_lists.specs.Coherent.{IsCoherent, held_under}
 use Rattle.slub_lists.specs.Named.{AllocatesFrom, AllocatesNamed}
-use Rattle.slub_journal.specs.Lawful.{Answers}
 use Rattle.slub_round_law.specs.Event.{GivesFree, IsFree, LacksFrames}
-use Rattle.slub_round_law.specs.Round.{Spot, spot_of}
-use Rattle.slub_round_law.proofs.Founds.{Finds, Outcome, finds, injected, no_memory, nothing, of-checked, of-unchecked}
+use Rattle.slub_round_law.proofs.Founds.{Outcome, finds, injected, no_memory, nothing, of-checked, of-unchecked}
 use Rattle.slub_round_law.proofs.Steps.{Step, event-step, frees, gives, keeps, lacks, match_either, match_some, nameless, pokes, pokes_not, reads, reads_none, reads_not, refuses, wants, writes, writes_none, writes_not}
 
 -- ---- the object that an allocation gives

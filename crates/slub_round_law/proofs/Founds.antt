@@ -1,5 +1,5 @@
 -- Where an object that is given was free, and what is there where none is.
-use Rattle.std.proofs.Common.{◌≡◌, ◌≢◌, ℕ, zero, suc, ◌+◌, ◌*◌, ◌<◌, ◌≤◌, Bool, true, false, cond, List, [], ◌∷◌, length, drop, get_or, set, map, unwrap_or, is_some, refl, sym, ◌∙◌, ap, subst, arith, Option, Some, None, IsSome, IfSome, MatchOption, MatchResult, Result, Ok, Err, inl, inr, ◌⊎◌, sum_by, get_or-set_other, get_or-set_same, length-set, pow_pos, All}
+use Rattle.std.proofs.Common.{◌≡◌, ◌≢◌, ℕ, zero, suc, ◌+◌, ◌<◌, ◌≤◌, Bool, true, false, cond, List, [], ◌∷◌, length, drop, get_or, set, map, unwrap_or, is_some, refl, sym, ◌∙◌, ap, subst, arith, Option, Some, None, IsSome, IfSome, MatchOption, MatchResult, Result, Ok, Err, inl, inr, ◌⊎◌, get_or-set_other, get_or-set_same, length-set, pow_pos, All}
 use Rattle.std.specs.List.{Contains, range_with_len}
 use Rattle.std.specs.Prelude.{slice_get}
 use Rattle.std.proofs.lemmas.Bool.{cases_eq}
@@ -12,7 +12,6 @@ use Rattle.slub_page_pool.specs.FreeFrames.{FreeFrames}
 use Rattle.slub_page_pool.specs.Block.{HasNoBlock, IsTaken}
 use Rattle.slub_object_layout.specs.declared.layout.Layout.{Layout}
 use Rattle.slub_object_layout.specs.Layout.{address_of}
-use Rattle.slub_cache_create.specs.declared.caches.Cache.{Cache}
 use Rattle.slub_red_zone.specs.declared.zones.Damage.{Damage}
 use Rattle.slub_red_zone.specs.declared.slab.ObjectState.{ObjectState}
 use Rattle.slub_red_zone.specs.declared.slab.ObjectState.TheVariants.{Free, Used, Aside}
@@ -35,7 +34,7 @@ use Rattle.slub_lists.specs.State.{State}
 use Rattle.slub_lists.specs.Checked.{AllocatesChecked, GivesOrMakes, GivesSlot, LacksMemory, LacksRun, first_slot, with_checked, with_checked_slab}
 use Rattle.slub_lists.specs.Coherent.{IsCheckedOf, IsCoherent}
 use Rattle.slub_lists.proofs.CheckedSlabs.{at_some}
-use Rattle.slub_lists.specs.Alloc.{Allocates, AllocatesNew, FindsRun, Gives, batch_of, cache_of, checked_of, cpu_place, from_current, from_free, from_node, from_partial, from_slabs, held_here, lists_of, no_lists, node_of, own_free, retired, stocked, taken_up, with_lists, with_new_slab, with_node}
+use Rattle.slub_lists.specs.Alloc.{Allocates, AllocatesNew, FindsRun, Gives, batch_of, checked_of, cpu_place, from_current, from_free, from_node, from_partial, from_slabs, lists_of, no_lists, node_of, own_free, retired, stocked, taken_up, with_lists, with_new_slab, with_node}
 use Rattle.slub_round_law.specs.Event.{HasNoObject, IsFree, first_free, in_checked, in_frames, on_cpu, on_current, on_node, on_partial}
 
 pub injected : {A : Type 0} {x y : A} → Some x ≡ Some y → x ≡ y
@@ -62,6 +61,7 @@ module _ (s : State) (cache cpu : ℕ) (layout : Layout) (worker object : ℕ) (
       let same : frame ≡ gives.frame = injected (sym (ap (λ (l : CpuLists). l.current) lists) ∙ gives.current) in
       let first : own_free mid frame ≡ gives.index ∷ gives.rest = sym (ap (λ (l : CpuLists). l.free) lists) ∙ gives.first in
       subst (λ f. IsFree s cache cpu (Mine f gives.index)) same (free gives.index (first-there (own_free mid frame) gives.index gives.rest first))
+
   -- where a slab is found, the object was free; where none is, nothing is there
   abbrev IsFound : Result State State → Type 0
   IsFound (Ok mid) = (gives : Gives mid layout cache cpu worker object answer after) → IsFree s cache cpu (Mine gives.frame gives.index)
@@ -168,7 +168,7 @@ module _ (slabs : CheckedState) (slot : Slot) (damage : Damage) (sound : IsSound
   pub free-back : (other : Slot) → state_of (with_damaged slabs slot damage) other ≡ Some Free → state_of slabs other ≡ Some Free
   free-back other free = elim (cases_eq other.frame slot.frame) [
     | inl same ↦ absurd (none-free (checked_slab slabs slot.frame).states other.index
-      (sym (ap (λ (slab : SlabState). slice_get slab.states other.index) (ap (checked_slab (with_damaged slabs slot damage)) same ∙ aside-slab)) ∙ free))
+        (sym (ap (λ (slab : SlabState). slice_get slab.states other.index) (ap (checked_slab (with_damaged slabs slot damage)) same ∙ aside-slab)) ∙ free))
     | inr differ ↦ sym (ap (λ (slab : SlabState). slice_get slab.states other.index) (same-slab other.frame differ)) ∙ free
   ]
 

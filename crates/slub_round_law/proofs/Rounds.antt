@@ -1,13 +1,12 @@
 -- A round that is done event by event is lawful.
-use Rattle.std.proofs.Common.{◌<◌, ◌&&◌, Bool, false, inl, inr, eqb, ◌≡◌, ℕ, ◌+◌, ◌≤◌, true, List, [], ◌∷◌, ◌++◌, length, refl, sym, ◌∙◌, ap, subst, arith, All, Option, Some, None, is_some, length-set}
+use Rattle.std.proofs.Common.{◌<◌, ◌&&◌, Bool, false, ◌≡◌, ℕ, ◌+◌, ◌≤◌, true, List, [], ◌∷◌, ◌++◌, length, refl, sym, ◌∙◌, ap, subst, arith, All, Option, Some, None, is_some, length-set}
 use Rattle.std.specs.List.{zip}
 use Rattle.std.proofs.lemmas.List.{append_assoc, append-nil}
 use Rattle.std.proofs.lemmas.Bool.Decides.{nat_tests}
 use Rattle.std.proofs.lemmas.List.Elements.{All-cons, All-head, All-tail}
-use Rattle.slub_object_layout.specs.declared.event.Act.TheVariants.{Alloc, Free, Write, Read, Poke, Trim, Flush}
+use Rattle.slub_object_layout.specs.declared.event.Act.TheVariants.{Alloc}
 use Rattle.slub_object_layout.specs.declared.event.Act.{Act}
 use Rattle.slub_object_layout.specs.declared.event.Event.{Event}
-use Rattle.slub_cache_create.specs.Table.{Table}
 use Rattle.slub_lists.specs.declared.lists.Held.{Held}
 use Rattle.slub_answers.specs.declared.reply.Reply.{Reply}
 use Rattle.slub_lists.specs.State.{State}

@@ -11,14 +11,13 @@ use Rattle.slub_cache_create.specs.declared.caches.Cache.{Cache}
 use Rattle.slub_lists.specs.declared.lists.Held.{Held}
 use Rattle.slub_answers.specs.declared.reply.Reply.TheVariants as reply
 use Rattle.slub_lists.specs.State.{State}
-use Rattle.slub_lists.specs.Coherent.{IsCoherent, held_under, laid_down}
+use Rattle.slub_lists.specs.Coherent.{held_under, laid_down}
 use Rattle.slub_lists.specs.Free.{is_freeable}
 use Rattle.slub_lists.specs.Words.{held_by, is_worker, own}
-use Rattle.slub_journal.specs.Lawful.{Answers, is_by}
+use Rattle.slub_journal.specs.Lawful.{is_by}
 use Rattle.slub_round_law.specs.Answered.{Answered, did_free, found_bad, gave, holding, holds_after, is_alloc_of, of_worker, times_freed, times_given, times_taken}
 use Rattle.slub_round_law.specs.Round.{IsGiftOf, Spot, WasGivenAt, spot_after, spot_asked, spot_by, spot_of, spot_under}
 use Rattle.slub_round_law.proofs.Runs.{Turn, comes, count-more, count-own, fold-own, goes, on_board, rests, stays}
-use Rattle.slub_round_law.proofs.Steps.{Step}
 use Rattle.slub_round_law.proofs.Times.{one_where}
 
 -- ---- numbers and workers

@@ -16,7 +16,7 @@ use Rattle.slub_lists.specs.Alloc.{cache_of, checked_of}
 use Rattle.slub_lists.specs.Checked.{slot_of_held, with_checked}
 use Rattle.slub_lists.specs.Coherent.{IsCoherent, held_under}
 use Rattle.slub_lists.specs.Laws.{Names}
-use Rattle.slub_lists.specs.Steps.{HasLayout}
+use Rattle.slub_lists.specs.Alloc.{HasLayout}
 use Rattle.slub_lists.specs.Words.{Writes, is_word, is_worker, own, with_word, word_at}
 use Rattle.slub_lists.proofs.ObjectWords.{memory-read, own-is, word-inside, writes-word}
 use Rattle.slub_lists.proofs.Spared.{writes-spare}

@@ -1,7 +1,6 @@
 -- What one event finds before it, and what it leaves.
-use Rattle.std.specs.Prelude.{◌≡◌, ℕ, ◌<◌, List, [], Option, Some, None, IsSome, IfSome, MatchOption, All, Contains, slice_index, sum_by}
+use Rattle.std.specs.Prelude.{◌≡◌, ℕ, [], Some, IsSome, IfSome, All, Contains, slice_index, sum_by}
 use Rattle.slub_page_pool.specs.Block.{HasNoBlock}
-use Rattle.slub_object_layout.specs.declared.layout.Layout.{Layout}
 use Rattle.slub_red_zone.specs.declared.slab.ObjectState.TheVariants.{Free}
 use Rattle.slub_red_zone.specs.declared.checked.Slot.{Slot}
 use Rattle.slub_red_zone.specs.State.{CheckedState, slab_of as checked_slab, state_of}
@@ -10,14 +9,14 @@ use Rattle.slub_lists.specs.declared.lists.Held.{Held}
 use Rattle.slub_lists.specs.State.{State}
 use Rattle.slub_lists.specs.Alloc.{cache_of, checked_of, held_here, lists_of, named, node_of, own_free}
 use Rattle.slub_lists.specs.Checked.{slot_of_held}
-use Rattle.slub_lists.specs.Coherent.{held_under, times_partial}
-use Rattle.slub_round_law.specs.Round.{Spot, spot_of}
+use Rattle.slub_lists.specs.Coherent.{held_under}
+use Rattle.slub_round_law.specs.Round.{spot_of}
 
 -- ---- an object that is given
 
 -- where an object of a cache is free for an allocation on a CPU: on that CPU's freelist; on the own
--- freelist of the CPU's current slab, or of one of the CPU's or the node's partial list; in a listed
--- slab of a checked cache; or in frames that are free, of which a slab is made
+-- freelist of the CPU's current slab, or of a slab of the CPU's or the node's partial list; in a slab
+-- of a checked cache; or in frames that are free, of which a slab is made
 pub data IsFree (s : State) (cache cpu : ℕ) (held : Held) : Type 0 where
   on_cpu : (lists_of s cache cpu).current ≡ Some held.frame
       → Contains (lists_of s cache cpu).free held.index → IsFree s cache cpu held

@@ -73,18 +73,18 @@ layout_of s spot = option_map (λ live. live.layout) (cache_of s spot.cache)
 abbrev pub has_word : State → ℕ → List Answered → ℕ → Bool
 has_word before object own word =
     option_map_or (λ layout. is_word layout word)
-      (option_and_then (layout_of before) (spot_by before object own)) false
+    (option_and_then (layout_of before) (spot_by before object own)) false
 
 -- the object's cache is checked
 abbrev pub IsOfChecked : State → ℕ → List Answered → Type 0
 IsOfChecked before object own =
     MatchOption (spot_by before object own) ⊥ (λ spot. IsSome (checked_of before spot.cache))
 
--- ---- why an event is answered so: `own` are the events of the same worker before it, `answers` are
--- ---- all of the round, of every worker
+-- ---- why an event is answered so: `own` are the events of the same worker before it, `answers` all
+-- ---- of the round, of every worker
 
--- what is given is no object that the worker holds, and none that was on the board before the round,
--- but for one that was freed in it
+-- what is given is no object that the worker holds, and none that was on the board before, but for
+-- one that was freed in the round
 pub record IsSpare (before : State) (answers own : List Answered) (address : ℕ) : Type 0 where
   pub unheld : (object : ℕ) → holding object own ≡ true
       → IfSome (spot_by before object own) (λ spot. spot.address ≢ address)
@@ -128,8 +128,8 @@ WriteCause before own object word reply.OutOfObject =
 WriteCause before own object word reply.NotHeld = holding object own ≡ false
 WriteCause before own object word _ = ⊥
 
--- the value is what the worker wrote there last, if it wrote there since it was given the object; of
--- a checked object a poke may have changed it
+-- the value is what the worker wrote there last, if it wrote there since the object was given; of a
+-- checked object a poke may have changed it
 abbrev pub IsOwnValue : State → List Answered → ℕ → ℕ → ℕ → Type 0
 IsOwnValue before own object word value =
     IsOfChecked before object own

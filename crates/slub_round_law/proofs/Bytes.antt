@@ -73,7 +73,7 @@ in-two true x y part (suc zero, within, is) = (refl, inr (sym is))
 in-two true x y part (suc (suc k), within, is) = absurd (omega (arith, within))
 in-two false x y part (k, within, is) = absurd (omega (arith, within))
 
-in-one : (b : Bool) (x part : Part) → Contains (if b then (x ∷ []) else []) part → (b ≡ true) × (part ≡ x)
+pub in-one : (b : Bool) (x part : Part) → Contains (if b then (x ∷ []) else []) part → (b ≡ true) × (part ≡ x)
 in-one true x part (zero, within, is) = (refl, sym is)
 in-one true x part (suc k, within, is) = absurd (omega (arith, within))
 in-one false x part (k, within, is) = absurd (omega (arith, within))

@@ -261,7 +261,7 @@ module _ (before : State) (past : List Answered) (s : State) (one : Answered) (a
   cause-by coherent (reads object word live held asks holds within is now) = as-is _ _ asks is (holds-it object held live holds, its-word object held live holds word ∙ within, its-value object held live holds coherent word within)
   cause-by coherent (reads_none object word live held asks holds beyond is now) = as-is _ _ asks is (holds-it object held live holds, its-word object held live holds word ∙ beyond)
   cause-by coherent (reads_not object word asks none is now) = as-is _ _ asks is (tale.holds one.0.worker object ∙ ap is_some none)
-  cause-by coherent (pokes object offset byte held slabs asks knows checked is now) = as-is _ _ asks is tt
+  cause-by coherent (pokes object offset byte held slabs asks knows checked inside is now) = as-is _ _ asks is tt
   cause-by coherent (pokes_not object offset byte asks why now) = elim why [
     | inl is ↦ as-is _ _ asks is tt
     | inr more ↦ elim more [

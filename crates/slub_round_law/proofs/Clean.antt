@@ -1,12 +1,14 @@
 -- A byte of an examined part that isn't the wanted one was poked.
 use Rattle.std.proofs.Common.{◌≡◌, ◌≢◌, ℕ, zero, suc, ◌+◌, ◌-◌, ◌*◌, ◌<◌, ◌≤◌, Bool, true, false, cond, List, [], ◌∷◌, ◌++◌, length, take, drop, get_or, set, map, refl, sym, ◌∙◌, ap, subst, arith, All, Option, Some, None, unwrap_or, inl, inr, ◌⊎◌, replicate, get_or-set_other, get_or-set_same, length-set}
 use Rattle.std.specs.List.{Contains, concat, range_with_len}
-use Rattle.std.specs.Prelude.{slice_get, slice_range}
+use Rattle.std.specs.Prelude.{slice_get, slice_range, if◌then◌else◌}
 use Rattle.std.specs.Option.{option_map}
 use Rattle.std.proofs.lemmas.Bool.{cases_eq, cases_lt}
 use Rattle.std.proofs.lemmas.Grind.{common_steps}
 use Rattle.std.proofs.lemmas.List.Elements.{Contains-append_left, Contains-append_right}
-use Rattle.std.proofs.lemmas.Nat.{row_fits, same_from_place}
+use Rattle.std.proofs.lemmas.List.{get_or-append-add, get_or-replicate, get_or_append_left, length-replicate}
+use Rattle.std.proofs.lemmas.Option.{slice_get-get_or, slice_get_past}
+use Rattle.std.proofs.lemmas.Nat.{same_from_place}
 use Rattle.slub_object_layout.specs.declared.layout.Flags.{Flags}
 use Rattle.slub_object_layout.specs.declared.layout.Layout.{Layout}
 use Rattle.slub_red_zone.specs.declared.slab.ObjectState.{ObjectState}
@@ -16,8 +18,8 @@ use Rattle.slub_red_zone.specs.Sound.{IsLayoutFor}
 use Rattle.slub_red_zone.specs.State.{CheckedState, SlabState, no_slab, slab_of, slot_of, state_of, with_slot}
 use Rattle.std.specs.Int.{to_le_bytes, w64}
 use Rattle.slub_red_zone.specs.Steps.{new_slab, set_aside, slab_set_aside, slab_with_given, slab_with_taken, word_place}
-use Rattle.slub_red_zone.specs.Zones.{examined_free, examined_used, new_slot, padding, poison, red_active, red_inactive, red_zones, set_up}
-use Rattle.slub_round_law.proofs.Bytes.{Has, IsOutside, Piece, lies, other-row, outside-used, piece-behind, piece-before, piece-free, piece-here, set-up-at, set-up-length}
+use Rattle.slub_red_zone.specs.Zones.{examined_free, examined_used, fill_byte, new_slot, padding, padding_byte, padding_part, poison, red_active, red_inactive, red_zones, set_up}
+use Rattle.slub_round_law.proofs.Bytes.{Has, Piece, in-one, lies, other-row, outside-used, piece-behind, piece-before, piece-free, piece-here, set-up-at, set-up-length}
 
 -- ---- what is examined
 
@@ -197,3 +199,38 @@ module _ (poked : ℕ → ℕ → ℕ → Type 0) (layout : Layout) (flags : Fla
         | inl before ↦ piece-before slab.bytes (to_le_bytes w64 value) (word_place layout i word) 8 (j * layout.size + p) fits before
         | inr behind ↦ piece-behind slab.bytes (to_le_bytes w64 value) (word_place layout i word) 8 (j * layout.size + p) refl fits behind
       ]
+
+  -- a new slab
+  new-slot-length : length (new_slot layout flags) ≡ layout.size
+  new-slot-length = set-up-length layout flags good red_inactive (replicate layout.size (fill_byte flags)) (length-replicate layout.size (fill_byte flags))
+
+  row-at : (n j p : ℕ) → j < n → p < layout.size → get_or (concat (replicate n (new_slot layout flags))) (j * layout.size + p) 0 ≡ get_or (new_slot layout flags) p 0
+  row-at zero j p inside within = absurd (omega (arith, inside))
+  row-at (suc n) zero p inside within =
+      ap (λ k. get_or (new_slot layout flags ++ concat (replicate n (new_slot layout flags))) k 0) (let e : 0 * layout.size + p ≡ p = omega arith in e)
+      ∙ get_or_append_left (new_slot layout flags) (concat (replicate n (new_slot layout flags))) 0 p (omega (arith, within, new-slot-length))
+  row-at (suc n) (suc j) p inside within =
+      ap (λ k. get_or (new_slot layout flags ++ concat (replicate n (new_slot layout flags))) k 0) (let e : suc j * layout.size + p ≡ length (new_slot layout flags) + (j * layout.size + p) = omega (arith, new-slot-length) in e)
+      ∙ get_or-append-add (new_slot layout flags) (concat (replicate n (new_slot layout flags))) (j * layout.size + p) 0
+      ∙ row-at n j p (omega (arith, inside)) within
+
+  new-at : (part : Part) (p : ℕ) → Contains (examined_free layout flags) part → Has part p → get_or (new_slot layout flags) p 0 ≡ part.wanted
+  new-at part p there has = elim (set-up-at layout flags good red_inactive (replicate layout.size (fill_byte flags)) (length-replicate layout.size (fill_byte flags)) part p (piece-free layout flags part there) has) [
+    | inl is ↦ is
+    | inr still ↦
+        let is = in-one flags.poison (padding_part layout) part still.0 in
+        still.1 ∙ get_or-replicate layout.size p (fill_byte flags) 0 (parts-fit (Some Free) part p there has)
+        ∙ ap (λ b. if b then padding_byte else 0) is.0 ∙ sym (ap (λ (q : Part). q.wanted) is.1)
+  ]
+
+  pub new-clean : (order objects : ℕ) → CleanSlab poked layout flags (new_slab layout flags order objects)
+  new-clean order objects j p part there has = elim (cases_lt j objects) [
+    | inl inside ↦
+        let free : slice_get (replicate objects Free) j ≡ Some Free = slice_get-get_or (replicate objects Free) j Aside (omega (arith, inside, length-replicate objects Free)) ∙ ap Some (get_or-replicate objects j Free Aside inside) in
+        let mine : Contains (examined_free layout flags) part = subst (λ x. Contains (parts_of layout flags x) part) free there in
+        inl (row-at objects j p inside (parts-fit (Some Free) part p mine has) ∙ new-at part p mine has)
+    | inr past ↦
+        let none : slice_get (replicate objects Free) j ≡ None = slice_get_past (replicate objects Free) j (omega (arith, past, length-replicate objects Free)) in
+        let nothing : Contains (parts_of layout flags None) part = subst (λ x. Contains (parts_of layout flags x) part) none there in
+        absurd (omega (arith, nothing.1))
+  ]

@@ -79,7 +79,7 @@ module _ (before : State) (past : List Answered) (s : State) (one : Answered) (a
   dry-step (reads object word live held asks holds within is now) = quiet (ap (λ (t : State). t.pool.dry) now) (ap is_lack is)
   dry-step (reads_none object word live held asks holds past is now) = quiet (ap (λ (t : State). t.pool.dry) now) (ap is_lack is)
   dry-step (reads_not object word asks none is now) = quiet (ap (λ (t : State). t.pool.dry) now) (ap is_lack is)
-  dry-step (pokes object offset byte held slabs asks knows checked is now) = quiet (ap (λ (t : State). t.pool.dry) now) (ap is_lack is)
+  dry-step (pokes object offset byte held slabs asks knows checked inside is now) = quiet (ap (λ (t : State). t.pool.dry) now) (ap is_lack is)
   dry-step (pokes_not object offset byte asks why now) = quiet (ap (λ (t : State). t.pool.dry) now) (elim why [
     | inl is ↦ ap is_lack is
     | inr rest ↦ elim rest [ inl is ↦ ap is_lack is | inr is ↦ ap is_lack is ]

@@ -49,7 +49,7 @@ step-given s event address after (writes_not object word value asks none is now)
 step-given s event address after (reads object word live held asks holds within is now) = absurd (cc)
 step-given s event address after (reads_none object word live held asks holds past is now) = absurd (cc)
 step-given s event address after (reads_not object word asks none is now) = absurd (cc)
-step-given s event address after (pokes object offset byte held slabs asks knows checked is now) = absurd (cc)
+step-given s event address after (pokes object offset byte held slabs asks knows checked inside is now) = absurd (cc)
 step-given s event address after (pokes_not object offset byte asks why now) = absurd (by why)
   where
     by : (reply.Given address ≡ reply.NotHeld) ⊎ ((reply.Given address ≡ reply.NotChecked) ⊎ (reply.Given address ≡ reply.OutOfSlot)) → ⊥

@@ -85,7 +85,7 @@ module _ (s : State) (one : Answered) (after : State) (coherent : IsCoherent s) 
       swaps-told s held.cache slabs rest after swaps
       (told-then slabs mid rest (subst (Told slabs) (sym takes.1) (taken-told slabs (record { frame = held.frame; index = held.index }))) (taken-out mid held.frame limit run rest goes))
   event-told (wrote object word value held live slabs holds swaps) = swaps-told s held.cache slabs _ after swaps (bytes-told slabs held.frame _)
-  event-told (poked object offset byte held slabs asks is knows swaps) = swaps-told s held.cache slabs _ after swaps (bytes-told slabs held.frame _)
+  event-told (poked object offset byte held slabs asks is knows inside swaps) = swaps-told s held.cache slabs _ after swaps (bytes-told slabs held.frame _)
 
 pub reports-more : (before s after : State) → Reports before s → Reports s after → Reports before after
 reports-more before s after first second cache = told-more (checked_of before cache) (checked_of s cache) (checked_of after cache) (first cache) (second cache)

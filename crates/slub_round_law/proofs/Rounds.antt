@@ -87,7 +87,7 @@ step-caches before s event answer after step caches = then_kept (by step)
     by (reads object word live held asks holds within is now) = still now
     by (reads_none object word live held asks holds past is now) = still now
     by (reads_not object word asks none is now) = still now
-    by (pokes object offset byte held slabs asks knows checked is now) = record { frames = ap (λ (t : State). t.frames) now; cpus = ap (λ (t : State). t.cpus) now; table = ap (λ (t : State). t.table) now; board = ap (λ (t : State). length t.board) now }
+    by (pokes object offset byte held slabs asks knows checked inside is now) = record { frames = ap (λ (t : State). t.frames) now; cpus = ap (λ (t : State). t.cpus) now; table = ap (λ (t : State). t.table) now; board = ap (λ (t : State). length t.board) now }
     by (pokes_not object offset byte asks why now) = still now
 
 module _ (before : State) (past : List Answered) (s : State) (one : Answered) (after : State) (moves : Moves before past s one after) (tale : Tale before past s) where

@@ -201,7 +201,7 @@ module _ (s : State) (one : Answered) (after : State) (object : ℕ) (coherent :
   turn (reads other word live held asks holds within is same) = same-rests s one after object same (silent-by object one _ is refl refl refl)
   turn (reads_none other word live held asks holds past is same) = same-rests s one after object same (silent-by object one reply.OutOfObject is refl refl refl)
   turn (reads_not other word asks none is same) = same-rests s one after object same (silent-by object one reply.NotHeld is refl refl refl)
-  turn (pokes other offset byte held slabs asks knows checked is now) = rests-by s one after object (ap (λ (t : State). t.board) now) (ap (λ (t : State). t.gone) now) (silent-by object one reply.Poked is refl refl refl)
+  turn (pokes other offset byte held slabs asks knows checked inside is now) = rests-by s one after object (ap (λ (t : State). t.board) now) (ap (λ (t : State). t.gone) now) (silent-by object one reply.Poked is refl refl refl)
   turn (pokes_not other offset byte asks why same) = same-rests s one after object same (elim why [
     | inl is ↦ silent-by object one reply.NotHeld is refl refl refl
     | inr rest ↦ elim rest [

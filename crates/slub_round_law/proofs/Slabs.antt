@@ -7,7 +7,7 @@ use Rattle.slub_object_layout.specs.declared.event.Event.{Event}
 use Rattle.slub_object_layout.specs.declared.layout.Layout.{Layout}
 use Rattle.slub_cache_create.specs.declared.caches.Cache.{Cache}
 use Rattle.slub_red_zone.specs.State.{CheckedState}
-use Rattle.slub_red_zone.specs.Steps.{Gives, TakesBack, TakesEmpty, with_byte, with_word as slab_word}
+use Rattle.slub_red_zone.specs.Steps.{Gives, IsOffset, TakesBack, TakesEmpty, with_byte, with_word as slab_word}
 use Rattle.slub_red_zone.specs.declared.checked.CheckedGive.{CheckedGive}
 use Rattle.slub_red_zone.specs.declared.checked.CheckedGive.TheVariants as give
 use Rattle.slub_red_zone.specs.declared.checked.Run.{Run as SlabRun}
@@ -45,7 +45,7 @@ pub data Slabs (s : State) (event : Event) (answer : Reply) (after : State) : Ty
   took : (object : ℕ) (held : Held) (slabs mid rest : CheckedState) (limit : ℕ) (run : Option SlabRun) → held_under s object ≡ Some held → Swaps s held.cache slabs rest after → TakesBack slabs (slot_of_held held) (Ok tt) mid
       → TakesEmpty mid held.frame limit run rest → Slabs s event answer after
   wrote : (object word value : ℕ) (held : Held) (live : Cache) (slabs : CheckedState) → Holds s event.worker object held live → Swaps s held.cache slabs (slab_word slabs (slot_of_held held) word value) after → Slabs s event answer after
-  poked : (object : ℕ) (offset : ℤ) (byte : ℕ) (held : Held) (slabs : CheckedState) → event.act ≡ Poke object offset byte → answer ≡ reply.Poked → known_to s event.worker object ≡ Some held
+  poked : (object : ℕ) (offset : ℤ) (byte : ℕ) (held : Held) (slabs : CheckedState) → event.act ≡ Poke object offset byte → answer ≡ reply.Poked → known_to s event.worker object ≡ Some held → IsOffset slabs.layout offset
       → Swaps s held.cache slabs (with_byte slabs (slot_of_held held) offset byte) after → Slabs s event answer after
 
 -- ---- allocation
@@ -140,8 +140,8 @@ of-step s event answer after answers (writes_not object word value asks none is 
 of-step s event answer after answers (reads object word live held asks holds within is now) = same (ap (λ (t : State). t.checked) now)
 of-step s event answer after answers (reads_none object word live held asks holds past is now) = same (ap (λ (t : State). t.checked) now)
 of-step s event answer after answers (reads_not object word asks none is now) = same (ap (λ (t : State). t.checked) now)
-of-step s event answer after answers (pokes object offset byte held slabs asks knows checked is now) =
-    poked object offset byte held slabs asks is knows (record { was = checked; now = ap (λ (t : State). t.checked) now })
+of-step s event answer after answers (pokes object offset byte held slabs asks knows checked inside is now) =
+    poked object offset byte held slabs asks is knows inside (record { was = checked; now = ap (λ (t : State). t.checked) now })
 of-step s event answer after answers (pokes_not object offset byte asks why now) = same (ap (λ (t : State). t.checked) now)
 
 pub event-slabs : (s : State) (event : Event) (answer : Reply) (after : State) → Answers s event event.act answer after → Slabs s event answer after

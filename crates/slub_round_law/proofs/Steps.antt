@@ -9,7 +9,7 @@ use Rattle.slub_object_layout.specs.declared.layout.Layout.{Layout}
 use Rattle.slub_object_layout.specs.Layout.{address_of}
 use Rattle.slub_cache_create.specs.declared.caches.Cache.{Cache}
 use Rattle.slub_red_zone.specs.State.{CheckedState, objects_in, slab_of as checked_slab}
-use Rattle.slub_red_zone.specs.Steps.{TakesBack, with_byte, with_word as slab_word}
+use Rattle.slub_red_zone.specs.Steps.{IsOffset, TakesBack, with_byte, with_word as slab_word}
 use Rattle.slub_red_zone.specs.declared.checked.CheckedGive.{CheckedGive}
 use Rattle.slub_red_zone.specs.declared.checked.CheckedGive.TheVariants as give
 use Rattle.slub_red_zone.specs.declared.checked.Run.{Run as SlabRun}
@@ -131,7 +131,7 @@ pub data Step (s : State) (event : Event) (answer : Reply) (after : State) : Typ
       → answer ≡ reply.OutOfObject → after ≡ s → Step s event answer after
   reads_not : (object word : ℕ) → event.act ≡ Read object word → held_by s event.worker object ≡ None → answer ≡ reply.NotHeld → after ≡ s → Step s event answer after
   -- a byte is poked
-  pokes : (object : ℕ) (offset : ℤ) (byte : ℕ) (held : Held) (slabs : CheckedState) → event.act ≡ Poke object offset byte → known_to s event.worker object ≡ Some held → checked_of s held.cache ≡ Some slabs
+  pokes : (object : ℕ) (offset : ℤ) (byte : ℕ) (held : Held) (slabs : CheckedState) → event.act ≡ Poke object offset byte → known_to s event.worker object ≡ Some held → checked_of s held.cache ≡ Some slabs → IsOffset slabs.layout offset
       → answer ≡ reply.Poked → after ≡ with_checked s held.cache (with_byte slabs (slot_of_held held) offset byte) → Step s event answer after
   pokes_not : (object : ℕ) (offset : ℤ) (byte : ℕ) → event.act ≡ Poke object offset byte → (answer ≡ reply.NotHeld) ⊎ ((answer ≡ reply.NotChecked) ⊎ (answer ≡ reply.OutOfSlot)) → after ≡ s → Step s event answer after
 
@@ -350,7 +350,7 @@ module _ (s : State) (event : Event) (object : ℕ) (offset : ℤ) (byte : ℕ) 
   byte-step : (held : Held) (slabs : CheckedState) → known_to s event.worker object ≡ Some held → checked_of s held.cache ≡ Some slabs → PokesChecked s slabs held offset byte answer after → Step s event answer after
   byte-step held slabs knows checked (outside out is same) = pokes_not object offset byte asks (inr (inr is)) same
   byte-step held slabs knows checked (inside within done) = match_bool (nat_lt held.index (objects_in (checked_slab slabs held.frame))) _ _ (Step s event answer after) done
-      (λ there done. pokes object offset byte held slabs asks knows checked done.0 done.1)
+      (λ there done. pokes object offset byte held slabs asks knows checked within done.0 done.1)
       (λ none nothing. pokes_not object offset byte asks (inl nothing.0) nothing.1)
 
   poke-step : Pokes s event.worker object offset byte answer after → Step s event answer after

@@ -90,7 +90,7 @@ words-of s one after (writes_not object word value asks none is now) = unwrote (
 words-of s one after (reads object word live held asks holds within is now) = unwrote (ap (λ (t : State). t.memory) now) (ap is_wrote is)
 words-of s one after (reads_none object word live held asks holds past is now) = unwrote (ap (λ (t : State). t.memory) now) (ap is_wrote is)
 words-of s one after (reads_not object word asks none is now) = unwrote (ap (λ (t : State). t.memory) now) (ap is_wrote is)
-words-of s one after (pokes object offset byte held slabs asks knows checked is now) = unwrote (ap (λ (t : State). t.memory) now) (ap is_wrote is)
+words-of s one after (pokes object offset byte held slabs asks knows checked inside is now) = unwrote (ap (λ (t : State). t.memory) now) (ap is_wrote is)
 words-of s one after (pokes_not object offset byte asks why now) = unwrote (ap (λ (t : State). t.memory) now) (elim why [
   | inl is ↦ ap is_wrote is
   | inr rest ↦ elim rest [ inl is ↦ ap is_wrote is | inr is ↦ ap is_wrote is ]

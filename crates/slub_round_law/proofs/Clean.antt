@@ -36,7 +36,7 @@ CleanSlab poked layout flags slab =
     → (get_or slab.bytes (j * layout.size + p) 0 ≡ part.wanted) ⊎ poked j p (get_or slab.bytes (j * layout.size + p) 0)
 
 -- a byte of a slot is one of the slab
-slot-byte : (layout : Layout) (bytes : List ℕ) (i p : ℕ) → p < layout.size → get_or (slot_of layout bytes i) p 0 ≡ get_or bytes (i * layout.size + p) 0
+pub slot-byte : (layout : Layout) (bytes : List ℕ) (i p : ℕ) → p < layout.size → get_or (slot_of layout bytes i) p 0 ≡ get_or bytes (i * layout.size + p) 0
 slot-byte layout bytes i p within = by (i * layout.size) layout.size within
   where
     by : (a n : ℕ) → p < n → get_or (slice_range bytes a (a + n)) p 0 ≡ get_or bytes (a + p) 0
@@ -65,7 +65,7 @@ module _ (poked : ℕ → ℕ → ℕ → Type 0) (layout : Layout) (flags : Fla
   padding-used part there = Contains-append_right (red_zones layout flags red_active) (padding layout flags) part there
 
   -- an examined part lies in the slot
-  parts-fit : (x : Option ObjectState) (part : Part) (p : ℕ) → Contains (parts_of layout flags x) part → Has part p → p < layout.size
+  pub parts-fit : (x : Option ObjectState) (part : Part) (p : ℕ) → Contains (parts_of layout flags x) part → Has part p → p < layout.size
   parts-fit None part p there has = absurd (omega (arith, there.1))
   parts-fit (Some Free) part p there has = let below : p < part.to = has.1 in omega (arith, below, (lies layout flags good red_inactive part (piece-free layout flags part there)).1)
   parts-fit (Some Used) part p there has = let below : p < part.to = has.1 in omega (arith, below, (lies layout flags good red_active part (outside-used layout flags good part there).0).1)

@@ -173,7 +173,7 @@ module _ (slabs : CheckedState) (slot : Slot) (damage : Damage) (sound : IsSound
   ]
 
 -- the first free object of the first listed slab is free
-first-state : (s : CheckedState) (slot : Slot) → IsSound s → IsNext s slot → state_of s slot ≡ Some Free
+pub first-state : (s : CheckedState) (slot : Slot) → IsSound s → IsNext s slot → state_of s slot ≡ Some Free
 first-state s slot sound next =
     slice_get-get_or (checked_slab s slot.frame).states slot.index Aside (next-object s slot sound next)
     ∙ ap Some (first-is-free s.layout (checked_slab s slot.frame) (next-slab s slot sound next) slot.index (drop 1 (checked_slab s slot.frame).free) next.free)

@@ -41,7 +41,7 @@ found None none = absurd (cc)
 found (Some y) some = (y, refl)
 
 -- an object's spot is that of its live cache
-live-spot : (s : State) (held : Held) (spot : Spot) → spot_of s held ≡ Some spot → (live : Cache) × (cache_of s held.cache ≡ Some live) × (spot.address ≡ address_of held.frame held.index live.layout)
+pub live-spot : (s : State) (held : Held) (spot : Spot) → spot_of s held ≡ Some spot → (live : Cache) × (cache_of s held.cache ≡ Some live) × (spot.address ≡ address_of held.frame held.index live.layout)
 live-spot s held spot is = by (cache_of s held.cache) refl is
   where
     by : (x : Option Cache) → cache_of s held.cache ≡ x → option_map (λ (live : Cache). record { cache = held.cache; address = address_of held.frame held.index live.layout }) x ≡ Some spot

@@ -6,7 +6,7 @@ use Rattle.std.specs.Option.{option_map}
 use Rattle.std.proofs.lemmas.Bool.{cases_eq, cases_lt}
 use Rattle.std.proofs.lemmas.Grind.{common_steps}
 use Rattle.std.proofs.lemmas.List.Elements.{Contains-append_left, Contains-append_right}
-use Rattle.std.proofs.lemmas.List.{get_or-append-add, get_or-replicate, get_or_append_left, length-replicate}
+use Rattle.std.proofs.lemmas.List.{length-append, get_or-append-add, get_or-replicate, get_or_append_left, length-replicate}
 use Rattle.std.proofs.lemmas.Option.{slice_get-get_or, slice_get_past}
 use Rattle.std.proofs.lemmas.Nat.{same_from_place}
 use Rattle.slub_object_layout.specs.declared.layout.Flags.{Flags}
@@ -213,6 +213,11 @@ module _ (poked : ℕ → ℕ → ℕ → Type 0) (layout : Layout) (flags : Fla
       ap (λ k. get_or (new_slot layout flags ++ concat (replicate n (new_slot layout flags))) k 0) (let e : suc j * layout.size + p ≡ length (new_slot layout flags) + (j * layout.size + p) = omega (arith, new-slot-length) in e)
       ∙ get_or-append-add (new_slot layout flags) (concat (replicate n (new_slot layout flags))) (j * layout.size + p) 0
       ∙ row-at n j p (omega (arith, inside)) within
+
+  -- as many slots as objects
+  pub new-bytes : (n : ℕ) → length (concat (replicate n (new_slot layout flags))) ≡ n * layout.size
+  new-bytes zero = omega arith
+  new-bytes (suc n) = length-append (new_slot layout flags) (concat (replicate n (new_slot layout flags))) ∙ omega (arith, new-bytes n, new-slot-length)
 
   new-at : (part : Part) (p : ℕ) → Contains (examined_free layout flags) part → Has part p → get_or (new_slot layout flags) p 0 ≡ part.wanted
   new-at part p there has = elim (set-up-at layout flags good red_inactive (replicate layout.size (fill_byte flags)) (length-replicate layout.size (fill_byte flags)) part p (piece-free layout flags part there) has) [

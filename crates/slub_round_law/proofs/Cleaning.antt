@@ -16,7 +16,7 @@ use Rattle.slub_red_zone.specs.declared.checked.Slot.{Slot}
 use Rattle.slub_red_zone.specs.declared.zones.Damage.{Damage}
 use Rattle.slub_red_zone.specs.declared.zones.Part.{Part}
 use Rattle.slub_red_zone.specs.declared.zones.Report.{Report}
-use Rattle.slub_red_zone.specs.Sound.{IsSlab, IsSound}
+use Rattle.slub_red_zone.specs.Sound.{IsLayoutFor, IsSlab, IsSound}
 use Rattle.slub_red_zone.specs.State.{CheckedState, IsUsed, SlabState, no_slab, objects_in, slab_at, slab_of, slot_of, state_of}
 use Rattle.slub_red_zone.specs.Steps.{Gives, IsNext, IsOffset, TakesEmpty, damage_of_free, damage_of_used, new_slab, next_is_damaged, next_is_whole, nothing_listed, place_of, report_of, slab_set_aside, slab_with_given, slab_with_taken, with_byte, with_damaged, with_given, with_new_slab, with_taken, with_word, without_slab}
 use Rattle.slub_red_zone.proofs.Given.{damaged-sound, next-inside, next-object, next-slab}
@@ -49,7 +49,7 @@ place-address frame index place layout = by (frame * 4096 + index * layout.size)
         ∙ ap (λ z. pos b +ℤ z) (+ℤ_comm (pos l) (pos p -ℤ pos l) ∙ -ℤ-+ℤ_cancel (pos p) (pos l)) ∙ pos-+ℤ-pos b p
 
 module _ (poked : ℤ → ℕ → Type 0) where
-  clean-with : (s : CheckedState) (frame : ℕ) (x : Option SlabState) (listed : List ℕ) (reports : List Report) → Clean poked s → CleanSlab (by_place poked s.layout frame) s.layout s.flags (unwrap_or x no_slab)
+  pub clean-with : (s : CheckedState) (frame : ℕ) (x : Option SlabState) (listed : List ℕ) (reports : List Report) → Clean poked s → CleanSlab (by_place poked s.layout frame) s.layout s.flags (unwrap_or x no_slab)
       → Clean poked (record s { slabs = set s.slabs frame x; listed = listed; reports = reports })
   clean-with s frame x listed reports clean new at =
       at_written (λ y. CleanSlab (by_place poked s.layout at) s.layout s.flags (unwrap_or y no_slab)) s.slabs frame at x None
@@ -77,7 +77,7 @@ module _ (poked : ℤ → ℕ → Type 0) where
 
   -- ---- giving
 
-  next-given : (s : CheckedState) (slot : Slot) → IsSound s → IsNext s slot → Clean poked s → Clean poked (with_given s slot)
+  pub next-given : (s : CheckedState) (slot : Slot) → IsSound s → IsNext s slot → Clean poked s → Clean poked (with_given s slot)
   next-given s slot sound next clean =
       clean-with s slot.frame (Some (slab_with_given s.layout s.flags (slab_of s slot.frame) slot.index)) (with_given s slot).listed s.reports clean
       (given-clean (by_place poked s.layout slot.frame) s.layout s.flags sound.layout (slab_of s slot.frame) slot.index (next-inside s slot sound next) (first-state s slot sound next) (clean slot.frame))
@@ -141,7 +141,7 @@ module _ (poked : ℤ → ℕ → Type 0) where
   empty-clean s frame limit None after takes clean = subst (Clean poked) (sym takes.1) clean
   empty-clean s frame limit (Some run) after takes clean = subst (Clean poked) (sym takes.2) (gone-clean s frame clean)
 
-  pub coming-clean : (s : CheckedState) (run : Run) (objects : ℕ) → IsSound s → Clean poked s → Clean poked (with_new_slab s run objects)
-  coming-clean s run objects sound clean =
+  pub coming-clean : (s : CheckedState) (run : Run) (objects : ℕ) → IsLayoutFor s.flags s.layout → Clean poked s → Clean poked (with_new_slab s run objects)
+  coming-clean s run objects good clean =
       clean-with s run.frame (Some (new_slab s.layout s.flags run.order objects)) (run.frame ∷ s.listed) s.reports clean
-      (new-clean (by_place poked s.layout run.frame) s.layout s.flags sound.layout run.order objects)
+      (new-clean (by_place poked s.layout run.frame) s.layout s.flags good run.order objects)

@@ -241,7 +241,7 @@ all-damaged slabs rest sound asked = by slabs give.Empty rest sound asked refl
         bad-all s first damage sound next damaged (by (with_damaged s first damage) answer after (damaged-sound s first sound next damage) asked is)
 
 -- the run of a new slab was free
-run-free : (old : FreeFrames) (layout : Layout) (run : Run) (new : FreeFrames) → FindsRun old layout (Some run) new → Contains old.free run.frame
+pub run-free : (old : FreeFrames) (layout : Layout) (run : Run) (new : FreeFrames) → FindsRun old layout (Some run) new → Contains old.free run.frame
 run-free old layout run new found = elim found [
   | inl wide ↦ taken layout.order wide.2.0
   | inr least ↦ taken layout.min_order least.4.0

@@ -23,7 +23,7 @@ use Rattle.slub_journal.specs.declared.journal.Found.{Found}
 use Rattle.slub_journal.specs.Lawful.{cache_numbers, found_in, found_of, reports_of, title_of}
 use Rattle.slub_round_law.specs.Answered.{Answered}
 use Rattle.slub_round_law.specs.Round.{IsOfSlab, aside_at}
-use Rattle.slub_round_law.proofs.Slabs.{Slabs, Swaps, gave, made, poked, same, took, wrote}
+use Rattle.slub_round_law.proofs.Slabs.{Slabs, Swaps, gave, made, poked_byte, same, took, wrote}
 use Rattle.slub_round_law.proofs.Told.{Told, bytes-told, given-told, gives-told, gone-told, new-told, taken-told, told-none, told-then}
 
 -- what is told of the slabs of a cache, if it is checked
@@ -54,7 +54,7 @@ reports-none before cache = told-same (checked_of before cache)
 -- ---- an event
 
 -- the slabs of a checked cache are sound
-slabs-sound : (s : State) (cache : ℕ) (slabs : CheckedState) → IsCoherent s → checked_of s cache ≡ Some slabs → IsCheckedOf s cache slabs
+pub slabs-sound : (s : State) (cache : ℕ) (slabs : CheckedState) → IsCoherent s → checked_of s cache ≡ Some slabs → IsCheckedOf s cache slabs
 slabs-sound s cache slabs coherent is = at_some (checked_of s cache) slabs (IsCheckedOf s cache) is (coherent.shaped.checked.those cache)
 
 swaps-told : (s : State) (cache : ℕ) (slabs rest : CheckedState) (after : State) → Swaps s cache slabs rest after → Told slabs rest → Reports s after
@@ -77,15 +77,15 @@ module _ (s : State) (one : Answered) (after : State) (coherent : IsCoherent s) 
   event-told (same is) = λ cache. subst (ToldOf (checked_of s cache)) (sym (ap (λ (l : List (Option CheckedState)). get_or l cache None) is)) (told-same (checked_of s cache))
   event-told (gave cache slabs rest found swaps asked) =
       swaps-told s cache slabs rest after swaps (gives-told slabs found rest (slabs-sound s cache slabs coherent swaps.was).sound asked)
-  event-told (made cache slabs rest run pool layout swaps asked finds) =
+  event-told (made cache slabs rest run pool live is_live swaps asked finds) =
       swaps-told s cache slabs _ after swaps
       (told-then slabs rest _ (gives-told slabs give.Empty rest (slabs-sound s cache slabs coherent swaps.was).sound asked)
       (told-then rest (with_new_slab rest (record { frame = run.frame; order = run.order }) run.objects) _ (new-told rest (record { frame = run.frame; order = run.order }) run.objects) (given-told (with_new_slab rest (record { frame = run.frame; order = run.order }) run.objects) (first_slot run))))
   event-told (took object held slabs mid rest limit run there swaps takes goes) =
       swaps-told s held.cache slabs rest after swaps
       (told-then slabs mid rest (subst (Told slabs) (sym takes.1) (taken-told slabs (record { frame = held.frame; index = held.index }))) (taken-out mid held.frame limit run rest goes))
-  event-told (wrote object word value held live slabs holds swaps) = swaps-told s held.cache slabs _ after swaps (bytes-told slabs held.frame _)
-  event-told (poked object offset byte held slabs asks is knows inside swaps) = swaps-told s held.cache slabs _ after swaps (bytes-told slabs held.frame _)
+  event-told (wrote object word value held live slabs holds within swaps) = swaps-told s held.cache slabs _ after swaps (bytes-told slabs held.frame _)
+  event-told (poked_byte object offset byte held slabs asks is knows inside swaps) = swaps-told s held.cache slabs _ after swaps (bytes-told slabs held.frame _)
 
 pub reports-more : (before s after : State) → Reports before s → Reports s after → Reports before after
 reports-more before s after first second cache = told-more (checked_of before cache) (checked_of s cache) (checked_of after cache) (first cache) (second cache)

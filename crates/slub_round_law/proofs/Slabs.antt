@@ -23,7 +23,7 @@ use Rattle.slub_lists.specs.Coherent.{held_under}
 use Rattle.slub_lists.specs.Free.{FreesUnchecked, freed, freed_here, is_current, is_freeable, with_freed, with_taken}
 use Rattle.slub_lists.specs.Freeing.{Frees}
 use Rattle.slub_lists.specs.Named.{AllocatesNamed}
-use Rattle.slub_lists.specs.Words.{known_to, word_at}
+use Rattle.slub_lists.specs.Words.{is_word, known_to, word_at}
 use Rattle.slub_lists.proofs.Keeps.{unchecked_keeps}
 use Rattle.slub_lists.proofs.KeepsFreed.{same_settled}
 use Rattle.slub_journal.specs.Lawful.{Answers}
@@ -40,34 +40,34 @@ pub data Slabs (s : State) (event : Event) (answer : Reply) (after : State) : Ty
   -- an object was asked for
   gave : (cache : ℕ) (slabs rest : CheckedState) (found : CheckedGive) → Swaps s cache slabs rest after → Gives slabs found rest → Slabs s event answer after
   -- none was there, and a slab was made
-  made : (cache : ℕ) (slabs rest : CheckedState) (run : Run) (pool : FreeFrames) (layout : Layout) → Swaps s cache slabs (new_given rest run) after → Gives slabs give.Empty rest → FindsRun s.pool layout (Some run) pool → Slabs s event answer after
+  made : (cache : ℕ) (slabs rest : CheckedState) (run : Run) (pool : FreeFrames) (live : Cache) → cache_of s cache ≡ Some live → Swaps s cache slabs (new_given rest run) after → Gives slabs give.Empty rest → FindsRun s.pool live.layout (Some run) pool → Slabs s event answer after
   -- one was taken back, and its slab may be gone
   took : (object : ℕ) (held : Held) (slabs mid rest : CheckedState) (limit : ℕ) (run : Option SlabRun) → held_under s object ≡ Some held → Swaps s held.cache slabs rest after → TakesBack slabs (slot_of_held held) (Ok tt) mid
       → TakesEmpty mid held.frame limit run rest → Slabs s event answer after
-  wrote : (object word value : ℕ) (held : Held) (live : Cache) (slabs : CheckedState) → Holds s event.worker object held live → Swaps s held.cache slabs (slab_word slabs (slot_of_held held) word value) after → Slabs s event answer after
-  poked : (object : ℕ) (offset : ℤ) (byte : ℕ) (held : Held) (slabs : CheckedState) → event.act ≡ Poke object offset byte → answer ≡ reply.Poked → known_to s event.worker object ≡ Some held → IsOffset slabs.layout offset
+  wrote : (object word value : ℕ) (held : Held) (live : Cache) (slabs : CheckedState) → Holds s event.worker object held live → is_word live.layout word ≡ true → Swaps s held.cache slabs (slab_word slabs (slot_of_held held) word value) after → Slabs s event answer after
+  poked_byte : (object : ℕ) (offset : ℤ) (byte : ℕ) (held : Held) (slabs : CheckedState) → event.act ≡ Poke object offset byte → answer ≡ reply.Poked → known_to s event.worker object ≡ Some held → IsOffset slabs.layout offset
       → Swaps s held.cache slabs (with_byte slabs (slot_of_held held) offset byte) after → Slabs s event answer after
 
 -- ---- allocation
 
-module _ (s : State) (event : Event) (object cache : ℕ) (layout : Layout) (answer : Reply) (after : State) (slabs : CheckedState) (was : checked_of s cache ≡ Some slabs) where
+module _ (s : State) (event : Event) (object cache : ℕ) (live : Cache) (is_live : cache_of s cache ≡ Some live) (answer : Reply) (after : State) (slabs : CheckedState) (was : checked_of s cache ≡ Some slabs) where
   abbrev Goal : Type 0
   Goal = Slabs s event answer after
 
-  of-run : (rest : CheckedState) (pool : FreeFrames) (run : Option Run) → Gives slabs give.Empty rest → FindsRun s.pool layout run pool
-      → MatchOption run (LacksRun (with_checked s cache rest) pool answer after) (λ run. LacksMemory (with_checked s cache rest) pool run answer after ⊎ GivesSlot (with_checked_slab (with_checked s cache rest) cache pool run rest) layout cache event.worker object (first_slot run) answer after)
+  of-run : (rest : CheckedState) (pool : FreeFrames) (run : Option Run) → Gives slabs give.Empty rest → FindsRun s.pool live.layout run pool
+      → MatchOption run (LacksRun (with_checked s cache rest) pool answer after) (λ run. LacksMemory (with_checked s cache rest) pool run answer after ⊎ GivesSlot (with_checked_slab (with_checked s cache rest) cache pool run rest) live.layout cache event.worker object (first_slot run) answer after)
       → Goal
   of-run rest pool None asked finds none = gave cache slabs rest give.Empty (record { was = was; now = ap (λ (t : State). t.checked) none.1 }) asked
   of-run rest pool (Some run) asked finds (inl none) = gave cache slabs rest give.Empty (record { was = was; now = ap (λ (t : State). t.checked) none.1 }) asked
   of-run rest pool (Some run) asked finds (inr given) =
-      made cache slabs rest run pool layout (record { was = was; now = ap (λ (t : State). t.checked) given.given ∙ set-set s.checked cache (Some rest) (Some (new_given rest run)) }) asked finds
+      made cache slabs rest run pool live is_live (record { was = was; now = ap (λ (t : State). t.checked) given.given ∙ set-set s.checked cache (Some rest) (Some (new_given rest run)) }) asked finds
     where
       set-set : {A : Type 0} (xs : List A) (i : ℕ) (x y : A) → set (set xs i x) i y ≡ set xs i y
       set-set [] i x y = refl
       set-set (z ∷ xs) zero x y = refl
       set-set {A} (z ∷ xs) (suc i) x y = ap (λ (l : List A). z ∷ l) (set-set xs i x y)
 
-  of-found : (rest : CheckedState) (found : CheckedGive) → Gives slabs found rest → GivesOrMakes (with_checked s cache rest) layout cache rest event.worker object found answer after → Goal
+  of-found : (rest : CheckedState) (found : CheckedGive) → Gives slabs found rest → GivesOrMakes (with_checked s cache rest) live.layout cache rest event.worker object found answer after → Goal
   of-found rest (give.Given slot) asked given = gave cache slabs rest (give.Given slot) (record { was = was; now = ap (λ (t : State). t.checked) given.given }) asked
   of-found rest give.Empty asked makes = of-run rest makes.1 makes.0 asked makes.2 makes.3
 
@@ -77,7 +77,7 @@ alloc-slabs s event place object answer after done = match_either (named s place
     (λ cache names done. match_some (cache_of s cache) _ (Slabs s event answer after) done (λ live is_live done.
     match_either (checked_of s cache) _ _ (Slabs s event answer after) done
     (λ unchecked done. same (unchecked_keeps s live.layout cache event.cpu event.worker object answer after done).1)
-    (λ slabs was done. of-found s event object cache live.layout answer after slabs was done.1 done.0 done.2 done.3)))
+    (λ slabs was done. of-found s event object cache live is_live answer after slabs was done.1 done.0 done.2 done.3)))
 
 -- ---- freeing
 
@@ -134,14 +134,14 @@ of-step s event answer after answers (writes object word value live held asks ho
 
     by : (x : Option CheckedState) → checked_of s held.cache ≡ x → Slabs s event answer after
     by None e = same (ap (λ (t : State). t.checked) (at None e))
-    by (Some slabs) e = wrote object word value held live slabs holds (record { was = e; now = ap (λ (t : State). t.checked) (at (Some slabs) e) })
+    by (Some slabs) e = wrote object word value held live slabs holds within (record { was = e; now = ap (λ (t : State). t.checked) (at (Some slabs) e) })
 of-step s event answer after answers (writes_none object word value live held asks holds past is now) = same (ap (λ (t : State). t.checked) now)
 of-step s event answer after answers (writes_not object word value asks none is now) = same (ap (λ (t : State). t.checked) now)
 of-step s event answer after answers (reads object word live held asks holds within is now) = same (ap (λ (t : State). t.checked) now)
 of-step s event answer after answers (reads_none object word live held asks holds past is now) = same (ap (λ (t : State). t.checked) now)
 of-step s event answer after answers (reads_not object word asks none is now) = same (ap (λ (t : State). t.checked) now)
 of-step s event answer after answers (pokes object offset byte held slabs asks knows checked inside is now) =
-    poked object offset byte held slabs asks is knows inside (record { was = checked; now = ap (λ (t : State). t.checked) now })
+    poked_byte object offset byte held slabs asks is knows inside (record { was = checked; now = ap (λ (t : State). t.checked) now })
 of-step s event answer after answers (pokes_not object offset byte asks why now) = same (ap (λ (t : State). t.checked) now)
 
 pub event-slabs : (s : State) (event : Event) (answer : Reply) (after : State) → Answers s event event.act answer after → Slabs s event answer after

@@ -1,11 +1,10 @@
 -- A byte of an examined part that isn't the wanted one was poked.
-use Rattle.std.proofs.Common.{◌≡◌, ◌≢◌, ℕ, zero, suc, ◌+◌, ◌-◌, ◌*◌, ◌<◌, ◌≤◌, Bool, true, false, cond, List, [], ◌∷◌, ◌++◌, length, take, drop, get_or, set, map, refl, sym, ◌∙◌, ap, subst, arith, All, Option, Some, None, unwrap_or, inl, inr, ◌⊎◌, replicate, get_or-set_other, get_or-set_same, length-set}
-use Rattle.std.specs.List.{Contains, concat, range_with_len}
+use Rattle.std.proofs.Common.{◌≡◌, ◌≢◌, ℕ, zero, suc, ◌+◌, ◌-◌, ◌*◌, ◌<◌, ◌≤◌, List, [], ◌∷◌, ◌++◌, length, take, drop, get_or, set, map, refl, sym, ◌∙◌, ap, subst, arith, Option, Some, None, inl, inr, ◌⊎◌, replicate, get_or-set_other, get_or-set_same}
+use Rattle.std.specs.List.{Contains, concat}
 use Rattle.std.specs.Prelude.{slice_get, slice_range, if◌then◌else◌}
-use Rattle.std.specs.Option.{option_map}
 use Rattle.std.proofs.lemmas.Bool.{cases_eq, cases_lt}
 use Rattle.std.proofs.lemmas.Grind.{common_steps}
-use Rattle.std.proofs.lemmas.List.Elements.{Contains-append_left, Contains-append_right}
+use Rattle.std.proofs.lemmas.List.Elements.{Contains-append_right}
 use Rattle.std.proofs.lemmas.List.{length-append, get_or-append-add, get_or-replicate, get_or_append_left, length-replicate}
 use Rattle.std.proofs.lemmas.Option.{slice_get-get_or, slice_get_past}
 use Rattle.std.proofs.lemmas.Nat.{same_from_place}
@@ -15,7 +14,7 @@ use Rattle.slub_red_zone.specs.declared.slab.ObjectState.{ObjectState}
 use Rattle.slub_red_zone.specs.declared.slab.ObjectState.TheVariants.{Free, Used, Aside}
 use Rattle.slub_red_zone.specs.declared.zones.Part.{Part}
 use Rattle.slub_red_zone.specs.Sound.{IsLayoutFor}
-use Rattle.slub_red_zone.specs.State.{CheckedState, SlabState, no_slab, slab_of, slot_of, state_of, with_slot}
+use Rattle.slub_red_zone.specs.State.{SlabState, slot_of, with_slot}
 use Rattle.std.specs.Int.{to_le_bytes, w64}
 use Rattle.slub_red_zone.specs.Steps.{new_slab, set_aside, slab_set_aside, slab_with_given, slab_with_taken, word_place}
 use Rattle.slub_red_zone.specs.Zones.{examined_free, examined_used, fill_byte, new_slot, padding, padding_byte, padding_part, poison, red_active, red_inactive, red_zones, set_up}

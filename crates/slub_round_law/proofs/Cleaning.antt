@@ -1,9 +1,9 @@
 -- Examined bytes of a checked cache through the calls on its slabs, and what its reports tell.
-use Rattle.std.proofs.Common.{◌≡◌, ◌≢◌, ℕ, zero, suc, ◌+◌, ◌-◌, ◌*◌, ◌<◌, ◌≤◌, Bool, true, false, cond, List, [], ◌∷◌, ◌++◌, length, drop, get_or, set, refl, sym, ◌∙◌, ap, subst, arith, All, Option, Some, None, unwrap_or, inl, inr, ◌⊎◌, ℤ, Result, Ok, Err}
+use Rattle.std.proofs.Common.{◌≡◌, ℕ, ◌+◌, ◌*◌, ◌<◌, List, [], ◌∷◌, ◌++◌, drop, get_or, set, sym, ◌∙◌, ap, subst, arith, All, Option, Some, None, unwrap_or, inl, inr, ℤ}
 use Rattle.std.specs.List.{Contains}
-use Rattle.std.specs.Prelude.{pos, ◌+ℤ◌, ◌-ℤ◌, nat_abs, slice_get, slice_index, ◌≤ℤ◌, ◌<ℤ◌}
+use Rattle.std.specs.Prelude.{pos, ◌+ℤ◌, ◌-ℤ◌, slice_get}
 use Rattle.std.proofs.lemmas.List.{append_assoc, append-nil}
-use Rattle.std.proofs.lemmas.List.Elements.{All-append, All-cons}
+use Rattle.std.proofs.lemmas.List.Elements.{All-cons}
 use Rattle.std.proofs.lemmas.Option.{slice_get_past}
 use Rattle.std.proofs.Math.IntN.{+ℤ_assoc, +ℤ_comm, -ℤ-+ℤ_cancel, pos-+ℤ-pos}
 use Rattle.slub_common.proofs.Writes.{at_written}
@@ -16,13 +16,13 @@ use Rattle.slub_red_zone.specs.declared.checked.Slot.{Slot}
 use Rattle.slub_red_zone.specs.declared.zones.Damage.{Damage}
 use Rattle.slub_red_zone.specs.declared.zones.Part.{Part}
 use Rattle.slub_red_zone.specs.declared.zones.Report.{Report}
-use Rattle.slub_red_zone.specs.Sound.{IsLayoutFor, IsSlab, IsSound}
-use Rattle.slub_red_zone.specs.State.{CheckedState, IsUsed, SlabState, no_slab, objects_in, slab_at, slab_of, slot_of, state_of}
-use Rattle.slub_red_zone.specs.Steps.{Gives, IsNext, IsOffset, TakesEmpty, damage_of_free, damage_of_used, new_slab, next_is_damaged, next_is_whole, nothing_listed, place_of, report_of, slab_set_aside, slab_with_given, slab_with_taken, with_byte, with_damaged, with_given, with_new_slab, with_taken, with_word, without_slab}
-use Rattle.slub_red_zone.proofs.Given.{damaged-sound, next-inside, next-object, next-slab}
-use Rattle.slub_red_zone.proofs.Taken.{used-inside, used-object}
+use Rattle.slub_red_zone.specs.Sound.{IsLayoutFor, IsSound}
+use Rattle.slub_red_zone.specs.State.{CheckedState, IsUsed, SlabState, no_slab, slab_of, slot_of, state_of}
+use Rattle.slub_red_zone.specs.Steps.{Gives, IsNext, TakesEmpty, damage_of_free, damage_of_used, new_slab, next_is_damaged, next_is_whole, nothing_listed, report_of, slab_set_aside, slab_with_given, slab_with_taken, with_damaged, with_given, with_new_slab, with_taken, without_slab}
+use Rattle.slub_red_zone.proofs.Given.{damaged-sound, next-inside}
+use Rattle.slub_red_zone.proofs.Taken.{used-inside}
 use Rattle.slub_round_law.proofs.Bytes.{Has}
-use Rattle.slub_round_law.proofs.Clean.{CleanSlab, aside-clean, given-clean, new-clean, parts-fit, parts_of, poked-clean, slot-byte, taken-clean, written-clean}
+use Rattle.slub_round_law.proofs.Clean.{CleanSlab, aside-clean, given-clean, new-clean, parts-fit, parts_of, slot-byte, taken-clean}
 use Rattle.slub_round_law.proofs.Damages.{IsDamageOf, damage-given, damage-taken}
 use Rattle.slub_round_law.proofs.Founds.{first-state}
 

@@ -1,33 +1,29 @@
 -- Through a round: each examined byte that isn't the wanted one was poked, and so is each that is told of.
-use Rattle.std.proofs.Common.{T, nat_lt, ◌≡◌, ◌≢◌, ℕ, zero, suc, ◌+◌, ◌*◌, ◌<◌, ◌≤◌, Bool, true, false, List, [], ◌∷◌, ◌++◌, length, get_or, set, replicate, refl, sym, ◌∙◌, ap, subst, arith, All, Option, Some, None, MatchOption, inl, inr, ◌⊎◌, ℤ, Err, get_or-set_other, get_or-set_same, length-set}
-use Rattle.std.specs.List.{Contains}
-use Rattle.std.specs.Prelude.{pos, ◌+ℤ◌, nat_abs, slice_get, ◌≤ℤ◌, ◌<ℤ◌, ⊤}
+use Rattle.std.proofs.Common.{T, nat_lt, ◌≡◌, ◌≢◌, ℕ, ◌+◌, ◌*◌, ◌<◌, ◌≤◌, Bool, true, false, List, [], ◌∷◌, ◌++◌, length, get_or, replicate, refl, sym, ◌∙◌, ap, subst, arith, All, Option, Some, None, MatchOption, inl, inr, ◌⊎◌, ℤ, get_or-set_other, get_or-set_same, length-set}
+use Rattle.std.specs.Prelude.{pos, ◌+ℤ◌, nat_abs, slice_get, ◌<ℤ◌, ⊤}
 use Rattle.std.specs.Option.{option_and_then, option_or}
 use Rattle.std.specs.Int.Signed.{pos-nat_abs, yes_non_neg}
 use Rattle.std.proofs.Math.IntN.{+ℤ_assoc, pos-+ℤ-pos}
 use Rattle.std.proofs.lemmas.Bool.{cases_eq}
 use Rattle.std.proofs.lemmas.Bool.Decides.{nat_tests}
-use Rattle.std.proofs.lemmas.List.{append_assoc, append-nil}
-use Rattle.std.proofs.lemmas.List.Elements.{All-append, Contains-append_left, Contains-append_right}
+use Rattle.std.proofs.lemmas.List.{append-nil}
+use Rattle.std.proofs.lemmas.List.Elements.{Contains-append_left, Contains-append_right}
 use Rattle.slub_common.proofs.Writes.{inside-of}
-use Rattle.slub_object_layout.specs.declared.event.Act.TheVariants.{Alloc, Free, Poke}
+use Rattle.slub_object_layout.specs.declared.event.Act.TheVariants.{Alloc, Poke}
 use Rattle.slub_object_layout.specs.declared.layout.Layout.{Layout}
 use Rattle.slub_object_layout.specs.Layout.{address_of}
-use Rattle.slub_cache_create.specs.declared.caches.Cache.{Cache}
 use Rattle.slub_answers.specs.declared.reply.Reply.TheVariants as reply
 use Rattle.slub_red_zone.specs.declared.slab.ObjectState.TheVariants.{Free as FreeObject, Aside}
 use Rattle.slub_red_zone.specs.declared.checked.CheckedGive.{CheckedGive}
 use Rattle.slub_red_zone.specs.declared.checked.CheckedGive.TheVariants as give
 use Rattle.slub_red_zone.specs.declared.checked.Run.{Run as SlabRun}
 use Rattle.slub_red_zone.specs.declared.checked.Slot.{Slot}
-use Rattle.slub_red_zone.specs.declared.zones.Damage.{Damage}
 use Rattle.slub_red_zone.specs.declared.zones.Report.{Report}
 use Rattle.slub_red_zone.specs.Sound.{IsLayoutFor, IsSound}
-use Rattle.slub_red_zone.proofs.Given.{damaged-sound}
 use Rattle.slub_red_zone.proofs.Sums.{slab_at-set}
 use Rattle.slub_red_zone.proofs.Taken.{used-inside}
 use Rattle.slub_red_zone.specs.State.{CheckedState, IsUsed, SlabState, slab_of as checked_slab}
-use Rattle.slub_red_zone.specs.Steps.{Gives, IsOffset, TakesEmpty, new_slab, next_is_damaged, next_is_whole, nothing_listed, slab_with_given, with_damaged, place_of, with_byte, with_new_slab, with_word as slab_word, word_place}
+use Rattle.slub_red_zone.specs.Steps.{Gives, IsOffset, TakesEmpty, new_slab, next_is_damaged, next_is_whole, nothing_listed, slab_with_given, with_damaged, place_of, with_byte, with_new_slab, with_word as slab_word}
 use Rattle.slub_lists.specs.declared.lists.Held.{Held}
 use Rattle.slub_lists.specs.declared.lists.Run.{Run}
 use Rattle.slub_page_pool.specs.FreeFrames.{FreeFrames}
@@ -44,17 +40,16 @@ use Rattle.slub_lists.specs.Words.{known_to, own}
 use Rattle.slub_lists.proofs.CheckedTaking.{held-used}
 use Rattle.slub_lists.proofs.Kept.{consistent-of}
 use Rattle.slub_lists.proofs.ObjectWords.{own-is, used-word}
-use Rattle.slub_round_law.specs.Answered.{Answered, gave, is_alloc_of}
-use Rattle.slub_round_law.specs.Pokes.{IsPokedFree, WasGiven, WasPoked}
+use Rattle.slub_round_law.specs.Answered.{Answered, is_alloc_of}
+use Rattle.slub_round_law.specs.Pokes.{WasGiven, WasPoked}
 use Rattle.slub_round_law.specs.Round.{spot_of}
 use Rattle.slub_round_law.proofs.Causes.{live-spot}
 use Rattle.slub_round_law.proofs.Clean.{CleanSlab, given-clean, new-bytes, poked-clean, written-clean}
-use Rattle.slub_round_law.proofs.Cleaning.{Asked, Clean, ToldPoked, back-clean, back-told, by_place, clean-with, coming-clean, empty-clean, gives-clean, next-given}
+use Rattle.slub_round_law.proofs.Cleaning.{Clean, ToldPoked, back-clean, by_place, clean-with, coming-clean, empty-clean, gives-clean}
 use Rattle.slub_round_law.proofs.Reports.{Reports, ToldOf, slabs-sound}
 use Rattle.slub_round_law.proofs.Runs.{Turn, comes, goes, gone_under, rests, stays}
 use Rattle.slub_round_law.proofs.Slabs.{Slabs, Swaps, gave as gave_slab, made, poked_byte, same, took, wrote}
 use Rattle.slub_round_law.proofs.Tale.{injected}
-use Rattle.slub_round_law.proofs.Told.{Told}
 
 -- ---- more events
 

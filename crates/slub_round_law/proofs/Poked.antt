@@ -1,5 +1,5 @@
 -- Through a round: each examined byte that isn't the wanted one was poked, and so is each that is told of.
-use Rattle.std.proofs.Common.{T, nat_lt, ◌≡◌, ◌≢◌, ℕ, ◌+◌, ◌*◌, ◌<◌, ◌≤◌, Bool, true, false, List, [], ◌∷◌, ◌++◌, length, get_or, replicate, refl, sym, ◌∙◌, ap, subst, arith, All, Option, Some, None, MatchOption, inl, inr, ◌⊎◌, ℤ, get_or-set_other, get_or-set_same, length-set}
+use Rattle.std.proofs.Common.{append_assoc, Contains, zero, suc, All, T, nat_lt, ◌≡◌, ◌≢◌, ℕ, ◌+◌, ◌*◌, ◌<◌, ◌≤◌, Bool, true, false, List, [], ◌∷◌, ◌++◌, length, get_or, replicate, refl, sym, ◌∙◌, ap, subst, arith, Option, Some, None, MatchOption, inl, inr, ◌⊎◌, ℤ, get_or-set_other, get_or-set_same, length-set}
 use Rattle.std.specs.Prelude.{pos, ◌+ℤ◌, nat_abs, slice_get, ◌<ℤ◌, ⊤}
 use Rattle.std.specs.Option.{option_and_then, option_or}
 use Rattle.std.specs.Int.Signed.{pos-nat_abs, yes_non_neg}
@@ -8,8 +8,9 @@ use Rattle.std.proofs.lemmas.Bool.{cases_eq}
 use Rattle.std.proofs.lemmas.Bool.Decides.{nat_tests}
 use Rattle.std.proofs.lemmas.List.{append-nil}
 use Rattle.std.proofs.lemmas.List.Elements.{Contains-append_left, Contains-append_right}
+use Rattle.std.proofs.lemmas.List.Elements.{All-append}
 use Rattle.slub_common.proofs.Writes.{inside-of}
-use Rattle.slub_object_layout.specs.declared.event.Act.TheVariants.{Alloc, Poke}
+use Rattle.slub_object_layout.specs.declared.event.Act.TheVariants.{Alloc, Free, Poke}
 use Rattle.slub_object_layout.specs.declared.layout.Layout.{Layout}
 use Rattle.slub_object_layout.specs.Layout.{address_of}
 use Rattle.slub_answers.specs.declared.reply.Reply.TheVariants as reply
@@ -18,6 +19,7 @@ use Rattle.slub_red_zone.specs.declared.checked.CheckedGive.{CheckedGive}
 use Rattle.slub_red_zone.specs.declared.checked.CheckedGive.TheVariants as give
 use Rattle.slub_red_zone.specs.declared.checked.Run.{Run as SlabRun}
 use Rattle.slub_red_zone.specs.declared.checked.Slot.{Slot}
+use Rattle.slub_red_zone.specs.declared.zones.Damage.{Damage}
 use Rattle.slub_red_zone.specs.declared.zones.Report.{Report}
 use Rattle.slub_red_zone.specs.Sound.{IsLayoutFor, IsSound}
 use Rattle.slub_red_zone.proofs.Sums.{slab_at-set}
@@ -36,19 +38,21 @@ use Rattle.slub_lists.specs.State.{State}
 use Rattle.slub_lists.specs.Alloc.{FindsRun, cache_of, checked_of}
 use Rattle.slub_lists.specs.Checked.{new_given, slot_of_held}
 use Rattle.slub_lists.specs.Coherent.{IsCheckedOf, IsCoherent, held_under}
-use Rattle.slub_lists.specs.Words.{known_to, own}
+use Rattle.slub_lists.specs.Words.{known_to, own, word_of}
 use Rattle.slub_lists.proofs.CheckedTaking.{held-used}
 use Rattle.slub_lists.proofs.Kept.{consistent-of}
 use Rattle.slub_lists.proofs.ObjectWords.{own-is, used-word}
 use Rattle.slub_round_law.specs.Answered.{Answered, is_alloc_of}
-use Rattle.slub_round_law.specs.Pokes.{WasGiven, WasPoked}
+use Rattle.slub_round_law.specs.Pokes.{IsPoked, IsPokedFree, WasGiven, WasPoked}
 use Rattle.slub_round_law.specs.Round.{spot_of}
 use Rattle.slub_round_law.proofs.Causes.{live-spot}
 use Rattle.slub_round_law.proofs.Clean.{CleanSlab, given-clean, new-bytes, poked-clean, written-clean}
-use Rattle.slub_round_law.proofs.Cleaning.{Clean, ToldPoked, back-clean, by_place, clean-with, coming-clean, empty-clean, gives-clean}
-use Rattle.slub_round_law.proofs.Reports.{Reports, ToldOf, slabs-sound}
+use Rattle.slub_round_law.proofs.Cleaning.{Clean, back-told, ToldPoked, back-clean, by_place, clean-with, coming-clean, empty-clean, gives-clean}
+use Rattle.slub_round_law.proofs.Reports.{Reports, ToldOf, event-told as event-reports, slabs-sound}
+use Rattle.slub_round_law.proofs.Rounds.{Moves, Runs, Tale, step-of, tale-step, turns-of}
 use Rattle.slub_round_law.proofs.Runs.{Turn, comes, goes, gone_under, rests, stays}
-use Rattle.slub_round_law.proofs.Slabs.{Slabs, Swaps, gave as gave_slab, made, poked_byte, same, took, wrote}
+use Rattle.slub_round_law.proofs.Slabs.{Slabs, Swaps, event-slabs, gave as gave_slab, made, poked_byte, same, took, wrote}
+use Rattle.slub_round_law.proofs.Steps.{Step, frees, gives, keeps, lacks, nameless, pokes, pokes_not, reads, reads_none, reads_not, refuses, wants, writes, writes_none, writes_not}
 use Rattle.slub_round_law.proofs.Tale.{injected}
 
 -- ---- more events
@@ -260,9 +264,9 @@ module _ (told : List Answered) (s : State) (one : Answered) (after : State) (co
     swapped-quiet same_reports = swapped-adds [] (same_reports ∙ sym (append-nil slabs.reports)) (λ k d within. absurd (omega (arith, within)))
 
   -- what an event does to the bytes, and tells
-  record Bytes : Type 0 where
-    clean : (cache : ℕ) (slabs : CheckedState) → checked_of after cache ≡ Some slabs → Clean (WasPoked now-told) slabs
-    adds : (cache : ℕ) → AddsTold (WasPoked now-told) (checked_of s cache) (checked_of after cache)
+  pub record Bytes : Type 0 where
+    pub clean : (cache : ℕ) (slabs : CheckedState) → checked_of after cache ≡ Some slabs → Clean (WasPoked now-told) slabs
+    pub adds : (cache : ℕ) → AddsTold (WasPoked now-told) (checked_of s cache) (checked_of after cache)
 
   -- a poked byte
   poke-told : (object : ℕ) (offset : ℤ) (byte : ℕ) (held : Held) (slabs : CheckedState) → one.0.act ≡ Poke object offset byte → one.1 ≡ reply.Poked → known_to s one.0.worker object ≡ Some held → checked_of s held.cache ≡ Some slabs
@@ -322,3 +326,106 @@ module _ (told : List Answered) (s : State) (one : Answered) (after : State) (co
         clean = swapped-clean held.cache slabs _ swaps (byte-clean now-told slabs (slot_of_held held) offset byte (of-cache held.cache slabs swaps.was).sound inside (poke-told object offset byte held slabs asks is knows swaps.was) (clean-now held.cache slabs swaps.was));
         adds = swapped-quiet held.cache slabs _ swaps refl;
       }
+
+-- ---- an event, and many
+
+module _ (told : List Answered) (s : State) (one : Answered) (after : State) (coherent : IsCoherent s) (turns : (object : ℕ) → Turn s one after object) (reports : Reports s after) (is_told : IsTold told s) where
+  pub event-bytes : Slabs s one.0 one.1 after → Bytes told s one after coherent turns reports is_told
+  event-bytes slabs = bytes-by told s one after coherent turns reports is_told slabs
+
+  pub event-told : Slabs s one.0 one.1 after → IsTold (told ++ one ∷ []) after
+  event-told slabs = record {
+    known = λ object held slabs there now. known-by told s one after coherent turns reports is_told object held slabs there now (turns object);
+    clean = (event-bytes slabs).clean;
+  }
+
+  -- a free that found its object damaged tells of what was poked
+  pub free-told : Step s one.0 one.1 after → IsPokedFree told one
+  free-told step object damage asks is = by step
+    where
+      same-object : {a b : ℕ} → Free a ≡ Free b → a ≡ b
+      same-object e = cc
+
+      same-damage : {a b : Damage} → reply.Corrupt a ≡ reply.Corrupt b → a ≡ b
+      same-damage e = cc
+
+      by : Step s one.0 one.1 after → (address : ℕ) × WasGiven told object address × IsPoked told address damage
+      by (keeps other found held slabs also was may checked taken now_is now) =
+          let mine : other ≡ object = same-object (sym also ∙ asks) in
+          let there : held_under s object ≡ Some held = ap (held_under s) (sym mine) ∙ was in
+          let same_damage : found ≡ damage = same-damage (sym now_is ∙ is) in
+          let used : IsUsed slabs (slot_of_held held) = held-used s object held slabs there checked (consistent-of s coherent) in
+          let did = back-told (WasPoked told) slabs (slot_of_held held) found (slabs-sound s held.cache slabs coherent checked).sound used taken.0 (is_told.clean held.cache slabs checked) in (
+            address_of held.frame held.index slabs.layout,
+            is_told.known object held slabs (inl there) checked,
+            subst (λ (d : Damage). IsPoked told (address_of held.frame held.index slabs.layout) d) same_damage did,
+          )
+      by (gives place other live held also names is_live mine now_is unheld board gone table memory cpus frames dry) = absurd (let never : Alloc place other ≡ Free object = sym also ∙ asks in cc)
+      by (lacks place other cache live also names is_live now_is board gone table memory cpus frames dry) = absurd (let never : Alloc place other ≡ Free object = sym also ∙ asks in cc)
+      by (wants place other cache live slabs also names is_live checked now_is kept) = absurd (let never : Alloc place other ≡ Free object = sym also ∙ asks in cc)
+      by (nameless place other also none now_is now) = absurd (let never : Alloc place other ≡ Free object = sym also ∙ asks in cc)
+      by (frees other live held also was may is_live now_is board gone table memory cpus frames dry) = absurd (let never : reply.Freed (address_of held.frame held.index live.layout) ≡ reply.Corrupt damage = sym now_is ∙ is in cc)
+      by (refuses other also why now_is now) = absurd (let never : reply.NotHeld ≡ reply.Corrupt damage = sym now_is ∙ is in cc)
+      by (writes other word value live held also holds within now_is now) = absurd (let never : reply.Wrote ≡ reply.Corrupt damage = sym now_is ∙ is in cc)
+      by (writes_none other word value live held also holds past now_is now) = absurd (let never : reply.OutOfObject ≡ reply.Corrupt damage = sym now_is ∙ is in cc)
+      by (writes_not other word value also none now_is now) = absurd (let never : reply.NotHeld ≡ reply.Corrupt damage = sym now_is ∙ is in cc)
+      by (reads other word live held also holds within now_is now) = absurd (let never : reply.Value (word_of s live.layout held word) ≡ reply.Corrupt damage = sym now_is ∙ is in cc)
+      by (reads_none other word live held also holds past now_is now) = absurd (let never : reply.OutOfObject ≡ reply.Corrupt damage = sym now_is ∙ is in cc)
+      by (reads_not other word also none now_is now) = absurd (let never : reply.NotHeld ≡ reply.Corrupt damage = sym now_is ∙ is in cc)
+      by (pokes other offset byte held slabs also knows checked inside now_is now) = absurd (let never : reply.Poked ≡ reply.Corrupt damage = sym now_is ∙ is in cc)
+      by (pokes_not other offset byte also (inl now_is) now) = absurd (let never : reply.NotHeld ≡ reply.Corrupt damage = sym now_is ∙ is in cc)
+      by (pokes_not other offset byte also (inr (inl now_is)) now) = absurd (let never : reply.NotChecked ≡ reply.Corrupt damage = sym now_is ∙ is in cc)
+      by (pokes_not other offset byte also (inr (inr now_is)) now) = absurd (let never : reply.OutOfSlot ≡ reply.Corrupt damage = sym now_is ∙ is in cc)
+
+-- what is told grows
+adds-later : (told more : List Answered) (x y : Option CheckedState) → AddsTold (WasPoked told) x y → AddsTold (WasPoked (told ++ more)) x y
+adds-later told more None None adds = tt
+adds-later told more None (Some new) adds = adds
+adds-later told more (Some old) None adds = adds
+adds-later told more (Some old) (Some new) (found, is, all) = (found, is, λ k d within. poked-later told more _ _ (all k d within))
+
+adds-both : (poked : ℤ → ℕ → Type 0) (x y z : Option CheckedState) → AddsTold poked x y → AddsTold poked y z → AddsTold poked x z
+adds-both poked None None None first second = tt
+adds-both poked None None (Some z) first second = second
+adds-both poked None (Some y) z first second = absurd first
+adds-both poked (Some x) None z first second = absurd first
+adds-both poked (Some x) (Some y) None first second = second
+adds-both poked (Some x) (Some y) (Some z) (found, is, all) (more, also, rest) =
+    (found ++ more, also ∙ ap (λ l. l ++ more) is ∙ append_assoc x.reports found more, All-append (ToldPoked poked) found more all rest)
+
+-- what a round tells: each report, and each free that found damage
+pub record RoundTold (told : List Answered) (s : State) (answers : List Answered) (after : State) : Type 0 where
+  pub then : IsTold (told ++ answers) after
+  pub adds : (cache : ℕ) → AddsTold (WasPoked (told ++ answers)) (checked_of s cache) (checked_of after cache)
+  pub frees_told : (one : Answered) → Contains answers one → IsPokedFree (told ++ answers) one
+
+free-later : (told more : List Answered) (one : Answered) → IsPokedFree told one → IsPokedFree (told ++ more) one
+free-later told more one is_poked object damage asks is =
+    let was = is_poked object damage asks is in
+    (was.0, given-later told more object was.0 was.1, poked-later told more _ _ was.2)
+
+pub runs-told : (told : List Answered) (before : State) (past : List Answered) (s : State) (answers : List Answered) (after : State) → Tale before past s → Runs before past s answers after → IsTold told s → RoundTold told s answers after
+runs-told told before past s [] after tale runs is_told = record {
+  then = subst (λ l. IsTold l after) (sym (append-nil told)) (subst (IsTold told) (sym runs) is_told);
+  adds = λ cache. subst (λ (t : State). AddsTold (WasPoked (told ++ [])) (checked_of s cache) (checked_of t cache)) (sym runs) (adds-none (WasPoked (told ++ [])) (checked_of s cache));
+  frees_told = λ one there. absurd (omega (arith, there.1));
+}
+runs-told told before past s (one ∷ answers) after tale (mid, moves, runs) is_told =
+    let slabs = event-slabs s one.0 one.1 mid moves.answers in
+    let reports = event-reports s one mid tale.coherent slabs in
+    let turns = turns-of before past s one mid moves tale in
+    let now = event-told told s one mid tale.coherent turns reports is_told slabs in
+    let bytes = event-bytes told s one mid tale.coherent turns reports is_told slabs in
+    let rest = runs-told (told ++ one ∷ []) before (past ++ one ∷ []) mid answers after (tale-step before past s one mid moves tale) runs now in
+    let whole : (told ++ one ∷ []) ++ answers ≡ told ++ one ∷ answers = append_assoc told (one ∷ []) answers in
+    record {
+      then = subst (λ l. IsTold l after) whole rest.then;
+      adds = λ cache. subst (λ l. AddsTold (WasPoked l) (checked_of s cache) (checked_of after cache)) whole
+          (adds-both (WasPoked ((told ++ one ∷ []) ++ answers)) (checked_of s cache) (checked_of mid cache) (checked_of after cache)
+          (adds-later (told ++ one ∷ []) answers (checked_of s cache) (checked_of mid cache) (bytes.adds cache)) (rest.adds cache));
+      frees_told = λ other there. each other there (free-told told s one mid tale.coherent turns reports is_told (step-of before past s one mid moves tale)) rest.frees_told whole;
+    }
+  where
+    each : (other : Answered) → Contains (one ∷ answers) other → IsPokedFree told one → ((x : Answered) → Contains answers x → IsPokedFree ((told ++ one ∷ []) ++ answers) x) → (told ++ one ∷ []) ++ answers ≡ told ++ one ∷ answers → IsPokedFree (told ++ one ∷ answers) other
+    each other (zero, within, is) first rest whole = subst (λ x. IsPokedFree (told ++ one ∷ answers) x) is (free-later told (one ∷ answers) one first)
+    each other (suc k, within, is) first rest whole = subst (λ l. IsPokedFree l other) whole (rest other (k, omega (arith, within), is))

@@ -92,12 +92,12 @@ reports-more before s after first second cache = told-more (checked_of before ca
 
 -- ---- what was found
 
-drop-none : {A : Type 0} (n : ℕ) (xs : List A) → xs ≡ [] → drop n xs ≡ []
+pub drop-none : {A : Type 0} (n : ℕ) (xs : List A) → xs ≡ [] → drop n xs ≡ []
 drop-none zero xs none = none
 drop-none (suc n) [] none = refl
 drop-none (suc n) (x ∷ xs) none = absurd (cc)
 
-all-flat : {A B : Type 0} (P : B → Type 0) (f : A → List B) (xs : List A) → ((x : A) → All P (f x)) → All P (flat_map f xs)
+pub all-flat : {A B : Type 0} (P : B → Type 0) (f : A → List B) (xs : List A) → ((x : A) → All P (f x)) → All P (flat_map f xs)
 all-flat P f [] each = λ k d within. absurd (omega (arith, within))
 all-flat P f (x ∷ xs) each = All-append P (f x) (flat_map f xs) (each x) (all-flat P f xs each)
 

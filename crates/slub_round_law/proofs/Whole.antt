@@ -38,7 +38,7 @@ times-held before objects object unheld some =
     subst (IsUnheld before) there.2 (unheld there.0 object there.1)
 
 -- a number that was on the board isn't given, and none is given twice
-given-once : (before : State) (round : Round) (result : RoundResult) → Fits before round → (object : ℕ) → on_board object before + times_given object (zip round.events result.replies) ≤ 1
+pub given-once : (before : State) (round : Round) (result : RoundResult) → Fits before round → (object : ℕ) → on_board object before + times_given object (zip round.events result.replies) ≤ 1
 given-once before round result fits object = by (held_under before object) refl
   where
     few : times_given object (zip round.events result.replies) ≤ times object (objects_of round.events)
@@ -59,7 +59,7 @@ given-once before round result fits object = by (held_under before object) refl
         zero-of (suc n) never = absurd (never (omega arith))
 
 -- nothing is answered yet
-start : (before : State) → IsCoherent before → IsAtRest before → Tale before [] before
+pub start : (before : State) → IsCoherent before → IsAtRest before → Tale before [] before
 start before coherent rest = record {
   coherent = coherent;
   caches = record { frames = refl; cpus = refl; table = refl; board = refl };
@@ -90,15 +90,15 @@ start before coherent rest = record {
 
 -- ---- after the last
 
-laid-under : (board : List (Option Held)) (object : ℕ) → get_or (map (option_map laid_down) board) object None ≡ option_map laid_down (get_or board object None)
+pub laid-under : (board : List (Option Held)) (object : ℕ) → get_or (map (option_map laid_down) board) object None ≡ option_map laid_down (get_or board object None)
 laid-under [] object = refl
 laid-under (held ∷ board) zero = refl
 laid-under (held ∷ board) (suc object) = laid-under board object
 
-abbrev nothing : Option Held
+abbrev pub nothing : Option Held
 nothing = None
 
-none-gone : (gone : List (Option Held)) (object : ℕ) → get_or (map (λ (freed : Option Held). nothing) gone) object None ≡ None
+pub none-gone : (gone : List (Option Held)) (object : ℕ) → get_or (map (λ (freed : Option Held). nothing) gone) object None ≡ None
 none-gone [] object = refl
 none-gone (freed ∷ gone) zero = refl
 none-gone (freed ∷ gone) (suc object) = none-gone gone object

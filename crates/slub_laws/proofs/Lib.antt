@@ -9,3 +9,4 @@ pub mod AddsUp
 pub mod Times
 pub mod Moved
 mod Rounds
+mod Pokes

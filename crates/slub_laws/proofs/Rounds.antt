@@ -48,14 +48,14 @@ use Rattle.slub_laws.proofs.Keeping.{match_some}
 -- ---- items that are no round
 
 -- the board and what was freed are as before
-record Rests (s after : State) : Type 0 where
-  board : after.board ≡ s.board
-  gone : after.gone ≡ s.gone
+pub record Rests (s after : State) : Type 0 where
+  pub board : after.board ≡ s.board
+  pub gone : after.gone ≡ s.gone
 
 rests-is : (s mid after : State) → after ≡ mid → Rests s mid → Rests s after
 rests-is s mid after is rests = record { board = ap (λ (t : State). t.board) is ∙ rests.board; gone = ap (λ (t : State). t.gone) is ∙ rests.gone }
 
-rests-same : (s after : State) → after ≡ s → Rests s after
+pub rests-same : (s after : State) → after ≡ s → Rests s after
 rests-same s after is = rests-is s s after is (record { board = refl; gone = refl })
 
 created-rests : (s : State) (name : List ℕ) (spec : Spec) (created : CreatedCache) (after : State) → CreatesCache s name spec created after → Rests s after
@@ -63,17 +63,17 @@ created-rests s name spec (made.Merged cache) after creates = rests-is s _ after
 created-rests s name spec (made.New cache) after creates =
     match_some (live_cache creates.0 cache) _ (Rests s after) creates.2 (λ live is. rests-is s _ after is (record { board = refl; gone = refl }))
 
-creates-rest : (s : State) (name : List ℕ) (spec : Spec) (answer : Result Created CreateRefusal) (after : State) → CreatesName s name spec answer after → Rests s after
+pub creates-rest : (s : State) (name : List ℕ) (spec : Spec) (answer : Result Created CreateRefusal) (after : State) → CreatesName s name spec answer after → Rests s after
 creates-rest s name spec (Ok (New cache)) after creates = created-rests s name spec (made.New cache) after creates.2
 creates-rest s name spec (Ok (Merged cache title)) after creates = created-rests s name spec (made.Merged cache) after creates.2
 creates-rest s name spec (Err why) after creates = rests-same s after creates.1
 
-shrinks-rest : (s : State) (name : List ℕ) (answer : Result Bool NoSuchCache) (after : State) → Shrinks s name answer after → Rests s after
+pub shrinks-rest : (s : State) (name : List ℕ) (answer : Result Bool NoSuchCache) (after : State) → Shrinks s name answer after → Rests s after
 shrinks-rest s name (Err none) after shrinks = rests-same s after shrinks.1
 shrinks-rest s name (Ok remain) after shrinks =
     match_some (number_of s.table name) _ (Rests s after) shrinks (λ cache shrinks. record { board = shrinks.0.held.board; gone = shrinks.0.held.gone })
 
-destroys-rest : (s : State) (name : List ℕ) (answer : Result Destroyed DestroyRefusal) (after : State) → Destroys s name answer after → Rests s after
+pub destroys-rest : (s : State) (name : List ℕ) (answer : Result Destroyed DestroyRefusal) (after : State) → Destroys s name answer after → Rests s after
 destroys-rest s name (Err NotLive) after destroys = rests-same s after destroys.1
 destroys-rest s name (Err (Busy objects)) after destroys = match_some (number_of s.table name) _ (Rests s after) destroys (λ cache busy. rests-same s after busy.3)
 destroys-rest s name (Ok NameDropped) after destroys = match_some (number_of s.table name) _ (Rests s after) destroys (λ cache drops. rests-is s _ after drops.1 (record { board = refl; gone = refl }))
@@ -84,15 +84,15 @@ destroys-rest s name (Ok Gone) after destroys =
 -- ---- where the machine stands
 
 -- before some items: coherent, at rest, with the numbers of the trace, none of which that is to come has an object
-record Stands (s : State) (trace : Trace) (items : List Item) : Type 0 where
-  coherent : IsCoherent s
-  rest : IsAtRest s
-  objects : length s.board ≡ trace.objects + 1
-  unheld : (object : ℕ) → 0 < times object (flat_map objects_in items) → held_under s object ≡ None
-  once : (object : ℕ) → times object (flat_map objects_in items) ≤ 1
-  sound : All (IsSoundItem trace) items
+pub record Stands (s : State) (trace : Trace) (items : List Item) : Type 0 where
+  pub coherent : IsCoherent s
+  pub rest : IsAtRest s
+  pub objects : length s.board ≡ trace.objects + 1
+  pub unheld : (object : ℕ) → 0 < times object (flat_map objects_in items) → held_under s object ≡ None
+  pub once : (object : ℕ) → times object (flat_map objects_in items) ≤ 1
+  pub sound : All (IsSoundItem trace) items
 
-items-split : (object : ℕ) (it : Item) (items : List Item) → times object (flat_map objects_in (it ∷ items)) ≡ times object (objects_in it) + times object (flat_map objects_in items)
+pub items-split : (object : ℕ) (it : Item) (items : List Item) → times object (flat_map objects_in (it ∷ items)) ≡ times object (objects_in it) + times object (flat_map objects_in items)
 items-split object it items = times-append object (objects_in it) (flat_map objects_in items)
 
 -- after an item that is no round
@@ -126,7 +126,7 @@ within-of trace workers (event ∷ events) sound =
 
 module _ (s : State) (trace : Trace) (round : Round) (items : List Item) (result : RoundResult) (after : State) (stands : Stands s trace (item.Round round ∷ items)) (distinct : IsDistinct nat_eq (objects_of round.events))
     (does : DoesRound s round result after) where
-  fits : Fits s round
+  pub fits : Fits s round
   fits = record {
     within = λ k d inside. omega (arith, within-of trace round.workers round.events (All-head (IsSoundItem trace) (item.Round round) items stands.sound).events k d inside, stands.objects);
     unheld = λ k d inside.
@@ -182,14 +182,14 @@ none-distinct : IsDistinct nat_eq []
 unfolding IsDistinct
 none-distinct = tt
 
-distinct-of : (xs : List ℕ) → ((x : ℕ) → times x xs ≤ 1) → IsDistinct nat_eq xs
+pub distinct-of : (xs : List ℕ) → ((x : ℕ) → times x xs ≤ 1) → IsDistinct nat_eq xs
 distinct-of [] once = none-distinct
 distinct-of (x ∷ xs) once =
     IsDistinct-cons nat_eq x xs (differ-of x xs (let none : times x xs ≡ 0 = omega (arith, once x, times-cons_same x x xs refl) in none))
     (distinct-of xs (λ y. omega (arith, once y, times-cons y x xs)))
 
 -- one item
-item-stands : (s : State) (trace : Trace) (it : Item) (dn : Done) (items : List Item) (after : State) → Stands s trace (it ∷ items) → IsCoherent after → Does s trace it dn after → Stands after trace items × IsRoundOf s it dn after
+pub item-stands : (s : State) (trace : Trace) (it : Item) (dn : Done) (items : List Item) (after : State) → Stands s trace (it ∷ items) → IsCoherent after → Does s trace it dn after → Stands after trace items × IsRoundOf s it dn after
 unfolding Does
 item-stands s trace (item.Cache place spec) (done.Created answer) items after stands coherent does = (stands-rest s trace (item.Cache place spec) items after stands coherent (creates-rest s _ spec answer after does), tt)
 item-stands s trace (item.Round round) (done.Round result) items after stands coherent does =
@@ -209,7 +209,7 @@ all-rounds s trace (it ∷ items) (dn ∷ dones) after stands run =
     (run.0, run.1, next.1, all-rounds run.0 trace items dones after next.0 run.3)
 
 -- before the first item
-stands-first : (trace : Trace) (n : ℕ) → IsSound trace → IsCoherent (opening_of trace) → Stands (opening_of trace) trace (take n trace.items)
+pub stands-first : (trace : Trace) (n : ℕ) → IsSound trace → IsCoherent (opening_of trace) → Stands (opening_of trace) trace (take n trace.items)
 stands-first trace n sound coherent =
     let ready = opened_ready trace coherent in
     record {

@@ -1,2 +1,3 @@
 pub mod Freed
+pub mod Poked
 pub mod Rounds

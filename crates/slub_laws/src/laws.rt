@@ -9,6 +9,7 @@ ghost use Rattle.slub_slabinfo_text.specs.Counts.{counts_of};
 ghost use Rattle.slub_trace_reader.specs.Sound.{IsSound};
 ghost use Rattle.slub_journal.specs.Lawful.{IsLawful, IsReady, opening_of};
 ghost use Rattle.slub_laws.specs.Freed.{freed_times, given_times};
+ghost use Rattle.slub_laws.specs.Poked.{HasPokedDamages};
 ghost use Rattle.slub_laws.specs.Rounds.{HasLawfulRounds};
 
 use slub_journal::journal::Journal;
@@ -31,6 +32,14 @@ pub fn rounds_of_a_journal_are_lawful(trace: &Trace, journal: &Journal)
     requires sound { IsSound trace.now }
     requires lawful { IsLawful trace.now journal.now }
     ensures { HasLawfulRounds trace.now journal.now }
+{}
+
+/// Each damage that a lawful journal tells of, in a report or as a free's answer, is a byte that was
+/// poked there in the same round or an earlier one, with the answer that it was.
+pub fn damages_of_a_journal_were_poked(trace: &Trace, journal: &Journal)
+    requires sound { IsSound trace.now }
+    requires lawful { IsLawful trace.now journal.now }
+    ensures { HasPokedDamages trace.now journal.now }
 {}
 
 /// What was given less what was freed is live.

@@ -49,7 +49,7 @@ use Rattle.slub_round_law.proofs.Causes.{live-spot}
 use Rattle.slub_round_law.proofs.Clean.{CleanSlab, given-clean, new-bytes, poked-clean, written-clean}
 use Rattle.slub_round_law.proofs.Cleaning.{Clean, back-told, ToldPoked, back-clean, by_place, clean-with, coming-clean, empty-clean, gives-clean}
 use Rattle.slub_round_law.proofs.Reports.{Reports, ToldOf, event-told as event-reports, slabs-sound}
-use Rattle.slub_round_law.proofs.Rounds.{Moves, Runs, Tale, step-of, tale-step, turns-of}
+use Rattle.slub_round_law.proofs.Rounds.{Runs, Tale, step-of, tale-step, turns-of}
 use Rattle.slub_round_law.proofs.Runs.{Turn, comes, goes, gone_under, rests, stays}
 use Rattle.slub_round_law.proofs.Slabs.{Slabs, Swaps, event-slabs, gave as gave_slab, made, poked_byte, same, took, wrote}
 use Rattle.slub_round_law.proofs.Steps.{Step, frees, gives, keeps, lacks, nameless, pokes, pokes_not, reads, reads_none, reads_not, refuses, wants, writes, writes_none, writes_not}

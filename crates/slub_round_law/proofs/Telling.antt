@@ -1,5 +1,5 @@
 -- What a whole round tells: reports, and frees that found damage.
-use Rattle.std.proofs.Common.{◌≡◌, ℕ, ◌+◌, ◌<◌, List, [], ◌∷◌, ◌++◌, length, drop, get_or, map, flat_map, refl, sym, ◌∙◌, ap, subst, arith, All, Option, Some, None, option_map, inl, inr, ◌⊎◌, ℤ}
+use Rattle.std.proofs.Common.{◌≡◌, ℕ, ◌+◌, List, [], ◌++◌, length, drop, refl, sym, ◌∙◌, ap, subst, arith, All, Option, Some, None, option_map, inl, inr, ◌⊎◌, ℤ}
 use Rattle.std.specs.List.{Contains, zip}
 use Rattle.std.specs.Option.{option_map_or}
 use Rattle.std.proofs.Math.Seq.{drop-append-add}

@@ -9,3 +9,5 @@ pub mod AddsUp
 pub mod Times
 pub mod Moved
 pub mod TrimmedLast
+mod Rounds
+mod Pokes

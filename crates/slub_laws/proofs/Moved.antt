@@ -24,8 +24,10 @@ use Rattle.slub_journal.specs.Lawful.{Does, IsLawful, RunsEvents, RunsItems, ope
 use Rattle.slub_answers.specs.Kinds.{is_freed, is_given}
 use Rattle.slub_laws.proofs.Effects.{Effect, event_effect, given, kept, quiet, taken}
 use Rattle.slub_laws.proofs.Keeping.{ItemEffect, item_effect, no_round, one_round}
-use Rattle.slub_laws.specs.Freed.{answered_in, did_free, freed_times, gave, given_times, is_alloc_of, is_free_of}
-use Rattle.slub_laws.proofs.Times.{counted_append, items_given, once_times, one_where, zip_taken}
+use Rattle.slub_round_law.specs.Answered.{did_free, gave, is_alloc_of, is_free_of}
+use Rattle.slub_round_law.proofs.Times.{counted_append, once_times, one_where}
+use Rattle.slub_laws.specs.Freed.{answered_in, freed_times, given_times}
+use Rattle.slub_laws.proofs.Times.{items_given, zip_taken}
 
 -- ---- one number
 

@@ -1,2 +1,4 @@
 pub mod Freed
 pub mod Trimmed
+pub mod Poked
+pub mod Rounds

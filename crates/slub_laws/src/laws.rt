@@ -13,6 +13,8 @@ ghost use Rattle.slub_trace_reader.specs.Sound.{IsSound};
 ghost use Rattle.slub_journal.specs.Lawful.{IsLawful, IsReady, opening_of};
 ghost use Rattle.slub_laws.specs.Freed.{freed_times, given_times};
 ghost use Rattle.slub_laws.specs.Trimmed.{EndsTrimmed};
+ghost use Rattle.slub_laws.specs.Poked.{HasPokedDamages};
+ghost use Rattle.slub_laws.specs.Rounds.{HasLawfulRounds};
 
 use slub_journal::journal::Journal;
 use slub_trace_reader::trace::Trace;
@@ -26,6 +28,22 @@ pub fn no_number_is_freed_twice(trace: &Trace, journal: &Journal)
     ensures given_first { (object : ℕ) →
         freed_times object trace.now journal.now ≤ given_times object trace.now journal.now }
     ensures given_once { (object : ℕ) → given_times object trace.now journal.now ≤ 1 }
+{}
+
+/// Each round of a lawful journal is a lawful round (`IsRound` of `slub_round_law`), for the machine
+/// before it.
+pub fn rounds_of_a_journal_are_lawful(trace: &Trace, journal: &Journal)
+    requires sound { IsSound trace.now }
+    requires lawful { IsLawful trace.now journal.now }
+    ensures { HasLawfulRounds trace.now journal.now }
+{}
+
+/// Each damage that a lawful journal tells of, in a report or as a free's answer, is a byte that was
+/// poked there in the same round or an earlier one, with the answer that it was.
+pub fn damages_of_a_journal_were_poked(trace: &Trace, journal: &Journal)
+    requires sound { IsSound trace.now }
+    requires lawful { IsLawful trace.now journal.now }
+    ensures { HasPokedDamages trace.now journal.now }
 {}
 
 /// What was given less what was freed is live.

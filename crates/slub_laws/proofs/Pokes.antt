@@ -1,0 +1,347 @@
+-- Each damage of a lawful journal was poked.
+use Rattle.std.proofs.Common.{◌≡◌, ◌≢◌, ℕ, zero, suc, Bool, true, false, cond, eqb, List, [], ◌∷◌, ◌++◌, length, take, get_or, set, refl, sym, ◌∙◌, ap, subst, arith, All, Option, Some, None, MatchOption, Result, Ok, Err, inl, inr, ◌⊎◌, unwrap_or, fold, append-nil, get_or-set_other, get_or-set_same}
+use Rattle.std.specs.List.{Contains, range_with_len}
+use Rattle.std.specs.Prelude.{slice_get}
+use Rattle.std.specs.Option.{option_map_or}
+use Rattle.std.proofs.lemmas.Bool.{cases_eq}
+use Rattle.std.proofs.lemmas.Option.{slice_get_past}
+use Rattle.slub_common.proofs.Writes.{get_or-replicate_any, inside-of}
+use Rattle.slub_object_layout.specs.Layout.{address_of, is_checked}
+use Rattle.slub_object_layout.specs.declared.layout.Spec.{Spec}
+use Rattle.slub_common.specs.declared.no_such_cache.NoSuchCache.{NoSuchCache}
+use Rattle.slub_cache_create.specs.declared.caches.Cache.{Cache}
+use Rattle.slub_cache_create.specs.declared.caches.Created.{Created as CreatedCache}
+use Rattle.slub_cache_create.specs.declared.caches.Created.TheVariants as made
+use Rattle.slub_cache_create.specs.Table.{number_of, cache_of as live_cache}
+use Rattle.slub_answers.specs.declared.create.Created.{Created}
+use Rattle.slub_answers.specs.declared.create.Created.TheVariants.{New, Merged}
+use Rattle.slub_answers.specs.declared.create.CreateRefusal.{CreateRefusal}
+use Rattle.slub_node_partial.specs.Promotion.{IsPromoted}
+use Rattle.slub_red_zone.specs.declared.slab.ObjectState.TheVariants.{Used}
+use Rattle.slub_red_zone.specs.declared.zones.Part.{Part}
+use Rattle.slub_red_zone.specs.State.{CheckedState, IsUsed, SlabState, no_slab, slab_of as checked_slab}
+use Rattle.slub_red_zone.specs.Steps.{free_counts, no_slabs, opening as opening_slabs, without_slab as without_checked}
+use Rattle.slub_lists.specs.declared.lists.Held.{Held}
+use Rattle.slub_lists.specs.State.{State}
+use Rattle.slub_lists.specs.Alloc.{cache_of, checked_of, node_of}
+use Rattle.slub_lists.specs.Checked.{slot_of_held, with_checked}
+use Rattle.slub_lists.specs.Coherent.{IsCoherent, held_under}
+use Rattle.slub_lists.specs.Create.{CreatesCache}
+use Rattle.slub_answers.specs.declared.destroy.Destroyed.{Destroyed}
+use Rattle.slub_answers.specs.declared.destroy.Destroyed.TheVariants.{NameDropped, Gone}
+use Rattle.slub_answers.specs.declared.destroy.DestroyRefusal.{DestroyRefusal}
+use Rattle.slub_answers.specs.declared.destroy.DestroyRefusal.TheVariants.{NoSuchCache as NotLive, Busy}
+use Rattle.slub_lists.specs.Destroy.{Destroys}
+use Rattle.slub_lists.specs.Free.{discarded, inuse_of, without_slab}
+use Rattle.slub_lists.specs.Shrink.{Promotes, PromotesChecked, Shrinks, ShrinksByKind, all_free, flushed, flushed_below, swept, swept_checked, swept_checked_slab, swept_slab}
+use Rattle.slub_lists.proofs.CheckedTaking.{held-used}
+use Rattle.slub_lists.proofs.Kept.{consistent-of}
+use Rattle.slub_lists.proofs.Flushing.{rest-flushed}
+use Rattle.slub_trace_reader.specs.declared.trace.Item.{Item}
+use Rattle.slub_trace_reader.specs.declared.trace.Item.TheVariants as item
+use Rattle.slub_trace_reader.specs.declared.trace.Trace.{Trace}
+use Rattle.slub_trace_reader.specs.Sound.{IsSound, objects_of}
+use Rattle.slub_journal.specs.declared.journal.Done.{Done}
+use Rattle.slub_journal.specs.declared.journal.Done.TheVariants as done
+use Rattle.slub_journal.specs.declared.journal.Journal.{Journal}
+use Rattle.slub_journal.specs.Lawful.{CreatesName, Does, IsLawful, RunsItems, opening_of}
+use Rattle.slub_round_law.specs.Answered.{Answered}
+use Rattle.slub_round_law.specs.Pokes.{IsPokedReport, WasGiven, WasPoked}
+use Rattle.slub_round_law.proofs.Clean.{CleanSlab, parts_of}
+use Rattle.slub_round_law.proofs.Cleaning.{Clean, by_place, gone-clean}
+use Rattle.slub_round_law.proofs.Poked.{IsTold}
+use Rattle.slub_round_law.proofs.Runs.{gone_under}
+use Rattle.slub_round_law.proofs.Tale.{injected}
+use Rattle.slub_round_law.proofs.Telling.{round-told}
+use Rattle.slub_laws.specs.Freed.{answered_in}
+use Rattle.slub_laws.specs.Poked.{ArePoked, HasPokedDamages, RunsPoked, damages_of}
+use Rattle.slub_laws.proofs.Keeping.{match_some}
+use Rattle.slub_laws.proofs.Rounds.{Rests, Stands, creates-rest, destroys-rest, distinct-of, fits, item-stands, items-split, rests-same, shrinks-rest, stands-first}
+
+module _ (told : List Answered) where
+  -- ---- a machine with the same board, whose checked caches have fewer slabs
+
+  -- each checked cache was there before with the same layout, and has the bytes that it had, or is another that has no bytes and no objects
+  record Fewer (s after : State) : Type 0 where
+    layouts : (cache : ℕ) (new : CheckedState) (held : Held) (object : ℕ) → held.cache ≡ cache → held_under after object ≡ Some held → checked_of after cache ≡ Some new → (old : CheckedState) × (checked_of s cache ≡ Some old) × (new.layout ≡ old.layout)
+    clean : (cache : ℕ) (new : CheckedState) → checked_of after cache ≡ Some new → Clean (WasPoked told) new
+
+  -- what is told stays so
+  told-fewer : (s after : State) → Rests s after → ((object : ℕ) → gone_under s object ≡ None) → Fewer s after → IsTold told s → IsTold told after
+  told-fewer s after rests unknown fewer is_told = record {
+    known = λ object held slabs there now. known object held slabs there now;
+    clean = fewer.clean;
+  }
+    where
+      known : (object : ℕ) (held : Held) (slabs : CheckedState) → (held_under after object ≡ Some held) ⊎ (gone_under after object ≡ Some held) → checked_of after held.cache ≡ Some slabs → WasGiven told object (address_of held.frame held.index slabs.layout)
+      known object held slabs (inr gone) now =
+          absurd (let never : None ≡ Some held = sym (ap (λ (b : List (Option Held)). get_or b object None) rests.gone ∙ unknown object) ∙ gone in cc)
+      known object held slabs (inl there) now =
+          let was = fewer.layouts held.cache slabs held object refl there now in
+          subst (λ l. WasGiven told object (address_of held.frame held.index l)) (sym was.2)
+          (is_told.known object held was.0 (inl (sym (ap (λ (b : List (Option Held)). get_or b object None) rests.board) ∙ there)) was.1)
+
+  -- the same checked caches
+  fewer-same : (s after : State) → after.checked ≡ s.checked → IsTold told s → Fewer s after
+  fewer-same s after same is_told = record {
+    layouts = λ cache new held object mine there now. (new, sym (ap (λ (l : List (Option CheckedState)). get_or l cache None) same) ∙ now, refl);
+    clean = λ cache new now. is_told.clean cache new (sym (ap (λ (l : List (Option CheckedState)). get_or l cache None) same) ∙ now);
+  }
+
+  -- ---- a new cache
+
+  no-bytes : (frame : ℕ) → get_or no_slabs frame None ≡ None
+  unfolding no_slabs
+  no-bytes frame = get_or-replicate_any 4096 frame None
+
+  opening-clean : (live : Cache) (cache : ℕ) → Clean (WasPoked told) (opening_slabs live.layout live.flags cache)
+  opening-clean live cache frame =
+      subst (λ x. CleanSlab (by_place (WasPoked told) live.layout frame) live.layout live.flags (unwrap_or x no_slab)) (sym (no-bytes frame))
+      (λ j p part there has. absurd (nothing j part there))
+    where
+      nothing : (j : ℕ) (part : Part) → Contains (parts_of live.layout live.flags (slice_get no_slab.states j)) part → ⊥
+      nothing j part there = let none = subst (λ x. Contains (parts_of live.layout live.flags x) part) (slice_get_past no_slab.states j (omega arith)) there in omega (arith, none.1)
+
+  -- no object is of a cache that has no slab
+  no-object-of : (after : State) (live : Cache) (cache object : ℕ) (held : Held) → IsCoherent after → held.cache ≡ cache → held_under after object ≡ Some held → checked_of after cache ≡ Some (opening_slabs live.layout live.flags cache) → ⊥
+  no-object-of after live cache object held coherent mine there now =
+      let slabs : CheckedState = opening_slabs live.layout live.flags cache in
+      let used : IsUsed slabs (slot_of_held held) = held-used after object held slabs there (ap (checked_of after) mine ∙ now) (consistent-of after coherent) in
+      let bare : checked_slab slabs held.frame ≡ no_slab = ap (λ x. unwrap_or x no_slab) (no-bytes held.frame) in
+      let none : slice_get (checked_slab slabs held.frame).states held.index ≡ None = ap (λ (slab : SlabState). slice_get slab.states held.index) bare ∙ slice_get_past no_slab.states held.index (omega arith) in
+      let never : None ≡ Some Used = sym none ∙ used in cc
+
+  created-fewer : (s : State) (name : List ℕ) (spec : Spec) (created : CreatedCache) (after : State) → IsCoherent after → CreatesCache s name spec created after → IsTold told s → Fewer s after
+  created-fewer s name spec (made.Merged cache) after coherent creates is_told = fewer-same s after (ap (λ (t : State). t.checked) creates.2) is_told
+  created-fewer s name spec (made.New cache) after coherent creates is_told = match_some (live_cache creates.0 cache) _ (Fewer s after) creates.2 (λ live is. by live (is_checked live.flags) (ap (λ (t : State). t.checked) is))
+    where
+      by : (live : Cache) (b : Bool) → after.checked ≡ cond b (set s.checked cache (Some (opening_slabs live.layout live.flags cache))) s.checked → Fewer s after
+      by live false is = fewer-same s after is is_told
+      by live true is = record {
+        layouts = λ other new held object mine there now. layouts other new held object mine there now (cases_eq other cache);
+        clean = λ other new now. clean other new now (cases_eq other cache);
+      }
+        where
+          elsewhere : (other : ℕ) → other ≢ cache → checked_of after other ≡ checked_of s other
+          elsewhere other differ = ap (λ (l : List (Option CheckedState)). get_or l other None) is ∙ get_or-set_other s.checked cache other (Some (opening_slabs live.layout live.flags cache)) None differ
+
+          -- what is written at a place is read there, if anything is
+          set-some : (xs : List (Option CheckedState)) (i : ℕ) (x y : CheckedState) → get_or (set xs i (Some x)) i None ≡ Some y → y ≡ x
+          set-some [] i x y e = absurd (cc)
+          set-some (z ∷ xs) zero x y e = sym (injected e)
+          set-some (z ∷ xs) (suc i) x y e = set-some xs i x y e
+
+          mine-is : (other : ℕ) (new : CheckedState) → other ≡ cache → checked_of after other ≡ Some new → new ≡ opening_slabs live.layout live.flags cache
+          mine-is other new mine now =
+              set-some s.checked cache (opening_slabs live.layout live.flags cache) new
+              (sym (ap (λ (l : List (Option CheckedState)). get_or l cache None) is) ∙ ap (checked_of after) (sym mine) ∙ now)
+
+          layouts : (other : ℕ) (new : CheckedState) (held : Held) (object : ℕ) → held.cache ≡ other → held_under after object ≡ Some held → checked_of after other ≡ Some new → (other ≡ cache) ⊎ (other ≢ cache)
+              → (old : CheckedState) × (checked_of s other ≡ Some old) × (new.layout ≡ old.layout)
+          layouts other new held object mine there now (inl same) =
+              absurd (no-object-of after live cache object held coherent (mine ∙ same) there (ap (checked_of after) (sym same) ∙ now ∙ ap Some (mine-is other new same now)))
+          layouts other new held object mine there now (inr differ) = (new, sym (elsewhere other differ) ∙ now, refl)
+
+          clean : (other : ℕ) (new : CheckedState) → checked_of after other ≡ Some new → (other ≡ cache) ⊎ (other ≢ cache) → Clean (WasPoked told) new
+          clean other new now (inl same) = subst (Clean (WasPoked told)) (sym (mine-is other new same now)) (opening-clean live cache)
+          clean other new now (inr differ) = is_told.clean other new (sym (elsewhere other differ) ∙ now)
+
+  creates-fewer : (s : State) (name : List ℕ) (spec : Spec) (answer : Result Created CreateRefusal) (after : State) → IsCoherent after → CreatesName s name spec answer after → IsTold told s → Fewer s after
+  creates-fewer s name spec (Ok (New cache)) after coherent creates is_told = created-fewer s name spec (made.New cache) after coherent creates.2 is_told
+  creates-fewer s name spec (Ok (Merged cache title)) after coherent creates is_told = created-fewer s name spec (made.Merged cache) after coherent creates.2 is_told
+  creates-fewer s name spec (Err why) after coherent creates is_told = fewer-same s after (ap (λ (t : State). t.checked) creates.1) is_told
+
+  -- ---- shrinking
+
+  -- the checked caches have the layouts that they had, and clean bytes
+  record Shrunk (s after : State) : Type 0 where
+    layouts : (cache : ℕ) (new : CheckedState) → checked_of after cache ≡ Some new → (old : CheckedState) × (checked_of s cache ≡ Some old) × (new.layout ≡ old.layout)
+    clean : (cache : ℕ) (new : CheckedState) → checked_of after cache ≡ Some new → Clean (WasPoked told) new
+
+  AreClean : State → Type 0
+  AreClean s = (cache : ℕ) (slabs : CheckedState) → checked_of s cache ≡ Some slabs → Clean (WasPoked told) slabs
+
+  shrunk-same : (s after : State) → after.checked ≡ s.checked → AreClean s → Shrunk s after
+  unfolding AreClean
+  shrunk-same s after same are = record {
+    layouts = λ cache new now. (new, sym (ap (λ (l : List (Option CheckedState)). get_or l cache None) same) ∙ now, refl);
+    clean = λ cache new now. are cache new (sym (ap (λ (l : List (Option CheckedState)). get_or l cache None) same) ∙ now);
+  }
+
+  shrunk-both : (s mid after : State) → Shrunk s mid → Shrunk mid after → Shrunk s after
+  shrunk-both s mid after first second = record {
+    layouts = λ cache new now.
+        let one = second.layouts cache new now in
+        let two = first.layouts cache one.0 one.1 in
+        (two.0, two.1, one.2 ∙ two.2);
+    clean = second.clean;
+  }
+
+  -- the slabs of one cache are others of its layout
+  shrunk-one : (s : State) (cache : ℕ) (slabs rest : CheckedState) (after : State) → checked_of s cache ≡ Some slabs → after.checked ≡ set s.checked cache (Some rest) → rest.layout ≡ slabs.layout → Clean (WasPoked told) rest → AreClean s → Shrunk s after
+  unfolding AreClean
+  shrunk-one s cache slabs rest after was now_is layout clean are = record {
+    layouts = λ other new now. elim (cases_eq other cache) [
+      | inl mine ↦ (slabs, ap (checked_of s) mine ∙ was, ap (λ (c : CheckedState). c.layout) (injected (sym now ∙ ap (checked_of after) mine ∙ at)) ∙ layout)
+      | inr differ ↦ (new, sym (elsewhere other differ) ∙ now, refl)
+    ];
+    clean = λ other new now. elim (cases_eq other cache) [
+      | inl mine ↦ subst (Clean (WasPoked told)) (injected (sym at ∙ ap (checked_of after) (sym mine) ∙ now)) clean
+      | inr differ ↦ are other new (sym (elsewhere other differ) ∙ now)
+    ];
+  }
+    where
+      at : checked_of after cache ≡ Some rest
+      at = ap (λ (l : List (Option CheckedState)). get_or l cache None) now_is ∙ get_or-set_same s.checked cache (Some rest) None (inside-of s.checked cache slabs was)
+
+      elsewhere : (other : ℕ) → other ≢ cache → checked_of after other ≡ checked_of s other
+      elsewhere other differ = ap (λ (l : List (Option CheckedState)). get_or l other None) now_is ∙ get_or-set_other s.checked cache other (Some rest) None differ
+
+  -- a cache that is not checked
+  flush-checked : (min_partial cache : ℕ) (s : State) (cpus : List ℕ) → (fold (flushed min_partial cache) s cpus).checked ≡ s.checked
+  flush-checked min_partial cache s [] = refl
+  flush-checked min_partial cache s (cpu ∷ cpus) = flush-checked min_partial cache (flushed min_partial cache s cpu) cpus ∙ (rest-flushed min_partial cache s cpu).checked
+
+  sweep-checked : (cache : ℕ) (s : State) (frames : List ℕ) → (fold (swept_slab cache) s frames).checked ≡ s.checked
+  sweep-checked cache s [] = refl
+  sweep-checked cache s (frame ∷ frames) = sweep-checked cache (swept_slab cache s frame) frames ∙ by (eqb (inuse_of s frame) 0)
+    where
+      by : (b : Bool) → (cond b (discarded (without_slab s cache frame) frame) s).checked ≡ s.checked
+      by true = refl
+      by false = refl
+
+  -- a checked one
+  sweep-one : (cache : ℕ) (s : State) (frame : ℕ) → AreClean s → Shrunk s (swept_checked_slab cache s frame)
+  unfolding AreClean
+  sweep-one cache s frame are = by (checked_of s cache) refl
+    where
+      go : (slabs : CheckedState) → checked_of s cache ≡ Some slabs → (b : Bool) → Shrunk s (cond b (discarded (with_checked s cache (without_checked slabs frame)) frame) s)
+      go slabs e true = shrunk-one s cache slabs (without_checked slabs frame) _ e refl refl (gone-clean (WasPoked told) slabs frame (are cache slabs e)) are
+      go slabs e false = shrunk-same s s refl are
+
+      by : (x : Option CheckedState) → checked_of s cache ≡ x → Shrunk s (option_map_or (λ slabs. cond (all_free slabs frame) (discarded (with_checked s cache (without_checked slabs frame)) frame) s) x s)
+      by None e = shrunk-same s s refl are
+      by (Some slabs) e = go slabs e (all_free slabs frame)
+
+  sweep-all : (cache : ℕ) (s : State) (frames : List ℕ) → AreClean s → Shrunk s (fold (swept_checked_slab cache) s frames)
+  unfolding AreClean
+  sweep-all cache s [] are = shrunk-same s s refl are
+  sweep-all cache s (frame ∷ frames) are =
+      let one = sweep-one cache s frame are in
+      shrunk-both s (swept_checked_slab cache s frame) _ one (sweep-all cache (swept_checked_slab cache s frame) frames one.clean)
+
+  kind-shrunk : (s : State) (cache : ℕ) (after : State) → ShrinksByKind s cache after → AreClean s → Shrunk s after
+  unfolding AreClean
+  kind-shrunk s cache after shrinks are =
+      match_some (cache_of s cache) _ (Shrunk s after) shrinks (λ live shrinks. by live.layout.min_partial (checked_of s cache) shrinks)
+    where
+      by : (min_partial : ℕ) (x : Option CheckedState) → MatchOption x (Promotes (swept (flushed_below s min_partial cache s.cpus) cache) cache after) (λ slabs. PromotesChecked (swept_checked s cache slabs) cache after) → Shrunk s after
+      by min_partial None promotes =
+          let flat : State = flushed_below s min_partial cache s.cpus in
+          shrunk-same s after (ap (λ (t : State). t.checked) promotes.2 ∙ sweep-checked cache flat (node_of flat cache) ∙ flush-checked min_partial cache s (range_with_len 0 s.cpus)) are
+      by min_partial (Some slabs) promotes =
+          let mid : State = swept_checked s cache slabs in
+          let first = sweep-all cache s slabs.listed are in
+          promoted mid first (checked_of mid cache) refl promotes
+        where
+          promoted : (mid : State) → Shrunk s mid → (x : Option CheckedState) → checked_of mid cache ≡ x
+              → MatchOption x ⊥ (λ slabs. (frames : List ℕ) × IsPromoted slabs.listed (free_counts slabs) frames × (after ≡ with_checked mid cache (record slabs { listed = frames }))) → Shrunk s after
+          promoted mid first None e promotes = absurd promotes
+          promoted mid first (Some now) e promotes =
+              shrunk-both s mid after first
+              (shrunk-one mid cache now (record now { listed = promotes.0 }) after e (ap (λ (t : State). t.checked) promotes.2) refl (λ frame. first.clean cache now e frame) first.clean)
+
+  fewer-of : (s after : State) → Shrunk s after → Fewer s after
+  fewer-of s after shrunk = record {
+    layouts = λ cache new held object mine there now. shrunk.layouts cache new now;
+    clean = shrunk.clean;
+  }
+
+  are-clean : (s : State) → IsTold told s → AreClean s
+  unfolding AreClean
+  are-clean s is_told = is_told.clean
+
+  shrinks-fewer : (s : State) (name : List ℕ) (answer : Result Bool NoSuchCache) (after : State) → Shrinks s name answer after → IsTold told s → Fewer s after
+  shrinks-fewer s name (Err none) after shrinks is_told = fewer-same s after (ap (λ (t : State). t.checked) shrinks.1) is_told
+  shrinks-fewer s name (Ok remain) after shrinks is_told =
+      match_some (number_of s.table name) _ (Fewer s after) shrinks (λ cache shrinks. fewer-of s after (kind-shrunk s cache after shrinks.0.steps (are-clean s is_told)))
+
+  -- ---- destroying
+
+  destroys-fewer : (s : State) (name : List ℕ) (answer : Result Destroyed DestroyRefusal) (after : State) → Destroys s name answer after → IsTold told s → Fewer s after
+  destroys-fewer s name (Err NotLive) after destroys is_told = fewer-same s after (ap (λ (t : State). t.checked) destroys.1) is_told
+  destroys-fewer s name (Err (Busy objects)) after destroys is_told =
+      match_some (number_of s.table name) _ (Fewer s after) destroys (λ cache busy. fewer-same s after (ap (λ (t : State). t.checked) busy.3) is_told)
+  destroys-fewer s name (Ok NameDropped) after destroys is_told =
+      match_some (number_of s.table name) _ (Fewer s after) destroys (λ cache drops. fewer-same s after (ap (λ (t : State). t.checked) drops.1) is_told)
+  destroys-fewer s name (Ok Gone) after destroys is_told =
+      match_some (number_of s.table name) _ (Fewer s after) destroys (λ cache goes. fewer-of s after (gone cache goes.2 (kind-shrunk s cache goes.2 goes.3.steps (are-clean s is_told)) (ap (λ (t : State). t.checked) goes.5)))
+    where
+      none-set : (xs : List (Option CheckedState)) (i : ℕ) (y : CheckedState) → get_or (set xs i None) i None ≡ Some y → ⊥
+      none-set [] i y e = cc
+      none-set (z ∷ xs) zero y e = cc
+      none-set (z ∷ xs) (suc i) y e = none-set xs i y e
+
+      gone : (cache : ℕ) (empty : State) → Shrunk s empty → after.checked ≡ set empty.checked cache None → Shrunk s after
+      gone cache empty first is = record {
+        layouts = λ other new now. first.layouts other new (back other new now);
+        clean = λ other new now. first.clean other new (back other new now);
+      }
+        where
+          back : (other : ℕ) (new : CheckedState) → checked_of after other ≡ Some new → checked_of empty other ≡ Some new
+          back other new now = elim (cases_eq other cache) [
+            | inl mine ↦ absurd (none-set empty.checked cache new (sym (ap (λ (l : List (Option CheckedState)). get_or l cache None) is) ∙ ap (checked_of after) (sym mine) ∙ now))
+            | inr differ ↦ sym (ap (λ (l : List (Option CheckedState)). get_or l other None) is ∙ get_or-set_other empty.checked cache other None None differ) ∙ now
+          ]
+
+-- ---- items
+
+abbrev Goes : List Answered → Item → Done → State → Type 0
+Goes told it dn after = ArePoked (told ++ answered_in (it, dn)) it dn × IsTold (told ++ answered_in (it, dn)) after
+
+-- an item that is no round tells of nothing
+quiet : (told : List Answered) (s : State) (trace : Trace) (it : Item) (dn : Done) (items : List Item) (after : State) → Stands s trace (it ∷ items) → answered_in (it, dn) ≡ [] → damages_of dn ≡ [] → Rests s after → Fewer told s after → IsTold told s → Goes told it dn after
+quiet told s trace it dn items after stands none no_damage rests fewer is_told =
+    let all : told ++ answered_in (it, dn) ≡ told = ap (λ l. told ++ l) none ∙ append-nil told in (
+      record {
+        reports = subst (All (λ found. IsPokedReport (told ++ answered_in (it, dn)) found.report)) (sym no_damage) (λ k d within. absurd (omega (arith, within)));
+        frees = λ one there. absurd (let nothing : Contains [] one = subst (λ l. Contains l one) none there in omega (arith, nothing.1));
+      },
+      subst (λ l. IsTold l after) (sym all) (told-fewer told s after rests stands.rest.forgotten fewer is_told),
+    )
+
+item-told : (told : List Answered) (s : State) (trace : Trace) (it : Item) (dn : Done) (items : List Item) (after : State) → Stands s trace (it ∷ items) → IsCoherent after → Does s trace it dn after → IsTold told s → Goes told it dn after
+unfolding Does
+item-told told s trace (item.Cache place spec) (done.Created answer) items after stands coherent does is_told =
+    quiet told s trace (item.Cache place spec) (done.Created answer) items after stands refl refl (creates-rest s _ spec answer after does) (creates-fewer told s _ spec answer after coherent does is_told) is_told
+item-told told s trace (item.Round round) (done.Round result) items after stands coherent does is_told =
+    let distinct = distinct-of (objects_of round.events) (λ x. omega (arith, stands.once x, items-split x (item.Round round) items)) in
+    let tells = round-told told s round result after stands.coherent stands.rest (fits s trace round items result after stands distinct does) does is_told in
+    (record { reports = tells.damages; frees = tells.frees_told }, tells.then)
+item-told told s trace (item.Shrink place) (done.Shrunk answer) items after stands coherent does is_told =
+    quiet told s trace (item.Shrink place) (done.Shrunk answer) items after stands refl refl (shrinks-rest s _ answer after does) (shrinks-fewer told s _ answer after does is_told) is_told
+item-told told s trace (item.Destroy place) (done.Destroyed answer) items after stands coherent does is_told =
+    quiet told s trace (item.Destroy place) (done.Destroyed answer) items after stands refl refl (destroys-rest s _ answer after does) (destroys-fewer told s _ answer after does is_told) is_told
+item-told told s trace item.Slabinfo (done.Slabinfo rows) items after stands coherent does is_told =
+    quiet told s trace item.Slabinfo (done.Slabinfo rows) items after stands refl refl (rests-same s after does.1) (fewer-same told s after (ap (λ (t : State). t.checked) does.1) is_told) is_told
+item-told told s trace _ _ items after stands coherent does is_told = absurd does
+
+all-told : (told : List Answered) (s : State) (trace : Trace) (items : List Item) (dones : List Done) (after : State) → Stands s trace items → RunsItems s trace items dones after → IsTold told s → RunsPoked told items dones
+all-told told s trace [] [] after stands run is_told = tt
+all-told told s trace [] (dn ∷ dones) after stands run is_told = tt
+all-told told s trace (it ∷ items) [] after stands run is_told = tt
+all-told told s trace (it ∷ items) (dn ∷ dones) after stands run is_told =
+    let goes = item-told told s trace it dn items run.0 stands run.2 run.1 is_told in
+    let next = item-stands s trace it dn items run.0 stands run.2 run.1 in
+    (goes.0, all-told (told ++ answered_in (it, dn)) run.0 trace items dones after next.0 run.3 goes.1)
+
+-- before the first item nothing is checked, and no number is known
+opened-told : (trace : Trace) → IsTold [] (opening_of trace)
+opened-told trace = record {
+  known = λ object held slabs there now. absurd (let never : None ≡ Some slabs = sym (get_or-replicate_any 32 held.cache None) ∙ now in cc);
+  clean = λ cache slabs now. absurd (let never : None ≡ Some slabs = sym (get_or-replicate_any 32 cache None) ∙ now in cc);
+}
+
+pub poked-damages : (trace : Trace) (journal : Journal) → IsSound trace → IsLawful trace journal → HasPokedDamages trace journal
+poked-damages trace journal sound lawful =
+    all-told [] (opening_of trace) trace (take (length journal.items) trace.items) journal.items lawful.state (stands-first trace (length journal.items) sound lawful.coherent) lawful.run (opened-told trace)

@@ -1,0 +1,4 @@
+pub mod Answered
+pub mod Event
+pub mod Pokes
+pub mod Round

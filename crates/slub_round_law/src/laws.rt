@@ -1,0 +1,36 @@
+//! What holds of every round and of every event of the sequential semantics. None of these does
+//! anything.
+
+ghost use Rattle.std.specs.Prelude.{ℕ, ◌<◌, length};
+ghost use Rattle.slub_object_layout.specs.declared.event.Round.{Round};
+ghost use Rattle.slub_answers.specs.declared.reply.Reply.TheVariants.{Given, NoFrames};
+ghost use Rattle.slub_lists.specs.Coherent.{IsCoherent};
+ghost use Rattle.slub_lists.specs.Named.{AllocatesNamed};
+ghost use Rattle.slub_lists.specs.State.{State};
+ghost use Rattle.slub_journal.specs.declared.journal.RoundResult.{RoundResult};
+ghost use Rattle.slub_journal.specs.Lawful.{DoesRound, IsAtRest};
+ghost use Rattle.slub_round_law.specs.Event.{GivesFree, LacksFrames};
+ghost use Rattle.slub_round_law.specs.Round.{Fits, IsRound};
+
+/// A round that is done event by event, in the order of the text, is lawful.
+pub fn rounds_are_lawful()
+    ensures { (before : State) (round : Round) (result : RoundResult) (after : State) →
+        IsCoherent before → IsAtRest before → Fits before round →
+        DoesRound before round result after → IsRound before round result after }
+{}
+
+/// What an allocation gives was free in the cache that it names, and nobody had it.
+pub fn given_objects_were_free()
+    ensures { (s : State) (place cpu worker object address : ℕ) (after : State) → IsCoherent s →
+        cpu < s.cpus → object < length s.board →
+        AllocatesNamed s place cpu worker object (Given address) after →
+        GivesFree s place cpu object address after }
+{}
+
+/// An allocation lacks frames only where neither its CPU nor the node has an object of the cache to
+/// give, and no block of the cache's least order is free.
+pub fn want_of_frames_has_its_cause()
+    ensures { (s : State) (place cpu worker object : ℕ) (after : State) → IsCoherent s →
+        cpu < s.cpus → AllocatesNamed s place cpu worker object NoFrames after →
+        LacksFrames s place cpu }
+{}

@@ -1,4 +1,4 @@
--- Which live cache a new one is merged with, after `slab_mergeable` and `find_mergeable` of Linux 6.1.
+-- Which live cache a new one is merged with, after `slab_unmergeable` and `find_mergeable` of Linux 6.1.
 use Rattle.std.specs.Prelude.{◌≡◌, ℕ, ◌+◌, ◌-◌, ◌%◌, ◌<◌, ◌≤◌, max, false, List, ◌∷◌, ◌++◌, MatchOption, All}
 use Rattle.slub_object_layout.specs.declared.layout.Spec.{Spec}
 use Rattle.slub_object_layout.specs.Layout.{align_up, alignment_of, is_checked}

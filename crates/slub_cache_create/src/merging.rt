@@ -11,7 +11,8 @@ use slub_object_layout::layout::{Layout, Spec, align_up, alignment_of};
 /// The bytes of a word.
 const WORD: u32 = 8;
 
-/// Whether the objects of a new cache can lie in the slots of a live one (`slab_mergeable`).
+/// Whether the objects of a new cache can lie in the slots of a live one (`slab_unmergeable`,
+/// `find_mergeable`).
 pub fn fits(live: &Cache, spec: &Spec) -> bool
     requires accepted { IsAccepted spec.now }
     ensures { IsTrue result ↔ Fits live.now spec.now }

@@ -175,7 +175,7 @@ impl Lists {
     }
 
     /// A checked slab goes, where all of it is free and so many slabs are listed
-    /// (`free_to_partial_list`).
+    /// (`free_debug_processing`).
     pub(crate) fn discard_spare(&mut self, cache: u8, frame: u16, min_partial: u32)
         requires consistent { IsConsistent self.old }
         requires slab { MatchOption (checked_of self.old cache) ⊥ (λ slabs. Has slabs frame) }

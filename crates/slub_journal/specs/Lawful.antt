@@ -150,7 +150,7 @@ title_of s cache = option_map_or (λ live. live.title) (cache_of s cache) []
 abbrev pub found_of : State → State → ℕ → List Found
 found_of before after cache =
     map (λ report. record { title = title_of after cache; report = report })
-      (drop (length (reports_of before cache)) (reports_of after cache))
+    (drop (length (reports_of before cache)) (reports_of after cache))
 
 -- the numbers of caches, 0 to 31
 unfoldable pub cache_numbers : List ℕ

@@ -115,7 +115,7 @@ items_text replies trace _ _ = []
 abbrev pub total_text : Total → List ℕ
 total_text total =
     total_line total.given total.freed total.live total.free
-      total.aside total.frozen total.slabs total.frames
+    total.aside total.frozen total.slabs total.frames
 
 -- the total line, where the total is there
 abbrev pub end_text : Option Total → List ℕ

@@ -10,7 +10,12 @@ use slub_trace_reader::trace::{Item, Trace};
 pub fn is_built(trace: &Trace) -> bool
     ensures { IsTrue result ↔ IsBuilt trace.now }
 {
-    trace.tid == 0 && trace.items.as_slice().iter().all(|item| is_built_item(item))
+    trace.tid == 0
+        && trace
+            .items
+            .as_slice()
+            .iter()
+            .all(|item| is_built_item(item))
 }
 
 fn is_built_item(item: &Item) -> bool

@@ -19,8 +19,8 @@ use slub_object_layout::event::{Event, Round};
 use slub_object_layout::layout::LayoutRefusal;
 use slub_object_layout::name::Name;
 use slub_slabinfo_text::text::{
-    ItemAnswer, ItemWord, damage_text, is_ok_answer, item_line, reply_line,
-    slabinfo_text, total_text,
+    ItemAnswer, ItemWord, damage_text, is_ok_answer, item_line, reply_line, slabinfo_text,
+    total_text,
 };
 use slub_trace_reader::trace::{Item, Trace};
 use std::alloc::Global;

@@ -35,7 +35,7 @@ listed_free slabs = sum_by (λ frame. length (checked_slab slabs frame).free) sl
 abbrev pub node_free_of : State → ℕ → ℕ
 node_free_of s cache =
     option_map_or listed_free (checked_of s cache)
-      (sum_by (λ frame. length (own_free s frame)) (node_of s cache))
+    (sum_by (λ frame. length (own_free s frame)) (node_of s cache))
 
 -- the free objects of a slab of the cache
 abbrev pub free_in : ℕ → Option Slab × List ℕ → ℕ
@@ -46,7 +46,7 @@ abbrev pub loose_of : State → ℕ → ℕ
 loose_of s cache =
     sum_by (free_in cache) (zip s.slabs s.frees)
     + sum_by (λ lists. length lists.free)
-      (slice_range s.cpu_lists (cache * s.cpus) ((cache + 1) * s.cpus))
+    (slice_range s.cpu_lists (cache * s.cpus) ((cache + 1) * s.cpus))
 
 -- the free objects, wherever they stand
 abbrev pub free_of : State → ℕ → ℕ

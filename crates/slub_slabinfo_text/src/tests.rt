@@ -23,7 +23,10 @@ fn replies_of_no_short_run(rt: HostRuntime) -> Result<(), Fail> {
     let line = reply_line(rt.alloc(), &[], &event, &Reply::NoMemory)?;
     assert_eq!(rt; line.as_slice(), b"alloc 1048576: no memory\n".as_slice());
     let line = reply_line(rt.alloc(), &[], &event, &Reply::IdsSpent(4294967240))?;
-    assert_eq!(rt; line.as_slice(), b"alloc 1048576: ids spent 4294967240\n".as_slice());
+    assert_eq!(rt;
+        line.as_slice(),
+        b"alloc 1048576: ids spent 4294967240\n".as_slice()
+    );
     Ok(())
 }
 
@@ -50,13 +53,24 @@ fn a_damaged_end(rt: HostRuntime) -> Result<(), Fail> {
 fn answers_of_items(rt: HostRuntime) -> Result<(), Fail> {
     let name = Name::read("a").ok_or("a name")?;
     let cases: [(ItemWord, ItemAnswer, &[u8]); 4] = [
-        (ItemWord::Cache, ItemAnswer::TooMany, b"cache a: too many caches\n"),
-        (ItemWord::Destroy, ItemAnswer::Destroyed, b"destroy a: destroyed\n"),
+        (
+            ItemWord::Cache,
+            ItemAnswer::TooMany,
+            b"cache a: too many caches\n",
+        ),
+        (
+            ItemWord::Destroy,
+            ItemAnswer::Destroyed,
+            b"destroy a: destroyed\n",
+        ),
         (ItemWord::Tune, ItemAnswer::Set, b"tune a: set\n"),
         (ItemWord::Tune, ItemAnswer::Checked, b"tune a: checked\n"),
     ];
     for (word, answer, want) in cases {
-        assert_eq!(rt; item_line(rt.alloc(), word, &name, &answer)?.as_slice(), want);
+        assert_eq!(rt;
+            item_line(rt.alloc(), word, &name, &answer)?.as_slice(),
+            want
+        );
     }
     Ok(())
 }

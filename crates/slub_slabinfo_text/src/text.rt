@@ -115,7 +115,10 @@ fn push_reply(alloc: Global, text: &mut Vec<u8>, reply: &Reply) -> Result<(), No
         Reply::OutOfSlot => push_words(text, b"out of slot"),
         Reply::NotChecked => push_words(text, b"not checked"),
         Reply::IdsSpent(tid) => push_words(text, format!(in alloc; "ids spent {tid}")?.as_bytes()),
-        Reply::Trimmed(slabs) => push_words(text, format!(in alloc; "discarded {slabs}")?.as_bytes()),
+        Reply::Trimmed(slabs) => push_words(
+            text,
+            format!(in alloc; "discarded {slabs}")?.as_bytes(),
+        ),
         Reply::Checked => push_words(text, b"checked"),
         Reply::Flushed(slabs) => push_words(text, format!(in alloc; "moved {slabs}")?.as_bytes()),
     }

@@ -135,7 +135,7 @@ says : (words : List Word) (spec : Spec) (cpus : ℕ) (l : IsLayout words spec c
 says words spec cpus l = record { size_is = l.say.size_is; align_is = l.say.align_is; flags_is = l.say.flags_is; cpus_is = l.say.cpus_is }
 
 same_number : (least most : ℕ) (v w : Word) (m n : ℕ) → v ≡ w → IsNumber least most v m → IsNumber least most w n → m ≡ n
-same_number least most v w m n same p q = p.value ∙ ap (digits_value 10) same ∙ sym q.value
+same_number least most v w m n same p q = p.writes.value ∙ ap (digits_value 10) same ∙ sym q.writes.value
 
 abbrev flags_of : Bool → Bool → Bool → Bool → Bool → Bool → Bool → Bool → Flags
 flags_of a b c d e f g h = record { line = a; reclaim = b; checks = c; zones = d; poison = e; user = f; trace = g; fail = h }

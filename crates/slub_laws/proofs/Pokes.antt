@@ -1,5 +1,5 @@
 -- Each damage of a lawful journal was poked.
-use Rattle.std.proofs.Common.{◌≡◌, ◌≢◌, ℕ, zero, suc, Bool, true, false, cond, eqb, List, [], ◌∷◌, ◌++◌, length, take, get_or, set, refl, sym, ◌∙◌, ap, subst, arith, All, Option, Some, None, MatchOption, Result, Ok, Err, inl, inr, ◌⊎◌, unwrap_or, fold, append-nil, get_or-set_other, get_or-set_same}
+use Rattle.std.proofs.Common.{◌≡◌, ◌≢◌, ℕ, zero, suc, Bool, true, false, cond, eqb, List, [], ◌∷◌, ◌++◌, length, take, get_or, set, refl, sym, ◌∙◌, ap, subst, arith, All, Option, Some, None, MatchOption, Result, Ok, Err, inl, inr, ◌⊎◌, unwrap_or, fold, is_some, append-nil, get_or-set_other, get_or-set_same}
 use Rattle.std.specs.List.{Contains, range_with_len}
 use Rattle.std.specs.Prelude.{slice_get}
 use Rattle.std.specs.Option.{option_map_or}
@@ -7,6 +7,8 @@ use Rattle.std.proofs.lemmas.Bool.{cases_eq}
 use Rattle.std.proofs.lemmas.Option.{slice_get_past}
 use Rattle.slub_common.proofs.Writes.{get_or-replicate_any, inside-of}
 use Rattle.slub_object_layout.specs.Layout.{address_of, is_checked}
+use Rattle.slub_object_layout.specs.declared.layout.Setting.{Setting}
+use Rattle.slub_object_layout.specs.declared.layout.Setting.TheVariants.{MinPartial, CpuPartial}
 use Rattle.slub_object_layout.specs.declared.layout.Spec.{Spec}
 use Rattle.slub_common.specs.declared.no_such_cache.NoSuchCache.{NoSuchCache}
 use Rattle.slub_cache_create.specs.declared.caches.Cache.{Cache}
@@ -31,9 +33,12 @@ use Rattle.slub_answers.specs.declared.destroy.Destroyed.{Destroyed}
 use Rattle.slub_answers.specs.declared.destroy.Destroyed.TheVariants.{NameDropped, Gone}
 use Rattle.slub_answers.specs.declared.destroy.DestroyRefusal.{DestroyRefusal}
 use Rattle.slub_answers.specs.declared.destroy.DestroyRefusal.TheVariants.{NoSuchCache as NotLive, Busy}
+use Rattle.slub_answers.specs.declared.tune.TuneRefusal.{TuneRefusal}
+use Rattle.slub_answers.specs.declared.tune.TuneRefusal.TheVariants as unset
 use Rattle.slub_lists.specs.Destroy.{Destroys}
 use Rattle.slub_lists.specs.Free.{discarded, inuse_of, without_slab}
-use Rattle.slub_lists.specs.Shrink.{Promotes, PromotesChecked, Shrinks, ShrinksByKind, all_free, flushed, flushed_below, swept, swept_checked, swept_checked_slab, swept_slab}
+use Rattle.slub_lists.specs.Shrink.{Promotes, PromotesChecked, Shrinks, ShrinksByKind, all_free, flushed, flushed_below, min_partial_of, swept, swept_checked, swept_checked_slab, swept_slab}
+use Rattle.slub_lists.specs.Tune.{Tunes, tuned, with_setting}
 use Rattle.slub_lists.proofs.CheckedTaking.{held-used}
 use Rattle.slub_lists.proofs.Kept.{consistent-of}
 use Rattle.slub_lists.proofs.Flushing.{rest-flushed}
@@ -56,7 +61,7 @@ use Rattle.slub_round_law.proofs.Telling.{round-told}
 use Rattle.slub_laws.specs.Freed.{answered_in}
 use Rattle.slub_laws.specs.Poked.{ArePoked, HasPokedDamages, RunsPoked, damages_of}
 use Rattle.slub_laws.proofs.Keeping.{match_some}
-use Rattle.slub_laws.proofs.Rounds.{Rests, Stands, creates-rest, destroys-rest, distinct-of, fits, item-stands, items-split, rests-same, shrinks-rest, stands-first}
+use Rattle.slub_laws.proofs.Rounds.{Rests, Stands, creates-rest, destroys-rest, distinct-of, fits, item-stands, items-split, rests-same, shrinks-rest, stands-first, tunes-rest}
 
 module _ (told : List Answered) where
   -- ---- a machine with the same board, whose checked caches have fewer slabs
@@ -266,6 +271,23 @@ module _ (told : List Answered) where
   shrinks-fewer s name (Ok remain) after shrinks is_told =
       match_some (number_of s.table name) _ (Fewer s after) shrinks (λ cache shrinks. fewer-of s after (kind-shrunk s cache after shrinks.0.steps (are-clean s is_told)))
 
+  -- ---- tuning
+
+  tuned-checked : (s : State) (cache : ℕ) (setting : Setting) → (tuned s cache setting).checked ≡ s.checked
+  tuned-checked s cache (MinPartial slabs) = refl
+  tuned-checked s cache (CpuPartial objects) = by (is_some (checked_of s cache))
+    where
+      by : (b : Bool) → (cond b s (with_setting (flushed_below s (min_partial_of s cache) cache s.cpus) cache (CpuPartial objects))).checked ≡ s.checked
+      by true = refl
+      by false = flush-checked (min_partial_of s cache) cache s (range_with_len 0 s.cpus)
+
+  tunes-fewer : (s : State) (name : List ℕ) (setting : Setting) (answer : Result (Unit {0}) TuneRefusal) (after : State) → Tunes s name setting answer after → IsTold told s → Fewer s after
+  tunes-fewer s name setting (Err unset.NoSuchCache) after tunes is_told = fewer-same s after (ap (λ (t : State). t.checked) tunes.1) is_told
+  tunes-fewer s name setting (Err unset.Checked) after tunes is_told =
+      match_some (number_of s.table name) _ (Fewer s after) tunes (λ cache refused. fewer-same s after (ap (λ (t : State). t.checked) refused.1) is_told)
+  tunes-fewer s name setting (Ok done) after tunes is_told =
+      match_some (number_of s.table name) _ (Fewer s after) tunes (λ cache set. fewer-same s after (ap (λ (t : State). t.checked) set.1.steps ∙ tuned-checked s cache setting) is_told)
+
   -- ---- destroying
 
   destroys-fewer : (s : State) (name : List ℕ) (answer : Result Destroyed DestroyRefusal) (after : State) → Destroys s name answer after → IsTold told s → Fewer s after
@@ -324,6 +346,8 @@ item-told told s trace (item.Destroy place) (done.Destroyed answer) items after 
     quiet told s trace (item.Destroy place) (done.Destroyed answer) items after stands refl refl (destroys-rest s _ answer after does) (destroys-fewer told s _ answer after does is_told) is_told
 item-told told s trace item.Slabinfo (done.Slabinfo rows) items after stands coherent does is_told =
     quiet told s trace item.Slabinfo (done.Slabinfo rows) items after stands refl refl (rests-same s after does.1) (fewer-same told s after (ap (λ (t : State). t.checked) does.1) is_told) is_told
+item-told told s trace (item.Tune place setting) (done.Tuned answer) items after stands coherent does is_told =
+    quiet told s trace (item.Tune place setting) (done.Tuned answer) items after stands refl refl (tunes-rest s _ setting answer after does) (tunes-fewer told s _ setting answer after does is_told) is_told
 item-told told s trace _ _ items after stands coherent does is_told = absurd does
 
 all-told : (told : List Answered) (s : State) (trace : Trace) (items : List Item) (dones : List Done) (after : State) → Stands s trace items → RunsItems s trace items dones after → IsTold told s → RunsPoked told items dones

@@ -1,6 +1,6 @@
 -- Each round of a lawful journal is lawful.
-use Rattle.std.proofs.Common.{◌≡◌, ℕ, zero, suc, eqb, ◌+◌, ◌<◌, ◌≤◌, Bool, true, false, List, [], ◌∷◌, length, take, get_or, flat_map, refl, sym, ◌∙◌, ap, subst, arith, All, nat_eq, Option, Some, None, IsSome, IfSome, Result, Ok, Err, inl, inr, ◌⊎◌, replicate}
-use Rattle.std.specs.List.{AllByRecursion, IsDistinct, zip}
+use Rattle.std.proofs.Common.{◌≡◌, ℕ, zero, suc, eqb, ◌+◌, ◌<◌, ◌≤◌, Bool, true, false, cond, fold, is_some, List, [], ◌∷◌, length, take, get_or, flat_map, refl, sym, ◌∙◌, ap, subst, arith, All, nat_eq, Option, Some, None, IsSome, IfSome, Result, Ok, Err, inl, inr, ◌⊎◌, replicate}
+use Rattle.std.specs.List.{AllByRecursion, IsDistinct, range_with_len, zip}
 use Rattle.std.proofs.lemmas.Bool.Decides.{nat_tests}
 use Rattle.std.proofs.lemmas.Map.Keys.{IsDistinct-cons}
 use Rattle.std.proofs.lemmas.List.Elements.{All-cons, All-head, All-tail}
@@ -10,6 +10,8 @@ use Rattle.slub_object_layout.specs.declared.event.Act.{Act}
 use Rattle.slub_object_layout.specs.declared.event.Act.TheVariants as act
 use Rattle.slub_object_layout.specs.declared.event.Event.{Event}
 use Rattle.slub_object_layout.specs.declared.event.Round.{Round}
+use Rattle.slub_object_layout.specs.declared.layout.Setting.{Setting}
+use Rattle.slub_object_layout.specs.declared.layout.Setting.TheVariants.{MinPartial, CpuPartial}
 use Rattle.slub_object_layout.specs.declared.layout.Spec.{Spec}
 use Rattle.slub_common.specs.declared.no_such_cache.NoSuchCache.{NoSuchCache}
 use Rattle.slub_cache_create.specs.declared.caches.Created.{Created as CreatedCache}
@@ -26,8 +28,13 @@ use Rattle.slub_answers.specs.declared.destroy.Destroyed.{Destroyed}
 use Rattle.slub_answers.specs.declared.destroy.Destroyed.TheVariants.{NameDropped, Gone}
 use Rattle.slub_answers.specs.declared.destroy.DestroyRefusal.{DestroyRefusal}
 use Rattle.slub_answers.specs.declared.destroy.DestroyRefusal.TheVariants.{NoSuchCache as NotLive, Busy}
+use Rattle.slub_answers.specs.declared.tune.TuneRefusal.{TuneRefusal}
+use Rattle.slub_answers.specs.declared.tune.TuneRefusal.TheVariants as unset
+use Rattle.slub_lists.specs.Alloc.{checked_of}
 use Rattle.slub_lists.specs.Destroy.{Destroys, without}
-use Rattle.slub_lists.specs.Shrink.{Shrinks}
+use Rattle.slub_lists.specs.Shrink.{Shrinks, flushed, flushed_below, min_partial_of}
+use Rattle.slub_lists.specs.Tune.{Tunes, tuned, with_setting}
+use Rattle.slub_lists.proofs.Flushing.{rest-flushed}
 use Rattle.slub_trace_reader.specs.declared.trace.Item.{Item}
 use Rattle.slub_trace_reader.specs.declared.trace.Item.TheVariants as item
 use Rattle.slub_trace_reader.specs.declared.trace.Trace.{Trace}
@@ -80,6 +87,30 @@ destroys-rest s name (Ok NameDropped) after destroys = match_some (number_of s.t
 destroys-rest s name (Ok Gone) after destroys =
     match_some (number_of s.table name) _ (Rests s after) destroys (λ cache goes.
     rests-is s (without goes.2 name cache) after goes.5 (record { board = goes.3.held.board; gone = goes.3.held.gone }))
+
+flushed-rests : (least cache : ℕ) (s : State) (cpus : List ℕ) → Rests s (fold (flushed least cache) s cpus)
+flushed-rests least cache s [] = rests-same s s refl
+flushed-rests least cache s (cpu ∷ cpus) =
+    let first = rest-flushed least cache s cpu in
+    let rest = flushed-rests least cache (flushed least cache s cpu) cpus in
+    record { board = rest.board ∙ first.held.board; gone = rest.gone ∙ first.held.gone }
+
+tuned-rests : (s : State) (cache : ℕ) (setting : Setting) → Rests s (tuned s cache setting)
+tuned-rests s cache (MinPartial slabs) = record { board = refl; gone = refl }
+tuned-rests s cache (CpuPartial objects) = by (is_some (checked_of s cache))
+  where
+    flat : Rests s (flushed_below s (min_partial_of s cache) cache s.cpus)
+    flat = flushed-rests (min_partial_of s cache) cache s (range_with_len 0 s.cpus)
+
+    by : (b : Bool) → Rests s (cond b s (with_setting (flushed_below s (min_partial_of s cache) cache s.cpus) cache (CpuPartial objects)))
+    by true = rests-same s s refl
+    by false = record { board = flat.board; gone = flat.gone }
+
+pub tunes-rest : (s : State) (name : List ℕ) (setting : Setting) (answer : Result (Unit {0}) TuneRefusal) (after : State) → Tunes s name setting answer after → Rests s after
+tunes-rest s name setting (Err unset.NoSuchCache) after tunes = rests-same s after tunes.1
+tunes-rest s name setting (Err unset.Checked) after tunes = match_some (number_of s.table name) _ (Rests s after) tunes (λ cache refused. rests-same s after refused.1)
+tunes-rest s name setting (Ok done) after tunes =
+    match_some (number_of s.table name) _ (Rests s after) tunes (λ cache set. rests-is s (tuned s cache setting) after set.1.steps (tuned-rests s cache setting))
 
 -- ---- where the machine stands
 
@@ -198,6 +229,7 @@ item-stands s trace (item.Round round) (done.Round result) items after stands co
 item-stands s trace (item.Shrink place) (done.Shrunk answer) items after stands coherent does = (stands-rest s trace (item.Shrink place) items after stands coherent (shrinks-rest s _ answer after does), tt)
 item-stands s trace (item.Destroy place) (done.Destroyed answer) items after stands coherent does = (stands-rest s trace (item.Destroy place) items after stands coherent (destroys-rest s _ answer after does), tt)
 item-stands s trace item.Slabinfo (done.Slabinfo rows) items after stands coherent does = (stands-rest s trace item.Slabinfo items after stands coherent (rests-same s after does.1), tt)
+item-stands s trace (item.Tune place setting) (done.Tuned answer) items after stands coherent does = (stands-rest s trace (item.Tune place setting) items after stands coherent (tunes-rest s _ setting answer after does), tt)
 item-stands s trace _ _ items after stands coherent does = absurd does
 
 all-rounds : (s : State) (trace : Trace) (items : List Item) (dones : List Done) (after : State) → Stands s trace items → RunsItems s trace items dones after → RunsRounds s trace items dones after

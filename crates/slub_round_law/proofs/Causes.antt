@@ -20,15 +20,16 @@ use Rattle.slub_lists.specs.Words.{held_by, is_word, is_worker, own, word_of}
 use Rattle.slub_lists.proofs.Apart.{held-apart}
 use Rattle.slub_lists.proofs.CheckedGiving.{layout-live}
 use Rattle.slub_lists.proofs.ObjectWords.{memory-read, own-is}
+use Rattle.slub_lists.proofs.Trimming.{place-live}
 use Rattle.slub_round_law.specs.Answered.{Answered, did_free, found_bad, gave, holding, last_written, of_worker, times_freed, times_taken}
 use Rattle.slub_round_law.specs.Round.{Cause, IsFreeable, IsOwnValue, IsSpare, Spot, has_word, layout_of, spot_by, spot_of, spot_under}
 use Rattle.slub_round_law.proofs.Damages.{damage-differs, damage-taken}
 use Rattle.slub_round_law.proofs.Rounds.{Moves, Tale, new-unheld, step-of}
 use Rattle.slub_round_law.proofs.Runs.{on_board}
-use Rattle.slub_round_law.proofs.Steps.{Holds, Step, frees, gives, keeps, lacks, nameless, pokes, pokes_not, reads, reads_none, reads_not, refuses, wants, writes, writes_none, writes_not}
+use Rattle.slub_round_law.proofs.Steps.{Holds, Step, flushes, frees, gives, keeps, lacks, nameless, pokes, pokes_not, reads, reads_none, reads_not, refuses, trims, trims_checked, trims_none, wants, writes, writes_none, writes_not}
 use Rattle.slub_round_law.proofs.Tale.{held-by-some, injected, some-object}
 use Rattle.slub_round_law.proofs.Times.{counted_append, one_where}
-use Rattle.slub_round_law.proofs.Values.{checked-kept, own-worker}
+use Rattle.slub_round_law.proofs.Values.{checked-kept, own-worker, unchecked-back}
 
 -- ---- what is there
 
@@ -269,6 +270,17 @@ module _ (before : State) (past : List Answered) (s : State) (one : Answered) (a
       | inr is ↦ as-is _ _ asks is tt
     ]
   ]
+
+  cause-by coherent (trims place cache slabs asks names unchecked is kept same_slabs) =
+      let live = found (cache_of s cache) (place-live s place cache tale.coherent.shaped names) in
+      as-is _ _ asks is (subst (λ (x : Option ℕ). MatchOption x ⊥ (λ cache. checked_of before cache ≡ None)) (sym names ∙ named-before place)
+      (unchecked-back before s cache live.0 coherent tale.coherent tale.caches.table (live-before cache live.0 live.1) unchecked))
+  cause-by coherent (trims_checked place cache slabs asks names checked is now) =
+      let live = found (cache_of s cache) (place-live s place cache tale.coherent.shaped names) in
+      as-is _ _ asks is (subst (λ (x : Option ℕ). MatchOption x ⊥ (λ cache. IsSome (checked_of before cache))) (sym names ∙ named-before place)
+      (checked-kept before s cache live.0 coherent tale.coherent tale.caches.table (live-before cache live.0 live.1) ∙ ap is_some checked))
+  cause-by coherent (trims_none place asks none is now) = as-is _ _ asks is (sym (named-before place) ∙ none)
+  cause-by coherent (flushes slabs asks is kept same_slabs) = as-is _ _ asks is tt
 
   pub cause-of : IsCoherent before → Cause before answers mine one.0.act one.1
   cause-of coherent = cause-by coherent (step-of before past s one after moves tale)

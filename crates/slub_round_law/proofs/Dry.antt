@@ -14,7 +14,7 @@ use Rattle.slub_lists.specs.Coherent.{IsCoherent}
 use Rattle.slub_journal.specs.Lawful.{is_order, lacks as lacks_run, least_order_of, min_order_of}
 use Rattle.slub_round_law.specs.Answered.{Answered}
 use Rattle.slub_round_law.proofs.Runs.{count-more}
-use Rattle.slub_round_law.proofs.Steps.{Step, counted, frees, gives, keeps, lacks, nameless, pokes, pokes_not, reads, reads_none, reads_not, refuses, wants, word-keeps, writes, writes_none, writes_not}
+use Rattle.slub_round_law.proofs.Steps.{Step, counted, flushes, frees, gives, keeps, lacks, nameless, pokes, pokes_not, reads, reads_none, reads_not, refuses, trims, trims_checked, trims_none, wants, word-keeps, writes, writes_none, writes_not}
 use Rattle.slub_round_law.proofs.Times.{one_where}
 
 abbrev pub Dry : State → List Answered → State → Type 0
@@ -84,3 +84,7 @@ module _ (before : State) (past : List Answered) (s : State) (one : Answered) (a
     | inl is ↦ ap is_lack is
     | inr rest ↦ elim rest [ inl is ↦ ap is_lack is | inr is ↦ ap is_lack is ]
   ])
+  dry-step (trims place cache slabs asks names unchecked is kept same_slabs) = quiet kept.dry (ap is_lack is)
+  dry-step (trims_checked place cache slabs asks names checked is now) = quiet (ap (λ (t : State). t.pool.dry) now) (ap is_lack is)
+  dry-step (trims_none place asks none is now) = quiet (ap (λ (t : State). t.pool.dry) now) (ap is_lack is)
+  dry-step (flushes slabs asks is kept same_slabs) = quiet kept.dry (ap is_lack is)

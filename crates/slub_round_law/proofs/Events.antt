@@ -17,7 +17,7 @@ use Rattle.slub_lists.specs.Coherent.{IsCoherent, held_under}
 use Rattle.slub_lists.specs.Named.{AllocatesFrom, AllocatesNamed}
 use Rattle.slub_round_law.specs.Event.{GivesFree, IsFree, LacksFrames}
 use Rattle.slub_round_law.proofs.Founds.{Outcome, finds, injected, no_memory, nothing, of-checked, of-unchecked}
-use Rattle.slub_round_law.proofs.Steps.{Step, event-step, frees, gives, keeps, lacks, match_either, match_some, nameless, pokes, pokes_not, reads, reads_none, reads_not, refuses, wants, writes, writes_none, writes_not}
+use Rattle.slub_round_law.proofs.Steps.{Step, event-step, flushes, frees, gives, keeps, lacks, match_either, match_some, nameless, pokes, pokes_not, reads, reads_none, reads_not, refuses, trims, trims_checked, trims_none, wants, writes, writes_none, writes_not}
 
 -- ---- the object that an allocation gives
 
@@ -50,6 +50,10 @@ step-given s event address after (reads object word live held asks holds within 
 step-given s event address after (reads_none object word live held asks holds past is now) = absurd (cc)
 step-given s event address after (reads_not object word asks none is now) = absurd (cc)
 step-given s event address after (pokes object offset byte held slabs asks knows checked inside is now) = absurd (cc)
+step-given s event address after (trims place cache slabs asks names unchecked is kept same_slabs) = absurd (cc)
+step-given s event address after (trims_checked place cache slabs asks names checked is now) = absurd (cc)
+step-given s event address after (trims_none place asks none is now) = absurd (cc)
+step-given s event address after (flushes slabs asks is kept same_slabs) = absurd (cc)
 step-given s event address after (pokes_not object offset byte asks why now) = absurd (by why)
   where
     by : (reply.Given address ≡ reply.NotHeld) ⊎ ((reply.Given address ≡ reply.NotChecked) ⊎ (reply.Given address ≡ reply.OutOfSlot)) → ⊥

@@ -52,7 +52,7 @@ use Rattle.slub_round_law.proofs.Reports.{Reports, ToldOf, event-told as event-r
 use Rattle.slub_round_law.proofs.Rounds.{Runs, Tale, step-of, tale-step, turns-of}
 use Rattle.slub_round_law.proofs.Runs.{Turn, comes, goes, gone_under, rests, stays}
 use Rattle.slub_round_law.proofs.Slabs.{Slabs, Swaps, event-slabs, gave as gave_slab, made, poked_byte, same, took, wrote}
-use Rattle.slub_round_law.proofs.Steps.{Step, frees, gives, keeps, lacks, nameless, pokes, pokes_not, reads, reads_none, reads_not, refuses, wants, writes, writes_none, writes_not}
+use Rattle.slub_round_law.proofs.Steps.{Step, flushes, frees, gives, keeps, lacks, nameless, pokes, pokes_not, reads, reads_none, reads_not, refuses, trims, trims_checked, trims_none, wants, writes, writes_none, writes_not}
 use Rattle.slub_round_law.proofs.Tale.{injected}
 
 -- ---- more events
@@ -373,6 +373,10 @@ module _ (told : List Answered) (s : State) (one : Answered) (after : State) (co
       by (reads_none other word live held also holds past now_is now) = absurd (let never : reply.OutOfObject ≡ reply.Corrupt damage = sym now_is ∙ is in cc)
       by (reads_not other word also none now_is now) = absurd (let never : reply.NotHeld ≡ reply.Corrupt damage = sym now_is ∙ is in cc)
       by (pokes other offset byte held slabs also knows checked inside now_is now) = absurd (let never : reply.Poked ≡ reply.Corrupt damage = sym now_is ∙ is in cc)
+      by (trims place cache slabs also names unchecked now_is kept same_slabs) = absurd (let never : reply.Trimmed slabs ≡ reply.Corrupt damage = sym now_is ∙ is in cc)
+      by (trims_checked place cache slabs also names checked now_is now) = absurd (let never : reply.Checked ≡ reply.Corrupt damage = sym now_is ∙ is in cc)
+      by (trims_none place also none now_is now) = absurd (let never : reply.NoSuchCache ≡ reply.Corrupt damage = sym now_is ∙ is in cc)
+      by (flushes slabs also now_is kept same_slabs) = absurd (let never : reply.Flushed slabs ≡ reply.Corrupt damage = sym now_is ∙ is in cc)
       by (pokes_not other offset byte also (inl now_is) now) = absurd (let never : reply.NotHeld ≡ reply.Corrupt damage = sym now_is ∙ is in cc)
       by (pokes_not other offset byte also (inr (inl now_is)) now) = absurd (let never : reply.NotChecked ≡ reply.Corrupt damage = sym now_is ∙ is in cc)
       by (pokes_not other offset byte also (inr (inr now_is)) now) = absurd (let never : reply.OutOfSlot ≡ reply.Corrupt damage = sym now_is ∙ is in cc)

@@ -19,7 +19,7 @@ use Rattle.slub_round_law.proofs.Dry.{Dry, dry-step}
 use Rattle.slub_round_law.proofs.Reports.{Reports, event-told, reports-more}
 use Rattle.slub_round_law.proofs.Runs.{Turn, on_board, turn}
 use Rattle.slub_round_law.proofs.Slabs.{event-slabs}
-use Rattle.slub_round_law.proofs.Steps.{Keeps, Step, event-step, frees, gives, keeps, lacks, nameless, pokes, pokes_not, reads, reads_none, reads_not, refuses, wants, word-keeps, writes, writes_none, writes_not}
+use Rattle.slub_round_law.proofs.Steps.{Keeps, Step, event-step, flushes, frees, gives, keeps, lacks, nameless, pokes, pokes_not, reads, reads_none, reads_not, refuses, trims, trims_checked, trims_none, wants, word-keeps, writes, writes_none, writes_not}
 use Rattle.slub_round_law.proofs.Tale.{Boards, Holdings, Spots, Takens, boards-step, count-step, holdings-step, no-object, spots-step, takens-step}
 use Rattle.slub_round_law.proofs.Times.{counted_append, one_where}
 use Rattle.slub_round_law.proofs.Values.{Values, values-step}
@@ -89,6 +89,10 @@ step-caches before s event answer after step caches = then_kept (by step)
     by (reads_not object word asks none is now) = still now
     by (pokes object offset byte held slabs asks knows checked inside is now) = record { frames = ap (λ (t : State). t.frames) now; cpus = ap (λ (t : State). t.cpus) now; table = ap (λ (t : State). t.table) now; board = ap (λ (t : State). length t.board) now }
     by (pokes_not object offset byte asks why now) = still now
+    by (trims place cache slabs asks names unchecked is kept same_slabs) = of kept
+    by (trims_checked place cache slabs asks names checked is now) = still now
+    by (trims_none place asks none is now) = still now
+    by (flushes slabs asks is kept same_slabs) = of kept
 
 module _ (before : State) (past : List Answered) (s : State) (one : Answered) (after : State) (moves : Moves before past s one after) (tale : Tale before past s) where
   pub step-of : Step s one.0 one.1 after

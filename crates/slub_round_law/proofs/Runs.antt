@@ -18,7 +18,7 @@ use Rattle.slub_journal.specs.Lawful.{is_by}
 use Rattle.slub_answers.specs.Kinds.{is_freed, is_given}
 use Rattle.slub_round_law.specs.Answered.{Answered, did_free, found_bad, gave, is_alloc_of, is_corrupt, is_free_of, of_worker}
 use Rattle.slub_round_law.specs.Round.{spot_asked, spot_of}
-use Rattle.slub_round_law.proofs.Steps.{Step, frees, gives, keeps, lacks, nameless, pokes, pokes_not, reads, reads_none, reads_not, refuses, wants, word-keeps, writes, writes_none, writes_not}
+use Rattle.slub_round_law.proofs.Steps.{Step, flushes, frees, gives, keeps, lacks, nameless, pokes, pokes_not, reads, reads_none, reads_not, refuses, trims, trims_checked, trims_none, wants, word-keeps, writes, writes_none, writes_not}
 use Rattle.slub_round_law.proofs.Times.{counted_append, one_where}
 
 -- ---- lists of answered events
@@ -209,3 +209,7 @@ module _ (s : State) (one : Answered) (after : State) (object : ℕ) (coherent :
       | inr is ↦ silent-by object one reply.OutOfSlot is refl refl refl
     ]
   ])
+  turn (trims place cache slabs asks names unchecked is kept same_slabs) = rests-by s one after object kept.board kept.gone (silent-by object one _ is refl refl refl)
+  turn (trims_checked place cache slabs asks names checked is now) = same-rests s one after object now (silent-by object one reply.Checked is refl refl refl)
+  turn (trims_none place asks none is now) = same-rests s one after object now (silent-by object one reply.NoSuchCache is refl refl refl)
+  turn (flushes slabs asks is kept same_slabs) = rests-by s one after object kept.board kept.gone (silent-by object one _ is refl refl refl)

@@ -27,7 +27,7 @@ use Rattle.slub_lists.specs.Words.{is_word, known_to, word_at}
 use Rattle.slub_lists.proofs.Keeps.{unchecked_keeps}
 use Rattle.slub_lists.proofs.KeepsFreed.{same_settled}
 use Rattle.slub_journal.specs.Lawful.{Answers}
-use Rattle.slub_round_law.proofs.Steps.{Holds, Step, event-step, frees, gives, keeps, lacks, match_bool, match_either, match_some, nameless, pokes, pokes_not, reads, reads_none, reads_not, refuses, wants, writes, writes_none, writes_not}
+use Rattle.slub_round_law.proofs.Steps.{Holds, Step, event-step, flushes, frees, gives, keeps, lacks, match_bool, match_either, match_some, nameless, pokes, pokes_not, reads, reads_none, reads_not, refuses, trims, trims_checked, trims_none, wants, writes, writes_none, writes_not}
 
 -- the slabs of one checked cache are others
 pub record Swaps (s : State) (cache : ℕ) (slabs rest : CheckedState) (after : State) : Type 0 where
@@ -143,6 +143,10 @@ of-step s event answer after answers (reads_not object word asks none is now) = 
 of-step s event answer after answers (pokes object offset byte held slabs asks knows checked inside is now) =
     poked_byte object offset byte held slabs asks is knows inside (record { was = checked; now = ap (λ (t : State). t.checked) now })
 of-step s event answer after answers (pokes_not object offset byte asks why now) = same (ap (λ (t : State). t.checked) now)
+of-step s event answer after answers (trims place cache slabs asks names unchecked is kept same_slabs) = same same_slabs
+of-step s event answer after answers (trims_checked place cache slabs asks names checked is now) = same (ap (λ (t : State). t.checked) now)
+of-step s event answer after answers (trims_none place asks none is now) = same (ap (λ (t : State). t.checked) now)
+of-step s event answer after answers (flushes slabs asks is kept same_slabs) = same same_slabs
 
 pub event-slabs : (s : State) (event : Event) (answer : Reply) (after : State) → Answers s event event.act answer after → Slabs s event answer after
 event-slabs s event answer after answers = of-step s event answer after answers (event-step s event answer after answers)

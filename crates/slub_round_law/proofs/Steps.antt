@@ -1,5 +1,6 @@
 -- What an event does to the board, to what was freed, to the table and to the words of the frames.
-use Rattle.std.proofs.Common.{◌≡◌, ℕ, ◌+◌, Bool, true, false, cond, List, [], ◌∷◌, get_or, set, refl, sym, ◌∙◌, ap, Option, Some, None, MatchBool, MatchOption, MatchResult, Result, Ok, Err, inl, inr, ◌⊎◌, ℤ, nat_lt, fold, sum_by, min, ◌-◌, ◌^◌}
+use Rattle.std.proofs.Common.{◌≡◌, ℕ, ◌+◌, Bool, true, false, cond, eqb, is_some, length, List, [], ◌∷◌, get_or, set, refl, sym, ◌∙◌, ap, Option, Some, None, MatchBool, MatchOption, MatchResult, Result, Ok, Err, inl, inr, ◌⊎◌, ℤ, nat_lt, fold, sum_by, min, ◌-◌, ◌^◌}
+use Rattle.std.specs.List.{range_with_len}
 use Rattle.std.specs.Option.{option_map_or}
 use Rattle.slub_page_pool.specs.FreeFrames.{FreeFrames}
 use Rattle.slub_object_layout.specs.declared.event.Act.{Act}
@@ -20,12 +21,16 @@ use Rattle.slub_lists.specs.declared.lists.Run.{Run}
 use Rattle.slub_answers.specs.declared.reply.Reply.{Reply}
 use Rattle.slub_answers.specs.declared.reply.Reply.TheVariants as reply
 use Rattle.slub_lists.specs.State.{State}
-use Rattle.slub_lists.specs.Alloc.{AllocatesNew, FindsRun, Gives, batch_of, cache_of, checked_of, from_current, from_free, from_node, from_partial, from_slabs, held_here, lists_of, named, node_of, own_free, retired, stocked, with_held, with_lists, with_new_slab}
+use Rattle.slub_lists.specs.Alloc.{AllocatesNew, FindsRun, Gives, batch_of, cache_of, checked_of, from_current, from_free, from_node, from_partial, from_slabs, held_here, lists_of, named, node_of, own_free, retired, stocked, with_held, with_lists, with_new_slab, with_node}
 use Rattle.slub_lists.specs.Named.{AllocatesFrom, AllocatesNamed}
 use Rattle.slub_lists.specs.Checked.{GivesOrMakes, GivesSlot, IsFreedOrKept, LacksMemory, LacksRun, discarded_where, first_slot, kept_by, slot_of_held, with_checked, with_checked_slab}
-use Rattle.slub_lists.specs.Free.{FreesUnchecked, discarded, drained, freed, freed_here, is_current, is_freeable, is_frozen, is_spare, moved, put_partial, settled, without_spare, with_freed, with_gone, with_partial, with_taken, without_slab}
+use Rattle.slub_lists.specs.Flush.{Flushes, flushed_cpu, flushed_of, slabs_on_cpu}
+use Rattle.slub_lists.specs.Free.{FreesUnchecked, discarded, drained, freed, freed_here, inuse_of, is_current, is_freeable, is_frozen, is_spare, moved, put_partial, settled, without_spare, with_freed, with_gone, with_partial, with_taken, without_slab}
 use Rattle.slub_lists.specs.Freeing.{Frees, FreesHeld}
+use Rattle.slub_lists.specs.Shrink.{ShrinksByKind, ShrinksUnchecked, flushed, flushed_below, min_partial_of, put_away, put_away_slab, put_on_node, swept, swept_slab, taken_down}
+use Rattle.slub_lists.specs.Trim.{Trims}
 use Rattle.slub_lists.specs.Words.{PokesChecked, Pokes, Reads, Writes, held_by, inside, is_word, known_to, outside, with_word, word_at, word_of}
+use Rattle.slub_lists.proofs.Flushing.{rest-flushed}
 use Rattle.slub_journal.specs.Lawful.{Answers}
 
 -- ---- what stays
@@ -134,6 +139,12 @@ pub data Step (s : State) (event : Event) (answer : Reply) (after : State) : Typ
   pokes : (object : ℕ) (offset : ℤ) (byte : ℕ) (held : Held) (slabs : CheckedState) → event.act ≡ Poke object offset byte → known_to s event.worker object ≡ Some held → checked_of s held.cache ≡ Some slabs → IsOffset slabs.layout offset
       → answer ≡ reply.Poked → after ≡ with_checked s held.cache (with_byte slabs (slot_of_held held) offset byte) → Step s event answer after
   pokes_not : (object : ℕ) (offset : ℤ) (byte : ℕ) → event.act ≡ Poke object offset byte → (answer ≡ reply.NotHeld) ⊎ ((answer ≡ reply.NotChecked) ⊎ (answer ≡ reply.OutOfSlot)) → after ≡ s → Step s event answer after
+  -- a cache is trimmed
+  trims : (place cache slabs : ℕ) → event.act ≡ Trim place → named s place ≡ Some cache → checked_of s cache ≡ None → answer ≡ reply.Trimmed slabs → Keeps s after → after.checked ≡ s.checked → Step s event answer after
+  trims_checked : (place cache : ℕ) (slabs : CheckedState) → event.act ≡ Trim place → named s place ≡ Some cache → checked_of s cache ≡ Some slabs → answer ≡ reply.Checked → after ≡ s → Step s event answer after
+  trims_none : (place : ℕ) → event.act ≡ Trim place → named s place ≡ None → answer ≡ reply.NoSuchCache → after ≡ s → Step s event answer after
+  -- or a CPU flushed
+  flushes : (slabs : ℕ) → event.act ≡ Flush → answer ≡ reply.Flushed slabs → Keeps s after → after.checked ≡ s.checked → Step s event answer after
 
 -- ---- a slab with an object to give
 
@@ -360,6 +371,84 @@ module _ (s : State) (event : Event) (object : ℕ) (offset : ℤ) (byte : ℕ) 
       (λ none nothing. pokes_not object offset byte asks (inr (inl nothing.0)) nothing.1)
       (λ slabs checked done. byte-step held slabs knows checked done))
 
+-- ---- trimming and flushing
+
+-- what stays, and the slabs of the checked caches too
+abbrev Leaves : State → State → Type 0
+Leaves s after = Keeps s after × (after.checked ≡ s.checked)
+
+leaves_refl : (s : State) → Leaves s s
+leaves_refl s = (keeps_refl s, refl)
+
+leaves_both : (s mid after : State) → Leaves s mid → Leaves mid after → Leaves s after
+leaves_both s mid after first second = (keeps_both s mid after first.0 second.0, second.1 ∙ first.1)
+
+leaves_either : (s one other : State) (b : Bool) → Leaves s one → Leaves s other → Leaves s (cond b one other)
+leaves_either s one other true first second = first
+leaves_either s one other false first second = second
+
+-- what each step leaves, all steps leave
+leaves_all : (f : State → ℕ → State) → ((s : State) (n : ℕ) → Leaves s (f s n)) → (s : State) (ns : List ℕ) → Leaves s (fold f s ns)
+leaves_all f each s [] = leaves_refl s
+leaves_all f each s (n ∷ ns) = leaves_both s (f s n) _ (each s n) (leaves_all f each (f s n) ns)
+
+module _ (min_partial cache : ℕ) where
+  put-away-kept : (s : State) (cpu : ℕ) (current : Option ℕ) → Keeps s (option_map_or (put_away_slab s min_partial cache cpu) current s)
+  put-away-kept s cpu None = keeps_refl s
+  put-away-kept s cpu (Some frame) =
+      let down : State = taken_down s cache cpu frame in
+      let own : List ℕ = own_free s frame in
+      keeps_both s down _ (record { board = refl; gone = refl; table = refl; memory = refl; cpus = refl; frames = refl; dry = refl })
+      (keeps_either down (discarded down frame) _ (is_spare down min_partial cache frame) (record { board = refl; gone = refl; table = refl; memory = refl; cpus = refl; frames = refl; dry = refl })
+      (keeps_either down (put_on_node down cache frame own) down (nat_lt 0 (length (own_free down frame))) (on-node down frame own) (keeps_refl down)))
+    where
+      on-node : (s : State) (frame : ℕ) (own : List ℕ) → Keeps s (put_on_node s cache frame own)
+      on-node s frame [] = (record { board = refl; gone = refl; table = refl; memory = refl; cpus = refl; frames = refl; dry = refl })
+      on-node s frame (index ∷ own) = (record { board = refl; gone = refl; table = refl; memory = refl; cpus = refl; frames = refl; dry = refl })
+
+  flushed-leaves : (s : State) (cpu : ℕ) → Leaves s (flushed min_partial cache s cpu)
+  flushed-leaves s cpu =
+      let away : State = put_away s min_partial cache cpu in
+      let bare : State = with_partial away cache cpu [] in
+      let partial : List ℕ = (lists_of away cache cpu).partial in (
+        keeps_both s away _ (put-away-kept s cpu (lists_of s cache cpu).current) (keeps_both away bare _ (record { board = refl; gone = refl; table = refl; memory = refl; cpus = refl; frames = refl; dry = refl }) (all-moved min_partial cache bare partial)),
+        (rest-flushed min_partial cache s cpu).checked,
+      )
+
+  swept-leaves : (s : State) (frame : ℕ) → Leaves s (swept_slab cache s frame)
+  swept-leaves s frame = leaves_either s (discarded (without_slab s cache frame) frame) s (eqb (inuse_of s frame) 0) ((record { board = refl; gone = refl; table = refl; memory = refl; cpus = refl; frames = refl; dry = refl }), refl) (leaves_refl s)
+
+  -- a cache that isn't checked is shrunk
+  shrunk-leaves : (s after : State) → ShrinksUnchecked s min_partial cache after → Leaves s after
+  shrunk-leaves s after promotes =
+      let flat : State = flushed_below s min_partial cache s.cpus in
+      let clean : State = swept flat cache in
+      let both = leaves_both s flat clean (leaves_all (flushed min_partial cache) flushed-leaves s (range_with_len 0 s.cpus)) (leaves_all (swept_slab cache) swept-leaves flat (node_of flat cache)) in (
+        keeps_is s (with_node clean cache promotes.0) after promotes.2 (keeps_both s clean _ both.0 (record { board = refl; gone = refl; table = refl; memory = refl; cpus = refl; frames = refl; dry = refl })),
+        ap (λ (t : State). t.checked) promotes.2 ∙ both.1,
+      )
+
+trim-leaves : (s : State) (cache : ℕ) (after : State) → checked_of s cache ≡ None → ShrinksByKind s cache after → Leaves s after
+trim-leaves s cache after unchecked shrinks = match_some (cache_of s cache) _ (Leaves s after) shrinks (λ live is_live shrinks.
+    match_either (checked_of s cache) _ _ (Leaves s after) shrinks
+    (λ none shrinks. shrunk-leaves live.layout.min_partial cache s after shrinks)
+    (λ slabs some shrinks. absurd (let never : None ≡ Some slabs = sym unchecked ∙ some in cc)))
+
+trim-step : (s : State) (event : Event) (place : ℕ) (answer : Reply) (after : State) → event.act ≡ Trim place → Trims s place answer after → Step s event answer after
+trim-step s event place answer after asks done = match_either (named s place) _ _ (Step s event answer after) done
+    (λ none nothing. trims_none place asks none nothing.0 nothing.1)
+    (λ cache names done. match_either (checked_of s cache) _ _ (Step s event answer after) done
+    (λ unchecked done. let leaves = trim-leaves s cache after unchecked done.2.steps in trims place cache done.0 asks names unchecked done.1 leaves.0 leaves.1)
+    (λ slabs checked done. trims_checked place cache slabs asks names checked done.0 done.1))
+
+flush-leaves : (cpu : ℕ) (s : State) (cache : ℕ) → Leaves s (flushed_of cpu s cache)
+flush-leaves cpu s cache = leaves_either s s _ (is_some (checked_of s cache)) (leaves_refl s) (flushed-leaves (min_partial_of s cache) cache s cpu)
+
+flush-step : (s : State) (event : Event) (answer : Reply) (after : State) → event.act ≡ Flush → Flushes s event.cpu answer after → Step s event answer after
+flush-step s event answer after asks done =
+    let leaves = leaves_all (flushed_of event.cpu) (flush-leaves event.cpu) s s.table.ages in
+    flushes (slabs_on_cpu s event.cpu) asks done.moved (keeps_is s (flushed_cpu s event.cpu) after done.steps leaves.0) (ap (λ (t : State). t.checked) done.steps ∙ leaves.1)
+
 -- ---- events
 
 of-act : (s : State) (event : Event) (act : Act) (answer : Reply) (after : State) → event.act ≡ act → Answers s event act answer after → Step s event answer after
@@ -368,8 +457,8 @@ of-act s event (Free object) answer after is done = free-step s event object ans
 of-act s event (Write object word value) answer after is done = write-step s event object word value answer after is done
 of-act s event (Read object word) answer after is done = read-step s event object word answer after is done.0 done.1
 of-act s event (Poke object offset byte) answer after is done = poke-step s event object offset byte answer after is done
-of-act s event (Trim place) answer after is done = absurd done
-of-act s event Flush answer after is done = absurd done
+of-act s event (Trim place) answer after is done = trim-step s event place answer after is done
+of-act s event Flush answer after is done = flush-step s event answer after is done
 
 pub event-step : (s : State) (event : Event) (answer : Reply) (after : State) → Answers s event event.act answer after → Step s event answer after
 event-step s event answer after done = of-act s event event.act answer after refl done

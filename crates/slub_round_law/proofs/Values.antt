@@ -23,7 +23,7 @@ use Rattle.slub_lists.proofs.Spared.{writes-spare}
 use Rattle.slub_journal.specs.Lawful.{is_by}
 use Rattle.slub_round_law.specs.Answered.{Answered, gave, is_alloc_of, last_written, of_worker, written_after}
 use Rattle.slub_round_law.proofs.Runs.{Turn, comes, fold-own, goes, rests, stays}
-use Rattle.slub_round_law.proofs.Steps.{Holds, Step, frees, gives, keeps, lacks, nameless, pokes, pokes_not, reads, reads_none, reads_not, refuses, wants, word-keeps, writes, writes_none, writes_not}
+use Rattle.slub_round_law.proofs.Steps.{Holds, Step, flushes, frees, gives, keeps, lacks, nameless, pokes, pokes_not, reads, reads_none, reads_not, refuses, trims, trims_checked, trims_none, wants, word-keeps, writes, writes_none, writes_not}
 use Rattle.slub_round_law.proofs.Tale.{injected, same-worker}
 
 -- ---- which caches are checked
@@ -36,7 +36,7 @@ checked-kept s after cache live coherent next table is =
     at : (t : State) → cache_of t cache ≡ Some live → IfSome (cache_of t cache) (λ live. is_checked live.flags ≡ is_some (checked_of t cache)) → is_checked live.flags ≡ is_some (checked_of t cache)
     at t is all = subst (λ x. IfSome x (λ live. is_checked live.flags ≡ is_some (checked_of t cache))) is all
 
-unchecked-back : (s after : State) (cache : ℕ) (live : Cache) → IsCoherent s → IsCoherent after → after.table ≡ s.table → cache_of s cache ≡ Some live → checked_of after cache ≡ None → checked_of s cache ≡ None
+pub unchecked-back : (s after : State) (cache : ℕ) (live : Cache) → IsCoherent s → IsCoherent after → after.table ≡ s.table → cache_of s cache ≡ Some live → checked_of after cache ≡ None → checked_of s cache ≡ None
 unchecked-back s after cache live coherent next table is none = gone (checked_of s cache) (checked-kept s after cache live coherent next table is ∙ ap is_some none)
   where
     gone : (x : Option CheckedState) → is_some x ≡ false → x ≡ None
@@ -91,6 +91,10 @@ words-of s one after (reads object word live held asks holds within is now) = un
 words-of s one after (reads_none object word live held asks holds past is now) = unwrote (ap (λ (t : State). t.memory) now) (ap is_wrote is)
 words-of s one after (reads_not object word asks none is now) = unwrote (ap (λ (t : State). t.memory) now) (ap is_wrote is)
 words-of s one after (pokes object offset byte held slabs asks knows checked inside is now) = unwrote (ap (λ (t : State). t.memory) now) (ap is_wrote is)
+words-of s one after (trims place cache slabs asks names unchecked is kept same_slabs) = unwrote kept.memory (ap is_wrote is)
+words-of s one after (trims_checked place cache slabs asks names checked is now) = unwrote (ap (λ (t : State). t.memory) now) (ap is_wrote is)
+words-of s one after (trims_none place asks none is now) = unwrote (ap (λ (t : State). t.memory) now) (ap is_wrote is)
+words-of s one after (flushes slabs asks is kept same_slabs) = unwrote kept.memory (ap is_wrote is)
 words-of s one after (pokes_not object offset byte asks why now) = unwrote (ap (λ (t : State). t.memory) now) (elim why [
   | inl is ↦ ap is_wrote is
   | inr rest ↦ elim rest [ inl is ↦ ap is_wrote is | inr is ↦ ap is_wrote is ]

@@ -4,7 +4,7 @@ use Rattle.std.specs.Prelude.{◌≡◌, ◌≢◌, ℕ, ◌+◌, ◌^◌, ◌<�
 use Rattle.std.specs.List.{IsDistinct, fold, zip}
 use Rattle.std.specs.Option.{option_and_then, option_map, option_map_or}
 use Rattle.slub_object_layout.specs.declared.event.Act.{Act}
-use Rattle.slub_object_layout.specs.declared.event.Act.TheVariants.{Alloc, Free, Write, Read, Poke}
+use Rattle.slub_object_layout.specs.declared.event.Act.TheVariants.{Alloc, Free, Write, Read, Poke, Trim, Flush}
 use Rattle.slub_object_layout.specs.declared.event.Round.{Round}
 use Rattle.slub_object_layout.specs.declared.layout.Layout.{Layout}
 use Rattle.slub_object_layout.specs.Layout.{address_of}
@@ -80,6 +80,16 @@ abbrev pub IsOfChecked : State → ℕ → List Answered → Type 0
 IsOfChecked before object own =
     MatchOption (spot_by before object own) ⊥ (λ spot. IsSome (checked_of before spot.cache))
 
+-- the name at a place is that of a checked cache
+abbrev pub NamesChecked : State → ℕ → Type 0
+NamesChecked before place =
+    MatchOption (named before place) ⊥ (λ cache. IsSome (checked_of before cache))
+
+-- or of a live one that isn't checked
+abbrev pub NamesUnchecked : State → ℕ → Type 0
+NamesUnchecked before place =
+    MatchOption (named before place) ⊥ (λ cache. checked_of before cache ≡ None)
+
 -- ---- why an event is answered so: `own` are the events of the same worker before it, `answers` all
 -- ---- of the round, of every worker
 
@@ -96,8 +106,7 @@ abbrev pub AllocCause : State → List Answered → List Answered → ℕ → Re
 AllocCause before answers own place (reply.Given address) =
     IsSome (named before place) × IsSpare before answers own address
 AllocCause before answers own place reply.NoFrames = IsSome (named before place)
-AllocCause before answers own place reply.NoMemory =
-    MatchOption (named before place) ⊥ (λ cache. IsSome (checked_of before cache))
+AllocCause before answers own place reply.NoMemory = NamesChecked before place
 AllocCause before answers own place reply.NoSuchCache = named before place ≡ None
 AllocCause before answers own place _ = ⊥
 
@@ -153,6 +162,19 @@ PokeCause reply.NotChecked = ⊤
 PokeCause reply.NotHeld = ⊤
 PokeCause _ = ⊥
 
+-- a trim answers that the name isn't live exactly where that is so, that the cache is checked exactly
+-- where it is, and otherwise how many slabs went
+abbrev pub TrimCause : State → ℕ → Reply → Type 0
+TrimCause before place (reply.Trimmed slabs) = NamesUnchecked before place
+TrimCause before place reply.Checked = NamesChecked before place
+TrimCause before place reply.NoSuchCache = named before place ≡ None
+TrimCause before place _ = ⊥
+
+-- a flush answers how many slabs its CPU had, and never refuses
+abbrev pub FlushCause : Reply → Type 0
+FlushCause (reply.Flushed slabs) = ⊤
+FlushCause _ = ⊥
+
 -- the cause of a reply, which is one of those that the act has
 abbrev pub Cause : State → List Answered → List Answered → Act → Reply → Type 0
 Cause before answers own (Alloc place object) reply = AllocCause before answers own place reply
@@ -160,7 +182,8 @@ Cause before answers own (Free object) reply = FreeCause before answers own obje
 Cause before answers own (Write object word value) reply = WriteCause before own object word reply
 Cause before answers own (Read object word) reply = ReadCause before own object word reply
 Cause before answers own (Poke object offset byte) reply = PokeCause reply
-Cause before answers own _ reply = ⊥
+Cause before answers own (Trim place) reply = TrimCause before place reply
+Cause before answers own Flush reply = FlushCause reply
 
 -- ---- the board
 

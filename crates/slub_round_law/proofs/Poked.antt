@@ -90,7 +90,7 @@ less-of a b below = by (nat_lt a b) refl below.lt
     by false is never = absurd never
 
 -- a byte inside a slot has its place
-offset-place : (layout : Layout) (offset : ℤ) → IsOffset layout offset → (nat_abs (place_of layout offset) < layout.size) × (pos (nat_abs (place_of layout offset)) ≡ place_of layout offset)
+pub offset-place : (layout : Layout) (offset : ℤ) → IsOffset layout offset → (nat_abs (place_of layout offset) < layout.size) × (pos (nat_abs (place_of layout offset)) ≡ place_of layout offset)
 offset-place layout offset inside =
     let is : pos (nat_abs (place_of layout offset)) ≡ place_of layout offset = pos-nat_abs (place_of layout offset) (yes_non_neg inside.0) in
     (let below : pos (nat_abs (place_of layout offset)) <ℤ pos layout.size = subst (λ z. z <ℤ pos layout.size) (sym is) inside.1 in less-of (nat_abs (place_of layout offset)) layout.size below, is)
@@ -312,7 +312,7 @@ module _ (told : List Answered) (s : State) (one : Answered) (after : State) (co
       let below : run.frame < 4096 = subst (λ f. f < 4096) free.2 (omega (arith, usable.1, coherent.shaped.pool.most)) in
       let clean = made-clean now-told rest run kept.good (kept.slabs ∙ of.sound.frames) some below done.clean in
       record { clean = swapped-clean cache slabs _ swaps clean; adds = swapped-adds cache slabs _ swaps done.found done.reports done.told }
-  bytes-by (took object held slabs mid rest limit run there swaps takes out) =
+  bytes-by (took object held slabs mid rest limit run asks there swaps takes out) =
       let used : IsUsed slabs (slot_of_held held) = held-used s object held slabs there swaps.was (consistent-of s coherent) in
       let back : Clean (WasPoked now-told) mid = subst (Clean (WasPoked now-told)) (sym takes.1) (back-clean (WasPoked now-told) slabs (slot_of_held held) (of-cache held.cache slabs swaps.was).sound used (clean-now held.cache slabs swaps.was)) in
       record { clean = swapped-clean held.cache slabs rest swaps (empty-clean (WasPoked now-told) mid held.frame limit run rest out back); adds = swapped-quiet held.cache slabs rest swaps (kept-reports run out ∙ ap (λ (c : CheckedState). c.reports) takes.1) }
@@ -320,7 +320,7 @@ module _ (told : List Answered) (s : State) (one : Answered) (after : State) (co
       kept-reports : (run : Option SlabRun) → TakesEmpty mid held.frame limit run rest → rest.reports ≡ mid.reports
       kept-reports None out = ap (λ (c : CheckedState). c.reports) out.1
       kept-reports (Some run) out = ap (λ (c : CheckedState). c.reports) out.2
-  bytes-by (wrote object word value held live slabs holds within swaps) =
+  bytes-by (wrote object word value held live slabs asks holds within swaps) =
       let there = own-is one.0.worker (held_under s object) held holds.here in
       let used = used-word s held live.layout (record { object = object; here = there }) (rw holds.cache refl) coherent word within slabs swaps.was in
       record { clean = swapped-clean held.cache slabs _ swaps (word-clean now-told slabs (slot_of_held held) word value (of-cache held.cache slabs swaps.was).sound used.0 used.1 (clean-now held.cache slabs swaps.was)); adds = swapped-quiet held.cache slabs _ swaps refl }

@@ -75,7 +75,7 @@ pub record LacksFrames (s : State) (place cpu : ℕ) : Type 0 where
 abbrev pub IsNamed : State → ℕ → ℕ → Held → Type 0
 IsNamed s worker object held =
     MatchOption (known_to s worker object) ⊥
-      (λ known. (known.frame ≡ held.frame) × (known.index ≡ held.index))
+    (λ known. (known.frame ≡ held.frame) × (known.index ≡ held.index))
 
 -- the words of each object on the board are as before, but of the one that is poked
 abbrev pub KeepsButPoked : State → ℕ → ℕ → State → Type 0

@@ -1,6 +1,6 @@
 -- From the parts of a run to its clauses.
 use Rattle.std.proofs.Common.{◌≡◌, ◌≢◌, ℕ, ◌<◌, ◌≤◌, List, [], ◌++◌, Bool, true, false, cond, Some, None, Ok, Err, Result, refl, sym, subst, ◌∙◌, length, arith, append-nil, inl, inr}
-use Rattle.std.specs.Prelude.{Option, ◌⊎◌, IsSomeAnd, IsSome}
+use Rattle.std.specs.Prelude.{IfSome, Option, ◌⊎◌, IsSomeAnd, IsSome}
 use Rattle.std.specs.List.{list_any}
 use Rattle.std.proofs.lemmas.Bool.{false≢true, cases_lt}
 use Rattle.std.specs.Io.KnownBytes.{Appends}
@@ -26,7 +26,11 @@ use Rattle.slub_cli.specs.declared.stop.Stop.TheVariants as stop
 use Rattle.slub_cli.specs.declared.status.Status.{Status}
 use Rattle.slub_cli.specs.declared.status.Status.TheVariants.{Fine, Refused, BadWords, BadTrace, ReadFault, WriteFault, NoMemory, TurnsSpent}
 use Rattle.slub_cli.specs.declared.status.Outcome.{Outcome}
-use Rattle.slub_cli.specs.Run.{AreBadWords, AsksReplay, Call, Ends, IsAsked, IsBadInput, IsBadBytes, IsCauseOf, IsDone, IsFaultLine, IsJournalOf, IsLayoutAnswer, IsLayoutCause, IsLayoutText, IsReplayCause, IsRunOf, IsSomeTrace, IsTextOf, IsWant, NoFault, TellsReads, TookAll, TookFront, Wrote, answer_status, done_status, has_refused, lacks_memory, last_in, text_in}
+use Rattle.slub_laws.proofs.Moved.{freed_was_given, given_once}
+use Rattle.slub_laws.proofs.Totals.{given_is_live}
+use Rattle.slub_laws.proofs.Rounds.{lawful-rounds}
+use Rattle.slub_laws.proofs.Pokes.{poked-damages}
+use Rattle.slub_cli.specs.Run.{AreBadWords, AsksReplay, Call, Ends, IsAsked, IsBadInput, IsBadBytes, IsCauseOf, IsDone, IsFaultLine, IsJournalOf, IsLayoutAnswer, IsLayoutCause, IsLayoutText, IsReplayCause, HoldsOver, IsRunOf, IsSomeTrace, IsTextOf, IsWant, NoFault, TellsReads, TookAll, TookFront, Wrote, answer_status, done_status, has_refused, lacks_memory, last_in, text_in}
 use Rattle.slub_cli.specs.Inner.{Finishes, StopsAtReadFault, StopsAtWriteFault, Worked, Works, stop_line, stop_status}
 use Rattle.slub_cli.proofs.Words.{one_layout, replay_apart}
 
@@ -476,12 +480,25 @@ layout c trace j (Some (Layout spec cpus)) NoMemory asked cause want on asks no_
 layout c trace j (Some (Layout spec cpus)) _ asked cause want on asks no_write = absurd cause.0
 layout c trace j (Some (Load m events workers)) status asked cause want on asks no_write = absurd cause
 
+-- ---- what holds over a whole replay
+
+over : (c : Call) (trace : Option Trace) (journal : Journal) → IsJournalOf c trace journal → IfSome trace (λ trace. HoldsOver trace journal)
+over c None journal law = tt
+over c (Some trace) journal law = record {
+  given_once = λ object. given_once trace journal law.sound object;
+  freed_once = λ object. freed_was_given trace journal law.lawful object;
+  balance = given_is_live trace journal law.sound law.lawful;
+  rounds = lawful-rounds trace journal law.sound law.lawful;
+  damages = poked-damages trace journal law.sound law.lawful;
+}
+
 -- ---- the whole promise
 
 pub promise : (c : Call) (outcome : Outcome) → Ends c outcome.trace outcome.journal outcome.status → IsJournalOf c outcome.trace outcome.journal → IsRunOf c outcome
 promise c outcome ends law = record {
   ends = ends;
   lawful = law;
+  over = over c outcome.trace outcome.journal law;
   bad_words = λ apart wanting. bad_words c outcome.trace outcome.journal ends.asked outcome.status ends.is_asked ends.cause apart wanting;
   bad_trace = λ asks bad sound. bad_trace c outcome.trace outcome.journal ends.asked outcome.status ends.is_asked ends.cause law asks bad sound;
   complete = λ asks good sound. complete c outcome.trace outcome.journal ends.asked outcome.status ends.is_asked ends.cause asks good sound;

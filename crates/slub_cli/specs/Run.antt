@@ -1,5 +1,5 @@
 -- What a run promises: the table of statuses, the text, the law.
-use Rattle.std.specs.Prelude.{◌≡◌, ◌≢◌, ℕ, ◌-◌, ◌↔◌, ◌⊎◌, List, [], ◌∷◌, ◌++◌, length, take, Bool, true, false, ◌||◌, not, cond, Option, Some, None, IfSome, IsSome, IsSomeAnd, Result, Ok, Err, codes, ⊤}
+use Rattle.std.specs.Prelude.{◌+◌, ◌≤◌, ◌≡◌, ◌≢◌, ℕ, ◌-◌, ◌↔◌, ◌⊎◌, List, [], ◌∷◌, ◌++◌, length, take, Bool, true, false, ◌||◌, not, cond, Option, Some, None, IfSome, IsSome, IsSomeAnd, Result, Ok, Err, codes, ⊤}
 use Rattle.std.specs.List.{list_any}
 use Rattle.std.specs.Fmt.{decimal}
 use Rattle.std.specs.Io.KnownBytes.{Appends, IsAtEnd}
@@ -29,6 +29,9 @@ use Rattle.slub_journal.specs.declared.journal.Journal.{Journal}
 use Rattle.slub_journal.specs.Journal.{IsEmpty}
 use Rattle.slub_journal.specs.Lawful.{IsBuilt, IsLawful}
 use Rattle.slub_journal.specs.Text.{text_of, items_text}
+use Rattle.slub_laws.specs.Freed.{freed_times, given_times}
+use Rattle.slub_laws.specs.Poked.{HasPokedDamages}
+use Rattle.slub_laws.specs.Rounds.{HasLawfulRounds}
 use Rattle.slub_cli.specs.declared.status.Status.{Status}
 use Rattle.slub_cli.specs.declared.status.Status.TheVariants.{Fine, Refused, BadWords, BadTrace, ReadFault, WriteFault, NoMemory, TurnsSpent}
 use Rattle.slub_cli.specs.declared.status.Outcome.{Outcome}
@@ -366,11 +369,25 @@ pub record NoFault (c : Call) : Type 0 where
   pub reads : ¬ Rose c.read.0 c.read.1
   pub writes : ¬ Rose c.write.0 c.write.1
 
--- what `run` promises of each call and its outcome. The last five follow from the first two: they
--- say which status a run must have
+-- what holds over a whole replay, since its journal is lawful
+pub record HoldsOver (trace : Trace) (journal : Journal) : Type 0 where
+  -- no object number is given twice, and none is freed more often than it was given: none twice
+  pub given_once : (object : ℕ) → given_times object trace journal ≤ 1
+  pub freed_once : (object : ℕ) →
+      freed_times object trace journal ≤ given_times object trace journal
+  -- what was given less what was freed is live
+  pub balance : IfSome journal.total (λ total. total.given ≡ total.freed + total.live)
+  -- each round is lawful by its events and replies alone
+  pub rounds : HasLawfulRounds trace journal
+  -- each damage that is told of was poked there before
+  pub damages : HasPokedDamages trace journal
+
+-- what `run` promises of each call and its outcome. The rest follows from the first two: what holds
+-- over the whole run, and which status it must have
 pub record IsRunOf (c : Call) (outcome : Outcome) : Type 0 where
   pub ends : Ends c outcome.trace outcome.journal outcome.status
   pub lawful : IsJournalOf c outcome.trace outcome.journal
+  pub over : IfSome outcome.trace (λ trace. HoldsOver trace outcome.journal)
   -- words that are no command, and no others, end as such
   pub bad_words : outcome.status ≢ WriteFault → outcome.status ≢ NoMemory →
       (outcome.status ≡ BadWords ↔ AreBadWords c.words)

@@ -9,8 +9,8 @@ pub mod AddsUp
 pub mod Times
 pub mod Moved
 pub mod TrimmedLast
-mod Rounds
-mod Pokes
+pub mod Rounds
+pub mod Pokes
 mod Swept
 mod Flushed
 mod SweptChecked

@@ -16,8 +16,8 @@ is_in_use s frame = not (inuse_of s frame == 0)
 abbrev pub used_of : State → ℕ → List ℕ
 used_of s cache = filter (is_in_use s) (node_of s cache)
 
--- of a cache whose CPUs have nothing any more: the node list after is the promotion of its slabs with
--- an object in use, and exactly the others are gone
+-- of a cache whose CPUs have nothing any more: the node list after is the promotion of its slabs
+-- with an object in use, and exactly the others are gone
 pub record LeavesUsed (s : State) (cache : ℕ) (after : State) : Type 0 where
   pub order : IsPromoted (used_of s cache)
       (map (λ frame. length (own_free s frame)) (used_of s cache)) (node_of after cache)

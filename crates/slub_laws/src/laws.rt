@@ -1,5 +1,5 @@
-//! What holds of every lawful journal of a sound trace, and of every coherent machine. None of these
-//! does anything.
+//! What holds of every lawful journal of a sound trace, and of every coherent machine. None of
+//! these does anything.
 
 ghost use Rattle.std.specs.Prelude.{◌≡◌, ℕ, ◌+◌, ◌≤◌, false, IfSome, IsSome};
 ghost use Rattle.slub_lists.specs.Alloc.{cache_of};
@@ -31,16 +31,16 @@ pub fn no_number_is_freed_twice(trace: &Trace, journal: &Journal)
     ensures given_once { (object : ℕ) → given_times object trace.now journal.now ≤ 1 }
 {}
 
-/// Each round of a lawful journal is a lawful round (`IsRound` of `slub_round_law`), for the machine
-/// before it.
+/// Each round of a lawful journal is a lawful round (`IsRound` of `slub_round_law`), for the
+/// machine before it.
 pub fn rounds_of_a_journal_are_lawful(trace: &Trace, journal: &Journal)
     requires sound { IsSound trace.now }
     requires lawful { IsLawful trace.now journal.now }
     ensures { HasLawfulRounds trace.now journal.now }
 {}
 
-/// Each damage that a lawful journal tells of, in a report or as a free's answer, is a byte that was
-/// poked there in the same round or an earlier one, with the answer that it was.
+/// Each damage that a lawful journal tells of, in a report or as a free's answer, is a byte that
+/// was poked there in the same round or an earlier one, with the answer that it was.
 pub fn damages_of_a_journal_were_poked(trace: &Trace, journal: &Journal)
     requires sound { IsSound trace.now }
     requires lawful { IsLawful trace.now journal.now }

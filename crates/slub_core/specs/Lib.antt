@@ -3,3 +3,13 @@ pub mod Words
 pub mod World
 pub mod Local
 pub mod Ops
+pub mod Alloc
+pub mod Offline
+pub mod PutAway
+pub mod Discard
+pub mod PutOnList
+pub mod Free
+pub mod MoveSet
+pub mod Checked
+pub mod Steps
+pub mod Run

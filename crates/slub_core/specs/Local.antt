@@ -15,6 +15,7 @@ use Rattle.slub_core.specs.declared.local.FrameRun.{FrameRun}
 use Rattle.slub_core.specs.declared.local.Answered.{Answered}
 use Rattle.slub_core.specs.declared.spot.Spot.{Spot}
 use Rattle.slub_core.specs.Setup.{Setup}
+use Rattle.slub_core.specs.World.{LockValue}
 
 -- what is so of a worker in plain data
 pub record Local : Type 0 where
@@ -50,15 +51,10 @@ pub record Local : Type 0 where
   pub todo : List Call
   pub done : List Answered
 
--- a chain in hand, and where its last object leads
-pub record Tail : Type 0 where
-  pub xs : List ℕ
-  pub end : ℕ
-
 -- a worker as the law sees it: with the chains in hand, one for each slab, and the slabs of the string in hand. No program has these two
 pub record Worker : Type 0 where
   pub local : Local
-  pub chains : List Tail
+  pub chains : List (List ℕ)
   pub string : List ℕ
 
 -- ---- where there is none
@@ -68,9 +64,6 @@ nobody = record { object = 0; frame = 0; index = 0; cache = 0; held = false }
 
 abbrev pub no_hand : Hand
 no_hand = record { frame = 0; head = 0; last = 0; length = 0; walked = false }
-
-abbrev pub no_tail : Tail
-no_tail = record { xs = []; end = 0 }
 
 abbrev pub no_string : PartialString
 no_string = record { front = 0; count = 0; cursor = 0; place = 0; link = None }
@@ -117,8 +110,8 @@ abbrev pub address_in : Setup → Known → ℕ
 address_in m k = address_of k.frame k.index (m.layout k.cache)
 
 -- the chain of the slab that it works on
-abbrev pub tail_of : Worker → Tail
-tail_of x = slice_index_or x.chains 0 no_tail
+abbrev pub chain_of : Worker → List ℕ
+chain_of x = slice_index_or x.chains 0 []
 
 -- ---- changes
 
@@ -160,3 +153,23 @@ answered l reply = record l { todo = drop 1 l.todo; done = record { call = call_
 abbrev pub noted : Local → Option Reply → Local
 noted l None = l
 noted l (Some reply) = answered l reply
+
+-- where a step leads: the worker after it, and the reply that its call has by it
+pub record Turn : Type 0 where
+  pub local : Local
+  pub reply : Option Reply
+
+abbrev pub goes : Local → Turn
+goes l = record { local = l; reply = None }
+
+abbrev pub tells : Local → Reply → Turn
+tells l reply = record { local = l; reply = Some reply }
+
+-- what a worker does at once, under a lock: the values of the locks and the worker after it, and the reply
+pub record Change : Type 0 where
+  pub value : ℕ → LockValue
+  pub local : Local
+  pub reply : Option Reply
+
+abbrev pub stays : (ℕ → LockValue) → Local → Change
+stays value l = record { value = value; local = l; reply = None }

@@ -1,5 +1,5 @@
 -- What stays while a round runs: the sizes of the machine, its live caches, and where objects lie.
-use Rattle.std.specs.Prelude.{◌≡◌, ℕ, ◌+◌, ◌*◌, ◌/◌, ◌%◌, ◌^◌, ◌<◌, ◌≤◌, ◌==◌, Bool, true, false, List, length, if◌then◌else◌, Option, Some, None, Contains, All}
+use Rattle.std.specs.Prelude.{◌≡◌, ℕ, ◌+◌, ◌*◌, ◌/◌, ◌%◌, ◌^◌, ◌<◌, ◌≤◌, ◌==◌, Bool, true, false, List, length, if◌then◌else◌, Option, Some, None, All}
 use Rattle.slub_object_layout.specs.declared.layout.Layout.{Layout}
 use Rattle.slub_object_layout.specs.Layout.{address_of, IsWithinBounds}
 use Rattle.slub_words.specs.Words.{freelist_ptr, steps_from_one}
@@ -40,18 +40,19 @@ pub record Setup : Type 0 where
   -- how many locks there are, how many CPU words, and as many list words
   pub locks : ℕ
   pub cpu_words : ℕ
-  -- the live caches, oldest first; of each its layout, as last tuned, and whether it is checked
-  pub live : List ℕ
+  -- the live caches that aren't checked, oldest first; of each live cache its layout, as last tuned, and whether it is checked
+  pub plain : List ℕ
+  pub lives : ℕ → Bool
   pub layout : ℕ → Layout
   pub checks : ℕ → Bool
   pub means : Means
 
 -- a live cache that isn't checked, and one that is
 abbrev pub IsPlain : Setup → ℕ → Type 0
-IsPlain m cache = Contains m.live cache × (m.checks cache ≡ false)
+IsPlain m cache = (cache < 32) × (m.lives cache ≡ true) × (m.checks cache ≡ false)
 
 abbrev pub IsChecked : Setup → ℕ → Type 0
-IsChecked m cache = Contains m.live cache × (m.checks cache ≡ true)
+IsChecked m cache = (cache < 32) × (m.lives cache ≡ true) × (m.checks cache ≡ true)
 
 -- the sizes are those of a machine (profile)
 pub record IsSetup (m : Setup) : Type 0 where
@@ -61,9 +62,10 @@ pub record IsSetup (m : Setup) : Type 0 where
   pub objects : m.objects ≤ 1048577
   pub locks : m.locks ≡ 33
   pub cpu_words : m.cpu_words ≡ 512
-  pub live : All (λ cache. cache < 32) m.live
-  pub layout : (cache : ℕ) → Contains m.live cache → IsWithinBounds (record (m.layout cache) { min_partial = 5; cpu_partial_slabs = 0 })
-  pub dead : (cache : ℕ) → m.checks cache ≡ true → Contains m.live cache
+  pub plain : All (IsPlain m) m.plain
+  pub layout : (cache : ℕ) → m.lives cache ≡ true → IsWithinBounds (record (m.layout cache) { min_partial = 5; cpu_partial_slabs = 0 })
+  pub live : (cache : ℕ) → m.lives cache ≡ true → cache < 32
+  pub checked : (cache : ℕ) → m.checks cache ≡ true → m.lives cache ≡ true
 
 -- ---- where things stand
 

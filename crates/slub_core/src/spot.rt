@@ -67,8 +67,10 @@ pub enum AllocSpot {
     LockPool,
     /// At once: takes a run of frames for a new slab (`allocate_slab`).
     TakeRun,
-    /// Gives the pool's lock back (`alloc_slab_page`).
+    /// Gives the pool's lock back, with a run in hand (`alloc_slab_page`).
     GivePool,
+    /// Gives the pool's lock back, since no run was there (`alloc_slab_page`).
+    GiveDry,
     /// Stores the free pointer of the object of this index of the new slab (`allocate_slab`).
     LinkNew(u16),
     /// Makes the run a slab, frozen and all in use (`___slab_alloc`, `new_slab`).

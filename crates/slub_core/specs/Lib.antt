@@ -13,3 +13,10 @@ pub mod MoveSet
 pub mod Checked
 pub mod Steps
 pub mod Run
+pub mod Spots
+pub mod Placed
+pub mod Listed
+pub mod Fresh
+pub mod Replies
+pub mod Accounted
+pub mod Coherent

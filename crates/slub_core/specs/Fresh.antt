@@ -185,11 +185,11 @@ IsHeldRun w cache (Some run) stored =
     IsRun w.setup cache run × ((w.slab run.frame).objects ≡ 0) × ((i : ℕ) → i < stored → pointer w cache run.frame i ≡ rising_next run.objects i)
 
 -- a slab of which no object is in use, as the noted word has it
-pub record IsEmptied (w : World) (l : Local) (f : ℕ) : Type 0 where
-  pub none : (w.slab f).inuse ≡ 0
-  pub objects : (w.slab f).objects ≡ l.slab_word.objects
-  pub some : 1 ≤ (w.slab f).objects
-  pub cache : (w.slab f).cache ≡ l.cache
+pub record IsEmptied (s : SlabWord) (l : Local) : Type 0 where
+  pub none : s.inuse ≡ 0
+  pub objects : s.objects ≡ l.slab_word.objects
+  pub some : 1 ≤ s.objects
+  pub cache : s.cache ≡ l.cache
 
 pub record IsSeen (w : World) (x : Worker) : Type 0 where
   -- words that it has noted
@@ -206,9 +206,9 @@ pub record IsSeen (w : World) (x : Worker) : Type 0 where
   pub string : IsHeldString w x.local.cache x.local.string x.string
   pub run : IsHeldRun w x.local.cache x.local.run (stored_in x.local.spot (run_of x.local).objects)
   -- slabs without an object in use
-  pub emptied : is_emptied x.local.spot ≡ true → IsEmptied w x.local (hand_of x.local).frame
-  pub freed_last : has_freed_last x.local.spot ≡ true → IsEmptied w x.local (here x.local).frame × ((w.slab (here x.local).frame).listed ≡ true)
-  pub scanned : notes_scanned x.local.spot ≡ true → IsEmptied w x.local (scanned_slab w.value x.local)
+  pub emptied : is_emptied x.local.spot ≡ true → IsEmptied (w.slab (hand_of x.local).frame) x.local
+  pub freed_last : has_freed_last x.local.spot ≡ true → IsEmptied (w.slab (here x.local).frame) x.local × ((w.slab (here x.local).frame).listed ≡ true)
+  pub scanned : notes_scanned x.local.spot ≡ true → IsEmptied (w.slab (scanned_slab w.value x.local)) x.local
   -- a scan of the node list
   pub scan : scans x.local.spot ≡ true → length x.local.scanned ≤ length (node_of w.value x.local)
   pub scan_next : scans_next x.local.spot ≡ true → length x.local.scanned < length (node_of w.value x.local)

@@ -76,41 +76,48 @@ IsGuarded m n (Node frames) = (cache : ℕ) × (n ≡ node_lock cache) × (m.liv
 -- ---- the whole
 
 -- a slab that is to be on a list has an object to give, and is of the list's cache
-pub record IsStocked (w : World) (f cache : ℕ) : Type 0 where
-  pub owner : (w.slab f).cache ≡ cache
-  pub head : 1 ≤ (w.slab f).head
-  pub unfrozen : (w.slab f).frozen ≡ false
+pub record IsStocked (s : SlabWord) (cache : ℕ) : Type 0 where
+  pub owner : s.cache ≡ cache
+  pub head : 1 ≤ s.head
+  pub unfrozen : s.frozen ≡ false
 
-pub record IsListed (w : World) (y : Chains) (xs : List Worker) : Type 0 where
-  -- each live unchecked slab is in one role; it is on no list where it is unfrozen and unmarked and has no object to give
-  pub once : (f : ℕ) → f ≢ 0 → homes w y xs f + off_list (w.slab f) ≡ live (w.slab f)
+-- the slabs and the lists by their words and the values of the locks alone
+pub record IsShaped (w : World) (y : Chains) : Type 0 where
   -- frame 0 is no slab
   pub no_slab : objects_at w 0 ≡ 0
   pub no_lists : on_lists w y 0 ≡ 0
-  -- the marked slabs are those of the node lists, and what is on its way to one or from one
-  pub marked : (f : ℕ) → sum_by (marked_of f) xs + sum_below w.setup.locks (λ n. times f (frames_in (w.value n))) ≡ one_if (w.slab f).listed
+  -- a marked slab has an object to give, and isn't frozen
   pub marks : (f : ℕ) → (w.slab f).listed ≡ true → (1 ≤ (w.slab f).head) × ((w.slab f).frozen ≡ false)
   -- a current slab is frozen, and of the CPU word's cache; a CPU without a slab has no freelist
   pub current : (n : ℕ) → n < w.setup.cpu_words → (w.cpu n).frame ≢ 0 → ((w.slab (w.cpu n).frame).cache ≡ n / 16) × ((w.slab (w.cpu n).frame).frozen ≡ true)
   pub bare : (n : ℕ) → n < w.setup.cpu_words → (w.cpu n).frame ≡ 0 → (w.cpu n).head ≡ 0
-  -- a partial list is the string of its front and its count
+  -- a partial list is the string of its front and its count; its slabs are unmarked
   pub string : (n : ℕ) → n < w.setup.cpu_words → Links w.link (w.list n).front (y.list n) 0
   pub count : (n : ℕ) → n < w.setup.cpu_words → (w.list n).count ≡ length (y.list n)
-  pub partial : (n f : ℕ) → n < w.setup.cpu_words → 1 ≤ times f (y.list n) → IsStocked w f (n / 16) × ((w.slab f).listed ≡ false)
-  pub node : (cache f : ℕ) → node_lock cache < w.setup.locks → 1 ≤ times f (frames_in (w.value (node_lock cache))) → IsStocked w f cache
+  pub partial : (n f : ℕ) → n < w.setup.cpu_words → 1 ≤ times f (y.list n) → IsStocked (w.slab f) (n / 16) × ((w.slab f).listed ≡ false)
+  -- the slabs of a node list
+  pub node : (cache f : ℕ) → node_lock cache < w.setup.locks → 1 ≤ times f (frames_in (w.value (node_lock cache))) → IsStocked (w.slab f) cache
   -- what isn't in use of a slab is on its own freelist
   pub counted : (f : ℕ) → (w.slab f).inuse + length (y.own f) ≡ (w.slab f).objects
+  -- a slab is of a live unchecked cache, of its order or of its least one, at a multiple of its frames
+  pub plain : (f : ℕ) → 1 ≤ (w.slab f).objects → IsPlain w.setup (w.slab f).cache
+  pub sized : (f : ℕ) → 1 ≤ (w.slab f).objects → IsSized (w.setup.layout (w.slab f).cache) (order_at w f) (w.slab f).objects
+  pub aligned : (f : ℕ) → 1 ≤ objects_at w f → f % 2 ^ order_at w f ≡ 0
+  -- or it is in one checked cache's value, and has no word
+  pub alone : (f : ℕ) → live (w.slab f) + sum_below w.setup.locks (λ n. one_if (nat_lt 0 (size_in (w.value n) f))) ≤ 1
+  -- where no slab begins, the word is 0
+  pub unslabbed : (f : ℕ) → (w.slab f).objects ≡ 0 → ((w.slab f).head ≡ 0) × ((w.slab f).frozen ≡ false) × ((w.slab f).listed ≡ false)
+  pub guarded : (n : ℕ) → n < w.setup.locks → IsGuarded w.setup n (w.value n)
+  -- a board word is of an object of its slab's cache
+  pub board : (o : ℕ) (b : BoardWord) → o < w.setup.objects → w.board o ≡ Some b → b.cache ≡ cache_at w b.frame
+
+pub record IsListed (w : World) (y : Chains) (xs : List Worker) : Type 0 where
+  -- each live unchecked slab is in one role; it is on no list where it is unfrozen and unmarked and has no object to give
+  pub once : (f : ℕ) → f ≢ 0 → homes w y xs f + off_list (w.slab f) ≡ live (w.slab f)
+  -- the marked slabs are those of the node lists, and what is on its way to one or from one
+  pub marked : (f : ℕ) → sum_by (marked_of f) xs + sum_below w.setup.locks (λ n. times f (frames_in (w.value n))) ≡ one_if (w.slab f).listed
   -- each frame but frame 0 is free, in the run of one slab, or in one run in hand
   pub framed : (g : ℕ) → frame_roles w xs g ≡ one_if (nat_lt 0 g && nat_lt g w.setup.frames)
   -- each lock is free, or one worker has it
   pub locked : (n : ℕ) → n < w.setup.locks → sum_by (takes n) xs + one_if (w.lock n == 0) ≡ 1
-  pub guarded : (n : ℕ) → n < w.setup.locks → IsGuarded w.setup n (w.value n)
-  -- a slab has its word, or is in one checked cache's value
-  pub alone : (f : ℕ) → live (w.slab f) + sum_below w.setup.locks (λ n. one_if (nat_lt 0 (size_in (w.value n) f))) ≤ 1
-  pub plain : (f : ℕ) → 1 ≤ (w.slab f).objects → IsPlain w.setup (w.slab f).cache
-  pub sized : (f : ℕ) → 1 ≤ (w.slab f).objects → IsSized (w.setup.layout (w.slab f).cache) (order_at w f) (w.slab f).objects
-  pub aligned : (f : ℕ) → 1 ≤ objects_at w f → f % 2 ^ order_at w f ≡ 0
-  -- where no slab begins, the word is 0
-  pub unslabbed : (f : ℕ) → (w.slab f).objects ≡ 0 → ((w.slab f).head ≡ 0) × ((w.slab f).frozen ≡ false) × ((w.slab f).listed ≡ false)
-  -- a board word is of an object of its slab's cache
-  pub board : (o : ℕ) (b : BoardWord) → o < w.setup.objects → w.board o ≡ Some b → b.cache ≡ cache_at w b.frame
+  pub shaped : IsShaped w y

@@ -1,0 +1,5 @@
+pub mod Update
+pub mod Counts
+pub mod Spots
+pub mod LocalStep
+pub mod CpuStep

@@ -1,5 +1,9 @@
 pub mod Update
 pub mod Counts
 pub mod Spots
+pub mod Homes
+pub mod Frames
 pub mod LocalStep
 pub mod CpuStep
+pub mod LockStep
+pub mod BoardStep

@@ -18,14 +18,14 @@ pub record Settled (x z : Worker) : Type 0 where
   pub covered : (g : ℕ) → covered_by g z.local.run ≡ covered_by g x.local.run
   pub takes : (n : ℕ) → takes n z ≡ takes n x
 
-placed-settled : (w : World) (y : Chains) (x z : Worker) (others : List Worker) → ((f i : ℕ) → owned f i z ≡ owned f i x) → IsPlaced w y (x ∷ others) → IsPlaced w y (z ∷ others)
+pub placed-settled : (w : World) (y : Chains) (x z : Worker) (others : List Worker) → ((f i : ℕ) → owned f i z ≡ owned f i x) → IsPlaced w y (x ∷ others) → IsPlaced w y (z ∷ others)
 placed-settled w y x z others same p = record {
   once = λ f i. let new = places-cons w y z others f i in let old = places-cons w y x others f i in let was = p.once f i in let s = same f i in omega arith;
   cpu_chain = p.cpu_chain;
   own_chain = p.own_chain;
 }
 
-listed-settled : (w : World) (y : Chains) (x z : Worker) (others : List Worker) → Settled x z → IsListed w y (x ∷ others) → IsListed w y (z ∷ others)
+pub listed-settled : (w : World) (y : Chains) (x z : Worker) (others : List Worker) → Settled x z → IsListed w y (x ∷ others) → IsListed w y (z ∷ others)
 listed-settled w y x z others same p = record {
   once = λ f some. let new = homes-cons w y z others f in let old = homes-cons w y x others f in let was = p.once f some in let s = same.home f in omega arith;
   marked = λ f. let new = sum_by-cons (marked_of f) z others in let old = sum_by-cons (marked_of f) x others in let was = p.marked f in let s = same.marked f in omega arith;

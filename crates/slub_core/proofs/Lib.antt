@@ -7,3 +7,4 @@ pub mod LocalStep
 pub mod CpuStep
 pub mod LockStep
 pub mod BoardStep
+pub mod SlabStep

@@ -205,10 +205,10 @@ pub record IsSeen (w : World) (x : Worker) : Type 0 where
   pub hands : AreHeld w x.local.cache (roles x.local.spot (length x.local.hands)) x.local.hands x.chains (end_of x.local)
   pub string : IsHeldString w x.local.cache x.local.string x.string
   pub run : IsHeldRun w x.local.cache x.local.run (stored_in x.local.spot (run_of x.local).objects)
-  -- slabs without an object in use
+  -- slabs without an object in use: in hand, or on the node list still
   pub emptied : is_emptied x.local.spot ≡ true → IsEmptied (w.slab (hand_of x.local).frame) x.local
-  pub freed_last : has_freed_last x.local.spot ≡ true → IsEmptied (w.slab (here x.local).frame) x.local × ((w.slab (here x.local).frame).listed ≡ true)
-  pub scanned : notes_scanned x.local.spot ≡ true → IsEmptied (w.slab (scanned_slab w.value x.local)) x.local
+  pub freed_last : has_freed_last x.local.spot ≡ true → IsEmptied (w.slab (here x.local).frame) x.local × (1 ≤ times (here x.local).frame (node_of w.value x.local))
+  pub scanned : notes_scanned x.local.spot ≡ true → IsEmptied (w.slab (scanned_slab w.value x.local)) x.local × (1 ≤ times (scanned_slab w.value x.local) (node_of w.value x.local))
   -- a scan of the node list
   pub scan : scans x.local.spot ≡ true → length x.local.scanned ≤ length (node_of w.value x.local)
   pub scan_next : scans_next x.local.spot ≡ true → length x.local.scanned < length (node_of w.value x.local)

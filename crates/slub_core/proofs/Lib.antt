@@ -1,4 +1,5 @@
 pub mod Update
+pub mod Lists
 pub mod Counts
 pub mod Spots
 pub mod Homes
@@ -8,3 +9,7 @@ pub mod CpuStep
 pub mod LockStep
 pub mod BoardStep
 pub mod SlabStep
+pub mod ListStep
+pub mod MemoryStep
+pub mod ValueStep
+pub mod RemakeStep

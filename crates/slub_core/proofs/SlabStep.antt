@@ -58,13 +58,15 @@ marks-kept Loose s v frozen listed head m = (frozen ∙ m.0, head)
 -- slabs in hand, where the changed one keeps its marks, or isn't among them
 pub held-marked : (w : World) (f : ℕ) (v : SlabWord) (cache : ℕ) (rs : List Role) (hs : List Hand) (xss : List (List ℕ)) (end : ℕ)
     → v.cache ≡ (w.slab f).cache → v.frozen ≡ (w.slab f).frozen → v.listed ≡ (w.slab f).listed → 1 ≤ v.head → AreHeld w cache rs hs xss end → AreHeld (set_slab w f v) cache rs hs xss end
-held-marked w f v cache (r ∷ rs) (h ∷ hs) (xs ∷ xss) end same frozen listed head ok =
-    (ok.0, caches-same w f v same h.frame ∙ ok.1,
-    elim (cases_eq h.frame f) [
-      | inl e ↦ rw (update_at w.slab f v h.frame e) (marks-kept r (w.slab f) v frozen listed head (rw e at ok.2))
-      | inr d ↦ rw (update_other w.slab f v h.frame d) ok.2
-    ],
-    held-marked w f v cache rs hs xss 0 same frozen listed head ok.3)
+held-marked w f v cache (r ∷ rs) (h ∷ hs) (xs ∷ xss) end same frozen listed head ok = (
+  ok.0,
+  caches-same w f v same h.frame ∙ ok.1,
+  elim (cases_eq h.frame f) [
+    | inl e ↦ rw (update_at w.slab f v h.frame e) (marks-kept r (w.slab f) v frozen listed head (rw e at ok.2))
+    | inr d ↦ rw (update_other w.slab f v h.frame d) ok.2
+  ],
+  held-marked w f v cache rs hs xss 0 same frozen listed head ok.3,
+)
 held-marked w f v cache [] hs xss end same frozen listed head ok = tt
 held-marked w f v cache (r ∷ rs) [] xss end same frozen listed head ok = tt
 held-marked w f v cache (r ∷ rs) (h ∷ hs) [] end same frozen listed head ok = tt
@@ -74,9 +76,12 @@ pub held-apart : (w : World) (f : ℕ) (v : SlabWord) (cache : ℕ) (rs : List R
 held-apart w f v cache (r ∷ rs) (h ∷ hs) (xs ∷ xss) end none ok =
     elim (cases_eq h.frame f) [
       | inl e ↦ absurd (let c = hand-home f (h ∷ hs) (omega arith) e in omega arith)
-      | inr d ↦
-          (ok.0, ap (λ (s : SlabWord). s.cache) (update_other w.slab f v h.frame d) ∙ ok.1, rw (update_other w.slab f v h.frame d) ok.2,
-          held-apart w f v cache rs hs xss 0 (omega arith) ok.3)
+      | inr d ↦ (
+        ok.0,
+        ap (λ (s : SlabWord). s.cache) (update_other w.slab f v h.frame d) ∙ ok.1,
+        rw (update_other w.slab f v h.frame d) ok.2,
+        held-apart w f v cache rs hs xss 0 (omega arith) ok.3,
+      )
     ]
 held-apart w f v cache [] hs xss end none ok = tt
 held-apart w f v cache (r ∷ rs) [] xss end none ok = tt
@@ -86,20 +91,32 @@ held-apart w f v cache (r ∷ rs) (h ∷ hs) [] end none ok = tt
 pub string-marked : (w : World) (f : ℕ) (v : SlabWord) (cache : ℕ) (string : Option PartialString) (fs : List ℕ)
     → v.cache ≡ (w.slab f).cache → v.frozen ≡ (w.slab f).frozen → v.listed ≡ (w.slab f).listed → 1 ≤ v.head → IsHeldString w cache string fs → IsHeldString (set_slab w f v) cache string fs
 string-marked w f v cache None fs same frozen listed head ok = tt
-string-marked w f v cache (Some string) fs same frozen listed head ok =
-    (ok.0, ok.1, λ g some. let k = ok.2 g some in (k.0, elim (cases_eq g f) [
+string-marked w f v cache (Some string) fs same frozen listed head ok = (
+  ok.0,
+  ok.1,
+  λ g some. let k = ok.2 g some in (
+    k.0,
+    elim (cases_eq g f) [
       | inl e ↦ rw (update_at w.slab f v g e) (record { owner = same ∙ subst (λ j. (w.slab j).cache ≡ cache) e k.1.owner; unfrozen = frozen ∙ subst (λ j. (w.slab j).frozen ≡ false) e k.1.unfrozen; unlisted = listed ∙ subst (λ j. (w.slab j).listed ≡ false) e k.1.unlisted; head = head })
       | inr d ↦ rw (update_other w.slab f v g d) k.1
-    ]))
+    ],
+  ),
+)
 
 pub string-apart : (w : World) (f : ℕ) (v : SlabWord) (cache : ℕ) (string : Option PartialString) (fs : List ℕ)
     → times f fs ≡ 0 → IsHeldString w cache string fs → IsHeldString (set_slab w f v) cache string fs
 string-apart w f v cache None fs none ok = tt
-string-apart w f v cache (Some string) fs none ok =
-    (ok.0, ok.1, λ g some. let k = ok.2 g some in (k.0, elim (cases_eq g f) [
+string-apart w f v cache (Some string) fs none ok = (
+  ok.0,
+  ok.1,
+  λ g some. let k = ok.2 g some in (
+    k.0,
+    elim (cases_eq g f) [
       | inl e ↦ absurd (let s : 1 ≤ times f fs = rw e at some in omega arith)
       | inr d ↦ rw (update_other w.slab f v g d) k.1
-    ]))
+    ],
+  ),
+)
 
 pub run-same : (w : World) (f : ℕ) (v : SlabWord) (cache : ℕ) (run : Option FrameRun) (stored : ℕ) → v.objects ≡ (w.slab f).objects → IsHeldRun w cache run stored → IsHeldRun (set_slab w f v) cache run stored
 run-same w f v cache None stored objects ok = tt

@@ -239,7 +239,7 @@ alloc_advance m l LoadNext (Word x) =
     goes (record l { next = found_at m l.cache l.cpu_word.frame (l.cpu_word.head - 1) x; spot = InAlloc Pop })
 alloc_advance m l Pop Won =
     tells (at (gets l l.cache l.cpu_word.frame (l.cpu_word.head - 1)) Between)
-        (Given (address_of l.cpu_word.frame (l.cpu_word.head - 1) (m.layout l.cache)))
+    (Given (address_of l.cpu_word.frame (l.cpu_word.head - 1) (m.layout l.cache)))
 alloc_advance m l Pop (Lost x) = goes (at l (way_of_lost l.fast))
 alloc_advance m l Detach Won = goes (at (with_hand l (hand_from l.cpu_word.frame l.cpu_word.head)) (InAlloc LoadTaken))
 alloc_advance m l Detach (Lost x) = goes (at l (InAlloc LoadCpu))
@@ -278,7 +278,7 @@ alloc_advance m l DetachOther Won =
 alloc_advance m l DetachOther (Lost x) = goes (at l (InAlloc LoadAgain))
 alloc_advance m l Install Won =
     tells (at (less_hand (gets l l.cache (hand_of l).frame ((hand_of l).head - 1))) Between)
-        (Given (address_of (hand_of l).frame ((hand_of l).head - 1) (m.layout l.cache)))
+    (Given (address_of (hand_of l).frame ((hand_of l).head - 1) (m.layout l.cache)))
 alloc_advance m l Install (Lost x) = goes (at l (InAlloc LoadAgain))
 -- a lock that another worker has is tried again
 alloc_advance m l s a = goes l

@@ -22,11 +22,26 @@ pub record Pick : Type 0 where
 -- a worker that has nothing to do
 abbrev pub idle : Local
 idle = record {
-  worker = 0; spot = Between; cache = 0; cpu = 0; place = 0; fast = false;
+  worker = 0;
+  spot = Between;
+  cache = 0;
+  cpu = 0;
+  place = 0;
+  fast = false;
   cpu_word = record { tid = 0; frame = 0; head = 0 };
   slab_word = record { head = 0; inuse = 0; objects = 0; frozen = false; listed = false; cache = 0 };
   list_word = record { front = 0; count = 0 };
-  next = 0; known = []; hands = []; string = None; run = None; put = 0; turn = 0; count = 0; scanned = []; todo = []; done = [];
+  next = 0;
+  known = [];
+  hands = [];
+  string = None;
+  run = None;
+  put = 0;
+  turn = 0;
+  count = 0;
+  scanned = [];
+  todo = [];
+  done = [];
 }
 
 -- the step of a worker, on the one word of it

@@ -86,6 +86,7 @@ board_step w x z others n s below moved settled ok =
           plain = l.shaped.plain;
           sized = l.shaped.sized;
           aligned = l.shaped.aligned;
+          within = l.shaped.within;
           alone = l.shaped.alone;
           unslabbed = l.shaped.unslabbed;
           guarded = l.shaped.guarded;

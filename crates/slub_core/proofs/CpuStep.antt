@@ -131,6 +131,7 @@ cpu_step w x z others n v xs s below word chain moved homed marked covered locks
           plain = sh.plain;
           sized = sh.sized;
           aligned = sh.aligned;
+          within = sh.within;
           alone = sh.alone;
           unslabbed = sh.unslabbed;
           guarded = sh.guarded;

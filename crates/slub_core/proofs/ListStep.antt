@@ -88,6 +88,7 @@ list_step w x z others n v fs s below fits links counted stocked none same homed
           plain = sh.plain;
           sized = sh.sized;
           aligned = sh.aligned;
+          within = sh.within;
           alone = sh.alone;
           unslabbed = sh.unslabbed;
           guarded = sh.guarded;
@@ -193,6 +194,7 @@ link_step w x z others g v s real fits mine same settled ok =
           plain = l.shaped.plain;
           sized = l.shaped.sized;
           aligned = l.shaped.aligned;
+          within = l.shaped.within;
           alone = l.shaped.alone;
           unslabbed = l.shaped.unslabbed;
           guarded = l.shaped.guarded;

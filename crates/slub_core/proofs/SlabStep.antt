@@ -243,6 +243,7 @@ slab_step w x z others f v xs s real alive fits cache objects counted marks chai
           plain = λ g. rw (objects-same w f v objects g, caches-same w f v cache g) (sh.plain g);
           sized = λ g. rw (objects-same w f v objects g, caches-same w f v cache g) (sh.sized g);
           aligned = λ g. rw (objects_at-same w f v objects g, order_at-same w f v cache objects g) (sh.aligned g);
+          within = λ g. rw (objects_at-same w f v objects g) (sh.within g);
           alone = λ g. rw (objects-same w f v objects g) (sh.alone g);
           unslabbed = λ g. elim (cases_eq g f) [
             | inl e ↦ λ none. absurd (let a : v.objects ≡ 0 = rw (update_at w.slab f v g e) at none in omega arith)

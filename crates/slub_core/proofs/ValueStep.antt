@@ -28,6 +28,7 @@ pub record IsNewValue (w : World) (n : ℕ) (v : LockValue) : Type 0 where
   pub keeps : (f i : ℕ) → 1 ≤ object_at w f i → cache_at (set_value w n v) f ≡ cache_at w f
   pub alone : (f : ℕ) → live (w.slab f) + sum_below w.setup.locks (λ k. one_if (nat_lt 0 (size_in (update w.value n v k) f))) ≤ 1
   pub aligned : (f : ℕ) → 1 ≤ objects_at (set_value w n v) f → f % 2 ^ order_at (set_value w n v) f ≡ 0
+  pub within : (f : ℕ) → 1 ≤ objects_at (set_value w n v) f → f < w.setup.frames
   pub no_slab : objects_at (set_value w n v) 0 ≡ 0
   pub no_frame : times 0 (frames_in v) ≡ 0
   pub node : (cache f : ℕ) → n ≡ node_lock cache → 1 ≤ times f (frames_in v) → IsStocked (w.slab f) cache
@@ -153,6 +154,7 @@ value_step w x z others n v s below has new moved homed marked framed locks ok =
           plain = sh.plain;
           sized = λ f some. rw (order-word w n v f some) (sh.sized f some);
           aligned = new.aligned;
+          within = new.within;
           alone = new.alone;
           unslabbed = sh.unslabbed;
           guarded = λ k in'. guarded-value k in' (cases_eq k n);

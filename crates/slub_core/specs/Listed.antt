@@ -103,6 +103,8 @@ pub record IsShaped (w : World) (y : Chains) : Type 0 where
   pub plain : (f : ℕ) → 1 ≤ (w.slab f).objects → IsPlain w.setup (w.slab f).cache
   pub sized : (f : ℕ) → 1 ≤ (w.slab f).objects → IsSized (w.setup.layout (w.slab f).cache) (order_at w f) (w.slab f).objects
   pub aligned : (f : ℕ) → 1 ≤ objects_at w f → f % 2 ^ order_at w f ≡ 0
+  -- it lies among the frames
+  pub within : (f : ℕ) → 1 ≤ objects_at w f → f < w.setup.frames
   -- or it is in one checked cache's value, and has no word
   pub alone : (f : ℕ) → live (w.slab f) + sum_below w.setup.locks (λ n. one_if (nat_lt 0 (size_in (w.value n) f))) ≤ 1
   -- where no slab begins, the word is 0

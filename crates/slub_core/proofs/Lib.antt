@@ -13,3 +13,5 @@ pub mod ListStep
 pub mod MemoryStep
 pub mod ValueStep
 pub mod RemakeStep
+pub mod Locks
+pub mod Kind13

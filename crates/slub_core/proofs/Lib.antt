@@ -15,3 +15,4 @@ pub mod ValueStep
 pub mod RemakeStep
 pub mod Locks
 pub mod Kind13
+pub mod Kind14

@@ -16,3 +16,5 @@ pub mod RemakeStep
 pub mod Locks
 pub mod Kind13
 pub mod Kind14
+pub mod Hands
+pub mod GiveMove

@@ -17,4 +17,5 @@ pub mod Locks
 pub mod Kind13
 pub mod Kind14
 pub mod Hands
+pub mod Knowns
 pub mod GiveMove

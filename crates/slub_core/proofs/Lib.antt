@@ -18,4 +18,6 @@ pub mod Kind13
 pub mod Kind14
 pub mod Hands
 pub mod Knowns
+pub mod Values
+pub mod Kind7
 pub mod GiveMove

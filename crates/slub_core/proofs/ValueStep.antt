@@ -76,14 +76,14 @@ others-value w n v o keeps exists none ok = record {
 }
 
 -- an object that somebody has, or that is on the board, exists
-worker-object : (w : World) (x : Worker) (others : List Worker) → Stands w (x ∷ others) → (k : ℕ) (d : Worker) → k < length others → (f i : ℕ) → owned f i (get_or others k d) ≤ object_at w f i
+pub worker-object : (w : World) (x : Worker) (others : List Worker) → Stands w (x ∷ others) → (k : ℕ) (d : Worker) → k < length others → (f i : ℕ) → owned f i (get_or others k d) ≤ object_at w f i
 worker-object w x others s k d below f i =
     let p = places-cons w s.chains x others f i in
     let once = s.placed.once f i in
     let t = get_or-le-sum_by (owned f i) others k d below in
     omega arith
 
-board-object : (w : World) (x : Worker) (others : List Worker) → Stands w (x ∷ others) → (o : ℕ) (b : BoardWord) → o < w.setup.objects → w.board o ≡ Some b → 1 ≤ object_at w b.frame b.index
+pub board-object : (w : World) (x : Worker) (others : List Worker) → Stands w (x ∷ others) → (o : ℕ) (b : BoardWord) → o < w.setup.objects → w.board o ≡ Some b → 1 ≤ object_at w b.frame b.index
 board-object w x others s o b below is =
     let p = places-cons w s.chains x others b.frame b.index in
     let once = s.placed.once b.frame b.index in

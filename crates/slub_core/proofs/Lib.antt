@@ -24,4 +24,6 @@ pub mod Hands
 pub mod Knowns
 pub mod Values
 pub mod Kind7
+pub mod Pigeon
+pub mod Kind21
 pub mod GiveMove

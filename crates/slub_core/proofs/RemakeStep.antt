@@ -57,32 +57,39 @@ no_value-objects value (suc n) f none =
       | inr g ↦ rw (le-ltb 0 (size_in (value n) f) g) (no_value-objects value n f (omega arith))
     ]
 
-objects-new : (w : World) (f : ℕ) (v : SlabWord) → sum_below w.setup.locks (λ n. one_if (nat_lt 0 (size_in (w.value n) f))) ≡ 0 → objects_at (set_slab w f v) f ≡ v.objects
+pub objects-new : (w : World) (f : ℕ) (v : SlabWord) → sum_below w.setup.locks (λ n. one_if (nat_lt 0 (size_in (w.value n) f))) ≡ 0 → objects_at (set_slab w f v) f ≡ v.objects
 objects-new w f v alone = rw (update_same w.slab f v) (elim (cases_lt 0 v.objects) [
   | inl l ↦ rw (lt-ltb 0 v.objects l) refl
   | inr g ↦ rw (le-ltb 0 v.objects g, no_value-objects w.value w.setup.locks f alone) (omega arith)
 ])
 
-order-new : (w : World) (f : ℕ) (v : SlabWord) → 1 ≤ v.objects → order_at (set_slab w f v) f ≡ order_for (w.setup.layout v.cache) v.objects
+pub order-new : (w : World) (f : ℕ) (v : SlabWord) → 1 ≤ v.objects → order_at (set_slab w f v) f ≡ order_for (w.setup.layout v.cache) v.objects
 order-new w f v some = rw (update_same w.slab f v, lt-ltb 0 v.objects (omega arith)) refl
 
-objects-elsewhere : (w : World) (f : ℕ) (v : SlabWord) (g : ℕ) → (g ≡ f → ⊥) → objects_at (set_slab w f v) g ≡ objects_at w g
+pub objects-elsewhere : (w : World) (f : ℕ) (v : SlabWord) (g : ℕ) → (g ≡ f → ⊥) → objects_at (set_slab w f v) g ≡ objects_at w g
 objects-elsewhere w f v g d = rw (update_other w.slab f v g d) refl
 
-cache-elsewhere : (w : World) (f : ℕ) (v : SlabWord) (g : ℕ) → (g ≡ f → ⊥) → cache_at (set_slab w f v) g ≡ cache_at w g
+pub cache-elsewhere : (w : World) (f : ℕ) (v : SlabWord) (g : ℕ) → (g ≡ f → ⊥) → cache_at (set_slab w f v) g ≡ cache_at w g
 cache-elsewhere w f v g d = rw (update_other w.slab f v g d) refl
 
-order-elsewhere : (w : World) (f : ℕ) (v : SlabWord) (g : ℕ) → (g ≡ f → ⊥) → order_at (set_slab w f v) g ≡ order_at w g
+pub order-elsewhere : (w : World) (f : ℕ) (v : SlabWord) (g : ℕ) → (g ≡ f → ⊥) → order_at (set_slab w f v) g ≡ order_at w g
 order-elsewhere w f v g d = rw (update_other w.slab f v g d) refl
+
+-- the frames of a slab that is made, and those of what is none
+pub covers-new : (w : World) (f g : ℕ) (v : SlabWord) (order : ℕ) → sum_below w.setup.locks (λ n. one_if (nat_lt 0 (size_in (w.value n) f))) ≡ 0 → 1 ≤ v.objects → order_for (w.setup.layout v.cache) v.objects ≡ order → covers (set_slab w f v) g f ≡ in_run g f order
+covers-new w f g v order alone some is = rw (objects-new w f v alone, lt-ltb 0 v.objects some, order-new w f v some, is) refl
+
+pub covers-none : (w : World) (f g : ℕ) → objects_at w f ≡ 0 → covers w g f ≡ 0
+covers-none w f g none = rw none refl
 
 -- ---- the others
 
-run-first : (f : ℕ) (order : ℕ) → in_run f f order ≡ 1
+pub pow-some : (n : ℕ) → 1 ≤ 2 ^ n
+pow-some zero = omega arith
+pow-some (suc n) = let r = pow-some n in omega arith
+
+pub run-first : (f : ℕ) (order : ℕ) → in_run f f order ≡ 1
 run-first f order = let room : 1 ≤ 2 ^ order = pow-some order in rw (le-leb f f (omega arith), lt-ltb f (f + 2 ^ order) (omega arith)) refl
-  where
-    pow-some : (n : ℕ) → 1 ≤ 2 ^ n
-    pow-some zero = omega arith
-    pow-some (suc n) = let r = pow-some n in omega arith
 
 run-unseen : (w : World) (f : ℕ) (v : SlabWord) (cache : ℕ) (run : Option FrameRun) (stored : ℕ) → covered_by f run ≡ 0 → IsHeldRun w cache run stored → IsHeldRun (set_slab w f v) cache run stored
 run-unseen w f v cache None stored none ok = tt

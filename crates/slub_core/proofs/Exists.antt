@@ -19,6 +19,7 @@ use Rattle.slub_core.proofs.Counts.{All-from_no_sum, places-cons, homes-cons}
 use Rattle.slub_core.proofs.Hands.{in_chain-nil}
 use Rattle.slub_core.proofs.Lists.{times-first}
 use Rattle.slub_core.proofs.Update.{term_le_sum}
+use Rattle.slub_core.proofs.Values.{word-objects, word-cache, object-within, checked-cache}
 use Rattle.slub_core.proofs.ValueStep.{known-owned}
 
 -- ---- one object at a place
@@ -29,57 +30,17 @@ object_at-le w f i = cond_both (nat_lt i (objects_at w f)) 1 0 (λ n. n ≤ 1) (
 pub exists_at-within : (w : World) (f i : ℕ) → 1 ≤ exists_at w f i → i < (w.slab f).objects
 exists_at-within w f i some = elim (cases_lt i (w.slab f).objects) [ inl l ↦ l | inr g ↦ absurd (let z : exists_at w f i ≡ 0 = rw (le-ltb i (w.slab f).objects g) refl in omega arith) ]
 
-pub object-size : (w : World) (f i : ℕ) → 1 ≤ object_at w f i → i < objects_at w f
-object-size w f i some = elim (cases_lt i (objects_at w f)) [ inl l ↦ l | inr g ↦ absurd (let z : object_at w f i ≡ 0 = cond-false (nat_lt i (objects_at w f)) 1 0 (le-ltb i (objects_at w f) g) in omega arith) ]
-
--- a slab of a word
-pub word-objects : (w : World) (f : ℕ) → 1 ≤ (w.slab f).objects → objects_at w f ≡ (w.slab f).objects
-word-objects w f some = rw (lt-ltb 0 (w.slab f).objects (omega arith)) refl
-
-pub word-cache : (w : World) (f : ℕ) → 1 ≤ (w.slab f).objects → cache_at w f ≡ (w.slab f).cache
-word-cache w f some = rw (lt-ltb 0 (w.slab f).objects (omega arith)) refl
-
 pub word-object : (w : World) (f i : ℕ) → 1 ≤ (w.slab f).objects → object_at w f i ≡ exists_at w f i
 word-object w f i some = ap (λ n. one_if (nat_lt i n)) (word-objects w f some)
-
--- and one of a checked cache's value
-pub value-objects : (w : World) (f : ℕ) → (w.slab f).objects ≡ 0 → objects_at w f ≡ objects_in_values w.value w.setup.locks f
-value-objects w f none = rw none refl
-
-pub value-cache : (w : World) (f : ℕ) → (w.slab f).objects ≡ 0 → cache_at w f ≡ cache_in_values w.value w.setup.locks f
-value-cache w f none = rw none refl
-
--- the lock whose value has the slab
-record IsOwner (value : ℕ → LockValue) (n f k : ℕ) : Type 0 where
-  below : k < n
-  some : 1 ≤ size_in (value k) f
-  cache : cache_in_values value n f ≡ k - 1
-
-owner-of : (value : ℕ → LockValue) (n f : ℕ) → 1 ≤ objects_in_values value n f → (k : ℕ) × IsOwner value n f k
-owner-of value zero f some = absurd (omega arith)
-owner-of value (suc n) f some = elim (cases_Bool (nat_lt 0 (size_in (value n) f))) [
-  | inl e ↦ (n, record { below = omega arith; some = (let s : 1 ≤ size_in (value n) f = rw e at some in s); cache = rw e refl })
-  | inr d ↦ (let some' : 1 ≤ objects_in_values value n f = rw d at some in let r = owner-of value n f some' in
-      (r.0, record { below = (let b = r.1.below in omega arith); some = r.1.some; cache = rw d r.1.cache }))
-]
-
-sized-checked : (m : Setup) (n f : ℕ) (v : LockValue) → IsGuarded m n v → 1 ≤ size_in v f → m.checks (n - 1) ≡ true
-sized-checked m n f Nothing g some = absurd (omega arith)
-sized-checked m n f (Node frames) g some = absurd (omega arith)
-sized-checked m n f (Pool pool) g some = absurd (omega arith)
-sized-checked m n f (Checked slabs) g some = let e : n - 1 ≡ g.0 = omega (arith, g.1) in rw e g.3
 
 -- an object whose cache isn't checked is of its slab's word
 pub plain-live : (w : World) (y : Chains) (f i : ℕ) → IsShaped w y → w.setup.checks (cache_at w f) ≡ false → 1 ≤ object_at w f i → 1 ≤ (w.slab f).objects
 plain-live w y f i shaped plain some = elim (cases_lt 0 (w.slab f).objects) [
   | inl l ↦ omega arith
   | inr g ↦ absurd (
-      let none : (w.slab f).objects ≡ 0 = omega arith in
-      let within = object-size w f i some in
-      let e = value-objects w f none in
-      let o = owner-of w.value w.setup.locks f (omega arith) in
-      let c = sized-checked w.setup o.0 f (w.value o.0) (shaped.guarded o.0 o.1.below) o.1.some in
-      false≢true (sym plain ∙ ap w.setup.checks (value-cache w f none ∙ o.1.cache) ∙ c))
+      let within = object-within w f i some in
+      let c = checked-cache w y f shaped (omega arith) (omega arith) in
+      false≢true (sym plain ∙ ap w.setup.checks c.1 ∙ c.3))
 ]
 
 pub record IsPlainObject (w : World) (k f i : ℕ) : Type 0 where

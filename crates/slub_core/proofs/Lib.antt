@@ -13,6 +13,9 @@ pub mod BoardStep
 pub mod SlabStep
 pub mod ListStep
 pub mod ValueStep
+pub mod Hands
+pub mod Values
+pub mod Knowns
 pub mod Exists
 pub mod MemoryStep
 pub mod Apart
@@ -20,9 +23,7 @@ pub mod RemakeStep
 pub mod Locks
 pub mod Kind13
 pub mod Kind14
-pub mod Hands
-pub mod Knowns
-pub mod Values
+pub mod Kind1
 pub mod Kind7
 pub mod Pigeon
 pub mod Kind21

@@ -90,7 +90,7 @@ unworded-cache w f none = rw none refl
 unworded-objects : (w : World) (f : ℕ) → (w.slab f).objects ≡ 0 → objects_at w f ≡ objects_in_values w.value w.setup.locks f
 unworded-objects w f none = rw none refl
 
-checked-cache : (w : World) (y : Chains) (f : ℕ) → IsShaped w y → (w.slab f).objects ≡ 0 → 1 ≤ objects_at w f → (cache : ℕ) × (cache_at w f ≡ cache) × (w.setup.lives cache ≡ true) × (w.setup.checks cache ≡ true)
+pub checked-cache : (w : World) (y : Chains) (f : ℕ) → IsShaped w y → (w.slab f).objects ≡ 0 → 1 ≤ objects_at w f → (cache : ℕ) × (cache_at w f ≡ cache) × (w.setup.lives cache ≡ true) × (w.setup.checks cache ≡ true)
 checked-cache w y f sh none some =
     let o = unworded-objects w f none in
     let r = in-value w.value w.setup.locks f (omega arith) in

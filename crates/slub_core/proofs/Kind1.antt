@@ -1,8 +1,9 @@
 -- Kind 1, spot by spot: a CPU word is loaded.
-use Rattle.std.proofs.Common.{◌≡◌, ◌≢◌, ℕ, ◌+◌, ◌-◌, ◌*◌, ◌^◌, ◌<◌, ◌≤◌, ◌==◌, ◌&&◌, ◌||◌, not, true, false, cond, if◌then◌else◌, List, [], ◌∷◌, length, refl, sym, ap, ◌∙◌, subst, arith}
-use Rattle.std.proofs.lemmas.Bool.{cond_both, eqb-true, eqb-false, ltb-false, not-true, not-false, and_parts, or_parts}
+use Rattle.std.proofs.Common.{◌≡◌, ◌≢◌, ℕ, ◌+◌, inl, inr, ◌-◌, ◌*◌, ◌^◌, ◌<◌, ◌≤◌, ◌==◌, ◌&&◌, ◌||◌, not, true, false, cond, if◌then◌else◌, List, [], ◌∷◌, length, refl, sym, ap, ◌∙◌, subst, arith}
+use Rattle.std.proofs.lemmas.Bool.{cond_both, eqb-true, eqb-false, ltb-false, not-true, not-false, and_parts, or_parts, or_cases}
 use Rattle.std.proofs.lemmas.List.Elements.{All-head}
 use Rattle.slub_words.specs.declared.cpu.CpuWord.{CpuWord}
+use Rattle.slub_core.specs.declared.local.Hand.{Hand}
 use Rattle.slub_core.specs.declared.step.Answer.TheVariants.{Word}
 use Rattle.slub_core.specs.declared.spot.Spot.{Spot}
 use Rattle.slub_core.specs.declared.spot.Spot.TheVariants.{Between, InAlloc, InPutAway, InFree, InOffline}
@@ -112,3 +113,150 @@ at_LoadCpu w x others word is there s = (with_word x c (way_of_word w.setup x.lo
         cond_both (not (c.head == 0)) (InAlloc LoadNext) (if x.local.fast then Between else if not (c.frame == 0) then InAlloc Detach else InAlloc TakeList) GoesTo
         (λ h. to_next room (let d = eqb-false c.head 0 (not-true (c.head == 0) h) in omega (arith, d)))
         (λ h. by_frame room (eqb-true c.head 0 (not-false (c.head == 0) h))))
+
+-- ---- before an install
+
+leaving : (hs : List Hand) (xss : List (List ℕ)) → AreHands (Loaded ∷ []) hs xss → AreHands (Leaving ∷ []) hs xss
+leaving [] xss ok = absurd ok
+leaving (h ∷ hs) [] ok = absurd ok
+leaving (h ∷ hs) (xs ∷ xss) ok = (ok.0, ok.1, ok.2, tt, ok.4, ok.5)
+
+leaving-held : (w : World) (cache : ℕ) (hs : List Hand) (xss : List (List ℕ)) (end : ℕ) → AreHeld w cache (Loaded ∷ []) hs xss end → AreHeld w cache (Leaving ∷ []) hs xss end
+leaving-held w cache [] xss end ok = tt
+leaving-held w cache (h ∷ hs) [] end ok = tt
+leaving-held w cache (h ∷ hs) (xs ∷ xss) end ok = (ok.0, ok.1, ok.2, ok.3)
+
+spent_lock-work : (w : World) (x : Worker) (c : CpuWord) → x.local.spot ≡ InAlloc LoadAgain → IsCpuWord c → AreHands (Leaving ∷ []) x.local.hands x.chains → AreHeld w x.local.cache (Leaving ∷ []) x.local.hands x.chains 0
+    → (1 ≤ (hand_of x.local).head → (hand_of x.local).walked ≡ true) → IsAtWork w x → IsAtWork w (with_word x c (InPutAway LockAway ForSpent))
+spent_lock-work w x c is fits hands held walked ok = grind arith
+
+spent_walk-work : (w : World) (x : Worker) (c : CpuWord) → x.local.spot ≡ InAlloc LoadAgain → IsCpuWord c → AreHands (Leaving ∷ []) x.local.hands x.chains → AreHeld w x.local.cache (Leaving ∷ []) x.local.hands x.chains 0
+    → 1 ≤ (hand_of x.local).head → (hand_of x.local).walked ≡ false → IsAtWork w x → IsAtWork w (with_word x c (InPutAway WalkChain ForSpent))
+spent_walk-work w x c is fits hands held some walked ok = grind arith
+
+install-work : (w : World) (x : Worker) (c : CpuWord) → x.local.spot ≡ InAlloc LoadAgain → w.cpu (own_cpu x.local) ≡ c → IsCpuWord c → c.tid + 2 * w.setup.step < 2 ^ 32 → c.frame ≡ 0 → c.head ≡ 0
+    → IsAtWork w x → IsAtWork w (with_word x c (InAlloc Install))
+install-work w x c is there fits room none bare ok = grind arith
+
+detach_other-work : (w : World) (x : Worker) (c : CpuWord) → x.local.spot ≡ InAlloc LoadAgain → w.cpu (own_cpu x.local) ≡ c → IsCpuWord c → c.tid + 2 * w.setup.step < 2 ^ 32 → c.frame ≢ 0
+    → IsAtWork w x → IsAtWork w (with_word x c (InAlloc DetachOther))
+detach_other-work w x c is there fits room some ok = grind arith
+
+pub at_LoadAgain : (w : World) (x : Worker) (others : List Worker) (word : ℕ) → x.local.spot ≡ InAlloc LoadAgain → w.cpu (own_cpu x.local) ≡ cpu_in word → Stands w (x ∷ others)
+    → ComesTo w others (alloc_advance w.setup x.local LoadAgain (Word word)).local
+at_LoadAgain w x others word is there s = (with_word x c (way_of_again w.setup (hand_of x.local) c), refl, by_spent)
+  where
+    c : CpuWord
+    c = cpu_in word
+
+    ok : IsAtWork w x
+    ok = All-head (IsAtWork w) x others s.fresh.workers
+
+    fits : IsCpuWord c
+    fits = subst IsCpuWord there (s.fresh.worded.cpu (own_cpu x.local))
+
+    GoesTo : Spot → Type 0
+    GoesTo spot = Stands w (with_word x c spot ∷ others)
+
+    hands : AreHands (Leaving ∷ []) x.local.hands x.chains
+    hands = leaving x.local.hands x.chains (rw is at ok.spot.hands)
+
+    held : AreHeld w x.local.cache (Leaving ∷ []) x.local.hands x.chains 0
+    held = leaving-held w x.local.cache x.local.hands x.chains 0 (rw is at ok.seen.hands)
+
+    bare : c.frame ≡ 0 → c.head ≡ 0
+    bare none =
+        let plain = ok.spot.plain (rw is refl) in
+        let cpu = ok.spot.cpu in
+        let few = s.fresh.setup.cpus in
+        let words = s.fresh.setup.cpu_words in
+        let below : own_cpu x.local < w.setup.cpu_words = omega arith in
+        subst (λ (d : CpuWord). d.head ≡ 0) there (s.listed.shaped.bare (own_cpu x.local) below (rw there none))
+
+    by_away : GoesTo (way_of_away (hand_of x.local) ForSpent)
+    by_away = cond_both (((hand_of x.local).head == 0) || (hand_of x.local).walked) (InPutAway LockAway ForSpent) (InPutAway WalkChain ForSpent) GoesTo
+        (λ e. local_step w x _ others s (λ f i. refl) (record { home = λ f. refl; marked = λ f. rw is refl; covered = λ g. refl; takes = λ k. rw is refl })
+        (spent_lock-work w x c is fits hands held (λ some. elim (or_cases ((hand_of x.local).head == 0) (hand_of x.local).walked e) [ inl z ↦ absurd (let n = eqb-true (hand_of x.local).head 0 z in omega arith) | inr t ↦ t ]) ok))
+        (λ e. let b = or_parts ((hand_of x.local).head == 0) (hand_of x.local).walked e in
+        local_step w x _ others s (λ f i. refl) (record { home = λ f. refl; marked = λ f. rw is refl; covered = λ g. refl; takes = λ k. rw is refl })
+        (spent_walk-work w x c is fits hands held (let d = eqb-false (hand_of x.local).head 0 b.0 in omega (arith, d)) b.1 ok))
+
+    by_spent : GoesTo (way_of_again w.setup (hand_of x.local) c)
+    by_spent = cond_both (is_spent w.setup c) (way_of_away (hand_of x.local) ForSpent) (if c.frame == 0 then InAlloc Install else InAlloc DetachOther) GoesTo (λ _. by_away)
+        (λ e. let room = unspent w.setup c s.fresh.setup e in
+        cond_both (c.frame == 0) (InAlloc Install) (InAlloc DetachOther) GoesTo
+        (λ z. let none = eqb-true c.frame 0 z in
+        local_step w x _ others s (λ f i. refl) (record { home = λ f. refl; marked = λ f. rw is refl; covered = λ g. refl; takes = λ k. rw is refl }) (install-work w x c is there fits room none (bare none) ok))
+        (λ z. local_step w x _ others s (λ f i. refl) (record { home = λ f. refl; marked = λ f. rw is refl; covered = λ g. refl; takes = λ k. rw is refl }) (detach_other-work w x c is there fits room (eqb-false c.frame 0 z) ok)))
+
+-- ---- a free
+
+link_own-work : (w : World) (x : Worker) (c : CpuWord) → x.local.spot ≡ InFree LoadOwn → w.cpu (own_cpu x.local) ≡ c → IsCpuWord c → c.tid + 2 * w.setup.step < 2 ^ 32 → c.frame ≡ (here x.local).frame
+    → IsAtWork w x → IsAtWork w (with_word x c (InFree LinkOwn))
+link_own-work w x c is there fits room own ok = grind arith
+
+load_slab-work : (w : World) (x : Worker) (c : CpuWord) → x.local.spot ≡ InFree LoadOwn → IsCpuWord c → IsAtWork w x → IsAtWork w (with_word x c (InFree LoadSlab))
+load_slab-work w x c is fits ok = grind arith
+
+pub at_LoadOwn : (w : World) (x : Worker) (others : List Worker) (word : ℕ) → x.local.spot ≡ InFree LoadOwn → w.cpu (own_cpu x.local) ≡ cpu_in word → Stands w (x ∷ others)
+    → ComesTo w others (free_advance w.setup x.local LoadOwn (Word word)).local
+at_LoadOwn w x others word is there s = (with_word x c (way_of_own w.setup x.local c), refl, by_frame)
+  where
+    c : CpuWord
+    c = cpu_in word
+
+    ok : IsAtWork w x
+    ok = All-head (IsAtWork w) x others s.fresh.workers
+
+    fits : IsCpuWord c
+    fits = subst IsCpuWord there (s.fresh.worded.cpu (own_cpu x.local))
+
+    GoesTo : Spot → Type 0
+    GoesTo spot = Stands w (with_word x c spot ∷ others)
+
+    by_frame : GoesTo (way_of_own w.setup x.local c)
+    by_frame = cond_both ((c.frame == (here x.local).frame) && not (is_spent w.setup c)) (InFree LinkOwn) (InFree LoadSlab) GoesTo
+        (λ e. let b = and_parts (c.frame == (here x.local).frame) (not (is_spent w.setup c)) e in
+        local_step w x _ others s (λ f i. refl) (record { home = λ f. refl; marked = λ f. rw is refl; covered = λ g. refl; takes = λ k. rw is refl })
+        (link_own-work w x c is there fits (unspent w.setup c s.fresh.setup (not-true (is_spent w.setup c) b.1)) (eqb-true c.frame (here x.local).frame b.0) ok))
+        (λ _. local_step w x _ others s (λ f i. refl) (record { home = λ f. refl; marked = λ f. rw is refl; covered = λ g. refl; takes = λ k. rw is refl }) (load_slab-work w x c is fits ok))
+
+-- ---- a sweep
+
+detach_current-work : (w : World) (x : Worker) (c : CpuWord) (sweep : Sweep) → x.local.spot ≡ InOffline LoadCurrent sweep → w.cpu (own_cpu x.local) ≡ c → IsCpuWord c → c.tid + w.setup.step < 2 ^ 32 → c.frame ≢ 0
+    → IsAtWork w x → IsAtWork w (with_word x c (InOffline DetachCurrent sweep))
+detach_current-work w x c sweep is there fits room some ok = grind arith
+
+take_current-work : (w : World) (x : Worker) (c : CpuWord) (sweep : Sweep) → x.local.spot ≡ InOffline LoadCurrent sweep → IsCpuWord c → IsAtWork w x → IsAtWork w (with_word x c (InOffline TakeCurrent sweep))
+take_current-work w x c sweep is fits ok = grind arith
+
+pub at_LoadCurrent : (w : World) (x : Worker) (others : List Worker) (sweep : Sweep) (word : ℕ) → x.local.spot ≡ InOffline LoadCurrent sweep → w.cpu (own_cpu x.local) ≡ cpu_in word → Stands w (x ∷ others)
+    → ComesTo w others (offline_advance w.setup x.local LoadCurrent sweep (Word word)).local
+at_LoadCurrent w x others sweep word is there s = (with_word x c (way_of_current sweep c), refl, by_frame)
+  where
+    c : CpuWord
+    c = cpu_in word
+
+    ok : IsAtWork w x
+    ok = All-head (IsAtWork w) x others s.fresh.workers
+
+    fits : IsCpuWord c
+    fits = subst IsCpuWord there (s.fresh.worded.cpu (own_cpu x.local))
+
+    GoesTo : Spot → Type 0
+    GoesTo spot = Stands w (with_word x c spot ∷ others)
+
+    room : c.frame ≢ 0 → c.tid + w.setup.step < 2 ^ 32
+    room some =
+        let plain = ok.spot.plain (rw is refl) in
+        let cpu = ok.spot.cpu in
+        let few = s.fresh.setup.cpus in
+        let words = s.fresh.setup.cpu_words in
+        let below : own_cpu x.local < w.setup.cpu_words = omega arith in
+        subst (λ (d : CpuWord). d.tid + w.setup.step < 2 ^ 32) there (s.fresh.worded.room (own_cpu x.local) below (rw there some))
+
+    by_frame : GoesTo (way_of_current sweep c)
+    by_frame = cond_both (c.frame == 0) (InOffline TakeCurrent sweep) (InOffline DetachCurrent sweep) GoesTo
+        (λ _. local_step w x _ others s (λ f i. refl) (record { home = λ f. refl; marked = λ f. rw is refl; covered = λ g. refl; takes = λ k. rw is refl }) (take_current-work w x c sweep is fits ok))
+        (λ z. let some = eqb-false c.frame 0 z in
+        local_step w x _ others s (λ f i. refl) (record { home = λ f. refl; marked = λ f. rw is refl; covered = λ g. refl; takes = λ k. rw is refl }) (detach_current-work w x c sweep is there fits (room some) some ok))

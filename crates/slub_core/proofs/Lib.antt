@@ -24,6 +24,7 @@ pub mod Locks
 pub mod Kind13
 pub mod Kind14
 pub mod Kind1
+pub mod Loads
 pub mod Kind7
 pub mod Pigeon
 pub mod Kind21

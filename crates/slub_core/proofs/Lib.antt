@@ -28,4 +28,5 @@ pub mod Loads
 pub mod Kind7
 pub mod Pigeon
 pub mod Kind21
+pub mod Kind22
 pub mod GiveMove

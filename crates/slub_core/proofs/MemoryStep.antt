@@ -62,14 +62,14 @@ others-memory : (w : World) (y : Chains) (xs : List Worker) (p v : ℕ) (o : Wor
 others-memory w y xs p v o setup placed listed apart cpus runs exists hands ok =
     let mine : frees o.local.spot ≡ true → pointer (set_memory w p v) (here o.local).cache (here o.local).frame (here o.local).index ≡ pointer w (here o.local).cache (here o.local).frame (here o.local).index
     = λ s.
-        let k = here o.local in
-        let h = ok.spot.frees s in
-        let plain = ok.spot.plain (frees-plain o.local.spot s) in
-        let some = known-owned o o.local.place nobody h.0 h.1 in
-        let e = exists k.frame k.index in
-        let is = plain-object w y k.cache k.frame k.index listed.shaped (ap w.setup.checks h.2 ∙ plain.2) (ok.seen.known o.local.place nobody h.0 h.1) (omega arith) in
-        let there = is.exists in
-        pointer-other w p v k.cache k.frame k.index (subst (λ c. pointer_at w.setup c k.frame k.index ≢ p) (sym is.cache) (apart k.frame k.index (omega arith) some)) in
+    let k = here o.local in
+    let h = ok.spot.frees s in
+    let plain = ok.spot.plain (frees-plain o.local.spot s) in
+    let some = known-owned o o.local.place nobody h.0 h.1 in
+    let e = exists k.frame k.index in
+    let is = plain-object w y k.cache k.frame k.index listed.shaped (ap w.setup.checks h.2 ∙ plain.2) (ok.seen.known o.local.place nobody h.0 h.1) (omega arith) in
+    let there = is.exists in
+    pointer-other w p v k.cache k.frame k.index (subst (λ c. pointer_at w.setup c k.frame k.index ≢ p) (sym is.cache) (apart k.frame k.index (omega arith) some)) in
     record {
       spot = ok.spot;
       seen = record {

@@ -29,4 +29,5 @@ pub mod Kind7
 pub mod Pigeon
 pub mod Kind21
 pub mod Kind22
+pub mod UnderLock
 pub mod GiveMove

@@ -83,10 +83,10 @@ relock w x z others n v s below mine same here elsewhere worker taken work =
 
 -- ---- by lock
 
-one-self : (n : ℕ) → one_if (n == n) ≡ 1
+pub one-self : (n : ℕ) → one_if (n == n) ≡ 1
 one-self n = rw (eq-eqb n n refl) refl
 
-some-isnt : (n k : ℕ) → (n ≡ k → ⊥) → one_if (n == k) ≡ 0
+pub some-isnt : (n k : ℕ) → (n ≡ k → ⊥) → one_if (n == k) ≡ 0
 some-isnt n k d = rw (ne_eqb n k d) refl
 
 -- a lock that a worker has isn't free

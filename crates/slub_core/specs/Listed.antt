@@ -68,7 +68,7 @@ pub record IsCheckedOf (m : Setup) (cache : ℕ) (slabs : CheckedState) : Type 0
 
 -- the pool, the slabs of a checked cache, or the node list of an unchecked one
 abbrev pub IsGuarded : Setup → ℕ → LockValue → Type 0
-IsGuarded m n Nothing = (cache : ℕ) → n ≡ node_lock cache → m.lives cache ≡ false
+IsGuarded m n Nothing = (cache : ℕ) × (n ≡ node_lock cache) × (m.lives cache ≡ false)
 IsGuarded m n (Pool pool) = (n ≡ pool_lock) × IsPool pool × (pool.frames ≡ m.frames)
 IsGuarded m n (Checked slabs) = (cache : ℕ) × (n ≡ node_lock cache) × (m.lives cache ≡ true) × (m.checks cache ≡ true) × IsCheckedOf m cache slabs
 IsGuarded m n (Node frames) = (cache : ℕ) × (n ≡ node_lock cache) × (m.lives cache ≡ true) × (m.checks cache ≡ false) × (length frames ≤ m.frames - 1)

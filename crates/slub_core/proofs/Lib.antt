@@ -21,6 +21,10 @@ pub mod MemoryStep
 pub mod Apart
 pub mod RemakeStep
 pub mod Locks
+pub mod Words
+pub mod Packed
+pub mod WordSteps
+pub mod Among
 pub mod Kind13
 pub mod Kind14
 pub mod Kind1

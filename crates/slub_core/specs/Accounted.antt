@@ -30,7 +30,7 @@ AreDistinct (k ∷ ks) = (place_of ks k.object ≡ length ks) × AreDistinct ks
 -- a call fits the machine, and names the place of its object
 pub record Fits (m : Setup) (known : List Known) (c : Call) : Type 0 where
   pub cpu : c.cpu < m.cpus
-  pub object : c.object < m.objects
+  pub object : (1 ≤ c.object) × (c.object < m.objects)
   pub place : c.place ≡ place_of known c.object
   pub inside : c.place < length known
   pub cache : IfSome c.cache (λ k. m.lives k ≡ true)

@@ -18,7 +18,7 @@ use Rattle.slub_core.specs.Offline.{scanned_slab}
 use Rattle.slub_core.specs.Free.{is_last_listed}
 use Rattle.slub_core.specs.Steps.{is_outside}
 use Rattle.slub_core.specs.Listed.{IsSized, takes, home_of}
-use Rattle.slub_core.specs.Spots.{Role, Taken, Ready, Loaded, Leaving, Popped, Kept, Loose, roles, is_linked, is_walking, is_walked, is_emptied, least_string, may_string, has_run, stored_in, notes_cpu, is_fresh, takes_head, detaches, detaches_empty, installs, notes_next, pushes, notes_some, notes_none, notes_away, links_last, frees_open, frees_locked, has_freed_last, notes_kept, notes_scanned, notes_list, walks_string, links_string, pushes_string, scans, scans_next, links_cpu, links_slab, frees, uses, keeps, pokes, awaits, in_checked, in_plain, doing}
+use Rattle.slub_core.specs.Spots.{Role, Taken, Ready, Loaded, Leaving, Popped, Kept, Loose, roles, is_linked, is_walking, is_walked, is_emptied, least_string, may_string, has_run, stored_in, notes_cpu, is_fresh, takes_head, detaches, detaches_empty, installs, notes_next, pushes, notes_some, notes_none, notes_away, links_last, frees_open, frees_locked, has_freed_last, notes_kept, notes_scanned, notes_list, walks_string, links_string, pushes_string, scans, scans_next, links_cpu, links_slab, frees, uses, keeps, pokes, takes_board, awaits, in_checked, in_plain, doing}
 use Rattle.slub_core.specs.declared.call.CallKind.TheVariants.{Flush}
 
 -- ---- what it has noted, by itself
@@ -102,6 +102,7 @@ pub record IsAtSpot (m : Setup) (x : Worker) : Type 0 where
   pub flush : doing x.local.spot ≡ Some Flush → (x.local.turn < length m.plain) × (x.local.cache ≡ slice_index m.plain x.local.turn)
   -- the object of the call
   pub number : (here x.local).object < m.objects
+  pub board : takes_board x.local.spot ≡ true → 1 ≤ (here x.local).object
   pub awaits : awaits x.local.spot ≡ true → (x.local.place < length x.local.known) × ((here x.local).held ≡ false)
   pub frees : frees x.local.spot ≡ true → (x.local.place < length x.local.known) × ((here x.local).held ≡ true) × ((here x.local).cache ≡ x.local.cache)
   -- the word that is written or read lies in the object

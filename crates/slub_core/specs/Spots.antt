@@ -419,6 +419,11 @@ pokes (InChecked LockChecked Poke) = true
 pokes (InChecked DoChecked Poke) = true
 pokes _ = false
 
+-- it is to be taken from the board, where it has a number from 1 on
+abbrev pub takes_board : Spot → Bool
+takes_board (InFree TakeBoard) = true
+takes_board _ = false
+
 -- it isn't held, since it is to be given or to be taken from the board
 abbrev pub awaits : Spot → Bool
 awaits (InAlloc GiveDry) = false

@@ -217,6 +217,10 @@ pub record Chains : Type 0 where
 unfoldable pub word_in : List ℕ → ℕ → ℕ → ℕ → ℕ
 word_in words base room n = cond (nat_lt n room) (slice_index_or words (base + n) 0) 0
 
+-- of object numbers, which begin with 1: number 0 has no word
+unfoldable pub board_words : Setup → List ℕ → ℕ → ℕ
+board_words m words o = cond (o == 0) 0 (word_in words (board_base m) m.objects o)
+
 unfoldable pub world_from : Setup → (ℕ → LockValue) → (ℕ → ℕ) → (ℕ → ℕ) → (ℕ → ℕ) → (ℕ → ℕ) → (ℕ → ℕ) → (ℕ → ℕ) → (ℕ → ℕ) → World
 world_from m values locks lists cpus slabs boards memory links = record {
   setup = m;
@@ -233,4 +237,4 @@ world_from m values locks lists cpus slabs boards memory links = record {
 -- the state of a machine of these words and lock values
 unfoldable pub world_of : Setup → (ℕ → LockValue) → List ℕ → World
 world_of m values words = world_from m values (word_in words 0 m.locks) (word_in words list_base m.cpu_words) (word_in words cpu_base m.cpu_words)
-    (word_in words slab_base m.frames) (word_in words (board_base m) m.objects) (word_in words (memory_base m) (512 * m.frames)) (word_in words (link_base m) m.frames)
+    (word_in words slab_base m.frames) (board_words m words) (word_in words (memory_base m) (512 * m.frames)) (word_in words (link_base m) m.frames)

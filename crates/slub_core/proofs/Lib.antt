@@ -34,4 +34,5 @@ pub mod Pigeon
 pub mod Kind21
 pub mod Kind22
 pub mod UnderLock
+pub mod PopNode
 pub mod GiveMove

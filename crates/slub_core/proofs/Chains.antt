@@ -1,5 +1,5 @@
 -- Chains of free pointers.
-use Rattle.std.proofs.Common.{◌≡◌, ℕ, suc, ◌+◌, ◌-◌, ◌<◌, ◌≤◌, ◌==◌, List, [], ◌∷◌, length, refl, ap, arith}
+use Rattle.std.proofs.Common.{◌≡◌, ℕ, suc, ◌+◌, ◌-◌, ◌^◌, ◌<◌, ◌≤◌, ◌==◌, List, [], ◌∷◌, length, refl, ap, arith}
 use Rattle.std.proofs.lemmas.Bool.{eq-eqb}
 use Rattle.slub_common.specs.Times.{times}
 use Rattle.slub_core.specs.World.{IsChain, Leads, one_if}
@@ -13,6 +13,11 @@ pub Leads-same : (g h : ℕ → ℕ) (head : ℕ) (xs : List ℕ) (end : ℕ) �
 Leads-same g h head [] end same c = c
 Leads-same g h head (x ∷ xs) end same c =
     (c.0, rw (same x (first-there x xs)) (Leads-same g h (g x) xs end (λ i some. same i (let t = times-first i x xs in omega arith)) c.1))
+
+-- the head of a chain of small numbers is small
+pub Leads-small : (g : ℕ → ℕ) (head : ℕ) (xs : List ℕ) → ((j : ℕ) → 1 ≤ times j xs → suc j < 2 ^ 16) → Leads g head xs 0 → head < 2 ^ 16
+Leads-small g head [] small c = omega (arith, c)
+Leads-small g head (x ∷ xs) small c = let s = small x (first-there x xs) in omega (arith, c.0)
 
 -- the first of a chain
 pub IsChain-first : (g : ℕ → ℕ) (head : ℕ) (xs : List ℕ) → 1 ≤ head → IsChain g head xs → (ys : List ℕ) × (xs ≡ (head - 1) ∷ ys) × IsChain g (g (head - 1)) ys

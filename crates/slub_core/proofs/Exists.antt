@@ -1,5 +1,5 @@
 -- What is counted anywhere exists, and what a worker has is nowhere else.
-use Rattle.std.proofs.Common.{◌≡◌, ◌≢◌, ℕ, zero, suc, ◌+◌, ◌-◌, ◌*◌, ◌/◌, ◌<◌, ◌≤◌, ◌⊎◌, ◌==◌, ◌&&◌, Bool, true, false, cond, eqb, List, [], ◌∷◌, length, get_or, refl, sym, ap, ◌∙◌, subst, arith, inl, inr}
+use Rattle.std.proofs.Common.{◌≡◌, ◌≢◌, ℕ, zero, suc, ◌+◌, ◌-◌, ◌*◌, ◌/◌, ◌^◌, ◌<◌, ◌≤◌, ◌⊎◌, ◌==◌, ◌&&◌, Bool, true, false, cond, eqb, List, [], ◌∷◌, length, get_or, refl, sym, ap, ◌∙◌, subst, arith, inl, inr}
 use Rattle.std.specs.Prelude.{All, nat_lt}
 use Rattle.std.proofs.lemmas.Bool.{cases_eq, cases_lt, cases_Bool, eq-eqb, ne_eqb, lt-ltb, le-ltb, cond-true, cond-false, cond_both, false≢true}
 use Rattle.std.proofs.lemmas.List.Sums.{get_or-le-sum_by}
@@ -174,3 +174,7 @@ alone w y x others f i placed holds =
       cpus = λ n below. let t = term_le_sum w.setup.cpu_words (λ k. in_chain (w.cpu k).frame (y.cpu k) f i) n below in omega arith;
       own = omega arith;
     }
+
+-- the index of an object that exists is small
+pub object-small : (w : World) (xs : List Worker) (f j : ℕ) → Stands w xs → 1 ≤ exists_at w f j → suc j < 2 ^ 16
+object-small w xs f j s some = let b = exists_at-within w f j some in let o = (s.fresh.worded.slab f).2 in omega arith

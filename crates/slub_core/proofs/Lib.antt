@@ -29,6 +29,11 @@ pub mod Kind13
 pub mod Kind14
 pub mod Kind1
 pub mod Loads
+pub mod Changes
+pub mod Kind3
+pub mod Kind6
+pub mod Kind15
+pub mod Kind16
 pub mod Kind7
 pub mod Pigeon
 pub mod Kind21

@@ -40,4 +40,5 @@ pub mod Kind21
 pub mod Kind22
 pub mod UnderLock
 pub mod PopNode
+pub mod NodePuts
 pub mod GiveMove

@@ -54,9 +54,9 @@ board_words-elsewhere m words n v apart = same_functions (λ o.
     elim (cases_eq o 0) [
       | inl e ↦ rw e refl
       | inr d ↦ elim (cases_lt o m.objects) [
-          | inl l ↦ rw (get_or-set_other words n (board_base m + o) v 0 (apart o (omega arith) l)) refl
-          | inr g ↦ rw (le-ltb o m.objects g) refl
-        ]
+        | inl l ↦ rw (get_or-set_other words n (board_base m + o) v 0 (apart o (omega arith) l)) refl
+        | inr g ↦ rw (le-ltb o m.objects g) refl
+      ]
     ])
 
 -- a function of an updated function
@@ -78,7 +78,7 @@ world_of-lock m value words n v t below =
     let objects = t.objects in
     let e : 0 + n ≡ n = omega arith in
     let z : word_in (set words n v) 0 m.locks ≡ update (word_in words 0 m.locks) n v =
-        subst (λ q. word_in (set words q v) 0 m.locks ≡ update (word_in words 0 m.locks) n v) e (word_in-here words 0 m.locks n v below (omega arith)) in
+    subst (λ q. word_in (set words q v) 0 m.locks ≡ update (word_in words 0 m.locks) n v) e (word_in-here words 0 m.locks n v below (omega arith)) in
     let l = word_in-elsewhere words list_base m.cpu_words n v (λ k under e. omega arith) in
     let c = word_in-elsewhere words cpu_base m.cpu_words n v (λ k under e. omega arith) in
     let a = word_in-elsewhere words slab_base m.frames n v (λ k under e. omega arith) in

@@ -42,3 +42,6 @@ pub mod UnderLock
 pub mod PopNode
 pub mod NodePuts
 pub mod GiveMove
+pub mod Leads
+pub mod LeadsLocks
+pub mod LeadsWords

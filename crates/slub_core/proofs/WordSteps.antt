@@ -60,15 +60,18 @@ list_exchange m value words n from to P t below ffit tfit if_won if_lost =
       | inr e ↦ rw (e, set-get_or words (list_base + n) 0) (if_lost (get_or words (list_base + n) 0))
     ]
 
--- a lock is taken, where it is free
-pub lock_exchange : (m : Setup) (value : ℕ → LockValue) (words : List ℕ) (n v : ℕ) (P : World → Answer → Type 0) → IsTable m words → n < m.locks
-    → ((world_of m value words).lock n ≡ 0 → P (set_lock (world_of m value words) n v) Won) → ((x : ℕ) → P (world_of m value words) (Lost x))
-    → AfterStep m value words (record { place = LockOf n; op = Exchange 0 v }) P
-lock_exchange m value words n v P t below if_won if_lost =
+-- a lock is taken by worker a, where it is free
+pub lock_exchange : (m : Setup) (value : ℕ → LockValue) (words : List ℕ) (n a : ℕ) (P : World → Answer → Type 0) → IsTable m words → n < m.locks
+    → ((world_of m value words).lock n ≡ 0 → P (set_lock (world_of m value words) n (suc a)) Won) → ((x : ℕ) → P (world_of m value words) (Lost x))
+    → AfterStep m value words (record { place = LockOf n; op = Exchange 0 (a + 1) }) P
+lock_exchange m value words n a P t below if_won if_lost =
     elim (cases_Bool (eqb (get_or words n 0) 0)) [
-      | inl e ↦ rw (e, world_of-lock m value words n v t below) (if_won (lock-read m value words n below ∙ eqb-true _ _ e))
+      | inl e ↦ rw (e, world_of-lock m value words n (a + 1) t below) (subst (λ v. P (set_lock (world_of m value words) n v) Won) (suc-one a) (if_won (lock-read m value words n below ∙ eqb-true _ _ e)))
       | inr e ↦ rw (e, set-get_or words n 0) (if_lost (get_or words n 0))
     ]
+  where
+    suc-one : (a : ℕ) → suc a ≡ a + 1
+    suc-one a = omega arith
 
 -- a lock is given back
 pub lock_store : (m : Setup) (value : ℕ → LockValue) (words : List ℕ) (n v : ℕ) (P : World → Answer → Type 0) → IsTable m words → n < m.locks

@@ -1,12 +1,15 @@
 -- What the step of a spot leads to, on the table of words: all stands again, with the worker where the answer leads it and the others unchanged.
-use Rattle.std.proofs.Common.{◌≡◌, ◌≢◌, ℕ, ◌+◌, ◌*◌, ◌<◌, ◌≤◌, true, false, List, ◌∷◌, length, refl, arith}
+use Rattle.std.proofs.Common.{◌≡◌, ◌≢◌, ℕ, ◌+◌, ◌*◌, ◌<◌, ◌≤◌, true, false, List, ◌∷◌, length, refl, subst, arith}
 use Rattle.std.proofs.lemmas.List.Elements.{All-head}
+use Rattle.slub_words.specs.declared.cpu.CpuWord.{CpuWord}
+use Rattle.slub_words.specs.declared.slab.SlabWord.{SlabWord}
+use Rattle.slub_cpu_partial.specs.declared.words.ListWord.{ListWord}
 use Rattle.slub_core.specs.declared.spot.Spot.{Spot}
 use Rattle.slub_core.specs.Setup.{Setup, IsPlain, IsChecked, node_lock, pool_lock, cpu_number}
 use Rattle.slub_core.specs.Words.{word_count}
 use Rattle.slub_core.specs.Placed.{owned}
 use Rattle.slub_core.specs.Listed.{home_of, homes}
-use Rattle.slub_core.specs.World.{World, LockValue, object_at, objects_at, world_from, world_of}
+use Rattle.slub_core.specs.World.{World, LockValue, set_cpu, set_slab, set_list, object_at, objects_at, world_from, world_of}
 use Rattle.slub_core.specs.Local.{Local, Worker, here, nobody}
 use Rattle.slub_core.specs.Ops.{own_cpu}
 use Rattle.slub_core.specs.Spots.{in_plain, in_checked}
@@ -18,6 +21,8 @@ use Rattle.slub_core.proofs.Exists.{home-live}
 use Rattle.slub_core.proofs.Values.{word-objects, object-within}
 use Rattle.slub_core.proofs.ValueStep.{known-owned}
 use Rattle.slub_core.proofs.Counts.{places-cons, homes-cons}
+use Rattle.slub_core.proofs.Update.{update_same}
+use Rattle.slub_core.proofs.Packed.{IsCpuFit, IsSlabFit, IsListFit}
 use Rattle.slub_core.proofs.Words.{IsTable}
 use Rattle.slub_core.proofs.WordSteps.{AfterStep}
 
@@ -80,3 +85,13 @@ held_below w x others s inside held =
     let o = s.placed.once f i in
     let within = object-within w f i (omega arith) in
     s.listed.shaped.within f (omega arith)
+
+-- a word that stands in a machine where all stands is a word: so is one that a step leaves
+pub cpu_fits : (w : World) (n : ℕ) (v : CpuWord) (others : List Worker) (l : Local) → ComesTo (set_cpu w n v) others l → IsCpuFit v
+cpu_fits w n v others l c = subst IsCpuFit (update_same w.cpu n v) (c.2.fresh.worded.cpu n)
+
+pub slab_fits : (w : World) (f : ℕ) (v : SlabWord) (others : List Worker) (l : Local) → ComesTo (set_slab w f v) others l → IsSlabFit v
+slab_fits w f v others l c = subst IsSlabFit (update_same w.slab f v) (c.2.fresh.worded.slab f)
+
+pub list_fits : (w : World) (n : ℕ) (v : ListWord) (others : List Worker) (l : Local) → ComesTo (set_list w n v) others l → IsListFit v
+list_fits w n v others l c = subst IsListFit (update_same w.list n v) (c.2.fresh.worded.list n)

@@ -45,3 +45,4 @@ pub mod GiveMove
 pub mod Leads
 pub mod LeadsLocks
 pub mod LeadsWords
+pub mod LeadsCpu

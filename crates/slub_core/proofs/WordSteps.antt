@@ -31,32 +31,32 @@ pub load : (m : Setup) (value : ℕ → LockValue) (words : List ℕ) (place : P
 load m value words place P here = rw (set-get_or words (number_of m place) 0) here
 
 -- an exchange on a CPU word
-pub cpu_exchange : (m : Setup) (value : ℕ → LockValue) (words : List ℕ) (n : ℕ) (from to : CpuWord) (P : World → Answer → Type 0) → IsTable m words → n < m.cpu_words → IsCpuFit from → IsCpuFit to
-    → ((world_of m value words).cpu n ≡ from → P (set_cpu (world_of m value words) n to) Won) → ((x : ℕ) → P (world_of m value words) (Lost x))
+pub cpu_exchange : (m : Setup) (value : ℕ → LockValue) (words : List ℕ) (n : ℕ) (from to : CpuWord) (P : World → Answer → Type 0) → IsTable m words → n < m.cpu_words → IsCpuFit from
+    → ((world_of m value words).cpu n ≡ from → IsCpuFit to × P (set_cpu (world_of m value words) n to) Won) → ((x : ℕ) → P (world_of m value words) (Lost x))
     → AfterStep m value words (record { place = CpuOf n; op = Exchange (cpu_bits from) (cpu_bits to) }) P
-cpu_exchange m value words n from to P t below ffit tfit if_won if_lost =
+cpu_exchange m value words n from to P t below ffit if_won if_lost =
     elim (cases_Bool (eqb (get_or words (cpu_base + n) 0) (cpu_bits from))) [
-      | inl e ↦ rw (e, world_of-cpu m value words n (cpu_bits to) t below, cpu_in-bits to tfit) (if_won (cpu-read m value words n below ∙ ap cpu_in (eqb-true _ _ e) ∙ cpu_in-bits from ffit))
+      | inl e ↦ (let won = if_won (cpu-read m value words n below ∙ ap cpu_in (eqb-true _ _ e) ∙ cpu_in-bits from ffit) in rw (e, world_of-cpu m value words n (cpu_bits to) t below, cpu_in-bits to won.0) won.1)
       | inr e ↦ rw (e, set-get_or words (cpu_base + n) 0) (if_lost (get_or words (cpu_base + n) 0))
     ]
 
 -- an exchange on a slab word
-pub slab_exchange : (m : Setup) (value : ℕ → LockValue) (words : List ℕ) (f : ℕ) (from to : SlabWord) (P : World → Answer → Type 0) → IsTable m words → f < m.frames → IsSlabFit from → IsSlabFit to
-    → ((world_of m value words).slab f ≡ from → P (set_slab (world_of m value words) f to) Won) → ((x : ℕ) → P (world_of m value words) (Lost x))
+pub slab_exchange : (m : Setup) (value : ℕ → LockValue) (words : List ℕ) (f : ℕ) (from to : SlabWord) (P : World → Answer → Type 0) → IsTable m words → f < m.frames → IsSlabFit from
+    → ((world_of m value words).slab f ≡ from → IsSlabFit to × P (set_slab (world_of m value words) f to) Won) → ((x : ℕ) → P (world_of m value words) (Lost x))
     → AfterStep m value words (record { place = SlabOf f; op = Exchange (slab_bits from) (slab_bits to) }) P
-slab_exchange m value words f from to P t below ffit tfit if_won if_lost =
+slab_exchange m value words f from to P t below ffit if_won if_lost =
     elim (cases_Bool (eqb (get_or words (slab_base + f) 0) (slab_bits from))) [
-      | inl e ↦ rw (e, world_of-slab m value words f (slab_bits to) t below, slab_in-bits to tfit) (if_won (slab-read m value words f below ∙ ap slab_in (eqb-true _ _ e) ∙ slab_in-bits from ffit))
+      | inl e ↦ (let won = if_won (slab-read m value words f below ∙ ap slab_in (eqb-true _ _ e) ∙ slab_in-bits from ffit) in rw (e, world_of-slab m value words f (slab_bits to) t below, slab_in-bits to won.0) won.1)
       | inr e ↦ rw (e, set-get_or words (slab_base + f) 0) (if_lost (get_or words (slab_base + f) 0))
     ]
 
 -- an exchange on a list word
-pub list_exchange : (m : Setup) (value : ℕ → LockValue) (words : List ℕ) (n : ℕ) (from to : ListWord) (P : World → Answer → Type 0) → IsTable m words → n < m.cpu_words → IsListFit from → IsListFit to
-    → ((world_of m value words).list n ≡ from → P (set_list (world_of m value words) n to) Won) → ((x : ℕ) → P (world_of m value words) (Lost x))
+pub list_exchange : (m : Setup) (value : ℕ → LockValue) (words : List ℕ) (n : ℕ) (from to : ListWord) (P : World → Answer → Type 0) → IsTable m words → n < m.cpu_words → IsListFit from
+    → ((world_of m value words).list n ≡ from → IsListFit to × P (set_list (world_of m value words) n to) Won) → ((x : ℕ) → P (world_of m value words) (Lost x))
     → AfterStep m value words (record { place = ListOf n; op = Exchange (list_bits from) (list_bits to) }) P
-list_exchange m value words n from to P t below ffit tfit if_won if_lost =
+list_exchange m value words n from to P t below ffit if_won if_lost =
     elim (cases_Bool (eqb (get_or words (list_base + n) 0) (list_bits from))) [
-      | inl e ↦ rw (e, world_of-list m value words n (list_bits to) t below, list_in-bits to tfit) (if_won (list-read m value words n below ∙ ap list_in (eqb-true _ _ e) ∙ list_in-bits from ffit))
+      | inl e ↦ (let won = if_won (list-read m value words n below ∙ ap list_in (eqb-true _ _ e) ∙ list_in-bits from ffit) in rw (e, world_of-list m value words n (list_bits to) t below, list_in-bits to won.0) won.1)
       | inr e ↦ rw (e, set-get_or words (list_base + n) 0) (if_lost (get_or words (list_base + n) 0))
     ]
 

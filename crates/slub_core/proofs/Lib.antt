@@ -41,6 +41,7 @@ pub mod Kind22
 pub mod UnderLock
 pub mod PopNode
 pub mod NodePuts
+pub mod NodeTakes
 pub mod GiveMove
 pub mod Leads
 pub mod LeadsLocks

@@ -47,3 +47,5 @@ pub mod Leads
 pub mod LeadsLocks
 pub mod LeadsWords
 pub mod LeadsCpu
+pub mod Dispatch
+pub mod Onces

@@ -20,3 +20,4 @@ pub mod Fresh
 pub mod Replies
 pub mod Accounted
 pub mod Coherent
+pub mod Law

@@ -10,10 +10,10 @@ use Rattle.slub_core.specs.Setup.{IsSetup, pointer_at, hardened}
 use Rattle.slub_core.specs.World.{World, Chains, update, set_memory, pointer, exists_at, object_at, in_chain, IsChain}
 use Rattle.slub_core.specs.Local.{Local, Worker, here, nobody, run_of, run_in}
 use Rattle.slub_core.specs.Ops.{own_cpu}
-use Rattle.slub_core.specs.Spots.{Role, roles, frees, stored_in}
+use Rattle.slub_core.specs.Spots.{Role, Taken, Ready, Loaded, Leaving, Untied, Popped, Kept, Loose, roles, frees, stored_in}
 use Rattle.slub_core.specs.Placed.{owned, in_hands, IsPlaced}
 use Rattle.slub_core.specs.Listed.{IsListed}
-use Rattle.slub_core.specs.Fresh.{AreHeld, IsHeldRun, IsRun, IsAtWork, end_of}
+use Rattle.slub_core.specs.Fresh.{LeadsFor, AreHeld, IsHeldRun, IsRun, IsAtWork, end_of}
 use Rattle.slub_core.specs.Coherent.{Stands}
 use Rattle.slub_core.proofs.Chains.{Leads-same}
 use Rattle.slub_core.proofs.Exists.{IsPlainObject, plain-object, in_chain-away, in_chain-here, own-exists, owned-object, hands-exist, chain-exists, exists-none, head-exists, head-slab, alone}
@@ -32,11 +32,22 @@ pub record IsApart (w : World) (others : List Worker) (f i p : ℕ) : Type 0 whe
 pub pointer-other : (w : World) (p v cache f i : ℕ) → pointer_at w.setup cache f i ≢ p → pointer (set_memory w p v) cache f i ≡ pointer w cache f i
 pointer-other w p v cache f i d = ap (hardened cache (pointer_at w.setup cache f i)) (update_other w.memory p v (pointer_at w.setup cache f i) d)
 
+-- a chain stays where its members' pointers do
+LeadsFor-same : (r : Role) (g h : ℕ → ℕ) (head : ℕ) (xs : List ℕ) (end : ℕ) → ((j : ℕ) → 1 ≤ times j xs → h j ≡ g j) → LeadsFor r g head xs end → LeadsFor r h head xs end
+LeadsFor-same Taken g h head xs end same ok = Leads-same g h head xs end same ok
+LeadsFor-same Ready g h head xs end same ok = Leads-same g h head xs end same ok
+LeadsFor-same Loaded g h head xs end same ok = Leads-same g h head xs end same ok
+LeadsFor-same Leaving g h head xs end same ok = Leads-same g h head xs end same ok
+LeadsFor-same Untied g h head xs end same ok = (ok.0, Leads-same g h head xs ok.0 same ok.1)
+LeadsFor-same Popped g h head xs end same ok = Leads-same g h head xs end same ok
+LeadsFor-same Kept g h head xs end same ok = Leads-same g h head xs end same ok
+LeadsFor-same Loose g h head xs end same ok = Leads-same g h head xs end same ok
+
 -- chains in hand of which no free pointer is stored
 pub held-memory : (w : World) (p v cache : ℕ) (rs : List Role) (hs : List Hand) (xss : List (List ℕ)) (end : ℕ)
     → ((g j : ℕ) → 1 ≤ in_hands g j hs xss → pointer_at w.setup (w.slab g).cache g j ≢ p) → AreHeld w cache rs hs xss end → AreHeld (set_memory w p v) cache rs hs xss end
 held-memory w p v cache (r ∷ rs) (h ∷ hs) (xs ∷ xss) end apart ok = (
-  Leads-same (pointer w cache h.frame) (pointer (set_memory w p v) cache h.frame) h.head xs end
+  LeadsFor-same r (pointer w cache h.frame) (pointer (set_memory w p v) cache h.frame) h.head xs end
       (λ j some. pointer-other w p v cache h.frame j (subst (λ k. pointer_at w.setup k h.frame j ≢ p) ok.1 (apart h.frame j (let c = in_chain-here h.frame xs j in omega arith)))) ok.0,
   ok.1,
   ok.2,

@@ -15,7 +15,7 @@ use Rattle.slub_core.specs.Setup.{IsSetup, node_lock}
 use Rattle.slub_core.specs.World.{World, Chains, update, set_slab, pointer, objects_at, cache_at, order_at, object_at, frames_in, one_if, sum_below, live, off_list, covers, in_run, IsChain}
 use Rattle.slub_core.specs.Local.{Local, Worker, here, hand_of, run_of}
 use Rattle.slub_core.specs.Offline.{scanned_slab}
-use Rattle.slub_core.specs.Spots.{Role, Taken, Ready, Loaded, Leaving, Popped, Kept, Loose, roles, is_emptied, has_freed_last, notes_scanned, stored_in}
+use Rattle.slub_core.specs.Spots.{Role, Taken, Ready, Loaded, Leaving, Untied, Popped, Kept, Loose, roles, is_emptied, has_freed_last, notes_scanned, stored_in}
 use Rattle.slub_core.specs.Placed.{owned}
 use Rattle.slub_core.specs.Listed.{home_of, hands_count, homes, on_lists, marked_of, covered_by, frame_roles, takes, IsStocked, IsShaped}
 use Rattle.slub_core.specs.Fresh.{AreHands, AreHeld, HasMarks, IsHeldString, IsKeptSlab, IsHeldRun, IsEmptied, IsAtWork, IsWorded, end_of}
@@ -51,6 +51,7 @@ marks-kept Taken s v frozen listed head m = frozen ∙ m
 marks-kept Ready s v frozen listed head m = frozen ∙ m
 marks-kept Loaded s v frozen listed head m = frozen ∙ m
 marks-kept Leaving s v frozen listed head m = frozen ∙ m
+marks-kept Untied s v frozen listed head m = frozen ∙ m
 marks-kept Popped s v frozen listed head m = (frozen ∙ m.0, head)
 marks-kept Kept s v frozen listed head m = (frozen ∙ m.0, listed ∙ m.1, head)
 marks-kept Loose s v frozen listed head m = (frozen ∙ m.0, head)

@@ -18,7 +18,7 @@ use Rattle.slub_core.specs.Offline.{scanned_slab}
 use Rattle.slub_core.specs.Free.{is_last_listed}
 use Rattle.slub_core.specs.Steps.{is_outside}
 use Rattle.slub_core.specs.Listed.{IsSized, takes, home_of}
-use Rattle.slub_core.specs.Spots.{Role, Taken, Ready, Loaded, Leaving, Popped, Kept, Loose, roles, is_linked, is_walking, is_walked, is_emptied, least_string, may_string, has_run, stored_in, notes_cpu, is_fresh, takes_head, detaches, detaches_empty, installs, notes_next, pushes, notes_some, notes_none, notes_away, links_last, frees_open, frees_locked, has_freed_last, notes_kept, notes_scanned, notes_list, walks_string, links_string, pushes_string, scans, scans_next, links_cpu, links_slab, frees, uses, keeps, pokes, takes_board, awaits, in_checked, in_plain, doing}
+use Rattle.slub_core.specs.Spots.{Role, Taken, Ready, Loaded, Leaving, Untied, Popped, Kept, Loose, roles, is_linked, is_walking, is_walked, is_emptied, least_string, may_string, has_run, stored_in, notes_cpu, is_fresh, takes_head, detaches, detaches_empty, installs, notes_next, pushes, notes_some, notes_none, notes_away, links_last, frees_open, frees_locked, has_freed_last, notes_kept, notes_scanned, notes_list, walks_string, links_string, pushes_string, scans, scans_next, links_cpu, links_slab, frees, uses, keeps, pokes, takes_board, awaits, in_checked, in_plain, doing}
 use Rattle.slub_core.specs.declared.call.CallKind.TheVariants.{Flush}
 
 -- ---- what it has noted, by itself
@@ -70,6 +70,7 @@ IsChainOf Taken h xs = (h.head ≡ 0) × (xs ≡ [])
 IsChainOf Ready h xs = (1 ≤ h.head) × IsUnwalked h
 IsChainOf Loaded h xs = (1 ≤ h.head) × IsLoaded h
 IsChainOf Leaving h xs = Unit {0}
+IsChainOf Untied h xs = Unit {0}
 IsChainOf Popped h xs = (h.head ≡ 0) × (xs ≡ [])
 IsChainOf Kept h xs = (h.head ≡ 0) × (xs ≡ [])
 IsChainOf Loose h xs = (h.head ≡ 0) × (xs ≡ [])
@@ -141,14 +142,20 @@ HasMarks Taken s = s.frozen ≡ true
 HasMarks Ready s = s.frozen ≡ true
 HasMarks Loaded s = s.frozen ≡ true
 HasMarks Leaving s = s.frozen ≡ true
+HasMarks Untied s = s.frozen ≡ true
 HasMarks Popped s = (s.frozen ≡ false) × (1 ≤ s.head)
 HasMarks Kept s = (s.frozen ≡ false) × (s.listed ≡ false) × (1 ≤ s.head)
 HasMarks Loose s = (s.frozen ≡ false) × (1 ≤ s.head)
 
+-- a chain in hand leads up to an end, up to any where it is untied
+abbrev pub LeadsFor : Role → (ℕ → ℕ) → ℕ → List ℕ → ℕ → Type 0
+LeadsFor Untied next head xs end = (to : ℕ) × Leads next head xs to
+LeadsFor _ next head xs end = Leads next head xs end
+
 -- each slab in hand is of the call's cache, its marks are those of its role, and its chain is a chain: the first one's up to an end
 abbrev pub AreHeld : World → ℕ → List Role → List Hand → List (List ℕ) → ℕ → Type 0
 AreHeld w cache (r ∷ rs) (h ∷ hs) (xs ∷ xss) end =
-    Leads (pointer w cache h.frame) h.head xs end × ((w.slab h.frame).cache ≡ cache) × HasMarks r (w.slab h.frame) × AreHeld w cache rs hs xss 0
+    LeadsFor r (pointer w cache h.frame) h.head xs end × ((w.slab h.frame).cache ≡ cache) × HasMarks r (w.slab h.frame) × AreHeld w cache rs hs xss 0
 AreHeld w cache _ _ _ end = Unit {0}
 
 -- where the chain in hand leads: to the slab's own head, once that is stored at its end

@@ -87,6 +87,8 @@ pub data Role : Type 0 where
   Loaded : Role
   -- to be put away: frozen, with a chain in hand, which may be empty
   Leaving : Role
+  -- under the node lock too: where the end of its chain leads isn't relied on, since that is stored before each try
+  Untied : Role
   -- off the node list: marked as listed still, with a free object
   Popped : Role
   -- off a string, or freed into: unfrozen and unmarked, with a free object
@@ -138,8 +140,8 @@ roles (InAlloc DetachOther) n = Loaded ∷ []
 roles (InAlloc Install) n = Loaded ∷ []
 roles (InPutAway WalkChain away) n = Leaving ∷ beside_away away
 roles (InPutAway LockAway away) n = Leaving ∷ beside_away away
-roles (InPutAway LoadAway away) n = Leaving ∷ beside_away away
-roles (InPutAway LinkLast away) n = Leaving ∷ beside_away away
+roles (InPutAway LoadAway away) n = Untied ∷ beside_away away
+roles (InPutAway LinkLast away) n = Untied ∷ beside_away away
 roles (InPutAway Unfreeze away) n = Leaving ∷ beside_away away
 roles (InPutAway PutNode away) n = Loose ∷ beside_away away
 roles (InPutAway GiveAway away) n = beside_away away

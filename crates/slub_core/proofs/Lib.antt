@@ -42,6 +42,7 @@ pub mod UnderLock
 pub mod PopNode
 pub mod NodePuts
 pub mod NodeTakes
+pub mod Pools
 pub mod GiveMove
 pub mod Leads
 pub mod LeadsLocks

@@ -180,3 +180,26 @@ node_step w x z others frames s has plain none stocked owned homed marked covere
 
     pool-same : w.value (node_lock x.local.cache) ≡ Node (frames_in (w.value (node_lock x.local.cache))) → (pool_of (set_value w (node_lock x.local.cache) (Node frames))).free ≡ (pool_of w).free
     pool-same is = ap (λ v. (pool_in v).free) (update_other w.value (node_lock x.local.cache) (Node frames) pool_lock (λ e. absurd (omega arith)))
+
+-- ---- the pool
+
+-- What a change of the pool owes: the frames go between the pool and the worker.
+pub pool_step : (w : World) (x z : Worker) (others : List Worker) (pool : FreeFrames) → Stands w (x ∷ others)
+    → has_pool x.local.spot ≡ true → IsPool pool → pool.frames ≡ (pool_of w).frames
+    → ((f i : ℕ) → owned f i z ≡ owned f i x) → ((f : ℕ) → home_of f z ≡ home_of f x) → ((f : ℕ) → marked_of f z ≡ marked_of f x)
+    → ((g : ℕ) → covered_by g z.local.run + times g pool.free ≡ covered_by g x.local.run + times g (pool_of w).free)
+    → ((k : ℕ) → takes k z ≡ takes k x)
+    → (HasSameSlabs (w.value pool_lock) (Pool pool) → IsAtWork (set_value w pool_lock (Pool pool)) z)
+    → Stands (set_value w pool_lock (Pool pool)) (z ∷ others)
+pool_step w x z others pool s has good frames owned home marked covered locks work =
+    let count = s.fresh.setup.locks in
+    let below : pool_lock < w.setup.locks = omega arith in
+    let is = pool-is w.setup (w.value pool_lock) (s.listed.shaped.guarded pool_lock below) in
+    let same : HasSameSlabs (w.value pool_lock) (Pool pool) = rw is.0 (record { size = λ f. refl; order = λ f. refl }) in
+    same_step w x z others pool_lock (Pool pool) s below (takes-pool x has) same (refl, good, frames ∙ is.2) refl
+    (λ k f e some. absurd (omega arith))
+    (λ f i. let a = owned f i in let b : idle_in (w.value pool_lock) f i ≡ 0 = rw is.0 refl in omega arith)
+    (λ f. let a = home f in let b : times f (frames_in (w.value pool_lock)) ≡ 0 = rw is.0 refl in let c : times f [] ≡ 0 = refl in omega arith)
+    (λ f. let a = marked f in let b : times f (frames_in (w.value pool_lock)) ≡ 0 = rw is.0 refl in let c : times f [] ≡ 0 = refl in omega arith)
+    (λ g. let a = covered g in let b : times g (pool_of (set_value w pool_lock (Pool pool))).free ≡ times g pool.free = ap (λ v. times g (pool_in v).free) (update_same w.value pool_lock (Pool pool)) in omega arith)
+    locks (work same)

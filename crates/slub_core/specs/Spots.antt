@@ -224,8 +224,10 @@ has_run (InAlloc (LinkNew i)) = true
 has_run (InAlloc Make) = true
 has_run (InDiscard LockDiscard discard) = true
 has_run (InDiscard PutRun discard) = true
-has_run (InChecked LockRun Free) = true
-has_run (InChecked MoveRun Free) = true
+has_run (InChecked LockRun Alloc) = false
+has_run (InChecked LockRun kind) = true
+has_run (InChecked MoveRun Alloc) = false
+has_run (InChecked MoveRun kind) = true
 has_run (InChecked AddSlab kind) = true
 has_run _ = false
 

@@ -50,3 +50,4 @@ pub mod LeadsWords
 pub mod LeadsCpu
 pub mod Dispatch
 pub mod Onces
+pub mod LostWords

@@ -51,3 +51,4 @@ pub mod LeadsCpu
 pub mod Dispatch
 pub mod Onces
 pub mod LostWords
+pub mod Begin

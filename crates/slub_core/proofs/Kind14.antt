@@ -1,9 +1,11 @@
 -- Kind 14, spot by spot: a lock is given back.
-use Rattle.std.proofs.Common.{◌≡◌, ℕ, suc, ◌+◌, ◌<◌, ◌≤◌, ◌==◌, true, false, cond, List, [], ◌∷◌, length, refl, sym, ap, ◌∙◌, arith}
-use Rattle.std.proofs.lemmas.Bool.{ne_eqb}
+use Rattle.std.proofs.Common.{◌≡◌, ℕ, suc, ◌+◌, ◌<◌, ◌≤◌, ◌==◌, true, false, cond, inl, inr, Option, Some, None, List, [], ◌∷◌, length, refl, sym, ap, ◌∙◌, arith}
+use Rattle.std.specs.Prelude.{IsSome}
+use Rattle.std.proofs.lemmas.Bool.{ne_eqb, false≢true}
 use Rattle.std.proofs.lemmas.List.Elements.{All-head}
 use Rattle.slub_core.specs.declared.call.CallKind.{CallKind}
 use Rattle.slub_core.specs.declared.local.Hand.{Hand}
+use Rattle.slub_core.specs.declared.local.FrameRun.{FrameRun}
 use Rattle.slub_core.specs.declared.step.Answer.TheVariants.{Done}
 use Rattle.slub_core.specs.declared.spot.Spot.TheVariants.{Between, InAlloc, InPutAway, InDiscard, InFree, InMoveSet, InTrim, InChecked}
 use Rattle.slub_core.specs.declared.spot.AllocSpot.TheVariants.{GiveNode, LockPool, LoadReady, GivePool, GiveDry, LinkNew}
@@ -19,9 +21,9 @@ use Rattle.slub_core.specs.declared.spot.MoveSet.TheVariants.{ForFree, ForOfflin
 use Rattle.slub_core.specs.declared.spot.MoveSetSpot.TheVariants.{GiveMove}
 use Rattle.slub_core.specs.declared.spot.TrimSpot.TheVariants.{GiveTrim}
 use Rattle.slub_core.specs.declared.spot.CheckedSpot.TheVariants.{GiveRun, GiveChecked}
-use Rattle.slub_core.specs.Setup.{node_lock, pool_lock}
+use Rattle.slub_core.specs.Setup.{Setup, IsSetup, node_lock, pool_lock}
 use Rattle.slub_core.specs.World.{World, set_lock, one_if}
-use Rattle.slub_core.specs.Local.{Local, Worker, at}
+use Rattle.slub_core.specs.Local.{Local, Worker, at, run_of, run_in}
 use Rattle.slub_core.specs.Spots.{has_node, has_pool, is_marked}
 use Rattle.slub_core.specs.Alloc.{alloc_advance, way_of_node}
 use Rattle.slub_core.specs.PutAway.{put_away_advance, way_of_put}
@@ -30,7 +32,8 @@ use Rattle.slub_core.specs.Free.{free_advance}
 use Rattle.slub_core.specs.MoveSet.{move_set_advance}
 use Rattle.slub_core.specs.Offline.{trim_advance}
 use Rattle.slub_core.specs.Checked.{checked_advance}
-use Rattle.slub_core.specs.Fresh.{IsAtWork}
+use Rattle.slub_core.specs.Listed.{IsSized}
+use Rattle.slub_core.specs.Fresh.{IsHeldRun, IsAtWork}
 use Rattle.slub_core.specs.Coherent.{Stands}
 use Rattle.slub_core.proofs.Locks.{ComesTo, HasSame, lent, give-node, give-pool}
 
@@ -57,13 +60,23 @@ at_GiveNode w x others is s = by_hands x.local.hands refl
     by_hands (h ∷ hs) e =
         (record x { local = at x.local (InAlloc LoadReady) }, ap (at x.local) (sym (ap way_of_node e ∙ way-ready h hs)), give-node w x _ others s cache (record { owned = λ f i. refl; home = λ f. refl; marked = λ f. rw is refl; covered = λ g. refl }) (rw is refl) (rw is refl) refl refl refl (give_node-ready (lent w x.local.worker) x h hs is e (λ n. refl)))
 
-give_pool-work : (w : World) (x : Worker) → x.local.spot ≡ InAlloc GivePool → ((n : ℕ) → w.lock n ≡ suc x.local.worker) → IsAtWork w x → IsAtWork w (record x { local = at x.local (InAlloc (LinkNew 0)) })
-give_pool-work w x is locks ok = grind arith
+-- a slab has an object at least
+run-some : (m : Setup) (cache : ℕ) (r : Option FrameRun) (stored : ℕ) (w : World) → w.setup ≡ m → IsSetup m → m.lives cache ≡ true → IsSome r → IsHeldRun w cache r stored → 1 ≤ (run_in r).objects
+run-some m cache None stored w same setup live some held = absurd (false≢true some)
+run-some m cache (Some run) stored w same setup live some held =
+    let b = setup.layout cache live in
+    let sized : IsSized (m.layout cache) run.order run.objects = rw same at held.0.sized in
+    elim sized [ inl e ↦ (let o = b.objects in omega (arith, e.1)) | inr e ↦ (let o = b.min_objects_slab in omega (arith, e.1)) ]
+
+give_pool-work : (w : World) (x : Worker) → x.local.spot ≡ InAlloc GivePool → 1 ≤ (run_of x.local).objects → ((n : ℕ) → w.lock n ≡ suc x.local.worker) → IsAtWork w x → IsAtWork w (record x { local = at x.local (InAlloc (LinkNew 0)) })
+give_pool-work w x is some locks ok = grind arith
 
 pub at_GivePool : (w : World) (x : Worker) (others : List Worker) → x.local.spot ≡ InAlloc GivePool → Stands w (x ∷ others)
     → ComesTo (set_lock w pool_lock 0) others (alloc_advance w.setup x.local GivePool Done).local
 at_GivePool w x others is s =
-    (record x { local = at x.local (InAlloc (LinkNew 0)) }, refl, give-pool w x _ others s (record { owned = λ f i. refl; home = λ f. refl; marked = λ f. rw is refl; covered = λ g. refl }) (rw is refl) refl (rw is refl) refl refl (give_pool-work (lent w x.local.worker) x is (λ n. refl)))
+    let ok = All-head (IsAtWork w) x others s.fresh.workers in
+    let some = run-some w.setup x.local.cache x.local.run _ w refl s.fresh.setup (ok.spot.plain (rw is refl)).1 (ok.spot.run (rw is refl)) ok.seen.run in
+    (record x { local = at x.local (InAlloc (LinkNew 0)) }, refl, give-pool w x _ others s (record { owned = λ f i. refl; home = λ f. refl; marked = λ f. rw is refl; covered = λ g. refl }) (rw is refl) refl (rw is refl) refl refl (give_pool-work (lent w x.local.worker) x is some (λ n. refl)))
 
 give_dry-work : (w : World) (x : Worker) → x.local.spot ≡ InAlloc GiveDry → ((n : ℕ) → w.lock n ≡ suc x.local.worker) → IsAtWork w x → IsAtWork w (record x { local = at x.local Between })
 give_dry-work w x is locks ok = grind arith

@@ -27,6 +27,7 @@ pub mod WordSteps
 pub mod Among
 pub mod Kind13
 pub mod Kind14
+pub mod Pigeon
 pub mod Kind1
 pub mod Loads
 pub mod Changes
@@ -34,8 +35,10 @@ pub mod Kind3
 pub mod Kind6
 pub mod Kind15
 pub mod Kind16
+pub mod Kind4
+pub mod Kind20
+pub mod Walks
 pub mod Kind7
-pub mod Pigeon
 pub mod Kind21
 pub mod Kind22
 pub mod UnderLock

@@ -17,15 +17,14 @@ use Rattle.slub_core.specs.Alloc.{alloc_advance}
 use Rattle.slub_core.specs.Free.{free_advance, is_last_listed, way_of_slab, way_of_locked}
 use Rattle.slub_core.specs.Steps.{advance_at}
 use Rattle.slub_core.specs.Placed.{owned}
-use Rattle.slub_core.specs.Spots.{frees}
+use Rattle.slub_core.specs.Spots.{frees, in_plain}
 use Rattle.slub_core.specs.Fresh.{IsAtWork}
 use Rattle.slub_core.specs.Coherent.{Stands}
 use Rattle.slub_core.proofs.Counts.{places-cons}
-use Rattle.slub_core.proofs.Exists.{IsPlainObject, plain-object, owned-object, object_at-le, exists_at-within, word-object, alone, times-self}
-use Rattle.slub_core.proofs.Lists.{times-first}
+use Rattle.slub_core.proofs.Exists.{IsPlainObject, plain-object, owned-object, object_at-le, exists_at-within, word-object, alone}
 use Rattle.slub_core.proofs.LocalStep.{local_step}
 use Rattle.slub_core.proofs.Locks.{ComesTo}
-use Rattle.slub_core.proofs.Slots.{two_terms}
+use Rattle.slub_core.proofs.Pigeon.{sum_below-room, length-as_sum}
 use Rattle.slub_core.proofs.Spots.{frees-plain}
 use Rattle.slub_core.proofs.ValueStep.{known-owned}
 
@@ -61,55 +60,6 @@ at_ReadWord w x others word is s = (
 
 -- ---- a slab of which a worker has an object has one in use
 
-sum_below-add : (m : ℕ) (g h : ℕ → ℕ) → sum_below m (λ j. g j + h j) ≡ sum_below m g + sum_below m h
-sum_below-add zero g h = refl
-sum_below-add (suc m) g h = let r = sum_below-add m g h in omega arith
-
-sum_below-none : (m : ℕ) (g : ℕ → ℕ) → ((j : ℕ) → j < m → g j ≡ 0) → sum_below m g ≡ 0
-sum_below-none zero g none = refl
-sum_below-none (suc m) g none = let r = sum_below-none m g (λ j below. none j (omega arith)) in let e = none m (omega arith) in omega arith
-
-sum_below-one : (m x : ℕ) → x < m → sum_below m (λ j. one_if (x == j)) ≡ 1
-sum_below-one zero x below = absurd (omega arith)
-sum_below-one (suc m) x below =
-    elim (cases_eq x m) [
-      | inl e ↦
-          let none = sum_below-none m (λ j. one_if (x == j)) (λ j under. rw (ne_eqb x j (λ h. omega arith)) refl) in
-          let last : one_if (x == m) ≡ 1 = rw (eq-eqb x m e) refl in
-          omega arith
-      | inr d ↦
-          let r = sum_below-one m x (omega arith) in
-          let last : one_if (x == m) ≡ 0 = rw (ne_eqb x m d) refl in
-          omega arith
-    ]
-
-sum_below-eq : (m : ℕ) (g h : ℕ → ℕ) → ((j : ℕ) → g j ≡ h j) → sum_below m g ≡ sum_below m h
-sum_below-eq zero g h same = refl
-sum_below-eq (suc m) g h same = let r = sum_below-eq m g h same in let e = same m in omega arith
-
--- a list of numbers below a bound is as long as there are numbers in it
-length-as_sum : (m : ℕ) (xs : List ℕ) → ((j : ℕ) → m ≤ j → times j xs ≡ 0) → sum_below m (λ j. times j xs) ≡ length xs
-length-as_sum m [] past = sum_below-none m (λ j. times j []) (λ j below. refl)
-length-as_sum m (x ∷ xs) past =
-    let within : x < m = elim (cases_lt x m) [ inl l ↦ l | inr g ↦ absurd (let z = past x g in let o = times-self x xs in omega arith) ] in
-    let r = length-as_sum m xs (λ j above. let z = past j above in let t = times-first j x xs in omega arith) in
-    let e = sum_below-eq m (λ j. times j (x ∷ xs)) (λ j. one_if (x == j) + times j xs) (λ j. times-first j x xs) in
-    let a = sum_below-add m (λ j. one_if (x == j)) (λ j. times j xs) in
-    let o = sum_below-one m x within in
-    omega arith
-
-sum_below-most : (m : ℕ) (g : ℕ → ℕ) → ((j : ℕ) → g j ≤ 1) → sum_below m g ≤ m
-sum_below-most zero g small = omega arith
-sum_below-most (suc m) g small = let r = sum_below-most m g small in let s = small m in omega arith
-
-sum_below-room : (m : ℕ) (g : ℕ → ℕ) (i : ℕ) → i < m → ((j : ℕ) → g j ≤ 1) → g i ≡ 0 → sum_below m g < m
-sum_below-room zero g i below small none = absurd (omega arith)
-sum_below-room (suc m) g i below small none =
-    elim (cases_eq i m) [
-      | inl e ↦ let z : g m ≡ 0 = rw (← e) none in let r = sum_below-most m g small in omega arith
-      | inr d ↦ let r = sum_below-room m g i (omega arith) small none in let s = small m in omega arith
-    ]
-
 pub some_in_use : (w : World) (x : Worker) (others : List Worker) (f i : ℕ) → Stands w (x ∷ others) → 1 ≤ (w.slab f).objects → 1 ≤ owned f i x → 1 ≤ (w.slab f).inuse
 some_in_use w x others f i s live holds =
     let y = s.chains in
@@ -121,16 +71,20 @@ some_in_use w x others f i s live holds =
     let c = s.listed.shaped.counted f in
     omega arith
 
--- the object that is freed is of a slab with a word, which is of the call's cache
-pub freed-object : (w : World) (x : Worker) (others : List Worker) → Stands w (x ∷ others) → frees x.local.spot ≡ true → IsPlainObject w x.local.cache (here x.local).frame (here x.local).index × (1 ≤ owned (here x.local).frame (here x.local).index x)
-freed-object w x others s is =
+-- an object that a worker holds in a call of an unchecked cache is of a slab with a word, which is of that cache
+pub held-object : (w : World) (x : Worker) (others : List Worker) → Stands w (x ∷ others) → in_plain x.local.spot ≡ true
+    → (x.local.place < length x.local.known) × ((here x.local).held ≡ true) × ((here x.local).cache ≡ x.local.cache)
+    → IsPlainObject w x.local.cache (here x.local).frame (here x.local).index × (1 ≤ owned (here x.local).frame (here x.local).index x)
+held-object w x others s is h =
     let ok = All-head (IsAtWork w) x others s.fresh.workers in
-    let h = ok.spot.frees is in
     let k = here x.local in
-    let plain = ok.spot.plain (frees-plain x.local.spot is) in
+    let plain = ok.spot.plain is in
     let some = known-owned x x.local.place nobody h.0 h.1 in
     let e = All-head (λ o. owned k.frame k.index o ≤ object_at w k.frame k.index) x others (owned-object w s.chains (x ∷ others) k.frame k.index s.placed) in
     (plain-object w s.chains x.local.cache k.frame k.index s.listed.shaped plain.2 (sym h.2 ∙ ok.seen.known x.local.place nobody h.0 h.1) (omega arith), some)
+
+pub freed-object : (w : World) (x : Worker) (others : List Worker) → Stands w (x ∷ others) → frees x.local.spot ≡ true → IsPlainObject w x.local.cache (here x.local).frame (here x.local).index × (1 ≤ owned (here x.local).frame (here x.local).index x)
+freed-object w x others s is = held-object w x others s (frees-plain x.local.spot is) ((All-head (IsAtWork w) x others s.fresh.workers).spot.frees is)
 
 -- ---- the slab word of an object that is freed
 

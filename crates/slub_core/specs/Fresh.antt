@@ -18,7 +18,7 @@ use Rattle.slub_core.specs.Offline.{scanned_slab}
 use Rattle.slub_core.specs.Free.{is_last_listed}
 use Rattle.slub_core.specs.Steps.{is_outside}
 use Rattle.slub_core.specs.Listed.{IsSized, takes, home_of}
-use Rattle.slub_core.specs.Spots.{Role, Taken, Ready, Loaded, Leaving, Untied, Popped, Kept, Loose, roles, is_linked, is_walking, is_walked, is_emptied, least_string, may_string, has_run, stored_in, notes_cpu, is_fresh, takes_head, detaches, detaches_empty, installs, notes_next, pushes, notes_some, notes_none, notes_away, links_last, frees_open, frees_locked, has_freed_last, notes_kept, notes_scanned, notes_list, walks_string, links_string, pushes_string, scans, scans_next, links_cpu, links_slab, frees, uses, keeps, pokes, takes_board, awaits, in_checked, in_plain, doing}
+use Rattle.slub_core.specs.Spots.{Role, Taken, Ready, Loaded, Leaving, Untied, Popped, Kept, Loose, roles, is_linked, is_walking, is_walked, is_emptied, least_string, may_string, has_run, stored_in, links_new, notes_cpu, is_fresh, takes_head, detaches, detaches_empty, installs, notes_next, pushes, notes_some, notes_none, notes_away, links_last, frees_open, frees_locked, has_freed_last, notes_kept, notes_scanned, notes_list, walks_string, links_string, pushes_string, scans, scans_next, links_cpu, links_slab, frees, uses, keeps, pokes, takes_board, awaits, in_checked, in_plain, doing}
 use Rattle.slub_core.specs.declared.call.CallKind.TheVariants.{Flush}
 
 -- ---- what it has noted, by itself
@@ -127,6 +127,7 @@ pub record IsAtSpot (m : Setup) (x : Worker) : Type 0 where
   -- a run in hand
   pub run : has_run x.local.spot ≡ true → IsSome x.local.run
   pub no_run : has_run x.local.spot ≡ false → x.local.run ≡ None
+  pub unstored : links_new x.local.spot ≡ true → stored_in x.local.spot (run_of x.local).objects < (run_of x.local).objects
   pub stored : stored_in x.local.spot (run_of x.local).objects ≤ (run_of x.local).objects
 
 -- ---- what it sees of the state

@@ -237,6 +237,11 @@ stored_in (InAlloc (LinkNew i)) objects = i
 stored_in (InAlloc Make) objects = objects
 stored_in _ objects = 0
 
+-- the next free pointer of it is to be stored
+abbrev pub links_new : Spot → Bool
+links_new (InAlloc (LinkNew i)) = true
+links_new _ = false
+
 -- ---- notes
 
 -- a noted CPU word is relied on: where its transaction id stands, nothing has changed

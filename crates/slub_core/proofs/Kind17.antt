@@ -173,7 +173,7 @@ at_WalkChain w x others away is s =
         by_found (inl end) =
             let k = arrived h in (
               with_form x k hs (InPutAway LockAway away),
-              sym (leads k (InPutAway LockAway away) (walked-end h found end.0) (rw (ne_eqb h.head 0 (λ z. absurd (omega arith))) refl)),
+              sym (leads k (InPutAway LockAway away) (walked-end h found end.0) (rw (ne_eqb h.head 0 (λ z. let q = some in absurd (omega arith))) refl)),
               local_step w x _ others s (λ f i. form-owned x h k hs xs xss (InPutAway LockAway away) f i one chain refl)
                   (record { home = λ f. form-home x h k hs (InPutAway LockAway away) f one refl; marked = λ f. rw is refl; covered = λ g. refl; takes = λ k. rw is refl })
                   (walked-work w x k hs away is (hands' k refl refl (walk-arrived g xs h 0 long held.0 hands.4 end.1)) (held' k refl refl) refl ok),
@@ -181,7 +181,7 @@ at_WalkChain w x others away is s =
         by_found (inr more) =
             let k = further h found in (
               with_form x k hs (InPutAway WalkChain away),
-              sym (leads k (InPutAway WalkChain away) (walked-more h found (let e = more.1 in omega arith)) (rw (ne_eqb h.head 0 (λ z. absurd (omega arith)), open_chain.1) refl)),
+              sym (leads k (InPutAway WalkChain away) (walked-more h found (let e = more.1 in omega arith)) (rw (ne_eqb h.head 0 (λ z. let q = some in absurd (omega arith)), open_chain.1) refl)),
               local_step w x _ others s (λ f i. form-owned x h k hs xs xss (InPutAway WalkChain away) f i one chain refl)
                   (record { home = λ f. form-home x h k hs (InPutAway WalkChain away) f one refl; marked = λ f. rw is refl; covered = λ g. refl; takes = λ k. rw is refl })
                   (further-work w x k hs away is (hands' k refl refl (subst (λ n. IsWalk xs (further h n)) (sym more.1) (walk-further xs h open_chain.1 more.0))) (held' k refl refl) some open_chain.1 ok),

@@ -38,6 +38,7 @@ pub mod Kind16
 pub mod Kind4
 pub mod Kind20
 pub mod Walks
+pub mod Kind17
 pub mod Kind7
 pub mod Kind21
 pub mod Kind22

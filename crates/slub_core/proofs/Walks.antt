@@ -1,5 +1,5 @@
 -- Walks along chains in hand, and the end of one.
-use Rattle.std.proofs.Common.{◌≡◌, ◌≢◌, ℕ, zero, suc, ◌+◌, ◌-◌, ◌%◌, ◌^◌, ◌<◌, ◌≤◌, ◌==◌, true, false, cond, if◌then◌else◌, List, [], ◌∷◌, length, refl, sym, ap, ◌∙◌, subst, arith, inl, inr}
+use Rattle.std.proofs.Common.{◌≡◌, ◌≢◌, ℕ, zero, suc, ◌+◌, ◌-◌, ◌%◌, ◌^◌, ◌<◌, ◌≤◌, ◌⊎◌, ◌==◌, true, false, cond, if◌then◌else◌, List, [], ◌∷◌, length, refl, sym, ap, ◌∙◌, subst, arith, inl, inr}
 use Rattle.std.specs.Prelude.{slice_index}
 use Rattle.std.proofs.lemmas.Bool.{cases_eq, cases_lt, eq-eqb, ne_eqb, cond-true, cond-false, false≢true}
 use Rattle.slub_common.specs.Times.{times}
@@ -101,3 +101,32 @@ walk-arrived g xs h end some chain walk all =
           let l : (if h.length == 0 then 1 else h.length) ≡ h.length = cond-false (h.length == 0) 1 h.length (ne_eqb h.length 0 d) in
           record { short = omega (arith, d); last = λ _. r ∙ ap (λ n. suc (slice_index xs n)) (let e : place_of h ≡ (if h.length == 0 then 1 else h.length) - 1 = omega arith in e); ended = λ _. (omega (arith, d), omega (arith, d)) })
     ]
+
+-- what an object leads to that a walk has come to: to nothing at the end, else to the next one
+pub walk-step : (g : ℕ → ℕ) (xs : List ℕ) (h : Hand) (found : ℕ) → 1 ≤ h.head → ((j : ℕ) → 1 ≤ times j xs → suc j < 2 ^ 16) → Leads g h.head xs 0 → IsWalk xs h → found ≡ g (reached h - 1) % 2 ^ 16
+    → ((found ≡ 0) × (suc (place_of h) ≡ length xs)) ⊎ ((suc (place_of h) < length xs) × (found ≡ suc (slice_index xs (suc (place_of h)))))
+walk-step g xs h found some small chain walk is =
+    let long = Leads-some g h.head xs some chain in
+    let r = reached-at g xs h 0 long chain walk in
+    let here : reached h - 1 ≡ slice_index xs (place_of h) = omega arith in
+    let within = walk.short in
+    elim (cases_lt (suc (place_of h)) (length xs)) [
+      | inl l ↦ inr (l, (
+          let next = Leads-next g h.head xs 0 (place_of h) l chain in
+          let few = small (slice_index xs (suc (place_of h))) (times-at (slice_index xs (suc (place_of h))) xs (suc (place_of h)) l refl) in
+          let e : g (reached h - 1) ≡ suc (slice_index xs (suc (place_of h))) = ap g here ∙ next in
+          is ∙ ap (λ (n : ℕ). n % 2 ^ 16) e ∙ below-mod (suc (slice_index xs (suc (place_of h)))) few))
+      | inr m ↦ (
+          let all : suc (place_of h) ≡ length xs = omega arith in
+          let e : g (reached h - 1) ≡ 0 = ap g here ∙ Leads-last g h.head xs 0 (place_of h) all chain in
+          inl (is ∙ ap (λ (n : ℕ). n % 2 ^ 16) e, all))
+    ]
+  where
+    below-mod : (a : ℕ) → a < 2 ^ 16 → a % 2 ^ 16 ≡ a
+    below-mod a few = omega arith
+
+pub walked-end : (h : Hand) (found : ℕ) → found ≡ 0 → walked_on h found ≡ arrived h
+walked-end h found e = cond-true (found == 0) (arrived h) (further h found) (eq-eqb found 0 e)
+
+pub walked-more : (h : Hand) (found : ℕ) → 1 ≤ found → walked_on h found ≡ further h found
+walked-more h found some = cond-false (found == 0) (arrived h) (further h found) (ne_eqb found 0 (λ e. absurd (omega arith)))

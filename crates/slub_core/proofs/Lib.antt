@@ -47,6 +47,7 @@ pub mod PopNode
 pub mod NodePuts
 pub mod NodeTakes
 pub mod Pools
+pub mod PoolSpots
 pub mod GiveMove
 pub mod Leads
 pub mod LeadsLocks

@@ -22,7 +22,7 @@ use Rattle.slub_core.specs.Listed.{IsSized}
 -- ---- the free frames, counted
 
 -- frames of a run, and others
-in-run-yes : (g frame order : ℕ) → frame ≤ g → g < frame + 2 ^ order → in_run g frame order ≡ 1
+pub in-run-yes : (g frame order : ℕ) → frame ≤ g → g < frame + 2 ^ order → in_run g frame order ≡ 1
 in-run-yes g frame order low high = rw (le-leb frame g low, lt-ltb g (frame + 2 ^ order) high) refl
 
 in-run-before : (g frame order : ℕ) → g < frame → in_run g frame order ≡ 0

@@ -111,11 +111,14 @@ walk-step g xs h found some small chain walk is =
     let here : reached h - 1 ≡ slice_index xs (place_of h) = omega arith in
     let within = walk.short in
     elim (cases_lt (suc (place_of h)) (length xs)) [
-      | inl l ↦ inr (l, (
-          let next = Leads-next g h.head xs 0 (place_of h) l chain in
-          let few = small (slice_index xs (suc (place_of h))) (times-at (slice_index xs (suc (place_of h))) xs (suc (place_of h)) l refl) in
-          let e : g (reached h - 1) ≡ suc (slice_index xs (suc (place_of h))) = ap g here ∙ next in
-          is ∙ ap (λ (n : ℕ). n % 2 ^ 16) e ∙ below-mod (suc (slice_index xs (suc (place_of h)))) few))
+      | inl l ↦ inr (
+        l,
+        (
+            let next = Leads-next g h.head xs 0 (place_of h) l chain in
+            let few = small (slice_index xs (suc (place_of h))) (times-at (slice_index xs (suc (place_of h))) xs (suc (place_of h)) l refl) in
+            let e : g (reached h - 1) ≡ suc (slice_index xs (suc (place_of h))) = ap g here ∙ next in
+            is ∙ ap (λ (n : ℕ). n % 2 ^ 16) e ∙ below-mod (suc (slice_index xs (suc (place_of h)))) few),
+      )
       | inr m ↦ (
           let all : suc (place_of h) ≡ length xs = omega arith in
           let e : g (reached h - 1) ≡ 0 = ap g here ∙ Leads-last g h.head xs 0 (place_of h) all chain in

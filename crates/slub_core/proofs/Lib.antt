@@ -53,6 +53,7 @@ pub mod Leads
 pub mod LeadsLocks
 pub mod LeadsWords
 pub mod LeadsCpu
+pub mod LeadsMemory
 pub mod Dispatch
 pub mod Onces
 pub mod LostWords

@@ -58,3 +58,4 @@ pub mod Dispatch
 pub mod Onces
 pub mod LostWords
 pub mod Begin
+pub mod Kind8

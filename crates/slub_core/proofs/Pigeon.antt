@@ -5,7 +5,7 @@ use Rattle.slub_common.specs.Times.{times}
 use Rattle.slub_core.specs.World.{sum_below, one_if}
 use Rattle.slub_core.proofs.Lists.{times-first}
 
-sum_below-add : (m : ℕ) (g h : ℕ → ℕ) → sum_below m (λ j. g j + h j) ≡ sum_below m g + sum_below m h
+pub sum_below-add : (m : ℕ) (g h : ℕ → ℕ) → sum_below m (λ j. g j + h j) ≡ sum_below m g + sum_below m h
 sum_below-add zero g h = refl
 sum_below-add (suc m) g h = let r = sum_below-add m g h in omega arith
 
@@ -27,7 +27,7 @@ sum_below-one (suc m) x below =
           omega arith
     ]
 
-sum_below-le : (m : ℕ) (g : ℕ → ℕ) → ((j : ℕ) → g j ≤ 1) → sum_below m g ≤ m
+pub sum_below-le : (m : ℕ) (g : ℕ → ℕ) → ((j : ℕ) → g j ≤ 1) → sum_below m g ≤ m
 sum_below-le zero g small = omega arith
 sum_below-le (suc m) g small = let r = sum_below-le m g small in let s = small m in omega arith
 

@@ -1,17 +1,16 @@
 -- No two objects have a word together, nor has one with a run in hand.
-use Rattle.std.proofs.Common.{◌≡◌, ◌≢◌, ℕ, ◌+◌, ◌*◌, ◌/◌, ◌^◌, ◌<◌, ◌≤◌, ◌&&◌, true, cond, Option, Some, None, List, ◌∷◌, length, get_or, refl, sym, ap, ◌∙◌, subst, arith, inl, inr}
-use Rattle.std.specs.Prelude.{All, nat_lt, sum_by}
+use Rattle.std.proofs.Common.{◌≡◌, ℕ, ◌*◌, ◌/◌, ◌^◌, ◌<◌, ◌≤◌, ◌&&◌, true, Some, List, ◌∷◌, length, get_or, refl, sym, ap, ◌∙◌, subst, arith, inl, inr}
+use Rattle.std.specs.Prelude.{nat_lt, sum_by}
 use Rattle.std.proofs.lemmas.Bool.{cases_eq, cases_lt, cases_Bool, lt-ltb, le-ltb, and_right, cond-true, cond_both}
 use Rattle.std.proofs.lemmas.Option.{none-some}
-use Rattle.std.proofs.lemmas.List.Sums.{sum_by-cons, get_or-le-sum_by}
+use Rattle.std.proofs.lemmas.List.Sums.{get_or-le-sum_by}
 use Rattle.std.proofs.lemmas.List.Elements.{All-head, All-tail}
-use Rattle.slub_common.specs.Times.{times}
 use Rattle.slub_core.specs.declared.local.FrameRun.{FrameRun}
-use Rattle.slub_core.specs.Setup.{Setup, pointer_at, word_at}
-use Rattle.slub_core.specs.World.{World, Chains, objects_at, order_at, exists_at, one_if, sum_below, in_run, covers, pool_of}
+use Rattle.slub_core.specs.Setup.{Setup, pointer_at}
+use Rattle.slub_core.specs.World.{World, objects_at, order_at, exists_at, one_if, in_run, covers}
 use Rattle.slub_core.specs.Local.{Local, Worker}
 use Rattle.slub_core.specs.Spots.{has_run}
-use Rattle.slub_core.specs.Listed.{covered_by, frame_roles, IsShaped, IsListed}
+use Rattle.slub_core.specs.Listed.{covered_by, frame_roles}
 use Rattle.slub_core.specs.Fresh.{IsRun, IsHeldRun, IsAtWork}
 use Rattle.slub_core.specs.Coherent.{Stands}
 use Rattle.slub_core.proofs.Counts.{roles-cons}

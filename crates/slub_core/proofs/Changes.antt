@@ -1,11 +1,10 @@
 -- What an exchange of a CPU word that is won has in common with others, and lost ones.
-use Rattle.std.proofs.Common.{◌≡◌, ◌≢◌, ℕ, suc, ◌+◌, ◌-◌, ◌*◌, ◌/◌, ◌%◌, ◌^◌, ◌<◌, ◌≤◌, true, false, cond, if◌then◌else◌, List, [], ◌∷◌, refl, sym, ap, ◌∙◌, subst, arith}
+use Rattle.std.proofs.Common.{◌≡◌, ◌≢◌, ℕ, ◌+◌, ◌*◌, ◌/◌, ◌%◌, ◌^◌, ◌<◌, true, List, ◌∷◌, refl, sym, ap, ◌∙◌, subst, arith}
 use Rattle.std.proofs.Math.Nat.{add-mod_right}
 use Rattle.std.proofs.lemmas.Bool.{cond_both}
 use Rattle.std.proofs.lemmas.List.Elements.{All-head}
 use Rattle.slub_words.specs.declared.cpu.CpuWord.{CpuWord}
 use Rattle.slub_core.specs.declared.step.Answer.TheVariants.{Lost}
-use Rattle.slub_core.specs.declared.spot.Spot.{Spot}
 use Rattle.slub_core.specs.declared.spot.Spot.TheVariants.{Between, InAlloc, InFree, InOffline}
 use Rattle.slub_core.specs.declared.spot.AllocSpot.TheVariants.{LoadCpu, Pop, Detach, LoadAgain, DetachOther, Install}
 use Rattle.slub_core.specs.declared.spot.FreeSpot.TheVariants.{LoadOwn, Push}
@@ -13,7 +12,7 @@ use Rattle.slub_core.specs.declared.spot.Sweep.{Sweep}
 use Rattle.slub_core.specs.declared.spot.OfflineSpot.TheVariants.{LoadCurrent, DetachCurrent}
 use Rattle.slub_core.specs.Setup.{IsSetup}
 use Rattle.slub_core.specs.World.{World, in_chain}
-use Rattle.slub_core.specs.Local.{Local, Worker, at}
+use Rattle.slub_core.specs.Local.{Worker, at}
 use Rattle.slub_core.specs.Ops.{own_cpu}
 use Rattle.slub_core.specs.Spots.{in_plain}
 use Rattle.slub_core.specs.Alloc.{alloc_advance, way_of_lost}

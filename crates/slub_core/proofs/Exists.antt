@@ -1,26 +1,20 @@
 -- What is counted anywhere exists, and what a worker has is nowhere else.
-use Rattle.std.proofs.Common.{◌≡◌, ◌≢◌, ℕ, zero, suc, ◌+◌, ◌-◌, ◌*◌, ◌/◌, ◌^◌, ◌<◌, ◌≤◌, ◌⊎◌, ◌==◌, ◌&&◌, Bool, true, false, cond, eqb, List, [], ◌∷◌, length, get_or, refl, sym, ap, ◌∙◌, subst, arith, inl, inr}
+use Rattle.std.proofs.Common.{◌≡◌, ◌≢◌, ℕ, suc, ◌+◌, ◌-◌, ◌/◌, ◌^◌, ◌<◌, ◌≤◌, ◌==◌, ◌&&◌, false, cond, eqb, List, [], ◌∷◌, length, get_or, refl, sym, ap, ◌∙◌, subst, arith, inl, inr}
 use Rattle.std.specs.Prelude.{All, nat_lt}
-use Rattle.std.proofs.lemmas.Bool.{cases_eq, cases_lt, cases_Bool, eq-eqb, ne_eqb, lt-ltb, le-ltb, cond-true, cond-false, cond_both, false≢true}
+use Rattle.std.proofs.lemmas.Bool.{cases_eq, cases_lt, eq-eqb, ne_eqb, le-ltb, cond-true, cond-false, cond_both, false≢true}
 use Rattle.std.proofs.lemmas.List.Sums.{get_or-le-sum_by}
-use Rattle.std.proofs.lemmas.List.Elements.{All-head, All-tail}
 use Rattle.slub_common.specs.Times.{times}
-use Rattle.slub_core.specs.declared.local.Known.{Known}
 use Rattle.slub_core.specs.declared.local.Hand.{Hand}
-use Rattle.slub_core.specs.Setup.{Setup, IsSetup, node_lock}
-use Rattle.slub_core.specs.World.{World, Chains, LockValue, Nothing, Node, Checked, Pool, size_in, objects_in_values, cache_in_values, objects_at, cache_at, object_at, exists_at, one_if, sum_below, is_at, in_chain, live, IsChain}
-use Rattle.slub_core.specs.Local.{Local, Worker, here, nobody}
-use Rattle.slub_core.specs.Placed.{held_as, held, in_hands, owned, IsPlaced}
-use Rattle.slub_core.specs.Listed.{hands_count, home_of, homes, on_lists, IsGuarded, IsShaped, IsListed}
-use Rattle.slub_core.specs.Fresh.{IsAtWork}
+use Rattle.slub_core.specs.World.{World, Chains, objects_at, cache_at, object_at, exists_at, one_if, is_at, in_chain, live}
+use Rattle.slub_core.specs.Local.{Worker}
+use Rattle.slub_core.specs.Placed.{in_hands, owned, IsPlaced}
+use Rattle.slub_core.specs.Listed.{hands_count, home_of, homes, IsShaped, IsListed}
 use Rattle.slub_core.specs.Coherent.{Stands}
-use Rattle.slub_core.proofs.Chains.{IsChain-first, IsChain-none}
-use Rattle.slub_core.proofs.Counts.{All-from_no_sum, places-cons, homes-cons}
-use Rattle.slub_core.proofs.Hands.{in_chain-nil}
+use Rattle.slub_core.proofs.Chains.{IsChain-first}
+use Rattle.slub_core.proofs.Counts.{All-from_no_sum, places-cons}
 use Rattle.slub_core.proofs.Lists.{times-first}
 use Rattle.slub_core.proofs.Update.{term_le_sum}
 use Rattle.slub_core.proofs.Values.{word-objects, word-cache, object-within, checked-cache}
-use Rattle.slub_core.proofs.ValueStep.{known-owned}
 
 -- ---- one object at a place
 

@@ -1,5 +1,5 @@
 -- Kind 1, spot by spot: a CPU word is loaded.
-use Rattle.std.proofs.Common.{◌≡◌, ◌≢◌, ℕ, ◌+◌, inl, inr, ◌-◌, ◌*◌, ◌^◌, ◌<◌, ◌≤◌, ◌==◌, ◌&&◌, ◌||◌, not, true, false, cond, if◌then◌else◌, List, [], ◌∷◌, length, refl, sym, ap, ◌∙◌, subst, arith}
+use Rattle.std.proofs.Common.{◌≡◌, ◌≢◌, ℕ, ◌+◌, inl, inr, ◌-◌, ◌*◌, ◌^◌, ◌<◌, ◌≤◌, ◌==◌, ◌&&◌, ◌||◌, not, true, false, if◌then◌else◌, List, [], ◌∷◌, refl, subst, arith}
 use Rattle.std.proofs.lemmas.Bool.{cond_both, eqb-true, eqb-false, ltb-false, not-true, not-false, and_parts, or_parts, or_cases}
 use Rattle.std.proofs.lemmas.List.Elements.{All-head}
 use Rattle.slub_words.specs.declared.cpu.CpuWord.{CpuWord}
@@ -16,7 +16,7 @@ use Rattle.slub_core.specs.declared.spot.OfflineSpot.TheVariants.{LoadCurrent, D
 use Rattle.slub_core.specs.Setup.{Setup, IsSetup, pointer_at}
 use Rattle.slub_core.specs.Words.{cpu_in}
 use Rattle.slub_core.specs.World.{World}
-use Rattle.slub_core.specs.Local.{Local, Worker, here, hand_of, at}
+use Rattle.slub_core.specs.Local.{Worker, here, hand_of}
 use Rattle.slub_core.specs.Ops.{own_cpu}
 use Rattle.slub_core.specs.Alloc.{alloc_advance, is_spent, way_of_word, way_of_again, way_of_away}
 use Rattle.slub_core.specs.Free.{free_advance, way_of_own}

@@ -1,5 +1,5 @@
 -- Kind 15: a slab is taken off its CPU, with the CPU freelist.
-use Rattle.std.proofs.Common.{◌≡◌, ◌≢◌, ℕ, suc, ◌+◌, ◌-◌, ◌*◌, ◌/◌, ◌^◌, ◌<◌, ◌≤◌, ◌==◌, ◌&&◌, ◌||◌, true, false, cond, if◌then◌else◌, List, [], ◌∷◌, length, refl, sym, ap, ◌∙◌, subst, arith, inl, inr}
+use Rattle.std.proofs.Common.{◌≡◌, ◌≢◌, ℕ, ◌+◌, ◌/◌, ◌≤◌, ◌==◌, ◌||◌, true, false, List, [], ◌∷◌, refl, sym, ap, ◌∙◌, subst, arith, inl, inr}
 use Rattle.std.proofs.lemmas.Bool.{cond_both, eqb-true, eqb-false, or_parts, or_cases, ne_eqb, false≢true}
 use Rattle.std.proofs.lemmas.List.Elements.{All-head}
 use Rattle.slub_words.specs.declared.cpu.CpuWord.{CpuWord}
@@ -8,20 +8,18 @@ use Rattle.slub_core.specs.declared.step.Answer.TheVariants.{Won}
 use Rattle.slub_core.specs.declared.spot.Spot.{Spot}
 use Rattle.slub_core.specs.declared.spot.Spot.TheVariants.{InAlloc, InPutAway, InOffline}
 use Rattle.slub_core.specs.declared.spot.AllocSpot.TheVariants.{Detach, LoadTaken, DetachOther}
-use Rattle.slub_core.specs.declared.spot.Away.{Away}
 use Rattle.slub_core.specs.declared.spot.Away.TheVariants.{ForInstall, ForSweep}
 use Rattle.slub_core.specs.declared.spot.PutAwaySpot.TheVariants.{WalkChain, LockAway}
 use Rattle.slub_core.specs.declared.spot.Sweep.{Sweep}
 use Rattle.slub_core.specs.declared.spot.OfflineSpot.TheVariants.{DetachCurrent}
-use Rattle.slub_core.specs.World.{World, set_cpu, pointer, one_if, in_chain, IsChain}
-use Rattle.slub_core.specs.Local.{Local, Worker, at, with_hand, hand_from}
+use Rattle.slub_core.specs.World.{World, set_cpu, pointer, one_if, IsChain}
+use Rattle.slub_core.specs.Local.{Local, Worker, hand_from}
 use Rattle.slub_core.specs.Ops.{own_cpu}
 use Rattle.slub_core.specs.Alloc.{alloc_advance, detached_word, way_of_away}
 use Rattle.slub_core.specs.Offline.{offline_advance, if_flushing}
-use Rattle.slub_core.specs.Spots.{Role, Taken, Loaded, Leaving, in_plain, detaches, notes_cpu, roles, is_marked}
-use Rattle.slub_core.specs.Placed.{owned}
-use Rattle.slub_core.specs.Listed.{home_of, marked_of, covered_by, takes}
-use Rattle.slub_core.specs.Fresh.{IsWalk, IsChainOf, AreHands, AreHeld, IsAtWork, end_of}
+use Rattle.slub_core.specs.Spots.{Taken, Loaded, Leaving, in_plain, detaches, notes_cpu}
+use Rattle.slub_core.specs.Listed.{marked_of, takes}
+use Rattle.slub_core.specs.Fresh.{IsWalk, AreHands, AreHeld, IsAtWork}
 use Rattle.slub_core.specs.Coherent.{Stands}
 use Rattle.slub_core.proofs.Chains.{IsChain-none}
 use Rattle.slub_core.proofs.Changes.{own-word, grown, in_chain-same, current-slab}

@@ -1,7 +1,7 @@
 -- Kind 16: a slab in hand becomes current, and its first object is given.
-use Rattle.std.proofs.Common.{◌≡◌, ◌≢◌, ℕ, zero, suc, ◌+◌, ◌-◌, ◌*◌, ◌/◌, ◌^◌, ◌<◌, ◌≤◌, ◌==◌, ◌&&◌, ◌⊎◌, true, false, cond, if◌then◌else◌, List, [], ◌∷◌, length, get_or, set, drop, refl, sym, ap, ◌∙◌, subst, arith, inl, inr}
+use Rattle.std.proofs.Common.{◌≡◌, ℕ, suc, ◌+◌, ◌-◌, ◌/◌, ◌^◌, ◌<◌, ◌≤◌, ◌==◌, true, List, [], ◌∷◌, get_or, set, refl, sym, ap, ◌∙◌, subst, arith, inl, inr}
 use Rattle.std.specs.Prelude.{All, slice_index}
-use Rattle.std.proofs.lemmas.Bool.{ne_eqb, eq-eqb, cond-true, cond-false, false≢true}
+use Rattle.std.proofs.lemmas.Bool.{ne_eqb, eq-eqb, cond-true, cond-false}
 use Rattle.std.proofs.lemmas.List.Elements.{All-head}
 use Rattle.slub_common.specs.Times.{times}
 use Rattle.slub_words.specs.declared.cpu.CpuWord.{CpuWord}
@@ -10,8 +10,8 @@ use Rattle.slub_core.specs.declared.local.Hand.{Hand}
 use Rattle.slub_core.specs.declared.step.Answer.TheVariants.{Won}
 use Rattle.slub_core.specs.declared.spot.Spot.TheVariants.{Between, InAlloc}
 use Rattle.slub_core.specs.declared.spot.AllocSpot.TheVariants.{Install}
-use Rattle.slub_core.specs.World.{World, set_cpu, pointer, cache_at, exists_at, one_if, is_at, in_chain, Leads, IsChain}
-use Rattle.slub_core.specs.Local.{Local, Worker, here, nobody, at, gets, less_hand, hand_of}
+use Rattle.slub_core.specs.World.{World, set_cpu, pointer, cache_at, exists_at, one_if, in_chain, Leads, IsChain}
+use Rattle.slub_core.specs.Local.{Local, Worker, here, nobody, gets, hand_of}
 use Rattle.slub_core.specs.Ops.{own_cpu}
 use Rattle.slub_core.specs.Alloc.{alloc_advance, installed_word, second_of}
 use Rattle.slub_core.specs.Spots.{Loaded}
@@ -22,8 +22,9 @@ use Rattle.slub_core.specs.Coherent.{Stands}
 use Rattle.slub_core.proofs.Chains.{IsChain-first, IsChain-from, IsChain-none, Leads-small}
 use Rattle.slub_core.proofs.Changes.{own-word, grown}
 use Rattle.slub_core.proofs.CpuStep.{cpu_step}
-use Rattle.slub_core.proofs.Exists.{in_chain-cons, in_chain-here, hands-exist, home-live, object-small, exists_at-within}
+use Rattle.slub_core.proofs.Exists.{in_chain-cons, in_chain-here, hands-exist, object-small, exists_at-within}
 use Rattle.slub_core.proofs.Hands.{one-hand, in_chain-nil}
+use Rattle.slub_core.proofs.Kind3.{given}
 use Rattle.slub_core.proofs.Knowns.{held-gets, here-set, known-set}
 use Rattle.slub_core.proofs.Lists.{times-first}
 use Rattle.slub_core.proofs.Locks.{ComesTo}
@@ -44,9 +45,6 @@ owned-one x h xs f i one chain = rw (one, chain) (omega arith)
 
 home-one : (x : Worker) (h : Hand) (f : ℕ) → x.local.hands ≡ h ∷ [] → home_of f x ≡ one_if (h.frame == f) + times f x.string
 home-one x h f one = rw one (omega arith)
-
-abbrev given : Local → ℕ → ℕ → Known
-given l frame index = record { object = (here l).object; frame = frame; index = index; cache = l.cache; held = true }
 
 installed-work : (w : World) (x : Worker) (n : ℕ) (v : CpuWord) (h : Hand) (frame index : ℕ) → x.local.spot ≡ InAlloc Install → x.local.hands ≡ h ∷ []
     → get_or (set x.local.known x.local.place (given x.local frame index)) x.local.place nobody ≡ given x.local frame index

@@ -1,7 +1,7 @@
 -- Kind 17, spot by spot: a free pointer of a chain in hand is loaded.
-use Rattle.std.proofs.Common.{◌≡◌, ◌≢◌, ℕ, zero, suc, ◌+◌, ◌-◌, ◌%◌, ◌^◌, ◌<◌, ◌≤◌, ◌==◌, ◌||◌, ◌⊎◌, true, false, cond, if◌then◌else◌, List, [], ◌∷◌, length, refl, sym, ap, ◌∙◌, subst, arith, inl, inr}
+use Rattle.std.proofs.Common.{◌≡◌, ℕ, suc, ◌+◌, ◌-◌, ◌%◌, ◌^◌, ◌<◌, ◌≤◌, ◌==◌, ◌⊎◌, true, false, List, [], ◌∷◌, length, refl, sym, ap, ◌∙◌, subst, arith, inl, inr}
 use Rattle.std.specs.Prelude.{slice_index}
-use Rattle.std.proofs.lemmas.Bool.{eq-eqb, ne_eqb, cond-true, cond-false}
+use Rattle.std.proofs.lemmas.Bool.{eq-eqb, ne_eqb, cond-true}
 use Rattle.std.proofs.lemmas.List.Elements.{All-head}
 use Rattle.slub_common.specs.Times.{times}
 use Rattle.slub_core.specs.declared.local.Hand.{Hand}
@@ -11,12 +11,12 @@ use Rattle.slub_core.specs.declared.spot.Spot.TheVariants.{InAlloc, InPutAway}
 use Rattle.slub_core.specs.declared.spot.AllocSpot.TheVariants.{LoadReady, LoadAgain}
 use Rattle.slub_core.specs.declared.spot.Away.{Away}
 use Rattle.slub_core.specs.declared.spot.PutAwaySpot.TheVariants.{WalkChain, LockAway}
-use Rattle.slub_core.specs.Setup.{Setup, pointer_at}
-use Rattle.slub_core.specs.World.{World, pointer, exists_at, in_chain, Leads}
-use Rattle.slub_core.specs.Local.{Local, Worker, hand_of, at}
+use Rattle.slub_core.specs.Setup.{pointer_at}
+use Rattle.slub_core.specs.World.{World, pointer, exists_at, in_chain}
+use Rattle.slub_core.specs.Local.{Worker, hand_of}
 use Rattle.slub_core.specs.Alloc.{alloc_advance, reached, walked_on, way_of_away}
 use Rattle.slub_core.specs.PutAway.{put_away_advance}
-use Rattle.slub_core.specs.Spots.{Role, Ready, Loaded, Leaving, beside_away}
+use Rattle.slub_core.specs.Spots.{Ready, Loaded, Leaving, beside_away}
 use Rattle.slub_core.specs.Placed.{owned, in_hands}
 use Rattle.slub_core.specs.Listed.{home_of}
 use Rattle.slub_core.specs.Fresh.{IsWalk, IsLoaded, AreHands, AreHeld, IsAtWork}

@@ -1,5 +1,5 @@
 -- Kind 20, spot by spot: a free pointer is stored in a run in hand, or at the end of a chain in hand.
-use Rattle.std.proofs.Common.{◌≡◌, ◌≢◌, ℕ, zero, suc, ◌+◌, ◌-◌, ◌*◌, ◌^◌, ◌<◌, ◌≤◌, ◌==◌, ◌⊎◌, not, true, false, cond, if◌then◌else◌, Option, Some, None, List, [], ◌∷◌, length, refl, sym, ap, ◌∙◌, subst, arith, inl, inr}
+use Rattle.std.proofs.Common.{◌≡◌, ◌≢◌, ℕ, suc, ◌+◌, ◌-◌, ◌<◌, ◌≤◌, ◌==◌, true, false, Option, Some, None, List, ◌∷◌, length, refl, sym, ap, ◌∙◌, subst, arith, inl, inr}
 use Rattle.std.specs.Prelude.{nat_lt, slice_index, IsSome}
 use Rattle.std.proofs.lemmas.Bool.{cases_eq, ltb-true, ltb-false, le-ltb, ne_eqb, cond_both, false≢true}
 use Rattle.std.proofs.lemmas.List.Elements.{All-head}
@@ -12,14 +12,14 @@ use Rattle.slub_core.specs.declared.spot.Spot.TheVariants.{InAlloc, InPutAway}
 use Rattle.slub_core.specs.declared.spot.AllocSpot.TheVariants.{LinkNew, Make}
 use Rattle.slub_core.specs.declared.spot.Away.{Away}
 use Rattle.slub_core.specs.declared.spot.PutAwaySpot.TheVariants.{LinkLast, Unfreeze}
-use Rattle.slub_core.specs.Setup.{Setup, pointer_at, hardened}
+use Rattle.slub_core.specs.Setup.{pointer_at, hardened}
 use Rattle.slub_core.specs.World.{World, set_memory, pointer, exists_at, object_at, in_chain, Leads}
-use Rattle.slub_core.specs.Local.{Local, Worker, run_of, run_in, hand_of, at}
+use Rattle.slub_core.specs.Local.{Worker, run_of, run_in, hand_of, at}
 use Rattle.slub_core.specs.Alloc.{alloc_advance, way_of_link}
 use Rattle.slub_core.specs.PutAway.{put_away_advance}
-use Rattle.slub_core.specs.Spots.{Role, Leaving, Untied, beside_away, stored_in}
+use Rattle.slub_core.specs.Spots.{Leaving, Untied, beside_away}
 use Rattle.slub_core.specs.Placed.{owned, in_hands}
-use Rattle.slub_core.specs.Fresh.{IsRun, IsHeldRun, IsWalk, AreHands, AreHeld, IsAtWork, rising_next}
+use Rattle.slub_core.specs.Fresh.{IsHeldRun, AreHands, AreHeld, IsAtWork, rising_next}
 use Rattle.slub_core.specs.Coherent.{Stands}
 use Rattle.slub_core.proofs.Apart.{apart-object, apart-run}
 use Rattle.slub_core.proofs.Exists.{in_chain-here, owned-object, hands-exist, object_at-le}

@@ -1,7 +1,6 @@
 -- Kind 3: the head is taken off a CPU freelist.
-use Rattle.std.proofs.Common.{◌≡◌, ◌≢◌, ℕ, suc, ◌+◌, ◌-◌, ◌/◌, ◌%◌, ◌^◌, ◌<◌, ◌≤◌, ◌==◌, ◌&&◌, true, List, [], ◌∷◌, length, get_or, set, refl, sym, ap, ◌∙◌, subst, arith}
+use Rattle.std.proofs.Common.{◌≡◌, ◌≢◌, ℕ, ◌+◌, ◌-◌, ◌/◌, ◌%◌, ◌^◌, ◌<◌, ◌≤◌, ◌==◌, true, List, ◌∷◌, get_or, set, refl, sym, ap, ◌∙◌, subst, arith}
 use Rattle.std.specs.Prelude.{All}
-use Rattle.std.proofs.lemmas.List.{length-set}
 use Rattle.std.proofs.lemmas.List.Elements.{All-head}
 use Rattle.slub_common.specs.Times.{times}
 use Rattle.slub_words.specs.declared.cpu.CpuWord.{CpuWord}
@@ -9,7 +8,7 @@ use Rattle.slub_core.specs.declared.local.Known.{Known}
 use Rattle.slub_core.specs.declared.step.Answer.TheVariants.{Won}
 use Rattle.slub_core.specs.declared.spot.Spot.TheVariants.{Between, InAlloc}
 use Rattle.slub_core.specs.declared.spot.AllocSpot.TheVariants.{Pop}
-use Rattle.slub_core.specs.World.{World, set_cpu, pointer, cache_at, one_if, is_at, in_chain, exists_at, IsChain}
+use Rattle.slub_core.specs.World.{World, set_cpu, pointer, cache_at, one_if, exists_at, IsChain}
 use Rattle.slub_core.specs.Local.{Local, Worker, here, nobody, at, gets}
 use Rattle.slub_core.specs.Ops.{own_cpu}
 use Rattle.slub_core.specs.Alloc.{alloc_advance, popped_word}
@@ -25,8 +24,8 @@ use Rattle.slub_core.proofs.Lists.{times-first}
 use Rattle.slub_core.proofs.Locks.{ComesTo}
 use Rattle.slub_core.proofs.Values.{word-cache}
 
--- the object as the worker then knows it
-abbrev given : Local → ℕ → ℕ → Known
+-- the object that a worker gets, as it then knows it
+abbrev pub given : Local → ℕ → ℕ → Known
 given l frame index = record { object = (here l).object; frame = frame; index = index; cache = l.cache; held = true }
 
 popped-work : (w : World) (x : Worker) (n : ℕ) (v : CpuWord) (frame index : ℕ) → x.local.spot ≡ InAlloc Pop → get_or (set x.local.known x.local.place (given x.local frame index)) x.local.place nobody ≡ given x.local frame index

@@ -1,5 +1,5 @@
 -- Kind 4, spot by spot: the head of a freelist is stored in the object that is freed, or a word of a held object is written.
-use Rattle.std.proofs.Common.{◌≡◌, ◌≢◌, ℕ, ◌+◌, ◌*◌, ◌<◌, ◌≤◌, ◌⊎◌, true, false, Option, Some, None, List, [], ◌∷◌, refl, sym, ap, ◌∙◌, subst, arith, inl, inr}
+use Rattle.std.proofs.Common.{◌≡◌, ℕ, ◌+◌, ◌*◌, ◌≤◌, true, None, List, ◌∷◌, refl, sym, ap, ◌∙◌, subst, arith, inl}
 use Rattle.std.proofs.lemmas.Bool.{leb-true, not-false}
 use Rattle.std.proofs.lemmas.List.Elements.{All-head}
 use Rattle.slub_words.proofs.Pointers.{come_back}
@@ -7,9 +7,9 @@ use Rattle.slub_core.specs.declared.step.Answer.TheVariants.{Done}
 use Rattle.slub_core.specs.declared.spot.Spot.TheVariants.{Between, InFree, WriteWord}
 use Rattle.slub_core.specs.declared.spot.FreeSpot.TheVariants.{LinkOwn, Push, LinkSlab, FreeSlab, LinkLocked, FreeLocked}
 use Rattle.slub_words.specs.Words.{steps_from_one}
-use Rattle.slub_core.specs.Setup.{Setup, pointer_at, word_at, hardened}
+use Rattle.slub_core.specs.Setup.{pointer_at, word_at, hardened}
 use Rattle.slub_core.specs.World.{World, set_memory, pointer, exists_at, object_at}
-use Rattle.slub_core.specs.Local.{Local, Worker, here, at, call_of}
+use Rattle.slub_core.specs.Local.{Worker, here, at, call_of}
 use Rattle.slub_core.specs.Free.{free_advance}
 use Rattle.slub_core.specs.Steps.{advance_at}
 use Rattle.slub_core.specs.Placed.{owned}
@@ -23,7 +23,6 @@ use Rattle.slub_core.proofs.LocalStep.{Settled}
 use Rattle.slub_core.proofs.Locks.{ComesTo}
 use Rattle.slub_core.proofs.MemoryStep.{memory_step}
 use Rattle.slub_core.proofs.Slots.{IsWordOf, pointer-word, word-word}
-use Rattle.slub_core.proofs.Spots.{frees-plain}
 use Rattle.slub_core.proofs.Update.{update_same}
 
 -- a free pointer that was stored is there
@@ -33,7 +32,7 @@ pointer-here w cache f i to =
     ap (hardened cache p) (update_same w.memory p (hardened cache p to)) ∙ come_back to (steps_from_one (cache + 1)) (8 * p)
 
 -- where the head of a freelist is stored
-abbrev at_object : World → Worker → ℕ
+abbrev pub at_object : World → Worker → ℕ
 at_object w x = pointer_at w.setup (here x.local).cache (here x.local).frame (here x.local).index
 
 -- a store in the object that is freed

@@ -1,5 +1,5 @@
 -- Kind 6: an object is put on a CPU freelist.
-use Rattle.std.proofs.Common.{◌≡◌, ◌≢◌, ℕ, suc, ◌+◌, ◌-◌, ◌/◌, ◌^◌, ◌<◌, ◌≤◌, ◌==◌, ◌&&◌, true, false, List, [], ◌∷◌, length, get_or, set, refl, sym, ap, ◌∙◌, subst, arith, add-one}
+use Rattle.std.proofs.Common.{◌≡◌, ◌≢◌, ℕ, ◌+◌, ◌/◌, ◌≤◌, ◌==◌, true, false, List, ◌∷◌, get_or, set, refl, sym, ap, ◌∙◌, subst, arith, add-one}
 use Rattle.std.specs.Prelude.{All}
 use Rattle.std.proofs.lemmas.Bool.{false≢true}
 use Rattle.std.proofs.lemmas.List.Elements.{All-head}
@@ -8,7 +8,7 @@ use Rattle.slub_core.specs.declared.local.Known.{Known}
 use Rattle.slub_core.specs.declared.step.Answer.TheVariants.{Won}
 use Rattle.slub_core.specs.declared.spot.Spot.TheVariants.{Between, InFree}
 use Rattle.slub_core.specs.declared.spot.FreeSpot.TheVariants.{Push}
-use Rattle.slub_core.specs.World.{World, set_cpu, pointer, cache_at, object_at, exists_at, one_if, is_at, in_chain, IsChain}
+use Rattle.slub_core.specs.World.{World, set_cpu, pointer, cache_at, object_at, exists_at, one_if, is_at, IsChain}
 use Rattle.slub_core.specs.Local.{Local, Worker, here, nobody, at, loses}
 use Rattle.slub_core.specs.Ops.{own_cpu}
 use Rattle.slub_core.specs.Free.{free_advance, pushed_word}

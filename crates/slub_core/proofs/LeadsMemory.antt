@@ -1,5 +1,5 @@
 -- The step of a spot, on the table of words: words of memory, which lie among the table's.
-use Rattle.std.proofs.Common.{◌≡◌, ◌≢◌, ℕ, suc, ◌+◌, ◌-◌, ◌*◌, ◌/◌, ◌^◌, ◌<◌, ◌≤◌, ◌==◌, true, false, Option, Some, None, List, [], ◌∷◌, length, refl, sym, ap, ◌∙◌, subst, arith, inl, inr}
+use Rattle.std.proofs.Common.{◌≡◌, ℕ, suc, ◌+◌, ◌-◌, ◌*◌, ◌/◌, ◌<◌, ◌≤◌, true, false, Option, Some, None, List, [], ◌∷◌, length, refl, sym, ap, ◌∙◌, subst, arith}
 use Rattle.std.specs.Prelude.{slice_index, IsSome}
 use Rattle.std.proofs.lemmas.Bool.{leb-true, not-false, false≢true}
 use Rattle.std.proofs.lemmas.List.Elements.{All-head}
@@ -13,15 +13,15 @@ use Rattle.slub_core.specs.declared.spot.PutAwaySpot.TheVariants.{WalkChain, Lin
 use Rattle.slub_core.specs.declared.spot.FreeSpot.TheVariants.{LinkOwn, LinkSlab, LinkLocked}
 use Rattle.slub_core.specs.declared.step.Answer.TheVariants.{Word}
 use Rattle.slub_core.specs.declared.step.Place.TheVariants.{MemoryOf}
-use Rattle.slub_core.specs.Setup.{Setup, pointer_at, word_at, hardened}
-use Rattle.slub_core.specs.World.{World, LockValue, pointer, exists_at, object_at, in_chain, Leads, world_from, world_of}
-use Rattle.slub_core.specs.Local.{Local, Worker, here, hand_of, run_of, run_in, call_of}
+use Rattle.slub_core.specs.Setup.{pointer_at, word_at, hardened}
+use Rattle.slub_core.specs.World.{World, pointer, exists_at, object_at, in_chain, Leads, world_from, world_of}
+use Rattle.slub_core.specs.Local.{Worker, here, hand_of, run_of, run_in, call_of}
 use Rattle.slub_core.specs.Alloc.{alloc_advance, reached}
 use Rattle.slub_core.specs.PutAway.{put_away_advance}
-use Rattle.slub_core.specs.Steps.{step_at, advance_at}
+use Rattle.slub_core.specs.Steps.{advance_at}
 use Rattle.slub_core.specs.Spots.{Ready, Leaving, Untied, beside_away, frees, in_plain}
 use Rattle.slub_core.specs.Placed.{owned, in_hands}
-use Rattle.slub_core.specs.Fresh.{IsRun, IsHeldRun, AreHands, AreHeld, IsAtWork, rising_next}
+use Rattle.slub_core.specs.Fresh.{IsHeldRun, AreHands, AreHeld, rising_next}
 use Rattle.slub_core.specs.Coherent.{Stands}
 use Rattle.slub_core.proofs.Apart.{word-inside}
 use Rattle.slub_core.proofs.Exists.{in_chain-here, hands-exist, owned-object}
@@ -35,7 +35,7 @@ use Rattle.slub_core.proofs.Loads.{held-object, freed-object}
 use Rattle.slub_core.proofs.Locks.{ComesTo}
 use Rattle.slub_core.proofs.Slots.{IsWordOf, pointer-word, word-word, word-frame, sized-fits}
 use Rattle.slub_core.proofs.Walks.{Leads-some, place_of, reached-at}
-use Rattle.slub_core.proofs.Words.{IsTable, memory-read}
+use Rattle.slub_core.proofs.Words.{memory-read}
 use Rattle.slub_core.proofs.WordSteps.{load, memory_store}
 
 -- ---- the words lie in memory

@@ -1,6 +1,6 @@
 -- Kinds 2, 5 and 8, spot by spot: the next of a CPU freelist, a word of an object and the slab word of an object are loaded.
-use Rattle.std.proofs.Common.{◌≡◌, ◌≢◌, ℕ, zero, suc, inl, inr, ◌+◌, ◌-◌, ◌*◌, ◌%◌, ◌^◌, ◌<◌, ◌≤◌, ◌==◌, ◌&&◌, not, true, false, cond, eqb, if◌then◌else◌, List, [], ◌∷◌, length, get_or, refl, sym, ap, ◌∙◌, subst, arith}
-use Rattle.std.proofs.lemmas.Bool.{cases_eq, cases_lt, eq-eqb, ne_eqb, le-ltb, cond_both}
+use Rattle.std.proofs.Common.{◌≡◌, ℕ, ◌-◌, ◌%◌, ◌^◌, ◌<◌, ◌≤◌, true, false, List, ◌∷◌, length, refl, sym, ◌∙◌, subst, arith}
+use Rattle.std.proofs.lemmas.Bool.{le-ltb, cond_both}
 use Rattle.std.proofs.lemmas.List.Elements.{All-head}
 use Rattle.slub_common.specs.Times.{times}
 use Rattle.slub_words.specs.declared.slab.SlabWord.{SlabWord}
@@ -9,10 +9,10 @@ use Rattle.slub_core.specs.declared.spot.Spot.{Spot}
 use Rattle.slub_core.specs.declared.spot.Spot.TheVariants.{Between, InAlloc, InFree, ReadWord}
 use Rattle.slub_core.specs.declared.spot.AllocSpot.TheVariants.{LoadNext, Pop}
 use Rattle.slub_core.specs.declared.spot.FreeSpot.TheVariants.{LoadSlab, LinkSlab, LockFree, LoadLocked, GoBack, LinkLocked}
-use Rattle.slub_core.specs.Setup.{Setup, pointer_at}
+use Rattle.slub_core.specs.Setup.{pointer_at}
 use Rattle.slub_core.specs.Words.{slab_in}
-use Rattle.slub_core.specs.World.{World, LockValue, pointer, exists_at, object_at, one_if, sum_below}
-use Rattle.slub_core.specs.Local.{Local, Worker, here, nobody, at}
+use Rattle.slub_core.specs.World.{World, pointer, exists_at, object_at}
+use Rattle.slub_core.specs.Local.{Worker, here, nobody, at}
 use Rattle.slub_core.specs.Alloc.{alloc_advance}
 use Rattle.slub_core.specs.Free.{free_advance, is_last_listed, way_of_slab, way_of_locked}
 use Rattle.slub_core.specs.Steps.{advance_at}

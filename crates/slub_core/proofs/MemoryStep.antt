@@ -1,5 +1,5 @@
 -- A step that changes a word of memory: a free pointer, or a word of a held object.
-use Rattle.std.proofs.Common.{◌≡◌, ◌≢◌, ℕ, suc, ◌+◌, ◌-◌, ◌*◌, ◌/◌, ◌%◌, ◌^◌, ◌<◌, ◌≤◌, ◌⊎◌, true, Option, Some, None, List, [], ◌∷◌, length, get_or, refl, sym, ap, ◌∙◌, subst, arith, inl, inr}
+use Rattle.std.proofs.Common.{◌≡◌, ◌≢◌, ℕ, ◌-◌, ◌/◌, ◌%◌, ◌^◌, ◌<◌, ◌≤◌, ◌⊎◌, true, Option, Some, None, List, [], ◌∷◌, length, get_or, refl, sym, ap, ◌∙◌, subst, arith, inl, inr}
 use Rattle.std.specs.Prelude.{All}
 use Rattle.std.proofs.lemmas.List.Elements.{All-cons, All-tail}
 use Rattle.slub_common.specs.Times.{times}
@@ -7,16 +7,16 @@ use Rattle.slub_words.specs.declared.cpu.CpuWord.{CpuWord}
 use Rattle.slub_core.specs.declared.local.FrameRun.{FrameRun}
 use Rattle.slub_core.specs.declared.local.Hand.{Hand}
 use Rattle.slub_core.specs.Setup.{IsSetup, pointer_at, hardened}
-use Rattle.slub_core.specs.World.{World, Chains, update, set_memory, pointer, exists_at, object_at, in_chain, IsChain}
-use Rattle.slub_core.specs.Local.{Local, Worker, here, nobody, run_of, run_in}
+use Rattle.slub_core.specs.World.{World, Chains, set_memory, pointer, exists_at, object_at, in_chain}
+use Rattle.slub_core.specs.Local.{Worker, here, nobody, run_of, run_in}
 use Rattle.slub_core.specs.Ops.{own_cpu}
 use Rattle.slub_core.specs.Spots.{Role, Taken, Ready, Loaded, Leaving, Untied, Popped, Kept, Loose, roles, frees, stored_in}
 use Rattle.slub_core.specs.Placed.{owned, in_hands, IsPlaced}
 use Rattle.slub_core.specs.Listed.{IsListed}
-use Rattle.slub_core.specs.Fresh.{LeadsFor, AreHeld, IsHeldRun, IsRun, IsAtWork, end_of}
+use Rattle.slub_core.specs.Fresh.{LeadsFor, AreHeld, IsHeldRun, IsAtWork, end_of}
 use Rattle.slub_core.specs.Coherent.{Stands}
 use Rattle.slub_core.proofs.Chains.{Leads-same}
-use Rattle.slub_core.proofs.Exists.{IsPlainObject, plain-object, in_chain-away, in_chain-here, own-exists, owned-object, hands-exist, chain-exists, exists-none, head-exists, head-slab, alone}
+use Rattle.slub_core.proofs.Exists.{plain-object, in_chain-here, own-exists, owned-object, hands-exist, chain-exists, exists-none, head-exists, head-slab, alone}
 use Rattle.slub_core.proofs.Frames.{shaped-memory, worded-memory}
 use Rattle.slub_core.proofs.LocalStep.{Settled, placed-settled, listed-settled}
 use Rattle.slub_core.proofs.Spots.{next-cpu, next-head, next-plain, linked_cpu-frees, linked_slab-frees, frees-plain}

@@ -18,7 +18,7 @@ use Rattle.slub_core.specs.Offline.{scanned_slab}
 use Rattle.slub_core.specs.Free.{is_last_listed}
 use Rattle.slub_core.specs.Steps.{is_outside}
 use Rattle.slub_core.specs.Listed.{IsSized, takes, home_of}
-use Rattle.slub_core.specs.Spots.{Role, Taken, Ready, Loaded, Leaving, Untied, Popped, Kept, Loose, roles, is_linked, is_walking, is_walked, is_emptied, least_string, may_string, has_run, stored_in, links_new, notes_cpu, is_fresh, takes_head, detaches, detaches_empty, installs, notes_next, pushes, notes_some, notes_none, notes_away, links_last, frees_open, frees_locked, has_freed_last, notes_kept, notes_scanned, notes_list, walks_string, links_string, pushes_string, scans, scans_next, links_cpu, links_slab, frees, uses, keeps, pokes, takes_board, awaits, in_checked, in_plain, doing}
+use Rattle.slub_core.specs.Spots.{Role, Taken, Ready, Loaded, Leaving, Untied, Popped, Kept, Loose, roles, is_linked, is_walking, is_walked, is_emptied, least_string, may_string, ends_string, has_run, stored_in, links_new, notes_cpu, is_fresh, takes_head, detaches, detaches_empty, installs, notes_next, pushes, notes_some, notes_none, notes_away, links_last, frees_open, frees_locked, has_freed_last, notes_kept, notes_scanned, notes_list, walks_string, links_string, pushes_string, scans, scans_next, links_cpu, links_slab, frees, uses, keeps, pokes, takes_board, awaits, in_checked, in_plain, doing}
 use Rattle.slub_core.specs.declared.call.CallKind.TheVariants.{Flush}
 
 -- ---- what it has noted, by itself
@@ -91,6 +91,11 @@ abbrev pub IsStringOf : Option PartialString → List ℕ → Type 0
 IsStringOf None frames = frames ≡ []
 IsStringOf (Some string) frames = IsCursor string frames
 
+-- a string of which the last slab is known to lead to nothing, where there is one
+abbrev pub IsEnded : Option PartialString → Type 0
+IsEnded None = Unit {0}
+IsEnded (Some string) = string.link ≡ Some 0
+
 -- ---- at its spot, by itself
 
 pub record IsAtSpot (m : Setup) (x : Worker) : Type 0 where
@@ -123,6 +128,7 @@ pub record IsAtSpot (m : Setup) (x : Worker) : Type 0 where
   pub least : least_string x.local.spot ≤ (string_of x.local).count
   pub before_end : walks_string x.local.spot ≡ true → (string_of x.local).place < (string_of x.local).count
   pub at_end : links_string x.local.spot ≡ true → (string_of x.local).place ≡ (string_of x.local).count
+  pub ended : ends_string x.local.spot ≡ true → IsEnded x.local.string
   pub linked : pushes_string x.local.spot ≡ true → (string_of x.local).link ≡ Some x.local.list_word.front
   -- a run in hand
   pub run : has_run x.local.spot ≡ true → IsSome x.local.run

@@ -217,6 +217,13 @@ may_string (InMoveSet PutTail move) = true
 may_string (InDiscard s (FromMove move)) = true
 may_string _ = false
 
+-- the last slab of the string in hand leads to nothing, as that of a list does
+abbrev pub ends_string : Spot → Bool
+ends_string (InAlloc FollowFront) = true
+ends_string (InMoveSet s move) = true
+ends_string (InDiscard s (FromMove move)) = true
+ends_string _ = false
+
 -- a run is in hand; at any other spot none is
 abbrev pub has_run : Spot → Bool
 has_run (InAlloc GivePool) = true

@@ -59,3 +59,5 @@ pub mod Onces
 pub mod LostWords
 pub mod Begin
 pub mod Kind8
+pub mod Tells
+pub mod Turns

@@ -10,21 +10,21 @@ use Rattle.slub_core.specs.declared.spot.PutOnList.{PutOnList}
 use Rattle.slub_core.specs.declared.spot.MoveSet.{MoveSet}
 use Rattle.slub_core.specs.declared.spot.Sweep.{Sweep}
 use Rattle.slub_core.specs.declared.spot.AllocSpot.{AllocSpot}
-use Rattle.slub_core.specs.declared.spot.AllocSpot.TheVariants.{LoadCpu, LoadNext, Pop, Detach, LockNode, GiveNode, LockPool, GivePool, GiveDry, LoadAgain, DetachOther, Install, PopNode, TakeRun}
+use Rattle.slub_core.specs.declared.spot.AllocSpot.TheVariants.{LoadCpu, LoadNext, Pop, Detach, LoadTaken, LoadKept, LockNode, LoadPopped, GiveNode, LockPool, GivePool, GiveDry, LinkNew, LoadReady, LoadAgain, DetachOther, Install, PopNode, TakeRun}
 use Rattle.slub_core.specs.declared.spot.PutAwaySpot.{PutAwaySpot}
-use Rattle.slub_core.specs.declared.spot.PutAwaySpot.TheVariants.{LockAway, GiveAway, PutNode}
+use Rattle.slub_core.specs.declared.spot.PutAwaySpot.TheVariants.{WalkChain, LockAway, LoadAway, LinkLast, GiveAway, PutNode}
 use Rattle.slub_core.specs.declared.spot.DiscardSpot.{DiscardSpot}
 use Rattle.slub_core.specs.declared.spot.DiscardSpot.TheVariants.{Unmake, LockDiscard, GiveDiscard, PutRun}
 use Rattle.slub_core.specs.declared.spot.PutOnListSpot.{PutOnListSpot}
 use Rattle.slub_core.specs.declared.spot.PutOnListSpot.TheVariants.{}
 use Rattle.slub_core.specs.declared.spot.FreeSpot.{FreeSpot}
-use Rattle.slub_core.specs.declared.spot.FreeSpot.TheVariants.{TakeBoard, LoadOwn, Push, LoadSlab, LockFree, LoadLocked, GoBack, GiveFree, TakeOff}
+use Rattle.slub_core.specs.declared.spot.FreeSpot.TheVariants.{TakeBoard, LoadOwn, LinkOwn, Push, LoadSlab, LinkSlab, LockFree, LoadLocked, GoBack, LinkLocked, GiveFree, TakeOff}
 use Rattle.slub_core.specs.declared.spot.MoveSetSpot.{MoveSetSpot}
-use Rattle.slub_core.specs.declared.spot.MoveSetSpot.TheVariants.{LockMove, GiveMove, ChooseFront, PutTail}
+use Rattle.slub_core.specs.declared.spot.MoveSetSpot.TheVariants.{LockMove, LoadMoved, GiveMove, ChooseFront, PutTail}
 use Rattle.slub_core.specs.declared.spot.OfflineSpot.{OfflineSpot}
 use Rattle.slub_core.specs.declared.spot.OfflineSpot.TheVariants.{LoadCurrent, DetachCurrent}
 use Rattle.slub_core.specs.declared.spot.TrimSpot.{TrimSpot}
-use Rattle.slub_core.specs.declared.spot.TrimSpot.TheVariants.{LockTrim, GiveTrim, ScanNode, DropScanned}
+use Rattle.slub_core.specs.declared.spot.TrimSpot.TheVariants.{LockTrim, LoadScanned, GiveTrim, ScanNode, DropScanned}
 use Rattle.slub_core.specs.declared.spot.CheckedSpot.{CheckedSpot}
 use Rattle.slub_core.specs.declared.spot.CheckedSpot.TheVariants.{LockChecked, LockRun, GiveRun, GiveChecked, DoChecked, MoveRun, AddSlab}
 use Rattle.slub_core.specs.declared.step.Place.TheVariants.{LockOf}
@@ -40,6 +40,8 @@ use Rattle.slub_core.proofs.WordSteps.{load}
 use Rattle.slub_core.proofs.LeadsLocks.{leads_LockNode, leads_LockPool, leads_LockAway, leads_LockDiscard, leads_LockFree, leads_LockMove, leads_LockTrim, leads_LockChecked, leads_LockRun, leads_GiveNode, leads_GivePool, leads_GiveDry, leads_GiveAway, leads_GiveDiscard, leads_GoBack, leads_GiveFree, leads_GiveMove, leads_GiveTrim, leads_GiveRun, leads_GiveChecked}
 use Rattle.slub_core.proofs.LeadsWords.{leads_LoadCpu, leads_LoadAgain, leads_LoadOwn, leads_LoadCurrent, leads_LoadNext, leads_ReadWord, leads_LoadSlab, leads_LoadLocked, leads_Unmake, leads_TakeBoard}
 use Rattle.slub_core.proofs.LeadsCpu.{leads_Pop, leads_Push, leads_Detach, leads_DetachOther, leads_DetachCurrent, leads_Install}
+use Rattle.slub_core.proofs.LeadsMemory.{leads_LoadReady, leads_WalkChain, leads_LinkOwn, leads_LinkSlab, leads_LinkLocked, leads_WriteWord, leads_LinkNew, leads_LinkLast}
+use Rattle.slub_core.proofs.LeadsHands.{leads_LoadTaken, leads_LoadKept, leads_LoadPopped, leads_LoadAway, leads_LoadMoved, leads_LoadScanned}
 
 -- ---- a spot that calls for no step
 
@@ -89,11 +91,16 @@ leads_alloc LoadCpu is = leads_LoadCpu
 leads_alloc LoadNext is = leads_LoadNext
 leads_alloc Pop is = leads_Pop
 leads_alloc Detach is = leads_Detach
+leads_alloc LoadTaken is = leads_LoadTaken
+leads_alloc LoadKept is = leads_LoadKept
 leads_alloc LockNode is = leads_LockNode
+leads_alloc LoadPopped is = leads_LoadPopped
 leads_alloc GiveNode is = leads_GiveNode
 leads_alloc LockPool is = leads_LockPool
 leads_alloc GivePool is = leads_GivePool
 leads_alloc GiveDry is = leads_GiveDry
+leads_alloc (LinkNew i) is = leads_LinkNew i
+leads_alloc LoadReady is = leads_LoadReady
 leads_alloc LoadAgain is = leads_LoadAgain
 leads_alloc DetachOther is = leads_DetachOther
 leads_alloc Install is = leads_Install
@@ -102,7 +109,10 @@ leads_alloc TakeRun is = rests_TakeRun
 leads_alloc _ is = absurd (false≢true is)
 
 leads_put_away : (s : PutAwaySpot) (away : Away) → covers_put_away s ≡ true → AtSpot (InPutAway s away)
+leads_put_away WalkChain away is = leads_WalkChain away
 leads_put_away LockAway away is = leads_LockAway away
+leads_put_away LoadAway away is = leads_LoadAway away
+leads_put_away LinkLast away is = leads_LinkLast away
 leads_put_away GiveAway away is = leads_GiveAway away
 leads_put_away PutNode away is = rests_PutNode away
 leads_put_away _ away is = absurd (false≢true is)
@@ -119,17 +129,21 @@ leads_put_on_list _ put is = absurd (false≢true is)
 leads_free : (s : FreeSpot) → covers_free s ≡ true → AtSpot (InFree s)
 leads_free TakeBoard is = leads_TakeBoard
 leads_free LoadOwn is = leads_LoadOwn
+leads_free LinkOwn is = leads_LinkOwn
 leads_free Push is = leads_Push
 leads_free LoadSlab is = leads_LoadSlab
+leads_free LinkSlab is = leads_LinkSlab
 leads_free LockFree is = leads_LockFree
 leads_free LoadLocked is = leads_LoadLocked
 leads_free GoBack is = leads_GoBack
+leads_free LinkLocked is = leads_LinkLocked
 leads_free GiveFree is = leads_GiveFree
 leads_free TakeOff is = rests_TakeOff
 leads_free _ is = absurd (false≢true is)
 
 leads_move_set : (s : MoveSetSpot) (move : MoveSet) → covers_move_set s ≡ true → AtSpot (InMoveSet s move)
 leads_move_set LockMove move is = leads_LockMove move
+leads_move_set LoadMoved move is = leads_LoadMoved move
 leads_move_set GiveMove move is = leads_GiveMove move
 leads_move_set ChooseFront move is = rests_ChooseFront move
 leads_move_set PutTail move is = rests_PutTail move
@@ -142,10 +156,10 @@ leads_offline _ sweep is = absurd (false≢true is)
 
 leads_trim : (s : TrimSpot) → covers_trim s ≡ true → AtSpot (InTrim s)
 leads_trim LockTrim is = leads_LockTrim
+leads_trim LoadScanned is = leads_LoadScanned
 leads_trim GiveTrim is = leads_GiveTrim
 leads_trim ScanNode is = rests_ScanNode
 leads_trim DropScanned is = rests_DropScanned
-leads_trim _ is = absurd (false≢true is)
 
 leads_checked : (s : CheckedSpot) (kind : CallKind) → covers_checked s ≡ true → AtSpot (InChecked s kind)
 leads_checked LockChecked kind is = leads_LockChecked kind
@@ -167,5 +181,5 @@ leads (InMoveSet s move) is = leads_move_set s move is
 leads (InOffline s sweep) is = leads_offline s sweep is
 leads (InTrim s) is = leads_trim s is
 leads (InChecked s kind) is = leads_checked s kind is
-leads WriteWord is = absurd (false≢true is)
+leads WriteWord is = leads_WriteWord
 leads ReadWord is = leads_ReadWord

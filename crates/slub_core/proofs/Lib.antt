@@ -54,6 +54,7 @@ pub mod LeadsLocks
 pub mod LeadsWords
 pub mod LeadsCpu
 pub mod LeadsMemory
+pub mod LeadsHands
 pub mod Dispatch
 pub mod Onces
 pub mod LostWords

@@ -5,21 +5,21 @@ use Rattle.slub_core.specs.declared.call.CallKind.TheVariants.{Alloc}
 use Rattle.slub_core.specs.declared.spot.Spot.{Spot}
 use Rattle.slub_core.specs.declared.spot.Spot.TheVariants.{Between, InAlloc, InPutAway, InDiscard, InPutOnList, InFree, InMoveSet, InOffline, InTrim, WriteWord, ReadWord, InChecked}
 use Rattle.slub_core.specs.declared.spot.AllocSpot.{AllocSpot}
-use Rattle.slub_core.specs.declared.spot.AllocSpot.TheVariants.{LoadCpu, LoadNext, Pop, Detach, LockNode, GiveNode, LockPool, GivePool, GiveDry, LoadAgain, DetachOther, Install, PopNode, TakeRun}
+use Rattle.slub_core.specs.declared.spot.AllocSpot.TheVariants.{LoadCpu, LoadNext, Pop, Detach, LoadTaken, LoadKept, LockNode, LoadPopped, GiveNode, LockPool, GivePool, GiveDry, LinkNew, LoadReady, LoadAgain, DetachOther, Install, PopNode, TakeRun}
 use Rattle.slub_core.specs.declared.spot.PutAwaySpot.{PutAwaySpot}
-use Rattle.slub_core.specs.declared.spot.PutAwaySpot.TheVariants.{LockAway, GiveAway, PutNode}
+use Rattle.slub_core.specs.declared.spot.PutAwaySpot.TheVariants.{WalkChain, LockAway, LoadAway, LinkLast, GiveAway, PutNode}
 use Rattle.slub_core.specs.declared.spot.DiscardSpot.{DiscardSpot}
 use Rattle.slub_core.specs.declared.spot.DiscardSpot.TheVariants.{Unmake, LockDiscard, GiveDiscard, PutRun}
 use Rattle.slub_core.specs.declared.spot.PutOnListSpot.{PutOnListSpot}
 use Rattle.slub_core.specs.declared.spot.PutOnListSpot.TheVariants.{}
 use Rattle.slub_core.specs.declared.spot.FreeSpot.{FreeSpot}
-use Rattle.slub_core.specs.declared.spot.FreeSpot.TheVariants.{TakeBoard, LoadOwn, Push, LoadSlab, LockFree, LoadLocked, GoBack, GiveFree, TakeOff}
+use Rattle.slub_core.specs.declared.spot.FreeSpot.TheVariants.{TakeBoard, LoadOwn, LinkOwn, Push, LoadSlab, LinkSlab, LockFree, LoadLocked, GoBack, LinkLocked, GiveFree, TakeOff}
 use Rattle.slub_core.specs.declared.spot.MoveSetSpot.{MoveSetSpot}
-use Rattle.slub_core.specs.declared.spot.MoveSetSpot.TheVariants.{LockMove, GiveMove, ChooseFront, PutTail}
+use Rattle.slub_core.specs.declared.spot.MoveSetSpot.TheVariants.{LockMove, LoadMoved, GiveMove, ChooseFront, PutTail}
 use Rattle.slub_core.specs.declared.spot.OfflineSpot.{OfflineSpot}
 use Rattle.slub_core.specs.declared.spot.OfflineSpot.TheVariants.{LoadCurrent, DetachCurrent}
 use Rattle.slub_core.specs.declared.spot.TrimSpot.{TrimSpot}
-use Rattle.slub_core.specs.declared.spot.TrimSpot.TheVariants.{LockTrim, GiveTrim, ScanNode, DropScanned}
+use Rattle.slub_core.specs.declared.spot.TrimSpot.TheVariants.{LockTrim, LoadScanned, GiveTrim, ScanNode, DropScanned}
 use Rattle.slub_core.specs.declared.spot.CheckedSpot.{CheckedSpot}
 use Rattle.slub_core.specs.declared.spot.CheckedSpot.TheVariants.{LockChecked, LockRun, GiveRun, GiveChecked, DoChecked, MoveRun, AddSlab}
 use Rattle.slub_core.specs.declared.step.Answer.{Answer}
@@ -38,11 +38,16 @@ covers_alloc LoadCpu = true
 covers_alloc LoadNext = true
 covers_alloc Pop = true
 covers_alloc Detach = true
+covers_alloc LoadTaken = true
+covers_alloc LoadKept = true
 covers_alloc LockNode = true
+covers_alloc LoadPopped = true
 covers_alloc GiveNode = true
 covers_alloc LockPool = true
 covers_alloc GivePool = true
 covers_alloc GiveDry = true
+covers_alloc (LinkNew i) = true
+covers_alloc LoadReady = true
 covers_alloc LoadAgain = true
 covers_alloc DetachOther = true
 covers_alloc Install = true
@@ -51,7 +56,10 @@ covers_alloc TakeRun = true
 covers_alloc _ = false
 
 abbrev pub covers_put_away : PutAwaySpot → Bool
+covers_put_away WalkChain = true
 covers_put_away LockAway = true
+covers_put_away LoadAway = true
+covers_put_away LinkLast = true
 covers_put_away GiveAway = true
 covers_put_away PutNode = true
 covers_put_away _ = false
@@ -68,17 +76,21 @@ covers_put_on_list _ = false
 abbrev pub covers_free : FreeSpot → Bool
 covers_free TakeBoard = true
 covers_free LoadOwn = true
+covers_free LinkOwn = true
 covers_free Push = true
 covers_free LoadSlab = true
+covers_free LinkSlab = true
 covers_free LockFree = true
 covers_free LoadLocked = true
 covers_free GoBack = true
+covers_free LinkLocked = true
 covers_free GiveFree = true
 covers_free TakeOff = true
 covers_free _ = false
 
 abbrev pub covers_move_set : MoveSetSpot → Bool
 covers_move_set LockMove = true
+covers_move_set LoadMoved = true
 covers_move_set GiveMove = true
 covers_move_set ChooseFront = true
 covers_move_set PutTail = true
@@ -91,10 +103,10 @@ covers_offline _ = false
 
 abbrev pub covers_trim : TrimSpot → Bool
 covers_trim LockTrim = true
+covers_trim LoadScanned = true
 covers_trim GiveTrim = true
 covers_trim ScanNode = true
 covers_trim DropScanned = true
-covers_trim _ = false
 
 abbrev pub covers_checked : CheckedSpot → Bool
 covers_checked LockChecked = true
@@ -117,19 +129,13 @@ covers (InMoveSet s move) = covers_move_set s
 covers (InOffline s sweep) = covers_offline s
 covers (InTrim s) = covers_trim s
 covers (InChecked s kind) = covers_checked s
-covers WriteWord = false
+covers WriteWord = true
 covers ReadWord = true
 
 -- ---- the spots whose changes at once it covers so far; at a spot that calls for a step nothing is done at once
 
 abbrev pub covers_once : Spot → Bool
-covers_once (InAlloc TakeRun) = false
-covers_once (InDiscard PutRun discard) = false
-covers_once (InFree TakeOff) = false
-covers_once (InTrim ScanNode) = false
-covers_once (InTrim DropScanned) = false
 covers_once (InChecked DoChecked kind) = false
-covers_once (InChecked MoveRun kind) = false
 covers_once (InChecked AddSlab kind) = false
 covers_once _ = true
 

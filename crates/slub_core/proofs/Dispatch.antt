@@ -10,7 +10,7 @@ use Rattle.slub_core.specs.declared.spot.PutOnList.{PutOnList}
 use Rattle.slub_core.specs.declared.spot.MoveSet.{MoveSet}
 use Rattle.slub_core.specs.declared.spot.Sweep.{Sweep}
 use Rattle.slub_core.specs.declared.spot.AllocSpot.{AllocSpot}
-use Rattle.slub_core.specs.declared.spot.AllocSpot.TheVariants.{LoadCpu, LoadNext, Pop, Detach, LoadTaken, LoadKept, LockNode, LoadPopped, GiveNode, LockPool, GivePool, GiveDry, LinkNew, LoadReady, LoadAgain, DetachOther, Install, PopNode, TakeRun}
+use Rattle.slub_core.specs.declared.spot.AllocSpot.TheVariants.{LoadCpu, LoadNext, Pop, Detach, LoadTaken, LoadKept, LockNode, LoadPopped, GiveNode, LockPool, GivePool, GiveDry, LinkNew, Make, LoadReady, LoadAgain, DetachOther, Install, PopNode, TakeRun}
 use Rattle.slub_core.specs.declared.spot.PutAwaySpot.{PutAwaySpot}
 use Rattle.slub_core.specs.declared.spot.PutAwaySpot.TheVariants.{WalkChain, LockAway, LoadAway, LinkLast, GiveAway, PutNode}
 use Rattle.slub_core.specs.declared.spot.DiscardSpot.{DiscardSpot}
@@ -42,6 +42,7 @@ use Rattle.slub_core.proofs.LeadsWords.{leads_LoadCpu, leads_LoadAgain, leads_Lo
 use Rattle.slub_core.proofs.LeadsCpu.{leads_Pop, leads_Push, leads_Detach, leads_DetachOther, leads_DetachCurrent, leads_Install}
 use Rattle.slub_core.proofs.LeadsMemory.{leads_LoadReady, leads_WalkChain, leads_LinkOwn, leads_LinkSlab, leads_LinkLocked, leads_WriteWord, leads_LinkNew, leads_LinkLast}
 use Rattle.slub_core.proofs.LeadsHands.{leads_LoadTaken, leads_LoadKept, leads_LoadPopped, leads_LoadAway, leads_LoadMoved, leads_LoadScanned}
+use Rattle.slub_core.proofs.LeadsMake.{leads_Make}
 
 -- ---- a spot that calls for no step
 
@@ -100,6 +101,7 @@ leads_alloc LockPool is = leads_LockPool
 leads_alloc GivePool is = leads_GivePool
 leads_alloc GiveDry is = leads_GiveDry
 leads_alloc (LinkNew i) is = leads_LinkNew i
+leads_alloc Make is = leads_Make
 leads_alloc LoadReady is = leads_LoadReady
 leads_alloc LoadAgain is = leads_LoadAgain
 leads_alloc DetachOther is = leads_DetachOther

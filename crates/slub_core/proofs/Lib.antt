@@ -55,6 +55,7 @@ pub mod LeadsWords
 pub mod LeadsCpu
 pub mod LeadsMemory
 pub mod LeadsHands
+pub mod LeadsMake
 pub mod Dispatch
 pub mod Onces
 pub mod LostWords

@@ -5,7 +5,7 @@ use Rattle.slub_core.specs.declared.call.CallKind.TheVariants.{Alloc}
 use Rattle.slub_core.specs.declared.spot.Spot.{Spot}
 use Rattle.slub_core.specs.declared.spot.Spot.TheVariants.{Between, InAlloc, InPutAway, InDiscard, InPutOnList, InFree, InMoveSet, InOffline, InTrim, WriteWord, ReadWord, InChecked}
 use Rattle.slub_core.specs.declared.spot.AllocSpot.{AllocSpot}
-use Rattle.slub_core.specs.declared.spot.AllocSpot.TheVariants.{LoadCpu, LoadNext, Pop, Detach, LoadTaken, LoadKept, LockNode, LoadPopped, GiveNode, LockPool, GivePool, GiveDry, LinkNew, LoadReady, LoadAgain, DetachOther, Install, PopNode, TakeRun}
+use Rattle.slub_core.specs.declared.spot.AllocSpot.TheVariants.{LoadCpu, LoadNext, Pop, Detach, LoadTaken, LoadKept, LockNode, LoadPopped, GiveNode, LockPool, GivePool, GiveDry, LinkNew, Make, LoadReady, LoadAgain, DetachOther, Install, PopNode, TakeRun}
 use Rattle.slub_core.specs.declared.spot.PutAwaySpot.{PutAwaySpot}
 use Rattle.slub_core.specs.declared.spot.PutAwaySpot.TheVariants.{WalkChain, LockAway, LoadAway, LinkLast, GiveAway, PutNode}
 use Rattle.slub_core.specs.declared.spot.DiscardSpot.{DiscardSpot}
@@ -47,6 +47,7 @@ covers_alloc LockPool = true
 covers_alloc GivePool = true
 covers_alloc GiveDry = true
 covers_alloc (LinkNew i) = true
+covers_alloc Make = true
 covers_alloc LoadReady = true
 covers_alloc LoadAgain = true
 covers_alloc DetachOther = true

@@ -7,6 +7,7 @@
 #![tactic(auto)]
 
 pub mod call;
+pub mod laws;
 pub mod local;
 pub mod spot;
 pub mod step;

@@ -31,14 +31,14 @@ use Rattle.slub_core.proofs.Locks.{ComesTo, HasSame, lent, give-node}
 
 -- ---- a free goes on with the slab that it has in hand, as a string of one
 
-single-cursor : (f : ℕ) → IsCursor (single_string f) (f ∷ [])
+pub single-cursor : (f : ℕ) → IsCursor (single_string f) (f ∷ [])
 single-cursor f = record { count = refl; place = (omega arith, omega arith); cursor = refl }
 
 alone-work : (w : World) (x : Worker) (h : Hand) → x.local.spot ≡ InMoveSet GiveMove ForFree → x.local.hands ≡ h ∷ [] → IsCursor (single_string h.frame) (h.frame ∷ []) → IsHeldString w x.local.cache (Some (single_string h.frame)) (h.frame ∷ [])
     → ((n : ℕ) → w.lock n ≡ suc x.local.worker) → IsAtWork w x → IsAtWork w (record x { local = record x.local { hands = []; string = Some (single_string h.frame); spot = InPutOnList LoadList OfFree }; chains = []; string = h.frame ∷ [] })
 alone-work w x h is one cursor held locks ok = grind arith
 
-alone-held : (w : World) (cache f : ℕ) → 1 ≤ f → IsKeptSlab (w.slab f) cache → IsHeldString w cache (Some (single_string f)) (f ∷ [])
+pub alone-held : (w : World) (cache f : ℕ) → 1 ≤ f → IsKeptSlab (w.slab f) cache → IsHeldString w cache (Some (single_string f)) (f ∷ [])
 alone-held w cache f real kept = (
   (refl, tt),
   tt,

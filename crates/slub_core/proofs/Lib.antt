@@ -63,3 +63,4 @@ pub mod Begin
 pub mod Kind8
 pub mod Tells
 pub mod Turns
+pub mod Kind27

@@ -64,3 +64,4 @@ pub mod Kind8
 pub mod Tells
 pub mod Turns
 pub mod Kind27
+pub mod Kind25

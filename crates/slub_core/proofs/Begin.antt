@@ -69,13 +69,13 @@ free_checked-work : (w : World) (x : Worker) (cache cpu place : ℕ) → x.local
     → (get_or x.local.known place nobody).held ≡ true → (get_or x.local.known place nobody).cache ≡ cache → IsAtWork w x → IsAtWork w (record x { local = begins x.local (InChecked LockChecked Free) cache cpu place })
 free_checked-work w x cache cpu place is below checked inside number held owner ok = grind arith
 
-write_checked-work : (w : World) (x : Worker) (cache cpu place : ℕ) → x.local.spot ≡ Between → cpu < w.setup.cpus → IsChecked w.setup cache → place < length x.local.known → (get_or x.local.known place nobody).object < w.setup.objects
+write_checked-work : (w : World) (x : Worker) (cache cpu place : ℕ) → x.local.spot ≡ Between → is_outside (w.setup.layout cache) (call_of x.local) ≡ false → cpu < w.setup.cpus → IsChecked w.setup cache → place < length x.local.known → (get_or x.local.known place nobody).object < w.setup.objects
     → (get_or x.local.known place nobody).held ≡ true → (get_or x.local.known place nobody).cache ≡ cache → IsAtWork w x → IsAtWork w (record x { local = begins x.local (InChecked LockChecked Write) cache cpu place })
-write_checked-work w x cache cpu place is below checked inside number held owner ok = grind arith
+write_checked-work w x cache cpu place is within below checked inside number held owner ok = grind arith
 
-read_checked-work : (w : World) (x : Worker) (cache cpu place : ℕ) → x.local.spot ≡ Between → cpu < w.setup.cpus → IsChecked w.setup cache → place < length x.local.known → (get_or x.local.known place nobody).object < w.setup.objects
+read_checked-work : (w : World) (x : Worker) (cache cpu place : ℕ) → x.local.spot ≡ Between → is_outside (w.setup.layout cache) (call_of x.local) ≡ false → cpu < w.setup.cpus → IsChecked w.setup cache → place < length x.local.known → (get_or x.local.known place nobody).object < w.setup.objects
     → (get_or x.local.known place nobody).held ≡ true → (get_or x.local.known place nobody).cache ≡ cache → IsAtWork w x → IsAtWork w (record x { local = begins x.local (InChecked LockChecked Read) cache cpu place })
-read_checked-work w x cache cpu place is below checked inside number held owner ok = grind arith
+read_checked-work w x cache cpu place is within below checked inside number held owner ok = grind arith
 
 poke-work : (w : World) (x : Worker) (cache cpu place : ℕ) → x.local.spot ≡ Between → cpu < w.setup.cpus → IsChecked w.setup cache → place < length x.local.known → (get_or x.local.known place nobody).object < w.setup.objects
     → (get_or x.local.known place nobody).cache ≡ cache → IsAtWork w x → IsAtWork w (record x { local = begins x.local (InChecked LockChecked Poke) cache cpu place })
@@ -175,7 +175,7 @@ begins_by w x others call Write e first is s may none =
           let within = not_outside (is_outside (w.setup.layout k) call) (rw h at none) in
           elim (cases_Bool (w.setup.checks k)) [
             | inl c ↦ rw c (goes-on w x others (InChecked LockChecked Write) k call.cpu call.place is s (λ f. refl) (λ n. refl)
-                (write_checked-work w x k call.cpu call.place is may.cpu (checked-of w.setup k live c) may.place number h refl ok))
+                (write_checked-work w x k call.cpu call.place is (rw first within) may.cpu (checked-of w.setup k live c) may.place number h refl ok))
             | inr c ↦ rw c (goes-on w x others WriteWord k call.cpu call.place is s (λ f. refl) (λ n. refl)
                 (write-work w x k call.cpu call.place is (rw first within) may.cpu (plain-of w.setup k live c) may.place number h refl ok))
           ]
@@ -191,7 +191,7 @@ begins_by w x others call Read e first is s may none =
           let within = not_outside (is_outside (w.setup.layout k) call) (rw h at none) in
           elim (cases_Bool (w.setup.checks k)) [
             | inl c ↦ rw c (goes-on w x others (InChecked LockChecked Read) k call.cpu call.place is s (λ f. refl) (λ n. refl)
-                (read_checked-work w x k call.cpu call.place is may.cpu (checked-of w.setup k live c) may.place number h refl ok))
+                (read_checked-work w x k call.cpu call.place is (rw first within) may.cpu (checked-of w.setup k live c) may.place number h refl ok))
             | inr c ↦ rw c (goes-on w x others ReadWord k call.cpu call.place is s (λ f. refl) (λ n. refl)
                 (read-work w x k call.cpu call.place is (rw first within) may.cpu (plain-of w.setup k live c) may.place number h refl ok))
           ]

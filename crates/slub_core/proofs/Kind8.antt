@@ -183,13 +183,13 @@ at_LoadAway w x others away word is there s =
         let used : length (chain_of x) ≤ v.inuse = let c = chain_in_use w x others h hs xs xss s first chain real in rw chain (subst (λ (u : SlabWord). length xs ≤ u.inuse) here c) in
         let now : AreHands (Leaving ∷ beside_away away) x.local.hands x.chains = rw (first, chain) hands in
         cond_both ((hand_of x.local).head == 0) (InPutAway Unfreeze away) (InPutAway LinkLast away) (λ spot. Stands w (with_slab x v spot ∷ others))
-            (λ e.
-                let none = eqb-true (hand_of x.local).head 0 e in
-                let none' : h.head ≡ 0 = rw first at none in
-                let led = no-chain (pointer w x.local.cache h.frame) h.head xs held.0.0 none' held.0.1 in
-                let held' : AreHeld w x.local.cache (Leaving ∷ beside_away away) x.local.hands x.chains (cond (not ((hand_of x.local).head == 0)) v.head 0) = rw e (rw (first, chain) (led, held.1, held.2, held.3)) in
-                local_step w x _ others s (λ f i. refl) (record { home = λ f. refl; marked = λ f. rw is refl; covered = λ g. refl; takes = λ k. rw is refl }) (unfreeze-work w x v away is packed none used now held' ok))
-            (λ e. local_step w x _ others s (λ f i. refl) (record { home = λ f. refl; marked = λ f. rw is refl; covered = λ g. refl; takes = λ k. rw is refl }) (link-work w x v away is packed (let d = eqb-false (hand_of x.local).head 0 e in omega (arith, d)) used ok))
+        (λ e.
+        let none = eqb-true (hand_of x.local).head 0 e in
+        let none' : h.head ≡ 0 = rw first at none in
+        let led = no-chain (pointer w x.local.cache h.frame) h.head xs held.0.0 none' held.0.1 in
+        let held' : AreHeld w x.local.cache (Leaving ∷ beside_away away) x.local.hands x.chains (cond (not ((hand_of x.local).head == 0)) v.head 0) = rw e (rw (first, chain) (led, held.1, held.2, held.3)) in
+        local_step w x _ others s (λ f i. refl) (record { home = λ f. refl; marked = λ f. rw is refl; covered = λ g. refl; takes = λ k. rw is refl }) (unfreeze-work w x v away is packed none used now held' ok))
+        (λ e. local_step w x _ others s (λ f i. refl) (record { home = λ f. refl; marked = λ f. rw is refl; covered = λ g. refl; takes = λ k. rw is refl }) (link-work w x v away is packed (let d = eqb-false (hand_of x.local).head 0 e in omega (arith, d)) used ok))
 
 -- ---- a set that is moved
 
@@ -224,18 +224,18 @@ at_LoadMoved w x others move word is there s =
         let here : w.slab h.frame ≡ v = rw first at there in
         let live = hand-live w x others h hs s first real in
         cond_both ((v.inuse == 0) && has_enough w.setup w.value x.local) (InDiscard Unmake (FromMove move)) (InMoveSet ListSlab move) (λ spot. Stands w (with_slab x v spot ∷ others))
-            (λ e.
-                let none = eqb-true v.inuse 0 (and_parts (v.inuse == 0) (has_enough w.setup w.value x.local) e).0 in
-                let empty : IsEmptied (w.slab (hand_of x.local).frame) (record x.local { slab_word = v; spot = InDiscard Unmake (FromMove move) }) = rw first (record {
-                  none = ap (λ (u : SlabWord). u.inuse) here ∙ none;
-                  objects = ap (λ (u : SlabWord). u.objects) here;
-                  some = live;
-                  cache = held.1;
-                }) in
-                local_step w x _ others s (λ f i. refl) (record { home = λ f. refl; marked = λ f. rw is refl; covered = λ g. refl; takes = λ k. rw is refl })
-                    (unmake-work w x v move is packed (rw (first, chain) hands) (rw (first, chain) (held.0, held.1, (held.2.0, held.2.2), held.3)) empty ok))
-            (λ e. local_step w x _ others s (λ f i. refl) (record { home = λ f. refl; marked = λ f. rw is refl; covered = λ g. refl; takes = λ k. rw is refl })
-                (list-work w x v move is packed (subst (λ (u : SlabWord). (u.frozen ≡ false) × (u.listed ≡ false) × (1 ≤ u.head)) here held.2) ok))
+        (λ e.
+        let none = eqb-true v.inuse 0 (and_parts (v.inuse == 0) (has_enough w.setup w.value x.local) e).0 in
+        let empty : IsEmptied (w.slab (hand_of x.local).frame) (record x.local { slab_word = v; spot = InDiscard Unmake (FromMove move) }) = rw first (record {
+          none = ap (λ (u : SlabWord). u.inuse) here ∙ none;
+          objects = ap (λ (u : SlabWord). u.objects) here;
+          some = live;
+          cache = held.1;
+        }) in
+        local_step w x _ others s (λ f i. refl) (record { home = λ f. refl; marked = λ f. rw is refl; covered = λ g. refl; takes = λ k. rw is refl })
+        (unmake-work w x v move is packed (rw (first, chain) hands) (rw (first, chain) (held.0, held.1, (held.2.0, held.2.2), held.3)) empty ok))
+        (λ e. local_step w x _ others s (λ f i. refl) (record { home = λ f. refl; marked = λ f. rw is refl; covered = λ g. refl; takes = λ k. rw is refl })
+        (list-work w x v move is packed (subst (λ (u : SlabWord). (u.frozen ≡ false) × (u.listed ≡ false) × (1 ≤ u.head)) here held.2) ok))
 
 -- ---- the scan of a trim
 

@@ -48,6 +48,7 @@ pub mod NodePuts
 pub mod NodeTakes
 pub mod Pools
 pub mod PoolSpots
+pub mod CheckedBytes
 pub mod GiveMove
 pub mod Leads
 pub mod LeadsLocks

@@ -59,12 +59,12 @@ use Rattle.slub_core.specs.Free.{free_advance, free_at_once, board_taken, way_of
 use Rattle.slub_core.specs.MoveSet.{move_set_advance, move_set_at_once, after_move}
 use Rattle.slub_core.specs.Offline.{offline_advance, trim_advance, trim_at_once, scan_node, next_swept, list_swept, flushed_cache}
 use Rattle.slub_core.specs.Checked.{checked_advance, checked_at_once, do_checked, gave, took_back, taken_back, is_spare, poked_reply, slab_added, slab_refused, move_run, way_of_found, slabs_of, slot_of}
-use Rattle.slub_core.specs.Spots.{uses}
+use Rattle.slub_core.specs.Spots.{uses_word}
 use Rattle.slub_core.specs.Steps.{advance_at, at_once}
 
 -- without a reply, or at a spot without such a word
 abbrev pub Quiet : Option Reply → Spot → Type 0
-Quiet reply spot = (reply ≡ None) ⊎ (uses spot ≡ false)
+Quiet reply spot = (reply ≡ None) ⊎ (uses_word spot ≡ false)
 
 abbrev pub Tells : Turn → Type 0
 Tells turn = Quiet turn.reply turn.local.spot
@@ -74,11 +74,11 @@ Quits c = Quiet c.reply c.local.spot
 
 -- ---- ways
 
-if-unused : (b : Bool) (s t : Spot) → uses s ≡ false → uses t ≡ false → uses (if b then s else t) ≡ false
+if-unused : (b : Bool) (s t : Spot) → uses_word s ≡ false → uses_word t ≡ false → uses_word (if b then s else t) ≡ false
 if-unused true s t a c = a
 if-unused false s t a c = c
 
-away-unused : (h : Hand) (away : Away) → uses (way_of_away h away) ≡ false
+away-unused : (h : Hand) (away : Away) → uses_word (way_of_away h away) ≡ false
 away-unused h away = if-unused ((h.head == 0) || h.walked) _ _ refl refl
 
 word-tells : (m : Setup) (fast : Bool) (l : Local) (c : CpuWord) → l.spot ≡ way_of_word m fast c → Quiet (told_of_word m fast c) l.spot
@@ -91,7 +91,7 @@ board-tells : (m : Setup) (l : Local) (b : Option BoardWord) → Tells (board_ta
 board-tells m l None = inr refl
 board-tells m l (Some b) = inl refl
 
-freed-unused : (s : SlabWord) → uses (way_of_freed s) ≡ false
+freed-unused : (s : SlabWord) → uses_word (way_of_freed s) ≡ false
 freed-unused s = if-unused (was_full s) _ _ refl refl
 
 next-tells : (m : Setup) (l : Local) (sweep : Sweep) → Tells (next_swept m l sweep)
@@ -245,15 +245,15 @@ pop-quits m value l (frame ∷ frames) = inl (either (asks_for_another m l))
     either true = refl
     either false = refl
 
-run-quits : (value : ℕ → LockValue) (pool : FreeFrames) (layout : Layout) (l : Local) (run : Option FrameRun) → uses l.spot ≡ false → Quits (run_taken value pool layout l run)
+run-quits : (value : ℕ → LockValue) (pool : FreeFrames) (layout : Layout) (l : Local) (run : Option FrameRun) → uses_word l.spot ≡ false → Quits (run_taken value pool layout l run)
 run-quits value pool layout l None e = inr e
 run-quits value pool layout l (Some run) e = inl refl
 
-way-unused : (run : Option FrameRun) → uses (way_of_run run) ≡ false
+way-unused : (run : Option FrameRun) → uses_word (way_of_run run) ≡ false
 way-unused None = refl
 way-unused (Some run) = refl
 
-found-unused : (run : Option FrameRun) → uses (way_of_found run) ≡ false
+found-unused : (run : Option FrameRun) → uses_word (way_of_found run) ≡ false
 found-unused None = refl
 found-unused (Some run) = refl
 

@@ -15,7 +15,7 @@ use Rattle.slub_core.specs.World.{World, LockValue, world_from, world_of}
 use Rattle.slub_core.specs.Local.{Local, Worker, nobody, answered, noted}
 use Rattle.slub_core.specs.Steps.{step_of, advance_at, advance_of, at_once, told, changed, settled, told_at_once, or_step, rested_with, rested_at, rested, begun}
 use Rattle.slub_core.specs.Run.{System, Pick, idle, after_step, turn, run}
-use Rattle.slub_core.specs.Spots.{uses}
+use Rattle.slub_core.specs.Spots.{uses_word}
 use Rattle.slub_core.specs.Fresh.{IsAtWork}
 use Rattle.slub_core.specs.Coherent.{Stands}
 use Rattle.slub_core.specs.Law.{covers, covers_once, AreCovered, TakesStep, IsRested, IsStanding, MayBeginFirst, MayTurn, MayRun, TurnsKeepAll, StandsAlong, RunsKeepAll, answer_to}
@@ -31,15 +31,15 @@ use Rattle.slub_core.proofs.Tells.{Quiet, turn-tells, change-quits}
 -- ---- replies
 
 -- the facts of the machine do not read what a worker was answered
-answered-work : (w : World) (x : Worker) (r : Reply) → uses x.local.spot ≡ false → IsAtWork w x → IsAtWork w (record x { local = answered x.local r })
+answered-work : (w : World) (x : Worker) (r : Reply) → uses_word x.local.spot ≡ false → IsAtWork w x → IsAtWork w (record x { local = answered x.local r })
 answered-work w x r away ok = grind arith
 
-answered-comes : (w : World) (others : List Worker) (l : Local) (r : Reply) → uses l.spot ≡ false → ComesTo w others l → ComesTo w others (answered l r)
+answered-comes : (w : World) (others : List Worker) (l : Local) (r : Reply) → uses_word l.spot ≡ false → ComesTo w others l → ComesTo w others (answered l r)
 answered-comes w others l r away (z, e, s) = (
   record z { local = answered z.local r },
   ap (λ l. answered l r) e,
   local_step w z _ others s (λ f i. refl) (record { home = λ f. refl; marked = λ f. refl; covered = λ g. refl; takes = λ n. refl })
-      (answered-work w z r (ap (λ l. uses l.spot) e ∙ away) (All-head (IsAtWork w) z others s.fresh.workers)),
+      (answered-work w z r (ap (λ l. uses_word l.spot) e ∙ away) (All-head (IsAtWork w) z others s.fresh.workers)),
 )
 
 pub noted-comes : (w : World) (others : List Worker) (l : Local) (r : Option Reply) → Quiet r l.spot → ComesTo w others l → ComesTo w others (noted l r)

@@ -417,6 +417,16 @@ uses WriteWord = true
 uses ReadWord = true
 uses _ = false
 
+-- the word that is written or read lies in the object
+abbrev pub uses_word : Spot → Bool
+uses_word WriteWord = true
+uses_word ReadWord = true
+uses_word (InChecked LockChecked Write) = true
+uses_word (InChecked LockChecked Read) = true
+uses_word (InChecked DoChecked Write) = true
+uses_word (InChecked DoChecked Read) = true
+uses_word _ = false
+
 -- an object of a checked cache is held, and freed, written or read
 abbrev pub keeps_kind : CallKind → Bool
 keeps_kind Free = true

@@ -1,6 +1,9 @@
 pub mod Update
 pub mod Lists
 pub mod Counts
+pub mod TaleKnowns
+pub mod TaleStep
+pub mod TaleQuiet
 pub mod Spots
 pub mod Homes
 pub mod Frames

@@ -9,7 +9,7 @@ use Rattle.slub_core.specs.declared.local.Answered.{Answered}
 use Rattle.slub_core.specs.Setup.{Setup}
 use Rattle.slub_core.specs.World.{World, content, pool_of}
 use Rattle.slub_core.specs.Local.{Local, Worker, nobody, here, call_of, address_in}
-use Rattle.slub_core.specs.Spots.{doing, frees}
+use Rattle.slub_core.specs.Spots.{doing, frees, is_freeing}
 use Rattle.slub_core.specs.Replies.{one_if, given_in, freed_in, asked_in, dry_in, holding, knows, address_by, address_on, cache_by, last_wrote, is_alloc, Public, Caused}
 
 -- ---- what a worker knows, by object number
@@ -83,8 +83,8 @@ NamesCache l kind = Unit {0}
 pub record IsTold (m : Setup) (before : ℕ → Option BoardWord) (p : Public) (l : Local) : Type 0 where
   pub caused : Caused m before p l.done
   -- what it holds it was given, or took from the board and answered Corrupt or is freeing
-  pub holds : (o : ℕ) → (doing l.spot ≡ Some Free → o ≡ (here l).object → ⊥) → (known_of l.known o).held ≡ holding l.done o
-  pub source : doing l.spot ≡ Some Free → (here l).held ≡ true → (holding l.done (here l).object ≡ true) ⊎ (address_on m (before (here l).object) ≡ Some (address_in m (here l)))
+  pub holds : (o : ℕ) → (is_freeing l.spot ≡ true → o ≡ (here l).object → ⊥) → (known_of l.known o).held ≡ holding l.done o
+  pub source : is_freeing l.spot ≡ true → (holding l.done (here l).object ≡ true) ⊎ (address_on m (before (here l).object) ≡ Some (address_in m (here l)))
   -- what it knows is where the replies and the board before say
   pub address : (o : ℕ) → (known_of l.known o).held ≡ true → address_by m before l.done o ≡ Some (address_in m (known_of l.known o))
   pub cache : (o : ℕ) → (known_of l.known o).held ≡ true → cache_by before l.done o ≡ Some (known_of l.known o).cache

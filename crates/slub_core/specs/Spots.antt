@@ -411,6 +411,12 @@ frees (InFree LinkLocked) = true
 frees (InFree FreeLocked) = true
 frees _ = false
 
+-- the same, of an object of an unchecked or of a checked cache
+abbrev pub is_freeing : Spot → Bool
+is_freeing (InChecked LockChecked Free) = true
+is_freeing (InChecked DoChecked Free) = true
+is_freeing s = frees s
+
 -- it is held, and written or read
 abbrev pub uses : Spot → Bool
 uses WriteWord = true

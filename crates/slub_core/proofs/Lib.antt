@@ -52,6 +52,8 @@ pub mod NodeTakes
 pub mod Pools
 pub mod PoolSpots
 pub mod CheckedBytes
+pub mod CheckedStep
+pub mod CheckedSpots
 pub mod GiveMove
 pub mod Leads
 pub mod LeadsLocks

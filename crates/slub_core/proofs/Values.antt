@@ -84,10 +84,10 @@ checked-value m n f (Pool pool) g some = absurd (omega arith)
 checked-value m n f (Checked slabs) g some = (g.0, slabs, refl, g.1, g.2, g.3, g.4)
 
 -- where a slab has no word, its cache is checked
-unworded-cache : (w : World) (f : ℕ) → (w.slab f).objects ≡ 0 → cache_at w f ≡ cache_in_values w.value w.setup.locks f
+pub unworded-cache : (w : World) (f : ℕ) → (w.slab f).objects ≡ 0 → cache_at w f ≡ cache_in_values w.value w.setup.locks f
 unworded-cache w f none = rw none refl
 
-unworded-objects : (w : World) (f : ℕ) → (w.slab f).objects ≡ 0 → objects_at w f ≡ objects_in_values w.value w.setup.locks f
+pub unworded-objects : (w : World) (f : ℕ) → (w.slab f).objects ≡ 0 → objects_at w f ≡ objects_in_values w.value w.setup.locks f
 unworded-objects w f none = rw none refl
 
 pub checked-cache : (w : World) (y : Chains) (f : ℕ) → IsShaped w y → (w.slab f).objects ≡ 0 → 1 ≤ objects_at w f → (cache : ℕ) × (cache_at w f ≡ cache) × (w.setup.lives cache ≡ true) × (w.setup.checks cache ≡ true)

@@ -10,17 +10,17 @@ use Rattle.slub_core.specs.declared.spot.PutOnList.{PutOnList}
 use Rattle.slub_core.specs.declared.spot.MoveSet.{MoveSet}
 use Rattle.slub_core.specs.declared.spot.Sweep.{Sweep}
 use Rattle.slub_core.specs.declared.spot.AllocSpot.{AllocSpot}
-use Rattle.slub_core.specs.declared.spot.AllocSpot.TheVariants.{LoadCpu, LoadNext, Pop, Detach, LoadTaken, LoadKept, LockNode, LoadPopped, GiveNode, LockPool, GivePool, GiveDry, LinkNew, Make, LoadReady, LoadAgain, DetachOther, Install, PopNode, TakeRun}
+use Rattle.slub_core.specs.declared.spot.AllocSpot.TheVariants.{LoadCpu, LoadNext, Pop, Detach, LoadTaken, FollowFront, LoadKept, LockNode, LoadPopped, GiveNode, LockPool, GivePool, GiveDry, LinkNew, Make, LoadReady, LoadAgain, DetachOther, Install, PopNode, TakeRun}
 use Rattle.slub_core.specs.declared.spot.PutAwaySpot.{PutAwaySpot}
 use Rattle.slub_core.specs.declared.spot.PutAwaySpot.TheVariants.{WalkChain, LockAway, LoadAway, LinkLast, GiveAway, PutNode}
 use Rattle.slub_core.specs.declared.spot.DiscardSpot.{DiscardSpot}
 use Rattle.slub_core.specs.declared.spot.DiscardSpot.TheVariants.{Unmake, LockDiscard, GiveDiscard, PutRun}
 use Rattle.slub_core.specs.declared.spot.PutOnListSpot.{PutOnListSpot}
-use Rattle.slub_core.specs.declared.spot.PutOnListSpot.TheVariants.{}
+use Rattle.slub_core.specs.declared.spot.PutOnListSpot.TheVariants.{LoadList, WalkString}
 use Rattle.slub_core.specs.declared.spot.FreeSpot.{FreeSpot}
-use Rattle.slub_core.specs.declared.spot.FreeSpot.TheVariants.{TakeBoard, LoadOwn, LinkOwn, Push, LoadSlab, LinkSlab, LockFree, LoadLocked, GoBack, LinkLocked, GiveFree, TakeOff}
+use Rattle.slub_core.specs.declared.spot.FreeSpot.TheVariants.{TakeBoard, LoadOwn, LinkOwn, Push, LoadSlab, LinkSlab, LockFree, LoadLocked, GoBack, LinkLocked, GiveFree, LoadCount, TakeOff}
 use Rattle.slub_core.specs.declared.spot.MoveSetSpot.{MoveSetSpot}
-use Rattle.slub_core.specs.declared.spot.MoveSetSpot.TheVariants.{LockMove, LoadMoved, GiveMove, ChooseFront, PutTail}
+use Rattle.slub_core.specs.declared.spot.MoveSetSpot.TheVariants.{LockMove, FollowSet, LoadMoved, GiveMove, ChooseFront, PutTail}
 use Rattle.slub_core.specs.declared.spot.OfflineSpot.{OfflineSpot}
 use Rattle.slub_core.specs.declared.spot.OfflineSpot.TheVariants.{LoadCurrent, DetachCurrent}
 use Rattle.slub_core.specs.declared.spot.TrimSpot.{TrimSpot}
@@ -43,6 +43,7 @@ use Rattle.slub_core.proofs.LeadsCpu.{leads_Pop, leads_Push, leads_Detach, leads
 use Rattle.slub_core.proofs.LeadsMemory.{leads_LoadReady, leads_WalkChain, leads_LinkOwn, leads_LinkSlab, leads_LinkLocked, leads_WriteWord, leads_LinkNew, leads_LinkLast}
 use Rattle.slub_core.proofs.LeadsHands.{leads_LoadTaken, leads_LoadKept, leads_LoadPopped, leads_LoadAway, leads_LoadMoved, leads_LoadScanned}
 use Rattle.slub_core.proofs.LeadsMake.{leads_Make}
+use Rattle.slub_core.proofs.LeadsStrings.{leads_LoadList, leads_LoadCount, leads_FollowFront, leads_FollowSet, leads_WalkString}
 
 -- ---- a spot that calls for no step
 
@@ -93,6 +94,7 @@ leads_alloc LoadNext is = leads_LoadNext
 leads_alloc Pop is = leads_Pop
 leads_alloc Detach is = leads_Detach
 leads_alloc LoadTaken is = leads_LoadTaken
+leads_alloc FollowFront is = leads_FollowFront
 leads_alloc LoadKept is = leads_LoadKept
 leads_alloc LockNode is = leads_LockNode
 leads_alloc LoadPopped is = leads_LoadPopped
@@ -126,6 +128,8 @@ leads_discard GiveDiscard discard is = leads_GiveDiscard discard
 leads_discard PutRun discard is = rests_PutRun discard
 
 leads_put_on_list : (s : PutOnListSpot) (put : PutOnList) → covers_put_on_list s ≡ true → AtSpot (InPutOnList s put)
+leads_put_on_list LoadList put is = leads_LoadList put
+leads_put_on_list WalkString put is = leads_WalkString put
 leads_put_on_list _ put is = absurd (false≢true is)
 
 leads_free : (s : FreeSpot) → covers_free s ≡ true → AtSpot (InFree s)
@@ -140,11 +144,13 @@ leads_free LoadLocked is = leads_LoadLocked
 leads_free GoBack is = leads_GoBack
 leads_free LinkLocked is = leads_LinkLocked
 leads_free GiveFree is = leads_GiveFree
+leads_free LoadCount is = leads_LoadCount
 leads_free TakeOff is = rests_TakeOff
 leads_free _ is = absurd (false≢true is)
 
 leads_move_set : (s : MoveSetSpot) (move : MoveSet) → covers_move_set s ≡ true → AtSpot (InMoveSet s move)
 leads_move_set LockMove move is = leads_LockMove move
+leads_move_set FollowSet move is = leads_FollowSet move
 leads_move_set LoadMoved move is = leads_LoadMoved move
 leads_move_set GiveMove move is = leads_GiveMove move
 leads_move_set ChooseFront move is = rests_ChooseFront move

@@ -62,6 +62,7 @@ pub mod LeadsCpu
 pub mod LeadsMemory
 pub mod LeadsHands
 pub mod LeadsMake
+pub mod LeadsStrings
 pub mod Dispatch
 pub mod Onces
 pub mod LostWords

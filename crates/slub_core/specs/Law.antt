@@ -5,17 +5,17 @@ use Rattle.slub_core.specs.declared.call.CallKind.TheVariants.{Alloc}
 use Rattle.slub_core.specs.declared.spot.Spot.{Spot}
 use Rattle.slub_core.specs.declared.spot.Spot.TheVariants.{Between, InAlloc, InPutAway, InDiscard, InPutOnList, InFree, InMoveSet, InOffline, InTrim, WriteWord, ReadWord, InChecked}
 use Rattle.slub_core.specs.declared.spot.AllocSpot.{AllocSpot}
-use Rattle.slub_core.specs.declared.spot.AllocSpot.TheVariants.{LoadCpu, LoadNext, Pop, Detach, LoadTaken, LoadKept, LockNode, LoadPopped, GiveNode, LockPool, GivePool, GiveDry, LinkNew, Make, LoadReady, LoadAgain, DetachOther, Install, PopNode, TakeRun}
+use Rattle.slub_core.specs.declared.spot.AllocSpot.TheVariants.{LoadCpu, LoadNext, Pop, Detach, LoadTaken, FollowFront, LoadKept, LockNode, LoadPopped, GiveNode, LockPool, GivePool, GiveDry, LinkNew, Make, LoadReady, LoadAgain, DetachOther, Install, PopNode, TakeRun}
 use Rattle.slub_core.specs.declared.spot.PutAwaySpot.{PutAwaySpot}
 use Rattle.slub_core.specs.declared.spot.PutAwaySpot.TheVariants.{WalkChain, LockAway, LoadAway, LinkLast, GiveAway, PutNode}
 use Rattle.slub_core.specs.declared.spot.DiscardSpot.{DiscardSpot}
 use Rattle.slub_core.specs.declared.spot.DiscardSpot.TheVariants.{Unmake, LockDiscard, GiveDiscard, PutRun}
 use Rattle.slub_core.specs.declared.spot.PutOnListSpot.{PutOnListSpot}
-use Rattle.slub_core.specs.declared.spot.PutOnListSpot.TheVariants.{}
+use Rattle.slub_core.specs.declared.spot.PutOnListSpot.TheVariants.{LoadList, WalkString}
 use Rattle.slub_core.specs.declared.spot.FreeSpot.{FreeSpot}
-use Rattle.slub_core.specs.declared.spot.FreeSpot.TheVariants.{TakeBoard, LoadOwn, LinkOwn, Push, LoadSlab, LinkSlab, LockFree, LoadLocked, GoBack, LinkLocked, GiveFree, TakeOff}
+use Rattle.slub_core.specs.declared.spot.FreeSpot.TheVariants.{TakeBoard, LoadOwn, LinkOwn, Push, LoadSlab, LinkSlab, LockFree, LoadLocked, GoBack, LinkLocked, GiveFree, LoadCount, TakeOff}
 use Rattle.slub_core.specs.declared.spot.MoveSetSpot.{MoveSetSpot}
-use Rattle.slub_core.specs.declared.spot.MoveSetSpot.TheVariants.{LockMove, LoadMoved, GiveMove, ChooseFront, PutTail}
+use Rattle.slub_core.specs.declared.spot.MoveSetSpot.TheVariants.{LockMove, FollowSet, LoadMoved, GiveMove, ChooseFront, PutTail}
 use Rattle.slub_core.specs.declared.spot.OfflineSpot.{OfflineSpot}
 use Rattle.slub_core.specs.declared.spot.OfflineSpot.TheVariants.{LoadCurrent, DetachCurrent}
 use Rattle.slub_core.specs.declared.spot.TrimSpot.{TrimSpot}
@@ -39,6 +39,7 @@ covers_alloc LoadNext = true
 covers_alloc Pop = true
 covers_alloc Detach = true
 covers_alloc LoadTaken = true
+covers_alloc FollowFront = true
 covers_alloc LoadKept = true
 covers_alloc LockNode = true
 covers_alloc LoadPopped = true
@@ -72,6 +73,8 @@ covers_discard GiveDiscard = true
 covers_discard PutRun = true
 
 abbrev pub covers_put_on_list : PutOnListSpot → Bool
+covers_put_on_list LoadList = true
+covers_put_on_list WalkString = true
 covers_put_on_list _ = false
 
 abbrev pub covers_free : FreeSpot → Bool
@@ -86,11 +89,13 @@ covers_free LoadLocked = true
 covers_free GoBack = true
 covers_free LinkLocked = true
 covers_free GiveFree = true
+covers_free LoadCount = true
 covers_free TakeOff = true
 covers_free _ = false
 
 abbrev pub covers_move_set : MoveSetSpot → Bool
 covers_move_set LockMove = true
+covers_move_set FollowSet = true
 covers_move_set LoadMoved = true
 covers_move_set GiveMove = true
 covers_move_set ChooseFront = true

@@ -44,8 +44,17 @@ use Rattle.slub_core.proofs.Values.{word-objects}
 -- ---- what a list word says of its slabs
 
 -- no slab is slab 0
-list-real : (w : World) (xs : List Worker) (n : ℕ) (s : Stands w xs) → n < w.setup.cpu_words → times 0 (s.chains.list n) ≡ 0
+pub list-real : (w : World) (xs : List Worker) (n : ℕ) (s : Stands w xs) → n < w.setup.cpu_words → times 0 (s.chains.list n) ≡ 0
 list-real w xs n s below = let z = s.listed.shaped.no_lists in let t = term_le_sum w.setup.cpu_words (λ k. times 0 (s.chains.list k)) n below in omega arith
+
+-- and each is one among the frames
+pub listed-below : (w : World) (x : Worker) (others : List Worker) (n f : ℕ) (s : Stands w (x ∷ others)) → n < w.setup.cpu_words → f ≢ 0 → 1 ≤ times f (s.chains.list n) → f < w.setup.frames
+listed-below w x others n f s below real some =
+    let a = on-list w s.chains n f below some in
+    let h = homes-cons w s.chains x others f in
+    let live = home-live w s.chains (x ∷ others) f s.listed real (omega arith) in
+    let e = word-objects w f live in
+    s.listed.shaped.within f (omega arith)
 
 -- it has a front and a count, or neither
 pub is-list : (w : World) (xs : List Worker) (n : ℕ) (s : Stands w xs) → n < w.setup.cpu_words → IsList (w.list n).front (w.list n).count

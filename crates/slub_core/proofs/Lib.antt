@@ -72,3 +72,5 @@ pub mod Tells
 pub mod Turns
 pub mod Kind27
 pub mod Kind25
+pub mod Kind23
+pub mod Kind24

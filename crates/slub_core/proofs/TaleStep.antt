@@ -100,7 +100,7 @@ told_step opening w v x z others ac on moved told written =
           let was = ac.once o in let both = moved.asks o in omega arith;
       few = (
         let a = sum_by-cons (λ (x : Worker). length x.local.done + length x.local.todo) x others in let b = sum_by-cons (λ (x : Worker). length x.local.done + length x.local.todo) z others in
-        let was = ac.few.0 in let both = moved.few in omega arith,
+            let was = ac.few.0 in let both = moved.few in omega arith,
         ac.few.1,
       );
       dry = λ order.

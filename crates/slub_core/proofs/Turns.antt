@@ -55,8 +55,8 @@ unfolding world_of world_from
 once-comes m value words refused others l covered (z, e, s) =
     subst (λ l. covers_once l.spot ≡ true → let c = at_once m refused value l l.spot in ComesTo (world_of m c.value words) others (noted c.local c.reply)) e
     (λ covered.
-        let c = at_once m refused value z.local z.local.spot in
-        noted-comes (world_of m c.value words) others c.local c.reply (change-quits m refused value z.local z.local.spot) (makes (world_of m value words) refused z others z.local.spot refl covered s))
+    let c = at_once m refused value z.local z.local.spot in
+    noted-comes (world_of m c.value words) others c.local c.reply (change-quits m refused value z.local z.local.spot) (makes (world_of m value words) refused z others z.local.spot refl covered s))
     covered
 
 -- ---- replies that take no step
@@ -158,7 +158,7 @@ turn_keeps m s pick below stands may =
         let mine : x.local ≡ l = sym (subst (λ ls. get_or ls (length (map (λ (x : Worker). x.local) front)) idle ≡ x.local) lay.0 (get_or-middle (map (λ (x : Worker). x.local) front) (map (λ (x : Worker). x.local) back) x.local idle)) ∙ ap (λ n. get_or s.locals n idle) lay.1 in
         let rest = stands.rested k idle below in
         let began = subst (λ l. ComesTo w others (begun m false l)) mine
-            (begin w x others (to_front w front back x all) (subst (λ l. l.spot ≡ Between → MayBeginFirst m l l.todo) (sym mine) may.begins) (subst (λ l. l.spot ≡ Between → TakesStep m l l.todo) (sym mine) rest)) in
+        (begin w x others (to_front w front back x all) (subst (λ l. l.spot ≡ Between → MayBeginFirst m l l.todo) (sym mine) may.begins) (subst (λ l. l.spot ≡ Between → TakesStep m l l.todo) (sym mine) rest)) in
         let y = began.0 in
         let step = step_of m s.value (begun m false l) in
         let n = number_of m step.place in
@@ -166,8 +166,8 @@ turn_keeps m s pick below stands may =
         let c = advance_of m pick.refused s.value (begun m false l) (answer_of step.op q) in
         let led : ComesTo (world_of m c.value (set s.words n (after_op step.op q))) others c.local
         = subst (λ b. let step = step_of m s.value b in let n = number_of m step.place in let q = get_or s.words n 0 in let a = answer_of step.op q in
-            AreCovered m pick.refused s.value b a → let c = advance_of m pick.refused s.value b a in ComesTo (world_of m c.value (set s.words n (after_op step.op q))) others c.local) began.1
-            (steps m s.value s.words pick.refused y others stands.words began.2) may.covered in
+        AreCovered m pick.refused s.value b a → let c = advance_of m pick.refused s.value b a in ComesTo (world_of m c.value (set s.words n (after_op step.op q))) others c.local) began.1
+        (steps m s.value s.words pick.refused y others stands.words began.2) may.covered in
         let z = led.0 in
         let turned = advance_at m s.value (begun m false l) (begun m false l).spot (answer_of step.op q) in
         let last = settled m pick.refused (record { value = s.value; local = turned.local; reply = turned.reply }) in
@@ -189,8 +189,10 @@ length-turn m s pick = length-set s.locals pick.worker _
 pub run_keeps : RunsKeepAll
 run_keeps m s [] below stands may = stands
 run_keeps m s (pick ∷ picks) below stands may =
-    let first = All-head (λ (pick : Pick). pick.worker < length s.locals) pick picks below in
-    (stands, run_keeps m (turn m s pick) picks
-    (All-weaker (λ (pick : Pick). pick.worker < length s.locals) (λ (other : Pick). other.worker < length (turn m s pick).locals) (λ other less. let e = length-turn m s pick in omega arith) picks
-    (All-tail (λ (pick : Pick). pick.worker < length s.locals) pick picks below))
-    (turn_keeps m s pick first stands may.0) may.1)
+    let first = All-head (λ (pick : Pick). pick.worker < length s.locals) pick picks below in (
+      stands,
+      run_keeps m (turn m s pick) picks
+          (All-weaker (λ (pick : Pick). pick.worker < length s.locals) (λ (other : Pick). other.worker < length (turn m s pick).locals) (λ other less. let e = length-turn m s pick in omega arith) picks
+          (All-tail (λ (pick : Pick). pick.worker < length s.locals) pick picks below))
+          (turn_keeps m s pick first stands may.0) may.1,
+    )

@@ -74,3 +74,4 @@ pub mod Kind27
 pub mod Kind25
 pub mod Kind23
 pub mod Kind24
+pub mod Kind18

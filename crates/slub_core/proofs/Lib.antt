@@ -54,6 +54,7 @@ pub mod PoolSpots
 pub mod CheckedBytes
 pub mod CheckedStep
 pub mod CheckedSpots
+pub mod OneSlab
 pub mod GiveMove
 pub mod Leads
 pub mod LeadsLocks

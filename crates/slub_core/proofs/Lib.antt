@@ -56,6 +56,7 @@ pub mod CheckedStep
 pub mod CheckedSpots
 pub mod OneSlab
 pub mod GiveMove
+pub mod Kind12
 pub mod Leads
 pub mod LeadsLocks
 pub mod LeadsWords

@@ -65,6 +65,8 @@ pub mod LeadsMemory
 pub mod LeadsHands
 pub mod LeadsMake
 pub mod LeadsStrings
+pub mod LeadsSlabs
+pub mod LeadsLists
 pub mod Dispatch
 pub mod Onces
 pub mod LostWords

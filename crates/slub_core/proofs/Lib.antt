@@ -4,6 +4,7 @@ pub mod Counts
 pub mod TaleKnowns
 pub mod TaleStep
 pub mod TaleQuiet
+pub mod TaleAnswer
 pub mod Spots
 pub mod Homes
 pub mod Frames

@@ -5,6 +5,7 @@ pub mod TaleKnowns
 pub mod TaleStep
 pub mod TaleQuiet
 pub mod TaleAnswer
+pub mod TaleWritten
 pub mod Spots
 pub mod Homes
 pub mod Frames

@@ -54,14 +54,14 @@ whole w x others spot v h s first chain real says cache objects on unmarked lock
     let one = one-self f in
     let has : 1 ≤ home_of f x = rw first (omega arith) in
     slab_step w x (with_whole x spot f own) others f v [] s real (hand-live w x others h [] s first real)
-        (omega (arith, says.0), omega (arith, says.1)) cache objects (omega (arith, says.1)) (λ e. absurd (false≢true (sym says.3 ∙ e))) says.0
-        (λ j. rw (first, chain) (let a = in_chain-here f own j in let b = in_chain-nil f f j in omega arith))
-        (λ g j away. rw (first, chain) (let a = in_chain-away f own g j (λ e. away (sym e)) in let b = in_chain-nil f g j in omega arith))
-        (let o : off_list v ≡ 0 = rw says.2 refl in rw first (omega arith))
-        (λ g away. rw first refl)
-        (let m = mine-marked w x others f s real has in let l : one_if v.listed ≡ 0 = rw says.3 refl in rw unmarked (omega arith))
-        (λ g away. let m = marked-away x h [] g first away in rw unmarked (sym m))
-        (λ g. refl) locks (is_mine (omega arith)) work
+    (omega (arith, says.0), omega (arith, says.1)) cache objects (omega (arith, says.1)) (λ e. absurd (false≢true (sym says.3 ∙ e))) says.0
+    (λ j. rw (first, chain) (let a = in_chain-here f own j in let b = in_chain-nil f f j in omega arith))
+    (λ g j away. rw (first, chain) (let a = in_chain-away f own g j (λ e. away (sym e)) in let b = in_chain-nil f g j in omega arith))
+    (let o : off_list v ≡ 0 = rw says.2 refl in rw first (omega arith))
+    (λ g away. rw first refl)
+    (let m = mine-marked w x others f s real has in let l : one_if v.listed ≡ 0 = rw says.3 refl in rw unmarked (omega arith))
+    (λ g away. let m = marked-away x h [] g first away in rw unmarked (sym m))
+    (λ g. refl) locks (is_mine (omega arith)) work
 
 -- the slab in hand with it
 ready-hand : (w : World) (x : Worker) (others : List Worker) (f : ℕ) (v : SlabWord) (s : Stands w (x ∷ others)) → 1 ≤ f → f < 2 ^ 16 → w.slab f ≡ x.local.slab_word → (w.slab f).cache ≡ x.local.cache → 1 ≤ x.local.slab_word.head → x.local.slab_word.head < 2 ^ 16
@@ -70,7 +70,7 @@ ready-hand : (w : World) (x : Worker) (others : List Worker) (f : ℕ) (v : Slab
 ready-hand w x others f v s real small won cache some fits same frozen =
     let own : IsChain (pointer w (w.slab f).cache f) (w.slab f).head (s.chains.own f) = s.placed.own_chain f in
     let chain : IsChain (pointer w x.local.cache f) x.local.slab_word.head (s.chains.own f) =
-        subst (λ k. IsChain (pointer w k f) x.local.slab_word.head (s.chains.own f)) cache (subst (λ (u : SlabWord). IsChain (pointer w (w.slab f).cache f) u.head (s.chains.own f)) won own) in
+    subst (λ k. IsChain (pointer w k f) x.local.slab_word.head (s.chains.own f)) cache (subst (λ (u : SlabWord). IsChain (pointer w (w.slab f).cache f) u.head (s.chains.own f)) won own) in
     let now = update_same w.slab f v in (
       (real, small, fits, (some, (refl, refl)), fresh-walk (s.chains.own f) f x.local.slab_word.head, tt),
       (chain, ap (λ (u : SlabWord). u.cache) now ∙ same ∙ cache, ap (λ (u : SlabWord). u.frozen) now ∙ frozen, tt),

@@ -151,10 +151,13 @@ at_Unlist-won w x others is won s =
               (omega arith)
               (λ g away. let o = is-not f g (λ e. away (sym e)) in rw (is, first) (sym o))
               (λ g. refl) (λ k. rw is refl) (is_mine (omega arith))
-              (unlist-work w x f v k ys is hands.5 (held-apart w f v x.local.cache (Ready ∷ []) (k ∷ []) (ys ∷ []) 0 beside held.3)
-              ((refl, tt), tt, λ g on. elim (cases_eq f g) [
-                | inl e ↦ rw (← e) (hands.0, record { owner = rw (update_same w.slab f v) (cache ∙ held.1); unfrozen = rw (update_same w.slab f v) frozen; unlisted = rw (update_same w.slab f v) refl; head = rw (update_same w.slab f v) some_head })
-                | inr d ↦ absurd (let a = times-first g f [] in let o = is-not f g d in omega arith)
-              ])
+              (unlist-work w x f v k ys is hands.5 (held-apart w f v x.local.cache (Ready ∷ []) (k ∷ []) (ys ∷ []) 0 beside held.3) (
+                (refl, tt),
+                tt,
+                λ g on. elim (cases_eq f g) [
+                  | inl e ↦ rw (← e) (hands.0, record { owner = rw (update_same w.slab f v) (cache ∙ held.1); unfrozen = rw (update_same w.slab f v) frozen; unlisted = rw (update_same w.slab f v) refl; head = rw (update_same w.slab f v) some_head })
+                  | inr d ↦ absurd (let a = times-first g f [] in let o = is-not f g d in omega arith)
+                ],
+              )
               (λ k d below held_k. ok.seen.known k d below held_k ∙ sym (cache_at-same w f v cache objects (get_or x.local.known k d).frame)) ok)),
         )

@@ -57,6 +57,7 @@ pub mod CheckedBytes
 pub mod CheckedStep
 pub mod CheckedSpots
 pub mod OneSlab
+pub mod CheckedFree
 pub mod GiveMove
 pub mod Kind12
 pub mod Leads

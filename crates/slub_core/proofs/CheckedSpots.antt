@@ -70,7 +70,7 @@ known-work w x n v kind k is same now object known locks ok = grind arith
 -- ---- what the call rests on
 
 -- the object of the call, where the worker holds it
-held-object : (w : World) (x : Worker) (others : List Worker) (old : CheckedState) → Stands w (x ∷ others) → in_checked x.local.spot ≡ true → keeps x.local.spot ≡ true → w.value (node_lock x.local.cache) ≡ Checked old → IsUsed old (slot_of x.local)
+pub held-object : (w : World) (x : Worker) (others : List Worker) (old : CheckedState) → Stands w (x ∷ others) → in_checked x.local.spot ≡ true → keeps x.local.spot ≡ true → w.value (node_lock x.local.cache) ≡ Checked old → IsUsed old (slot_of x.local)
 held-object w x others old s in' keep is =
     let ok = All-head (IsAtWork w) x others s.fresh.workers in
     let k = ok.spot.keeps keep in

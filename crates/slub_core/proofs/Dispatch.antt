@@ -10,19 +10,19 @@ use Rattle.slub_core.specs.declared.spot.PutOnList.{PutOnList}
 use Rattle.slub_core.specs.declared.spot.MoveSet.{MoveSet}
 use Rattle.slub_core.specs.declared.spot.Sweep.{Sweep}
 use Rattle.slub_core.specs.declared.spot.AllocSpot.{AllocSpot}
-use Rattle.slub_core.specs.declared.spot.AllocSpot.TheVariants.{LoadCpu, LoadNext, Pop, Detach, LoadTaken, FollowFront, LoadKept, LockNode, LoadPopped, GiveNode, LockPool, GivePool, GiveDry, LinkNew, Make, LoadReady, LoadAgain, DetachOther, Install, PopNode, TakeRun}
+use Rattle.slub_core.specs.declared.spot.AllocSpot.TheVariants.{LoadCpu, LoadNext, Pop, Detach, LoadTaken, TakeAll, MarkFull, TakeList, FollowFront, LoadKept, FreezeKept, LockNode, LoadPopped, FreezePopped, Unlist, GiveNode, LockPool, GivePool, GiveDry, LinkNew, Make, LoadReady, LoadAgain, DetachOther, Install, PopNode, TakeRun}
 use Rattle.slub_core.specs.declared.spot.PutAwaySpot.{PutAwaySpot}
 use Rattle.slub_core.specs.declared.spot.PutAwaySpot.TheVariants.{WalkChain, LockAway, LoadAway, LinkLast, GiveAway, PutNode}
 use Rattle.slub_core.specs.declared.spot.DiscardSpot.{DiscardSpot}
 use Rattle.slub_core.specs.declared.spot.DiscardSpot.TheVariants.{Unmake, LockDiscard, GiveDiscard, PutRun}
 use Rattle.slub_core.specs.declared.spot.PutOnListSpot.{PutOnListSpot}
-use Rattle.slub_core.specs.declared.spot.PutOnListSpot.TheVariants.{LoadList, WalkString}
+use Rattle.slub_core.specs.declared.spot.PutOnListSpot.TheVariants.{LoadList, WalkString, LinkString, PushString}
 use Rattle.slub_core.specs.declared.spot.FreeSpot.{FreeSpot}
-use Rattle.slub_core.specs.declared.spot.FreeSpot.TheVariants.{TakeBoard, LoadOwn, LinkOwn, Push, LoadSlab, LinkSlab, LockFree, LoadLocked, GoBack, LinkLocked, GiveFree, LoadCount, TakeOff}
+use Rattle.slub_core.specs.declared.spot.FreeSpot.TheVariants.{TakeBoard, LoadOwn, LinkOwn, Push, LoadSlab, LinkSlab, LockFree, LoadLocked, GoBack, LinkLocked, GiveFree, LoadCount, TakeSet, TakeOff}
 use Rattle.slub_core.specs.declared.spot.MoveSetSpot.{MoveSetSpot}
 use Rattle.slub_core.specs.declared.spot.MoveSetSpot.TheVariants.{LockMove, FollowSet, LoadMoved, GiveMove, ChooseFront, PutTail}
 use Rattle.slub_core.specs.declared.spot.OfflineSpot.{OfflineSpot}
-use Rattle.slub_core.specs.declared.spot.OfflineSpot.TheVariants.{LoadCurrent, DetachCurrent}
+use Rattle.slub_core.specs.declared.spot.OfflineSpot.TheVariants.{LoadCurrent, DetachCurrent, TakeCurrent}
 use Rattle.slub_core.specs.declared.spot.TrimSpot.{TrimSpot}
 use Rattle.slub_core.specs.declared.spot.TrimSpot.TheVariants.{LockTrim, LoadScanned, GiveTrim, ScanNode, DropScanned}
 use Rattle.slub_core.specs.declared.spot.CheckedSpot.{CheckedSpot}
@@ -44,6 +44,8 @@ use Rattle.slub_core.proofs.LeadsMemory.{leads_LoadReady, leads_WalkChain, leads
 use Rattle.slub_core.proofs.LeadsHands.{leads_LoadTaken, leads_LoadKept, leads_LoadPopped, leads_LoadAway, leads_LoadMoved, leads_LoadScanned}
 use Rattle.slub_core.proofs.LeadsMake.{leads_Make}
 use Rattle.slub_core.proofs.LeadsStrings.{leads_LoadList, leads_LoadCount, leads_FollowFront, leads_FollowSet, leads_WalkString}
+use Rattle.slub_core.proofs.LeadsSlabs.{leads_TakeAll, leads_MarkFull, leads_FreezeKept, leads_FreezePopped, leads_Unlist}
+use Rattle.slub_core.proofs.LeadsLists.{leads_PushString, leads_TakeList, leads_TakeSet, leads_TakeCurrent, leads_LinkString}
 
 -- ---- a spot that calls for no step
 
@@ -94,10 +96,16 @@ leads_alloc LoadNext is = leads_LoadNext
 leads_alloc Pop is = leads_Pop
 leads_alloc Detach is = leads_Detach
 leads_alloc LoadTaken is = leads_LoadTaken
+leads_alloc TakeAll is = leads_TakeAll
+leads_alloc MarkFull is = leads_MarkFull
+leads_alloc TakeList is = leads_TakeList
 leads_alloc FollowFront is = leads_FollowFront
 leads_alloc LoadKept is = leads_LoadKept
+leads_alloc FreezeKept is = leads_FreezeKept
 leads_alloc LockNode is = leads_LockNode
 leads_alloc LoadPopped is = leads_LoadPopped
+leads_alloc FreezePopped is = leads_FreezePopped
+leads_alloc Unlist is = leads_Unlist
 leads_alloc GiveNode is = leads_GiveNode
 leads_alloc LockPool is = leads_LockPool
 leads_alloc GivePool is = leads_GivePool
@@ -110,7 +118,6 @@ leads_alloc DetachOther is = leads_DetachOther
 leads_alloc Install is = leads_Install
 leads_alloc PopNode is = rests_PopNode
 leads_alloc TakeRun is = rests_TakeRun
-leads_alloc _ is = absurd (false≢true is)
 
 leads_put_away : (s : PutAwaySpot) (away : Away) → covers_put_away s ≡ true → AtSpot (InPutAway s away)
 leads_put_away WalkChain away is = leads_WalkChain away
@@ -130,7 +137,8 @@ leads_discard PutRun discard is = rests_PutRun discard
 leads_put_on_list : (s : PutOnListSpot) (put : PutOnList) → covers_put_on_list s ≡ true → AtSpot (InPutOnList s put)
 leads_put_on_list LoadList put is = leads_LoadList put
 leads_put_on_list WalkString put is = leads_WalkString put
-leads_put_on_list _ put is = absurd (false≢true is)
+leads_put_on_list LinkString put is = leads_LinkString put
+leads_put_on_list PushString put is = leads_PushString put
 
 leads_free : (s : FreeSpot) → covers_free s ≡ true → AtSpot (InFree s)
 leads_free TakeBoard is = leads_TakeBoard
@@ -145,6 +153,7 @@ leads_free GoBack is = leads_GoBack
 leads_free LinkLocked is = leads_LinkLocked
 leads_free GiveFree is = leads_GiveFree
 leads_free LoadCount is = leads_LoadCount
+leads_free TakeSet is = leads_TakeSet
 leads_free TakeOff is = rests_TakeOff
 leads_free _ is = absurd (false≢true is)
 
@@ -160,7 +169,7 @@ leads_move_set _ move is = absurd (false≢true is)
 leads_offline : (s : OfflineSpot) (sweep : Sweep) → covers_offline s ≡ true → AtSpot (InOffline s sweep)
 leads_offline LoadCurrent sweep is = leads_LoadCurrent sweep
 leads_offline DetachCurrent sweep is = leads_DetachCurrent sweep
-leads_offline _ sweep is = absurd (false≢true is)
+leads_offline TakeCurrent sweep is = leads_TakeCurrent sweep
 
 leads_trim : (s : TrimSpot) → covers_trim s ≡ true → AtSpot (InTrim s)
 leads_trim LockTrim is = leads_LockTrim

@@ -28,7 +28,7 @@ use Rattle.slub_core.proofs.Hands.{in_chain-nil}
 use Rattle.slub_core.proofs.Locks.{ComesTo}
 
 -- no walk has begun
-fresh-walk : (xs : List ℕ) (frame head : ℕ) → IsWalk xs (hand_from frame head)
+pub fresh-walk : (xs : List ℕ) (frame head : ℕ) → IsWalk xs (hand_from frame head)
 fresh-walk xs frame head = record { short = omega arith; last = λ some. absurd (omega arith); ended = λ e. absurd (false≢true e) }
 
 -- what a detach owes, whatever spot it leads to: the slab with its chain is one hand more

@@ -183,19 +183,19 @@ at_PushString-won w x others put is won s = (
         let both : (f : ℕ) → times f (x.string ++ fs) ≡ times f x.string + times f fs = λ f. times-append f x.string fs in
         let v : ListWord = record { front = string.front; count = x.local.list_word.count + string.count } in
         subst (λ (u : ListWord). Stands (set_list w n u) (z ∷ others)) (long string e)
-            (list_step w x z others n v (x.string ++ fs) s own.0
-                (small, omega arith)
-                (Links-append w.link string.front x.string x.local.list_word.front fs 0 mine theirs)
-                (let a = length-append x.string fs in omega arith)
-                (λ f some. elim (cases_eq (times f x.string) 0) [
-                  | inl none ↦ s.listed.shaped.partial n f own.0 (let b = both f in omega arith)
-                  | inr d ↦ (let k = held.2 f (omega (arith, d)) in (record { owner = k.1.owner ∙ sym own.1; head = k.1.head; unfrozen = k.1.unfrozen }, k.1.unlisted))
-                ])
-                (let b = both 0 in let a = list-real w (x ∷ others) n s own.0 in let d = string-real w x.local.cache x.local.string x.string ok.spot.string ok.seen.string in omega arith)
-                (λ f i. refl)
-                (λ f. let b = both f in omega arith)
-                (marks put is) (λ g. refl) (locks put is)
-                (work put v is))
+        (list_step w x z others n v (x.string ++ fs) s own.0
+        (small, omega arith)
+        (Links-append w.link string.front x.string x.local.list_word.front fs 0 mine theirs)
+        (let a = length-append x.string fs in omega arith)
+        (λ f some. elim (cases_eq (times f x.string) 0) [
+          | inl none ↦ s.listed.shaped.partial n f own.0 (let b = both f in omega arith)
+          | inr d ↦ (let k = held.2 f (omega (arith, d)) in (record { owner = k.1.owner ∙ sym own.1; head = k.1.head; unfrozen = k.1.unfrozen }, k.1.unlisted))
+        ])
+        (let b = both 0 in let a = list-real w (x ∷ others) n s own.0 in let d = string-real w x.local.cache x.local.string x.string ok.spot.string ok.seen.string in omega arith)
+        (λ f i. refl)
+        (λ f. let b = both f in omega arith)
+        (marks put is) (λ g. refl) (locks put is)
+        (work put v is))
       where
         long : (string : PartialString) → x.local.string ≡ Some string → record { front = string.front; count = x.local.list_word.count + string.count } ≡ longer_list x.local
         long string e = rw e refl

@@ -4,6 +4,8 @@ pub mod Counts
 pub mod TaleKnowns
 pub mod TaleStep
 pub mod TaleQuiet
+pub mod TaleAnswer
+pub mod TaleWritten
 pub mod Spots
 pub mod Homes
 pub mod Frames
@@ -54,7 +56,10 @@ pub mod PoolSpots
 pub mod CheckedBytes
 pub mod CheckedStep
 pub mod CheckedSpots
+pub mod OneSlab
+pub mod CheckedFree
 pub mod GiveMove
+pub mod Kind12
 pub mod Leads
 pub mod LeadsLocks
 pub mod LeadsWords
@@ -63,6 +68,8 @@ pub mod LeadsMemory
 pub mod LeadsHands
 pub mod LeadsMake
 pub mod LeadsStrings
+pub mod LeadsSlabs
+pub mod LeadsLists
 pub mod Dispatch
 pub mod Onces
 pub mod LostWords
@@ -74,3 +81,4 @@ pub mod Kind27
 pub mod Kind25
 pub mod Kind23
 pub mod Kind24
+pub mod Kind18

@@ -89,7 +89,7 @@ same_step w x z others n v s below has same guarded none stocked moved homed mar
     value_step w x z others n v s below has
     (record {
       guarded = guarded;
-      keeps = λ f i some. cache-same_value w n v same f;
+      keeps = λ f i some more. cache-same_value w n v same f;
       alone = λ f. let e = sum_below_same w.setup.locks (λ k. one_if (nat_lt 0 (size_in (w.value k) f))) (λ k. one_if (nat_lt 0 (size_in (update w.value n v k) f))) (λ k _. ap (λ a. one_if (nat_lt 0 a)) ((same-each w n v same k).size f)) in let a = sh.alone f in omega arith;
       aligned = λ f. rw (objects-same_value w n v same f, order-same_value w n v same f) (sh.aligned f);
       within = λ f. rw (objects-same_value w n v same f) (sh.within f);

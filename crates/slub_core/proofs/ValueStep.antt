@@ -12,7 +12,7 @@ use Rattle.slub_core.specs.World.{World, LockValue, update, set_value, objects_a
 use Rattle.slub_core.specs.Local.{Local, Worker}
 use Rattle.slub_core.specs.Alloc.{node_of}
 use Rattle.slub_core.specs.Spots.{has_node, has_freed_last, notes_scanned, scans, scans_next}
-use Rattle.slub_core.specs.Placed.{owned, held_as}
+use Rattle.slub_core.specs.Placed.{owned, held_as, places}
 use Rattle.slub_core.specs.Listed.{home_of, homes, marked_of, covered_by, on_lists, takes, IsGuarded, IsSized, IsStocked}
 use Rattle.slub_core.specs.Fresh.{IsAtWork}
 use Rattle.slub_core.specs.Coherent.{Stands}
@@ -25,7 +25,7 @@ use Rattle.slub_core.proofs.Update.{update_same, update_other, update_at, each_u
 -- the new value is one that the lock may guard, its slabs are where no others are, and what exists keeps its cache
 pub record IsNewValue (w : World) (n : ℕ) (v : LockValue) : Type 0 where
   pub guarded : IsGuarded w.setup n v
-  pub keeps : (f i : ℕ) → 1 ≤ object_at w f i → cache_at (set_value w n v) f ≡ cache_at w f
+  pub keeps : (f i : ℕ) → 1 ≤ object_at w f i → 1 ≤ object_at (set_value w n v) f i → cache_at (set_value w n v) f ≡ cache_at w f
   pub alone : (f : ℕ) → live (w.slab f) + sum_below w.setup.locks (λ k. one_if (nat_lt 0 (size_in (update w.value n v k) f))) ≤ 1
   pub aligned : (f : ℕ) → 1 ≤ objects_at (set_value w n v) f → f % 2 ^ order_at (set_value w n v) f ≡ 0
   pub within : (f : ℕ) → 1 ≤ objects_at (set_value w n v) f → f < w.setup.frames
@@ -49,8 +49,8 @@ known-owned x k d below is =
     omega arith
 
 -- the others, which don't have the lock
-others-value : (w : World) (n : ℕ) (v : LockValue) (o : Worker) → ((f i : ℕ) → 1 ≤ object_at w f i → cache_at (set_value w n v) f ≡ cache_at w f)
-    → ((f i : ℕ) → owned f i o ≤ object_at w f i) → takes n o ≡ 0 → IsAtWork w o → IsAtWork (set_value w n v) o
+others-value : (w : World) (n : ℕ) (v : LockValue) (o : Worker) → ((f i : ℕ) → 1 ≤ object_at w f i → 1 ≤ object_at (set_value w n v) f i → cache_at (set_value w n v) f ≡ cache_at w f)
+    → ((f i : ℕ) → (owned f i o ≤ object_at w f i) × (owned f i o ≤ object_at (set_value w n v) f i)) → takes n o ≡ 0 → IsAtWork w o → IsAtWork (set_value w n v) o
 others-value w n v o keeps exists none ok = record {
   spot = ok.spot;
   seen = record {
@@ -62,7 +62,7 @@ others-value w n v o keeps exists none ok = record {
         let g = get_or o.local.known k d in
         let some = known-owned o k d below is in
         let there = exists g.frame g.index in
-        ok.seen.known k d below is ∙ sym (keeps g.frame g.index (omega arith));
+        ok.seen.known k d below is ∙ sym (keeps g.frame g.index (omega arith) (omega arith));
     hands = ok.seen.hands;
     string = ok.seen.string;
     run = ok.seen.run;
@@ -112,14 +112,7 @@ value_step w x z others n v s below has new moved homed marked framed locks ok =
     record {
       chains = y;
       placed = record {
-        once = λ f i.
-            let new = places-cons (set_value w n v) y z others f i in
-            let old = places-cons w y x others f i in
-            let was = s.placed.once f i in
-            let both = moved f i in
-            let sums = sum_below_change w.setup.locks (λ k. idle_in (w.value k) f i) (λ k. idle_in (update w.value n v k) f i) n below (λ k d. ap (λ u. idle_in u f i) (update_other w.value n v k d)) in
-            let here : idle_in (update w.value n v n) f i ≡ idle_in v f i = ap (λ u. idle_in u f i) (update_same w.value n v) in
-            omega arith;
+        once = once-new;
         cpu_chain = s.placed.cpu_chain;
         own_chain = s.placed.own_chain;
       };
@@ -158,17 +151,42 @@ value_step w x z others n v s below has new moved homed marked framed locks ok =
           alone = new.alone;
           unslabbed = sh.unslabbed;
           guarded = λ k in'. guarded-value k in' (cases_eq k n);
-          board = λ o b in' is. sh.board o b in' is ∙ sym (new.keeps b.frame b.index (board-object w x others s o b in' is));
+          board = λ o b in' is. sh.board o b in' is ∙ sym (new.keeps b.frame b.index (board-object w x others s o b in' is) (board-new o b in' is));
         };
       };
       fresh = record {
         setup = s.fresh.setup;
         worded = worded-value w n v s.fresh.worded;
         workers = All-cons (IsAtWork (set_value w n v)) z others ok
-            (λ k d in'. others-value w n v (get_or others k d) new.keeps (worker-object w x others s k d in') (lock-alone w x others n s below (omega arith) k d in') (All-tail (IsAtWork w) x others s.fresh.workers k d in'));
+            (λ k d in'. others-value w n v (get_or others k d) new.keeps (λ f i. (worker-object w x others s k d in' f i, worker-new k d in' f i)) (lock-alone w x others n s below (omega arith) k d in') (All-tail (IsAtWork w) x others s.fresh.workers k d in'));
       };
     }
   where
+    once-new : (f i : ℕ) → places (set_value w n v) s.chains (z ∷ others) f i ≡ object_at (set_value w n v) f i
+    once-new f i =
+        let new' = places-cons (set_value w n v) s.chains z others f i in
+        let old = places-cons w s.chains x others f i in
+        let was = s.placed.once f i in
+        let both = moved f i in
+        let sums = sum_below_change w.setup.locks (λ k. idle_in (w.value k) f i) (λ k. idle_in (update w.value n v k) f i) n below (λ k d. ap (λ u. idle_in u f i) (update_other w.value n v k d)) in
+        let here : idle_in (update w.value n v n) f i ≡ idle_in v f i = ap (λ u. idle_in u f i) (update_same w.value n v) in
+        omega arith
+
+    worker-new : (k : ℕ) (d : Worker) → k < length others → (f i : ℕ) → owned f i (get_or others k d) ≤ object_at (set_value w n v) f i
+    worker-new k d below f i =
+        let p = places-cons (set_value w n v) s.chains z others f i in
+        let once = once-new f i in
+        let t = get_or-le-sum_by (owned f i) others k d below in
+        omega arith
+
+    board-new : (o : ℕ) (b : BoardWord) → o < w.setup.objects → w.board o ≡ Some b → 1 ≤ object_at (set_value w n v) b.frame b.index
+    board-new o b below is =
+        let p = places-cons (set_value w n v) s.chains z others b.frame b.index in
+        let once = once-new b.frame b.index in
+        let t = term_le_sum w.setup.objects (λ k. on_board (w.board k) b.frame b.index) o below in
+        let one : on_board (w.board o) b.frame b.index ≡ 1 = ap (λ b'. on_board b' b.frame b.index) is ∙ rw (eq-eqb b.frame b.frame refl, eq-eqb b.index b.index refl) refl in
+        omega arith
+
     frames-sum : (f : ℕ) → sum_below w.setup.locks (λ k. times f (frames_in (update w.value n v k))) + times f (frames_in (w.value n)) ≡ sum_below w.setup.locks (λ k. times f (frames_in (w.value k))) + times f (frames_in v)
     frames-sum f =
         let sums = sum_below_change w.setup.locks (λ k. times f (frames_in (w.value k))) (λ k. times f (frames_in (update w.value n v k))) n below (λ k d. ap (λ u. times f (frames_in u)) (update_other w.value n v k d)) in

@@ -5,19 +5,19 @@ use Rattle.slub_core.specs.declared.call.CallKind.TheVariants.{Alloc}
 use Rattle.slub_core.specs.declared.spot.Spot.{Spot}
 use Rattle.slub_core.specs.declared.spot.Spot.TheVariants.{Between, InAlloc, InPutAway, InDiscard, InPutOnList, InFree, InMoveSet, InOffline, InTrim, WriteWord, ReadWord, InChecked}
 use Rattle.slub_core.specs.declared.spot.AllocSpot.{AllocSpot}
-use Rattle.slub_core.specs.declared.spot.AllocSpot.TheVariants.{LoadCpu, LoadNext, Pop, Detach, LoadTaken, FollowFront, LoadKept, LockNode, LoadPopped, GiveNode, LockPool, GivePool, GiveDry, LinkNew, Make, LoadReady, LoadAgain, DetachOther, Install, PopNode, TakeRun}
+use Rattle.slub_core.specs.declared.spot.AllocSpot.TheVariants.{LoadCpu, LoadNext, Pop, Detach, LoadTaken, TakeAll, MarkFull, TakeList, FollowFront, LoadKept, FreezeKept, LockNode, LoadPopped, FreezePopped, Unlist, GiveNode, LockPool, GivePool, GiveDry, LinkNew, Make, LoadReady, LoadAgain, DetachOther, Install, PopNode, TakeRun}
 use Rattle.slub_core.specs.declared.spot.PutAwaySpot.{PutAwaySpot}
 use Rattle.slub_core.specs.declared.spot.PutAwaySpot.TheVariants.{WalkChain, LockAway, LoadAway, LinkLast, GiveAway, PutNode}
 use Rattle.slub_core.specs.declared.spot.DiscardSpot.{DiscardSpot}
 use Rattle.slub_core.specs.declared.spot.DiscardSpot.TheVariants.{Unmake, LockDiscard, GiveDiscard, PutRun}
 use Rattle.slub_core.specs.declared.spot.PutOnListSpot.{PutOnListSpot}
-use Rattle.slub_core.specs.declared.spot.PutOnListSpot.TheVariants.{LoadList, WalkString}
+use Rattle.slub_core.specs.declared.spot.PutOnListSpot.TheVariants.{LoadList, WalkString, LinkString, PushString}
 use Rattle.slub_core.specs.declared.spot.FreeSpot.{FreeSpot}
-use Rattle.slub_core.specs.declared.spot.FreeSpot.TheVariants.{TakeBoard, LoadOwn, LinkOwn, Push, LoadSlab, LinkSlab, LockFree, LoadLocked, GoBack, LinkLocked, GiveFree, LoadCount, TakeOff}
+use Rattle.slub_core.specs.declared.spot.FreeSpot.TheVariants.{TakeBoard, LoadOwn, LinkOwn, Push, LoadSlab, LinkSlab, LockFree, LoadLocked, GoBack, LinkLocked, GiveFree, LoadCount, TakeSet, TakeOff}
 use Rattle.slub_core.specs.declared.spot.MoveSetSpot.{MoveSetSpot}
 use Rattle.slub_core.specs.declared.spot.MoveSetSpot.TheVariants.{LockMove, FollowSet, LoadMoved, GiveMove, ChooseFront, PutTail}
 use Rattle.slub_core.specs.declared.spot.OfflineSpot.{OfflineSpot}
-use Rattle.slub_core.specs.declared.spot.OfflineSpot.TheVariants.{LoadCurrent, DetachCurrent}
+use Rattle.slub_core.specs.declared.spot.OfflineSpot.TheVariants.{LoadCurrent, DetachCurrent, TakeCurrent}
 use Rattle.slub_core.specs.declared.spot.TrimSpot.{TrimSpot}
 use Rattle.slub_core.specs.declared.spot.TrimSpot.TheVariants.{LockTrim, LoadScanned, GiveTrim, ScanNode, DropScanned}
 use Rattle.slub_core.specs.declared.spot.CheckedSpot.{CheckedSpot}
@@ -39,10 +39,16 @@ covers_alloc LoadNext = true
 covers_alloc Pop = true
 covers_alloc Detach = true
 covers_alloc LoadTaken = true
+covers_alloc TakeAll = true
+covers_alloc MarkFull = true
+covers_alloc TakeList = true
 covers_alloc FollowFront = true
 covers_alloc LoadKept = true
+covers_alloc FreezeKept = true
 covers_alloc LockNode = true
 covers_alloc LoadPopped = true
+covers_alloc FreezePopped = true
+covers_alloc Unlist = true
 covers_alloc GiveNode = true
 covers_alloc LockPool = true
 covers_alloc GivePool = true
@@ -55,7 +61,6 @@ covers_alloc DetachOther = true
 covers_alloc Install = true
 covers_alloc PopNode = true
 covers_alloc TakeRun = true
-covers_alloc _ = false
 
 abbrev pub covers_put_away : PutAwaySpot → Bool
 covers_put_away WalkChain = true
@@ -75,7 +80,8 @@ covers_discard PutRun = true
 abbrev pub covers_put_on_list : PutOnListSpot → Bool
 covers_put_on_list LoadList = true
 covers_put_on_list WalkString = true
-covers_put_on_list _ = false
+covers_put_on_list LinkString = true
+covers_put_on_list PushString = true
 
 abbrev pub covers_free : FreeSpot → Bool
 covers_free TakeBoard = true
@@ -90,6 +96,7 @@ covers_free GoBack = true
 covers_free LinkLocked = true
 covers_free GiveFree = true
 covers_free LoadCount = true
+covers_free TakeSet = true
 covers_free TakeOff = true
 covers_free _ = false
 
@@ -105,7 +112,7 @@ covers_move_set _ = false
 abbrev pub covers_offline : OfflineSpot → Bool
 covers_offline LoadCurrent = true
 covers_offline DetachCurrent = true
-covers_offline _ = false
+covers_offline TakeCurrent = true
 
 abbrev pub covers_trim : TrimSpot → Bool
 covers_trim LockTrim = true

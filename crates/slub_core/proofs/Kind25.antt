@@ -5,7 +5,7 @@ use Rattle.std.proofs.lemmas.Bool.{cases_eq, cases_lt, cases_Bool, cond_both, lt
 use Rattle.std.proofs.lemmas.List.{length-append}
 use Rattle.std.proofs.lemmas.List.Elements.{All-head}
 use Rattle.slub_common.specs.Times.{times}
-use Rattle.slub_page_pool.proofs.Times.{times-append}
+use Rattle.slub_common.proofs.Times.{times-append}
 use Rattle.slub_cpu_partial.specs.declared.words.ListWord.{ListWord}
 use Rattle.slub_cpu_partial.specs.Strings.{IsList}
 use Rattle.slub_core.specs.declared.local.Hand.{Hand}

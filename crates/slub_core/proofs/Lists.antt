@@ -3,7 +3,7 @@ use Rattle.std.proofs.Common.{◌≡◌, ℕ, zero, suc, ◌+◌, ◌<◌, ◌�
 use Rattle.std.specs.Prelude.{slice_index}
 use Rattle.std.proofs.lemmas.Bool.{eq-eqb}
 use Rattle.slub_common.specs.Times.{times}
-use Rattle.slub_red_zone.proofs.Times.{times-cons}
+use Rattle.slub_common.proofs.Times.{times-cons}
 use Rattle.slub_core.specs.World.{one_if}
 
 -- the head counts where it is the number

@@ -10,7 +10,7 @@ use Rattle.slub_page_pool.specs.FreeFrames.{FreeFrames, IsPool}
 use Rattle.slub_page_pool.specs.Block.{IsTaken, CanPut, less_run, with_run}
 use Rattle.slub_page_pool.proofs.FreeRuns.{IsTaken-free, IsTaken-aligned}
 use Rattle.slub_page_pool.proofs.Steps.{IsTaken-within, IsPool-less_run, IsPool-with_run}
-use Rattle.slub_page_pool.proofs.Times.{times-rising}
+use Rattle.slub_common.proofs.Times.{times-rising}
 use Rattle.slub_core.specs.declared.call.CallKind.{CallKind}
 use Rattle.slub_core.specs.declared.call.CallKind.TheVariants.{Alloc, Free, Write, Read, Poke, Trim, Flush}
 use Rattle.slub_core.specs.declared.local.Known.{Known}

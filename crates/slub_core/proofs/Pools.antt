@@ -12,7 +12,7 @@ use Rattle.slub_page_pool.specs.FreeFrames.{FreeFrames, IsPool}
 use Rattle.slub_page_pool.specs.Block.{IsTaken, Takes, CanPut, less_run, with_run}
 use Rattle.slub_page_pool.proofs.FreeRuns.{IsTaken-free, IsTaken-aligned}
 use Rattle.slub_page_pool.proofs.Steps.{IsTaken-within, IsPool-less_run, IsPool-with_run}
-use Rattle.slub_page_pool.proofs.Times.{times-append, times-filter_pass, times-filter_fail, times-rising, times-within, times-below, times-above}
+use Rattle.slub_common.proofs.Times.{times-append, times-filter_pass, times-filter_fail, times-rising, times-within, times-below, times-above}
 use Rattle.slub_core.specs.declared.local.FrameRun.{FrameRun}
 use Rattle.slub_core.specs.Setup.{Setup, pool_lock, pool_after}
 use Rattle.slub_core.specs.World.{World, one_if, in_run}

@@ -58,6 +58,7 @@ pub mod CheckedStep
 pub mod CheckedSpots
 pub mod OneSlab
 pub mod CheckedFree
+pub mod DoChecked
 pub mod GiveMove
 pub mod Kind12
 pub mod Leads

@@ -59,6 +59,7 @@ pub mod CheckedSpots
 pub mod OneSlab
 pub mod CheckedFree
 pub mod DoChecked
+pub mod AddSlab
 pub mod GiveMove
 pub mod Kind12
 pub mod Leads

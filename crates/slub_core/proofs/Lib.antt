@@ -6,6 +6,10 @@ pub mod TaleStep
 pub mod TaleQuiet
 pub mod TaleAnswer
 pub mod TaleWritten
+pub mod TaleReplies
+pub mod TaleAddress
+pub mod TaleGiven
+pub mod TaleTake
 pub mod Spots
 pub mod Homes
 pub mod Frames

@@ -1,6 +1,5 @@
 -- What is done at once at each spot that the law covers, spot by spot.
 use Rattle.std.proofs.Common.{◌≡◌, ℕ, Bool, true, false, List, ◌∷◌, refl, sym, arith}
-use Rattle.std.proofs.lemmas.Bool.{false≢true}
 use Rattle.slub_core.specs.declared.call.CallKind.{CallKind}
 use Rattle.slub_core.specs.declared.spot.Spot.{Spot}
 use Rattle.slub_core.specs.declared.spot.Spot.TheVariants.{InAlloc, InPutAway, InDiscard, InFree, InMoveSet, InTrim, InChecked}
@@ -17,6 +16,8 @@ use Rattle.slub_core.specs.Steps.{at_once}
 use Rattle.slub_core.specs.Coherent.{Stands}
 use Rattle.slub_core.specs.Law.{covers_once}
 use Rattle.slub_core.proofs.UnderLock.{Makes}
+use Rattle.slub_core.proofs.AddSlab.{at_AddSlab}
+use Rattle.slub_core.proofs.DoChecked.{at_DoChecked}
 use Rattle.slub_core.proofs.PopNode.{at_PopNode}
 use Rattle.slub_core.proofs.NodePuts.{at_PutNode, at_PutTail, at_ChooseFront}
 use Rattle.slub_core.proofs.NodeTakes.{at_TakeOff, at_ScanNode, at_DropScanned}
@@ -33,7 +34,7 @@ makes w refused x others (InMoveSet ChooseFront move) is covered s = at_ChooseFr
 makes w refused x others (InMoveSet PutTail move) is covered s = at_PutTail w x others move is s
 makes w refused x others (InTrim ScanNode) is covered s = at_ScanNode w x others is s
 makes w refused x others (InTrim DropScanned) is covered s = at_DropScanned w x others is s
-makes w refused x others (InChecked DoChecked kind) is covered s = absurd (false≢true covered)
+makes w refused x others (InChecked DoChecked kind) is covered s = at_DoChecked w x others refused kind is s
 makes w refused x others (InChecked MoveRun kind) is covered s = at_MoveRun w x others refused kind is s
-makes w refused x others (InChecked AddSlab kind) is covered s = absurd (false≢true covered)
+makes w refused x others (InChecked AddSlab kind) is covered s = at_AddSlab w x others refused kind is s
 makes w refused x others spot is covered s = (x, refl, s)

@@ -145,12 +145,10 @@ covers (InChecked s kind) = covers_checked s
 covers WriteWord = true
 covers ReadWord = true
 
--- ---- the spots whose changes at once it covers so far; at a spot that calls for a step nothing is done at once
+-- ---- the spots whose changes at once it covers: each; at a spot that calls for a step nothing is done at once
 
 abbrev pub covers_once : Spot → Bool
-covers_once (InChecked DoChecked kind) = false
-covers_once (InChecked AddSlab kind) = false
-covers_once _ = true
+covers_once s = true
 
 -- the spots that a step comes through: its own, and those whose changes at once belong to it
 abbrev pub AreCovered : Setup → Bool → (ℕ → LockValue) → Local → Answer → Type 0

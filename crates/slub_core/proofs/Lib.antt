@@ -83,6 +83,7 @@ pub mod Begin
 pub mod Kind8
 pub mod Tells
 pub mod Turns
+pub mod Quiet
 pub mod Kind27
 pub mod Kind25
 pub mod Kind23

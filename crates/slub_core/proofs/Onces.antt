@@ -22,6 +22,8 @@ use Rattle.slub_core.proofs.PopNode.{at_PopNode}
 use Rattle.slub_core.proofs.NodePuts.{at_PutNode, at_PutTail, at_ChooseFront}
 use Rattle.slub_core.proofs.NodeTakes.{at_TakeOff, at_ScanNode, at_DropScanned}
 use Rattle.slub_core.proofs.PoolSpots.{at_TakeRun, at_PutRun, at_MoveRun}
+use Rattle.slub_core.proofs.DoChecked.{at_DoChecked}
+use Rattle.slub_core.proofs.AddSlab.{at_AddSlab}
 
 pub makes : (w : World) (refused : Bool) (x : Worker) (others : List Worker) (spot : Spot) → x.local.spot ≡ spot → covers_once spot ≡ true → Stands w (x ∷ others)
     → Makes w others (at_once w.setup refused w.value x.local spot)

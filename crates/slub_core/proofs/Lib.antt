@@ -89,3 +89,6 @@ pub mod Kind25
 pub mod Kind23
 pub mod Kind24
 pub mod Kind18
+pub mod Kind9
+pub mod Kind29
+pub mod Kind19

@@ -146,8 +146,7 @@ at_Unfreeze-won w x others away is won s =
         let has : 1 ≤ home_of f x = rw first (omega arith) in
         let m : one_if (w.slab f).listed ≡ 0 = (let e = u.unmarked in rw e refl) in
         let l : one_if v.listed ≡ 0 = rw unlisted refl in
-        let rest : hands_count f hs ≡ 0 = (hand-once w x others h hs s first u.real).0 in
-        (
+        let rest : hands_count f hs ≡ 0 = (hand-once w x others h hs s first u.real).0 in (
           record { local = record x.local { hands = hs; spot = InPutAway GiveAway away }; chains = xss; string = x.string },
           rw (none, first) refl,
           slab_step w x _ others f v (xs ++ own) s u.real u.alive u.fits u.cache u.objects u.counted (λ e. absurd (false≢true (sym unlisted ∙ e))) u.chain
@@ -180,8 +179,7 @@ at_Unfreeze-won w x others away is won s =
         let rest : hands_count f hs ≡ 0 = (hand-once w x others h hs s first u.real).0 in
         let now = update_same w.slab f v in
         let none : v.inuse ≡ 0 = eqb-true v.inuse 0 (and_parts (inuse_away (hand_of x.local) x.local.slab_word == 0) (has_enough w.setup w.value x.local) discard).0 in
-        let alive : 1 ≤ v.objects = (let a = u.alive in let o = u.objects in omega arith) in
-        (
+        let alive : 1 ≤ v.objects = (let a = u.alive in let o = u.objects in omega arith) in (
           record { local = record x.local { hands = bare_hand f ∷ hs; spot = InDiscard Unmake (FromAway away) }; chains = [] ∷ xss; string = x.string },
           rw (head, discard, first) refl,
           slab_step w x _ others f v (xs ++ own) s u.real u.alive u.fits u.cache u.objects u.counted (λ e. absurd (false≢true (sym unlisted ∙ e))) u.chain
@@ -193,9 +191,9 @@ at_Unfreeze-won w x others away is won s =
               (λ g d. rw is refl)
               (λ g. refl) (λ k. rw is refl) (is_mine (omega arith))
               (empty-work w x away f v hs xss is (hands.0, hands.1, omega arith, (refl, refl), bare-walk f, hands.5)
-                  (refl, ap (λ (k : SlabWord). k.cache) now ∙ u.cache ∙ u.owner, (ap (λ (k : SlabWord). k.frozen) now, rw now some), held-apart w f v x.local.cache (beside_away away) hs xss 0 rest held.3)
-                  (rw now (record { none = none; objects = refl; some = alive; cache = u.cache ∙ u.owner }))
-                  (known-kept w f v x.local.known u.cache u.objects ok.seen.known) ok),
+              (refl, ap (λ (k : SlabWord). k.cache) now ∙ u.cache ∙ u.owner, (ap (λ (k : SlabWord). k.frozen) now, rw now some), held-apart w f v x.local.cache (beside_away away) hs xss 0 rest held.3)
+              (rw now (record { none = none; objects = refl; some = alive; cache = u.cache ∙ u.owner }))
+              (known-kept w f v x.local.known u.cache u.objects ok.seen.known) ok),
         )
 
     -- any other goes to the node list
@@ -215,8 +213,7 @@ at_Unfreeze-won w x others away is won s =
         let m : one_if (w.slab f).listed ≡ 0 = (let e = u.unmarked in rw e refl) in
         let l : one_if v.listed ≡ 1 = rw marked refl in
         let rest : hands_count f hs ≡ 0 = (hand-once w x others h hs s first u.real).0 in
-        let now = update_same w.slab f v in
-        (
+        let now = update_same w.slab f v in (
           record { local = record x.local { hands = bare_hand f ∷ hs; spot = InPutAway PutNode away }; chains = [] ∷ xss; string = x.string },
           rw (head, stays, first) refl,
           slab_step w x _ others f v (xs ++ own) s u.real u.alive u.fits u.cache u.objects u.counted (λ e. (some, refl)) u.chain
@@ -228,8 +225,8 @@ at_Unfreeze-won w x others away is won s =
               (λ g d. let o : one_if (f == g) ≡ 0 = rw (ne_eqb f g (λ e. d (sym e))) refl in rw is o)
               (λ g. refl) (λ k. rw is refl) (is_mine (omega arith))
               (list-work w x away f v hs xss is (hands.0, hands.1, omega arith, (refl, refl), bare-walk f, hands.5)
-                  (refl, ap (λ (k : SlabWord). k.cache) now ∙ u.cache ∙ u.owner, (ap (λ (k : SlabWord). k.frozen) now, rw now some), held-apart w f v x.local.cache (beside_away away) hs xss 0 rest held.3)
-                  (known-kept w f v x.local.known u.cache u.objects ok.seen.known) ok),
+              (refl, ap (λ (k : SlabWord). k.cache) now ∙ u.cache ∙ u.owner, (ap (λ (k : SlabWord). k.frozen) now, rw now some), held-apart w f v x.local.cache (beside_away away) hs xss 0 rest held.3)
+              (known-kept w f v x.local.known u.cache u.objects ok.seen.known) ok),
         )
 
     by_hand : (h : Hand) (hs : List Hand) (xs : List ℕ) (xss : List (List ℕ)) → x.local.hands ≡ h ∷ hs → x.chains ≡ xs ∷ xss

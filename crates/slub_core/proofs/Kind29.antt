@@ -87,7 +87,7 @@ at_ListSlab-won w x others move is won s =
         let now = update_same w.slab f v in
         let rest = held-apart w f v x.local.cache (beside_move move) hs xss 0 once.0 held.3 in
         let loose : AreHeld (set_slab w f v) x.local.cache (Loose ∷ beside_move move) (h ∷ hs) (xs ∷ xss) 0 =
-            (held.0, ap (λ (u : SlabWord). u.cache) now ∙ cache ∙ held.1, (ap (λ (u : SlabWord). u.frozen) now ∙ frozen, rw now some), rest) in
+        (held.0, ap (λ (u : SlabWord). u.cache) now ∙ cache ∙ held.1, (ap (λ (u : SlabWord). u.frozen) now ∙ frozen, rw now some), rest) in
         let string = string-apart w f v x.local.cache x.local.string x.string once.1 ok.seen.string in
         let fits = s.fresh.worded.slab f in
         subst (λ g. ComesTo (set_slab w g v) others (at x.local (InMoveSet PutTail move))) (sym frame) (

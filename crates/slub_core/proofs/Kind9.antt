@@ -142,9 +142,9 @@ at_FreeSlab-won w x others is won s = elim (cases_Bool (was_full x.local.slab_wo
             (λ g away. rw is refl)
             (λ g. refl) (λ n. rw is refl) (is_mine (omega arith))
             (full-work w x f v is (here-set x.local (lost x.local) mine.0)
-                (let real = i.real in omega (arith, real), omega arith, omega arith, (refl, refl), bare-walk f, rest)
-                (refl, ap (λ (u : SlabWord). u.cache) now ∙ i.cache ∙ sym i.owner, (ap (λ (u : SlabWord). u.frozen) now ∙ frozen, ap (λ (u : SlabWord). u.listed) now ∙ unmarked, rw now (omega arith)), tt)
-                (known-kept w f v (set x.local.known x.local.place (lost x.local)) i.cache i.objects (known-set w x.local.known x.local.place (lost x.local) (λ e. absurd (false≢true e)) ok.seen.known)) ok),
+            (let real = i.real in omega (arith, real), omega arith, omega arith, (refl, refl), bare-walk f, rest)
+            (refl, ap (λ (u : SlabWord). u.cache) now ∙ i.cache ∙ sym i.owner, (ap (λ (u : SlabWord). u.frozen) now ∙ frozen, ap (λ (u : SlabWord). u.listed) now ∙ unmarked, rw now (omega arith)), tt)
+            (known-kept w f v (set x.local.known x.local.place (lost x.local)) i.cache i.objects (known-set w x.local.known x.local.place (lost x.local) (λ e. absurd (false≢true e)) ok.seen.known)) ok),
       ))
   | inr part ↦ rw part (
       let off : off_list (w.slab f) ≡ 0 = ap off_list won ∙ on-list-off x.local.slab_word part in
@@ -163,7 +163,7 @@ at_FreeSlab-won w x others is won s = elim (cases_Bool (was_full x.local.slab_wo
             (λ g. refl) (λ n. rw is refl)
             (keeps_marks (sym (ap (λ (u : SlabWord). u.frozen) won)) (sym (ap (λ (u : SlabWord). u.listed) won)) (omega arith) (omega arith))
             (in_place-work w x f v is (here-set x.local (lost x.local) mine.0)
-                (known-kept w f v (set x.local.known x.local.place (lost x.local)) i.cache i.objects (known-set w x.local.known x.local.place (lost x.local) (λ e. absurd (false≢true e)) ok.seen.known)) ok),
+            (known-kept w f v (set x.local.known x.local.place (lost x.local)) i.cache i.objects (known-set w x.local.known x.local.place (lost x.local) (λ e. absurd (false≢true e)) ok.seen.known)) ok),
       ))
 ]
   where
@@ -305,8 +305,8 @@ at_FreeLocked-won w x others is won s =
           (λ g. refl) (λ n. rw is refl)
           (keeps_marks (sym (ap (λ (u : SlabWord). u.frozen) won)) (sym (ap (λ (u : SlabWord). u.listed) won)) (omega arith) (omega arith))
           (locked-work w x f v is now
-              (known-kept w f v (set x.local.known x.local.place (lost x.local)) i.cache i.objects (known-set w x.local.known x.local.place (lost x.local) (λ e. absurd (false≢true e)) ok.seen.known))
-              (rw frame empty, rw frame listed) ok),
+          (known-kept w f v (set x.local.known x.local.place (lost x.local)) i.cache i.objects (known-set w x.local.known x.local.place (lost x.local) (λ e. absurd (false≢true e)) ok.seen.known))
+          (rw frame empty, rw frame listed) ok),
     )
   where
     ok : IsAtWork w x

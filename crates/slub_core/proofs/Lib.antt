@@ -66,6 +66,9 @@ pub mod DoChecked
 pub mod AddSlab
 pub mod GiveMove
 pub mod Kind12
+pub mod Kind9
+pub mod Kind19
+pub mod Kind29
 pub mod Leads
 pub mod LeadsLocks
 pub mod LeadsWords
@@ -89,6 +92,3 @@ pub mod Kind25
 pub mod Kind23
 pub mod Kind24
 pub mod Kind18
-pub mod Kind9
-pub mod Kind29
-pub mod Kind19

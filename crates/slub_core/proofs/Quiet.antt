@@ -55,7 +55,6 @@ use Rattle.slub_core.specs.Steps.{advance_at}
 use Rattle.slub_core.specs.Accounted.{NamesCache}
 use Rattle.slub_core.proofs.TaleQuiet.{IsQuiet}
 
-
 -- a worker at spot s is in the same call as one at spot t, or in none
 record Same (s t : Spot) : Type 0 where
   freeing : is_freeing s ≡ is_freeing t
@@ -187,14 +186,14 @@ next-quiet m l Trimming does freeing free none =
 next-quiet m l Flushing does freeing free none = elim (cases_Bool (nat_lt (l.turn + 1) (length m.plain))) [
   | inr e ↦ absurd (none-some _ (sym (rw e at none)))
   | inl e ↦ record {
-      known = refl;
-      done = refl;
-      todo = refl;
-      place = refl;
-      freeing = rw e (sym freeing);
-      frees = rw e (sym free);
-      call = λ kind k. let f : Some Flush ≡ Some kind = rw e at k in (does ∙ f, λ c. names-flush l (flushed_cache m l).local kind f);
-    }
+    known = refl;
+    done = refl;
+    todo = refl;
+    place = refl;
+    freeing = rw e (sym freeing);
+    frees = rw e (sym free);
+    call = λ kind k. let f : Some Flush ≡ Some kind = rw e at k in (does ∙ f, λ c. names-flush l (flushed_cache m l).local kind f);
+  }
 ]
 
 moved-quiet : (m : Setup) (l : Local) (move : MoveSet) → l.spot ≡ InMoveSet GiveMove move → (after_move m l move).reply ≡ None → IsQuiet l (after_move m l move).local

@@ -151,8 +151,9 @@ told_take opening w x z others b ac at idle free there real takes =
       tells = λ o. rw (takes.known, takes.done) (elim (cases_eq o n) [ inl e ↦ rw (e, knew) (λ _. (addressed, cached, real)) | inr d ↦ rw (other o d) (ok.tells o) ]);
       unknown = λ o. rw (takes.known, takes.done) (elim (cases_eq o n) [ inl e ↦ rw (e, knew) (λ _. inr refl) | inr d ↦ rw (other o d) (ok.unknown o) ]);
       call = λ kind e. let d = (ok.call kind (at ∙ sym takes.call ∙ e)).0 in (
-          record { some = rw takes.todo d.some; same_kind = rw takes.todo d.same_kind; object = rw takes.todo (d.object ∙ sym mine); place = rw (takes.todo, takes.place) d.place },
-          subst (NamesCache z.local) (kind-same (sym takes.call ∙ e)) tt);
+        record { some = rw takes.todo d.some; same_kind = rw takes.todo d.same_kind; object = rw takes.todo (d.object ∙ sym mine); place = rw (takes.todo, takes.place) d.place },
+        subst (NamesCache z.local) (kind-same (sym takes.call ∙ e)) tt,
+      );
       fits = rw (takes.known, takes.todo) (fits-set m l.known l.place k l.todo refl ok.fits);
       distinct = rw takes.known (distinct-set l.known l.place k refl ok.distinct);
       numbers = rw takes.known (All-set (λ (k : Known). k.object < m.objects) l.known l.place k (ok.numbers l.place nobody below) ok.numbers);

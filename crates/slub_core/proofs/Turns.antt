@@ -55,7 +55,7 @@ unfolding world_of world_from
 once-comes m value words refused others l (z, e, s) =
     subst (λ l. let c = at_once m refused value l l.spot in ComesTo (world_of m c.value words) others (noted c.local c.reply)) e
     (let c = at_once m refused value z.local z.local.spot in
-        noted-comes (world_of m c.value words) others c.local c.reply (change-quits m refused value z.local z.local.spot) (makes (world_of m value words) refused z others z.local.spot refl s))
+    noted-comes (world_of m c.value words) others c.local c.reply (change-quits m refused value z.local z.local.spot) (makes (world_of m value words) refused z others z.local.spot refl s))
 
 -- ---- replies that take no step
 

@@ -1,4 +1,4 @@
--- The law: a step of any worker leads from a machine in which all stands to one in which all stands.
+-- The law: a turn of any worker leads from a machine in which all stands to such a machine.
 use Rattle.std.specs.Prelude.{◌≡◌, ◌<◌, ◌≤◌, true, false, List, [], ◌∷◌, length, map, slice_index_or, All, IfSome, None}
 use Rattle.slub_core.specs.declared.call.Call.{Call}
 use Rattle.slub_core.specs.declared.call.CallKind.TheVariants.{Alloc}
@@ -16,12 +16,14 @@ use Rattle.slub_core.specs.Coherent.{Stands}
 -- of a worker between two calls: its next call, if there is one, takes a step
 abbrev pub TakesStep : Setup → Local → List Call → Type 0
 TakesStep m l [] = Unit {0}
-TakesStep m l (call ∷ calls) = told_at_once m (slice_index_or l.known call.place nobody) call call.kind ≡ None
+TakesStep m l (call ∷ calls) =
+    told_at_once m (slice_index_or l.known call.place nobody) call call.kind ≡ None
 
 abbrev pub IsRested : Setup → Local → Type 0
 IsRested m l = l.spot ≡ Between → TakesStep m l l.todo
 
--- the words, the values of the locks and the workers, with chains and strings in hand, are those of a machine in which all stands
+-- the words, the values of the locks and the workers, with some chains and strings in hand, are
+-- those of a machine in which all stands
 pub record IsStanding (m : Setup) (s : System) : Type 0 where
   pub words : length s.words ≡ word_count m
   pub workers : List Worker
@@ -31,7 +33,7 @@ pub record IsStanding (m : Setup) (s : System) : Type 0 where
 
 -- ---- what is asked of a call when it begins
 
--- it fits the machine, names the place of its object, and allocates only what its worker doesn't hold
+-- it fits the machine, names the place of its object, and allocates nothing that its worker holds
 pub record MayBegin (m : Setup) (l : Local) (call : Call) : Type 0 where
   pub cpu : call.cpu < m.cpus
   pub object : (1 ≤ call.object) × (call.object < m.objects)
@@ -55,9 +57,12 @@ MayRun m s (pick ∷ picks) = MayTurn m s pick × MayRun m (turn m s pick) picks
 
 -- ---- the law
 
--- whatever the other workers are at, the turn of any worker leads from a machine in which all stands to such a machine
+-- whatever the other workers are at, the turn of any worker leads from a machine in which all
+-- stands to such a machine
 abbrev pub TurnsKeepAll : Type 0
-TurnsKeepAll = (m : Setup) (s : System) (pick : Pick) → pick.worker < length s.locals → IsStanding m s → MayTurn m s pick → IsStanding m (turn m s pick)
+TurnsKeepAll =
+    (m : Setup) (s : System) (pick : Pick) → pick.worker < length s.locals
+    → IsStanding m s → MayTurn m s pick → IsStanding m (turn m s pick)
 
 -- before each pick of a run and after the last one all stands
 abbrev pub StandsAlong : Setup → System → List Pick → Type 0
@@ -65,4 +70,7 @@ StandsAlong m s [] = IsStanding m s
 StandsAlong m s (pick ∷ picks) = IsStanding m s × StandsAlong m (turn m s pick) picks
 
 abbrev pub RunsKeepAll : Type 0
-RunsKeepAll = (m : Setup) (s : System) (picks : List Pick) → All (λ (pick : Pick). pick.worker < length s.locals) picks → IsStanding m s → MayRun m s picks → StandsAlong m s picks
+RunsKeepAll =
+    (m : Setup) (s : System) (picks : List Pick)
+    → All (λ (pick : Pick). pick.worker < length s.locals) picks
+    → IsStanding m s → MayRun m s picks → StandsAlong m s picks

@@ -10,6 +10,8 @@ pub mod TaleReplies
 pub mod TaleAddress
 pub mod TaleGiven
 pub mod TaleTake
+pub mod TaleTurns
+pub mod TaleSpots
 pub mod Spots
 pub mod Homes
 pub mod Frames

@@ -152,6 +152,12 @@ told_kept opening w v x z others kind r ac on counts doing idle is after cause w
       cause = cause;
     }) written
 
+-- what the worker doesn't hold, its replies don't say that it holds
+pub not-holding : (opening w : World) (x : Worker) (others : List Worker) {kind : CallKind} → IsAccounted opening w (x ∷ others) → IsDoing x.local kind → is_freeing x.local.spot ≡ false → (here x.local).held ≡ false → holding x.local.done (here x.local).object ≡ false
+not-holding opening w x others ac doing idle free =
+    let ok = told-of opening w x others ac in
+    sym (ok.holds (here x.local).object (λ f. absurd (false≢true (sym idle ∙ f)))) ∙ ap (λ (j : Known). j.held) (known-here x.local (place-here w.setup opening.board (public w (x ∷ others)) x.local _ doing ok)) ∙ free
+
 -- a state as it is after a reply: with the same board and memory
 pub record Spoken (w v : World) (l : Local) (r : Reply) : Type 0 where
   pub setup : v.setup ≡ w.setup

@@ -42,7 +42,7 @@ slab-below w xs f i s some =
 run-covers : (m : Setup) (cache : ℕ) (run : FrameRun) (i p : ℕ) → IsRun m cache run → i < run.objects → run.objects * (m.layout cache).size ≤ 4096 * 2 ^ run.order → IsWordOf (m.layout cache) run.frame i p → covered_by (p / 512) (Some run) ≡ 1
 run-covers m cache run i p held below fits is = let frame = word-frame (m.layout cache) run.frame i run.objects run.order p is below fits in in_run-one (p / 512) run.frame run.order frame.0 frame.1
 
-role-most : (w : World) (xs : List Worker) (g : ℕ) → Stands w xs → frame_roles w xs g ≤ 1
+pub role-most : (w : World) (xs : List Worker) (g : ℕ) → Stands w xs → frame_roles w xs g ≤ 1
 role-most w xs g s = let e = s.listed.framed g in let o : one_if (nat_lt 0 g && nat_lt g w.setup.frames) ≤ 1 = cond_both (nat_lt 0 g && nat_lt g w.setup.frames) 1 0 (λ n. n ≤ 1) (λ e. omega arith) (λ e. omega arith) in omega arith
 
 -- a word of two objects of slabs is of one

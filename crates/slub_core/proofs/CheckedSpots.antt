@@ -88,7 +88,7 @@ gives-sound old answer after sound (next_is_damaged s slot damage answer' after'
 
 -- ---- reads and writes
 
-quiet : (w : World) (x : Worker) (others : List Worker) (kind : CallKind) → x.local.spot ≡ InChecked DoChecked kind → Stands w (x ∷ others) → Makes w others (stays w.value (at x.local (InChecked GiveChecked kind)))
+pub quiet : (w : World) (x : Worker) (others : List Worker) (kind : CallKind) → x.local.spot ≡ InChecked DoChecked kind → Stands w (x ∷ others) → Makes w others (stays w.value (at x.local (InChecked GiveChecked kind)))
 quiet w x others kind is s =
     let ok = All-head (IsAtWork w) x others s.fresh.workers in
     (record x { local = at x.local (InChecked GiveChecked kind) }, refl, local_step w x _ others s (λ f i. refl) (record { home = λ f. refl; marked = λ f. rw is refl; covered = λ g. refl; takes = λ n. rw is refl }) (idle-work w x kind is ok))
@@ -108,7 +108,7 @@ writes w x others kind old new is s was of sound keeps =
           (λ slabs. bytes-work w x n (Checked new) kind is (known-same w n (Checked new) x slabs ok) (locks-same w x z refl same ok) ok),
     )
 
-do_write : (w : World) (x : Worker) (others : List Worker) (old : CheckedState) → x.local.spot ≡ InChecked DoChecked Write → Stands w (x ∷ others) → w.value (node_lock x.local.cache) ≡ Checked old → IsCheckedOf w.setup x.local.cache old
+pub do_write : (w : World) (x : Worker) (others : List Worker) (old : CheckedState) → x.local.spot ≡ InChecked DoChecked Write → Stands w (x ∷ others) → w.value (node_lock x.local.cache) ≡ Checked old → IsCheckedOf w.setup x.local.cache old
     → Makes w others (do_checked w.setup w.value x.local Write old)
 do_write w x others old is s was of =
     let ok = All-head (IsAtWork w) x others s.fresh.workers in
@@ -122,7 +122,7 @@ do_write w x others old is s was of =
     let long : length bytes ≡ length (slab_of old slot.frame).bytes = length-with_word (slab_of old slot.frame).bytes (to_le_bytes w64 (call_of x.local).value) (word_place old.layout slot.index (call_of x.local).word) refl inside in
     writes w x others Write old (with_word old slot (call_of x.local).word (call_of x.local).value) is s was of (written-sound old slot.frame of.sound some bytes long) (written-objects old slot.frame of.sound some bytes)
 
-do_poke : (w : World) (x : Worker) (others : List Worker) (old : CheckedState) → x.local.spot ≡ InChecked DoChecked Poke → Stands w (x ∷ others) → w.value (node_lock x.local.cache) ≡ Checked old → IsCheckedOf w.setup x.local.cache old
+pub do_poke : (w : World) (x : Worker) (others : List Worker) (old : CheckedState) → x.local.spot ≡ InChecked DoChecked Poke → Stands w (x ∷ others) → w.value (node_lock x.local.cache) ≡ Checked old → IsCheckedOf w.setup x.local.cache old
     → Makes w others (do_checked w.setup w.value x.local Poke old)
 do_poke w x others old is s was of = writes w x others Poke old (poked x.local old) is s was of (good (is_offset old.layout (call_of x.local).offset) (nat_lt (here x.local).index (objects_in (slab_of old (here x.local).frame))) refl).0 (good (is_offset old.layout (call_of x.local).offset) (nat_lt (here x.local).index (objects_in (slab_of old (here x.local).frame))) refl).1
   where
@@ -136,7 +136,7 @@ do_poke w x others old is s was of = writes w x others Poke old (poked x.local o
 
 -- ---- a free
 
-do_free-kept : (w : World) (x : Worker) (others : List Worker) (old : CheckedState) → x.local.spot ≡ InChecked DoChecked Free → Stands w (x ∷ others) → w.value (node_lock x.local.cache) ≡ Checked old → IsCheckedOf w.setup x.local.cache old
+pub do_free-kept : (w : World) (x : Worker) (others : List Worker) (old : CheckedState) → x.local.spot ≡ InChecked DoChecked Free → Stands w (x ∷ others) → w.value (node_lock x.local.cache) ≡ Checked old → IsCheckedOf w.setup x.local.cache old
     → Makes w others (stays (with_slabs w.value x.local (with_taken old (slot_of x.local))) (record (loses x.local) { run = None; spot = InChecked GiveChecked Free }))
 do_free-kept w x others old is s was of =
     let ok = All-head (IsAtWork w) x others s.fresh.workers in
@@ -162,7 +162,7 @@ do_free-kept w x others old is s was of =
 
 -- ---- an allocation
 
-do_alloc : (w : World) (x : Worker) (others : List Worker) (old after : CheckedState) (answer : CheckedGive) → x.local.spot ≡ InChecked DoChecked Alloc → Stands w (x ∷ others) → w.value (node_lock x.local.cache) ≡ Checked old → IsCheckedOf w.setup x.local.cache old
+pub do_alloc : (w : World) (x : Worker) (others : List Worker) (old after : CheckedState) (answer : CheckedGive) → x.local.spot ≡ InChecked DoChecked Alloc → Stands w (x ∷ others) → w.value (node_lock x.local.cache) ≡ Checked old → IsCheckedOf w.setup x.local.cache old
     → Gives old answer after → Makes w others (gave w.setup w.value x.local after answer)
 do_alloc w x others old after give.Empty is s was of gives =
     let ok = All-head (IsAtWork w) x others s.fresh.workers in

@@ -1,9 +1,8 @@
 -- Kinds 11 and 18: a slab in hand is taken with its whole freelist, off a CPU, off a string or off the node list.
-use Rattle.std.proofs.Common.{◌≡◌, ◌≢◌, ℕ, suc, ◌+◌, ◌-◌, ◌^◌, ◌<◌, ◌≤◌, ◌==◌, true, false, cond, List, [], ◌∷◌, length, get_or, refl, sym, ap, ◌∙◌, subst, arith}
+use Rattle.std.proofs.Common.{◌≡◌, ◌≢◌, ℕ, ◌^◌, ◌<◌, ◌≤◌, true, false, List, [], ◌∷◌, get_or, refl, sym, ap, ◌∙◌, subst, arith}
 use Rattle.std.specs.Prelude.{All}
 use Rattle.std.proofs.lemmas.Bool.{ne_eqb, cond_both, false≢true, false_from_ne_true}
 use Rattle.std.proofs.lemmas.List.Elements.{All-head}
-use Rattle.slub_common.specs.Times.{times}
 use Rattle.slub_words.specs.declared.slab.SlabWord.{SlabWord}
 use Rattle.slub_core.specs.declared.local.Known.{Known}
 use Rattle.slub_core.specs.declared.local.Hand.{Hand}
@@ -12,9 +11,9 @@ use Rattle.slub_core.specs.declared.spot.Spot.{Spot}
 use Rattle.slub_core.specs.declared.spot.Spot.TheVariants.{InAlloc}
 use Rattle.slub_core.specs.declared.spot.AllocSpot.TheVariants.{TakeAll, FreezeKept, PopNode, FreezePopped, LoadReady}
 use Rattle.slub_core.specs.World.{World, set_slab, pointer, cache_at, one_if, off_list, IsChain}
-use Rattle.slub_core.specs.Local.{Local, Worker, hand_of, hand_from}
+use Rattle.slub_core.specs.Local.{Worker, hand_of, hand_from}
 use Rattle.slub_core.specs.Alloc.{alloc_advance, emptied_word, frozen_word}
-use Rattle.slub_core.specs.Spots.{Role, Taken, Ready, Popped, Kept, ready_of, is_marked}
+use Rattle.slub_core.specs.Spots.{Taken, Ready, Popped, Kept, is_marked}
 use Rattle.slub_core.specs.Listed.{home_of, marked_of, takes}
 use Rattle.slub_core.specs.Fresh.{AreHands, AreHeld, IsAtWork}
 use Rattle.slub_core.specs.Coherent.{Stands}
@@ -24,7 +23,7 @@ use Rattle.slub_core.proofs.Homes.{mine-marked, off-some}
 use Rattle.slub_core.proofs.Kind15.{fresh-walk}
 use Rattle.slub_core.proofs.Kind8.{hand-live}
 use Rattle.slub_core.proofs.Locks.{ComesTo, one-self}
-use Rattle.slub_core.proofs.SlabStep.{MayChange, is_mine, slab_step, cache_at-same}
+use Rattle.slub_core.proofs.SlabStep.{is_mine, slab_step, cache_at-same}
 use Rattle.slub_core.proofs.Update.{update_same}
 
 -- a mark is of the slab that the worker works on

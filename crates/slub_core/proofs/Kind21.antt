@@ -95,7 +95,7 @@ no-values w xs s f none = sum_below-none w.setup.locks (λ n. one_if (nat_lt 0 (
 ])
 
 -- a frame that a worker's run has is in no slab's run
-nobody-covers : (w : World) (x : Worker) (others : List Worker) (f : ℕ) → Stands w (x ∷ others) → f < w.setup.frames → 1 ≤ covered_by f x.local.run → objects_at w f ≡ 0
+pub nobody-covers : (w : World) (x : Worker) (others : List Worker) (f : ℕ) → Stands w (x ∷ others) → f < w.setup.frames → 1 ≤ covered_by f x.local.run → objects_at w f ≡ 0
 nobody-covers w x others f s below mine = elim (cases_lt 0 (objects_at w f)) [
   | inl l ↦ absurd (
       let c = roles-cons w x others f in

@@ -1,14 +1,13 @@
 -- Kind 23, spot by spot: a CPU's partial list is taken whole.
-use Rattle.std.proofs.Common.{◌≡◌, ◌≢◌, ℕ, zero, suc, ◌+◌, ◌-◌, ◌/◌, ◌^◌, ◌<◌, ◌≤◌, ◌==◌, ◌⊎◌, Bool, true, false, cond, if◌then◌else◌, Option, Some, None, List, [], ◌∷◌, length, refl, sym, ap, ◌∙◌, subst, arith, inl, inr}
-use Rattle.std.specs.Prelude.{slice_index, nat_lt}
-use Rattle.std.proofs.lemmas.Bool.{cases_eq, cases_lt, eq-eqb, ne_eqb, lt-ltb, le-ltb}
+use Rattle.std.proofs.Common.{◌≡◌, ◌≢◌, ℕ, suc, ◌+◌, ◌-◌, ◌^◌, ◌<◌, ◌≤◌, true, Some, None, List, [], ◌∷◌, length, refl, sym, ap, ◌∙◌, subst, arith, inl, inr}
+use Rattle.std.specs.Prelude.{slice_index}
+use Rattle.std.proofs.lemmas.Bool.{cases_eq, cases_lt, ne_eqb, lt-ltb, le-ltb}
 use Rattle.std.proofs.lemmas.List.Elements.{All-head}
 use Rattle.slub_common.specs.Times.{times}
 use Rattle.slub_cpu_partial.specs.declared.words.ListWord.{ListWord}
 use Rattle.slub_core.specs.declared.local.Hand.{Hand}
 use Rattle.slub_core.specs.declared.local.PartialString.{PartialString}
 use Rattle.slub_core.specs.declared.step.Answer.TheVariants.{Word}
-use Rattle.slub_core.specs.declared.spot.Spot.{Spot}
 use Rattle.slub_core.specs.declared.spot.Spot.TheVariants.{Between, InAlloc, InPutOnList, InFree, InMoveSet, InOffline, InTrim}
 use Rattle.slub_core.specs.declared.spot.AllocSpot.TheVariants.{TakeList, FollowFront, LoadKept, LockNode}
 use Rattle.slub_core.specs.declared.spot.PutOnList.TheVariants.{OfFree}
@@ -22,21 +21,21 @@ use Rattle.slub_core.specs.declared.spot.OfflineSpot.TheVariants.{LoadCurrent, T
 use Rattle.slub_core.specs.declared.spot.TrimSpot.TheVariants.{LockTrim}
 use Rattle.slub_core.specs.Setup.{IsPlain}
 use Rattle.slub_core.specs.Words.{no_list_word, list_in}
-use Rattle.slub_core.specs.World.{World, Chains, set_list, one_if, Links, IsString}
-use Rattle.slub_core.specs.Local.{Local, Worker, hand_of, at, bare_hand}
+use Rattle.slub_core.specs.World.{World, set_list, Links, IsString}
+use Rattle.slub_core.specs.Local.{Worker, at, bare_hand}
 use Rattle.slub_core.specs.Ops.{own_cpu}
 use Rattle.slub_core.specs.Alloc.{alloc_advance, taken_string, single_string}
 use Rattle.slub_core.specs.Free.{free_advance, set_taken}
-use Rattle.slub_core.specs.Offline.{offline_advance, list_swept, next_swept, if_flushing}
-use Rattle.slub_core.specs.Spots.{Kept, in_plain, is_marked}
+use Rattle.slub_core.specs.Offline.{offline_advance, next_swept, if_flushing}
+use Rattle.slub_core.specs.Spots.{Kept, in_plain}
 use Rattle.slub_core.specs.Placed.{owned}
-use Rattle.slub_core.specs.Listed.{home_of, marked_of, covered_by, takes, IsStocked}
+use Rattle.slub_core.specs.Listed.{home_of, marked_of, covered_by, takes}
 use Rattle.slub_core.specs.Fresh.{AreHands, AreHeld, IsCursor, IsKeptSlab, IsHeldString, IsAtWork}
 use Rattle.slub_core.specs.Coherent.{Stands}
 use Rattle.slub_core.proofs.Changes.{own-word}
 use Rattle.slub_core.proofs.Exists.{times-self}
 use Rattle.slub_core.proofs.GiveMove.{single-cursor}
-use Rattle.slub_core.proofs.Hands.{one-hand, no-hands, in_chain-nil}
+use Rattle.slub_core.proofs.Hands.{one-hand, in_chain-nil}
 use Rattle.slub_core.proofs.Kind25.{kept-alone, list-real, listed-below}
 use Rattle.slub_core.proofs.Lists.{times-first}
 use Rattle.slub_core.proofs.ListStep.{list_step}

@@ -1,5 +1,5 @@
 -- Kinds 24 and 26: a string in hand is put before a CPU's partial list, once its last slab is linked to the front of that.
-use Rattle.std.proofs.Common.{◌≡◌, ◌≢◌, ℕ, zero, suc, ◌+◌, ◌-◌, ◌/◌, ◌^◌, ◌<◌, ◌≤◌, ◌==◌, ◌⊎◌, true, false, cond, Option, Some, None, List, [], ◌∷◌, ◌++◌, length, refl, sym, ap, ◌∙◌, subst, arith, inl, inr}
+use Rattle.std.proofs.Common.{◌≡◌, ◌≢◌, ℕ, suc, ◌+◌, ◌-◌, ◌^◌, ◌<◌, ◌≤◌, Option, Some, None, List, [], ◌∷◌, ◌++◌, length, refl, sym, ap, ◌∙◌, subst, arith, inl, inr}
 use Rattle.std.specs.Prelude.{slice_index}
 use Rattle.std.proofs.lemmas.Bool.{cases_eq}
 use Rattle.std.proofs.lemmas.List.{length-append}
@@ -16,13 +16,12 @@ use Rattle.slub_core.specs.declared.spot.PutOnList.{PutOnList}
 use Rattle.slub_core.specs.declared.spot.PutOnList.TheVariants.{OfRest, OfNode, OfFree}
 use Rattle.slub_core.specs.declared.spot.PutOnListSpot.TheVariants.{LinkString, PushString}
 use Rattle.slub_core.specs.World.{World, update, set_list, set_link, Links, IsString}
-use Rattle.slub_core.specs.Local.{Local, Worker, string_of}
+use Rattle.slub_core.specs.Local.{Worker, string_of}
 use Rattle.slub_core.specs.Ops.{own_cpu}
 use Rattle.slub_core.specs.PutOnList.{put_on_list_advance, longer_list, puts, way_of_pushed}
-use Rattle.slub_core.specs.Spots.{Role, Ready, ready_of, beside_put}
-use Rattle.slub_core.specs.Placed.{owned}
-use Rattle.slub_core.specs.Listed.{home_of, marked_of, covered_by, takes, IsStocked}
-use Rattle.slub_core.specs.Fresh.{AreHands, AreHeld, IsCursor, IsKeptSlab, IsStringOf, IsHeldString, IsLinked, IsAtWork}
+use Rattle.slub_core.specs.Spots.{Ready, ready_of, beside_put}
+use Rattle.slub_core.specs.Listed.{marked_of, takes}
+use Rattle.slub_core.specs.Fresh.{AreHands, AreHeld, IsCursor, IsKeptSlab, IsHeldString, IsLinked, IsAtWork}
 use Rattle.slub_core.specs.Coherent.{Stands}
 use Rattle.slub_core.proofs.Changes.{own-word}
 use Rattle.slub_core.proofs.Counts.{homes-cons}
@@ -32,7 +31,6 @@ use Rattle.slub_core.proofs.Homes.{live-most}
 use Rattle.slub_core.proofs.Kind25.{list-real, string-real}
 use Rattle.slub_core.proofs.Lists.{times-first, times-at}
 use Rattle.slub_core.proofs.ListStep.{list_step, link_step}
-use Rattle.slub_core.proofs.LocalStep.{Settled}
 use Rattle.slub_core.proofs.Locks.{ComesTo, one-self}
 use Rattle.slub_core.proofs.UnderLock.{stocked-within}
 use Rattle.slub_core.proofs.Update.{update_at, update_other}

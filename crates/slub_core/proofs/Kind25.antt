@@ -1,7 +1,7 @@
 -- Kind 25, spot by spot: a list word is loaded.
-use Rattle.std.proofs.Common.{◌≡◌, ◌≢◌, ℕ, zero, suc, ◌+◌, ◌-◌, ◌/◌, ◌^◌, ◌<◌, ◌≤◌, ◌==◌, ◌&&◌, ◌⊎◌, Bool, true, false, cond, if◌then◌else◌, Option, Some, None, List, [], ◌∷◌, ◌++◌, length, refl, sym, ap, ◌∙◌, subst, arith, inl, inr}
+use Rattle.std.proofs.Common.{◌≡◌, ◌≢◌, ℕ, ◌+◌, ◌-◌, ◌^◌, ◌<◌, ◌≤◌, true, Option, Some, None, List, [], ◌∷◌, ◌++◌, length, refl, ap, ◌∙◌, subst, arith, inl, inr}
 use Rattle.std.specs.Prelude.{nat_lt}
-use Rattle.std.proofs.lemmas.Bool.{cases_eq, cases_lt, cases_Bool, cond_both, ltb-true, ltb-false, eqb-true, false≢true}
+use Rattle.std.proofs.lemmas.Bool.{cases_eq, cases_Bool, cond_both, ltb-true, ltb-false, eqb-true, false≢true}
 use Rattle.std.proofs.lemmas.List.{length-append}
 use Rattle.std.proofs.lemmas.List.Elements.{All-head}
 use Rattle.slub_common.specs.Times.{times}
@@ -18,15 +18,15 @@ use Rattle.slub_core.specs.declared.spot.PutOnList.TheVariants.{OfFree}
 use Rattle.slub_core.specs.declared.spot.PutOnListSpot.TheVariants.{LoadList, WalkString, LinkString, PushString}
 use Rattle.slub_core.specs.declared.spot.FreeSpot.TheVariants.{LoadCount, TakeSet}
 use Rattle.slub_core.specs.Words.{list_in}
-use Rattle.slub_core.specs.World.{World, Chains, one_if, sum_below, off_list, live, Links}
-use Rattle.slub_core.specs.Local.{Local, Worker, string_of, hand_of, at}
+use Rattle.slub_core.specs.World.{World, Links}
+use Rattle.slub_core.specs.Local.{Worker, string_of}
 use Rattle.slub_core.specs.Ops.{own_cpu}
 use Rattle.slub_core.specs.Alloc.{single_string}
 use Rattle.slub_core.specs.PutOnList.{put_on_list_advance, leads_to, way_of_string, way_of_front}
-use Rattle.slub_core.specs.Free.{free_advance, alone, is_long, count_loaded}
+use Rattle.slub_core.specs.Free.{free_advance, is_long, count_loaded}
 use Rattle.slub_core.specs.Spots.{Kept}
-use Rattle.slub_core.specs.Listed.{home_of, homes, on_lists}
-use Rattle.slub_core.specs.Fresh.{AreHands, AreHeld, IsCursor, IsKeptSlab, IsStringOf, IsHeldString, IsAtWork}
+use Rattle.slub_core.specs.Listed.{homes}
+use Rattle.slub_core.specs.Fresh.{AreHands, AreHeld, IsCursor, IsStringOf, IsHeldString, IsAtWork}
 use Rattle.slub_core.specs.Coherent.{Stands}
 use Rattle.slub_core.proofs.Changes.{own-word}
 use Rattle.slub_core.proofs.Counts.{homes-cons}
@@ -35,7 +35,7 @@ use Rattle.slub_core.proofs.GiveMove.{single-cursor, alone-held}
 use Rattle.slub_core.proofs.Hands.{one-hand, in_chain-nil}
 use Rattle.slub_core.proofs.Homes.{live-most, on-list}
 use Rattle.slub_core.proofs.Lists.{times-first}
-use Rattle.slub_core.proofs.LocalStep.{local_step, Settled}
+use Rattle.slub_core.proofs.LocalStep.{local_step}
 use Rattle.slub_core.proofs.Locks.{ComesTo}
 use Rattle.slub_core.proofs.Pigeon.{length-below}
 use Rattle.slub_core.proofs.Update.{term_le_sum}

@@ -1,12 +1,10 @@
 -- Kind 27, spot by spot: the link of a slab of a string in hand is loaded.
-use Rattle.std.proofs.Common.{◌≡◌, ◌≢◌, ℕ, zero, suc, ◌+◌, ◌-◌, ◌%◌, ◌^◌, ◌<◌, ◌≤◌, ◌==◌, true, false, cond, if◌then◌else◌, Option, Some, None, List, [], ◌∷◌, length, refl, sym, ap, ◌∙◌, subst, arith, inl, inr}
+use Rattle.std.proofs.Common.{◌≡◌, ℕ, zero, suc, ◌-◌, ◌%◌, ◌^◌, ◌<◌, ◌≤◌, Option, Some, None, List, [], ◌∷◌, length, refl, sym, ap, ◌∙◌, subst, arith}
 use Rattle.std.specs.Prelude.{slice_index, nat_lt}
-use Rattle.std.proofs.lemmas.Bool.{cases_eq, eq-eqb, ne_eqb, cond_both, ltb-true, ltb-false}
+use Rattle.std.proofs.lemmas.Bool.{cond_both, ltb-true, ltb-false}
 use Rattle.std.proofs.lemmas.List.Elements.{All-head}
-use Rattle.slub_common.specs.Times.{times}
 use Rattle.slub_core.specs.declared.local.PartialString.{PartialString}
 use Rattle.slub_core.specs.declared.step.Answer.TheVariants.{Word}
-use Rattle.slub_core.specs.declared.spot.Spot.{Spot}
 use Rattle.slub_core.specs.declared.spot.Spot.TheVariants.{InAlloc, InPutOnList, InMoveSet}
 use Rattle.slub_core.specs.declared.spot.AllocSpot.TheVariants.{FollowFront}
 use Rattle.slub_core.specs.declared.spot.PutOnList.{PutOnList}
@@ -14,17 +12,17 @@ use Rattle.slub_core.specs.declared.spot.PutOnList.TheVariants.{OfRest}
 use Rattle.slub_core.specs.declared.spot.PutOnListSpot.TheVariants.{LoadList, WalkString, LinkString}
 use Rattle.slub_core.specs.declared.spot.MoveSet.{MoveSet}
 use Rattle.slub_core.specs.declared.spot.MoveSetSpot.TheVariants.{FollowSet, LoadMoved}
-use Rattle.slub_core.specs.World.{World, one_if, IsString}
-use Rattle.slub_core.specs.Local.{Local, Worker, string_of, bare_hand}
+use Rattle.slub_core.specs.World.{World, IsString}
+use Rattle.slub_core.specs.Local.{Worker, string_of, bare_hand}
 use Rattle.slub_core.specs.Alloc.{alloc_advance, taken_string}
 use Rattle.slub_core.specs.PutOnList.{put_on_list_advance, way_of_string, with_cursor}
 use Rattle.slub_core.specs.MoveSet.{move_set_advance}
 use Rattle.slub_core.specs.Spots.{Role, Kept, beside_move}
-use Rattle.slub_core.specs.Fresh.{AreHands, AreHeld, IsCursor, IsEnded, IsStringOf, IsHeldString, IsLinked, IsAtWork}
+use Rattle.slub_core.specs.Fresh.{AreHands, AreHeld, IsCursor, IsStringOf, IsHeldString, IsLinked, IsAtWork}
 use Rattle.slub_core.specs.Coherent.{Stands}
 use Rattle.slub_core.proofs.Hands.{in_chain-nil}
 use Rattle.slub_core.proofs.Lists.{times-first}
-use Rattle.slub_core.proofs.LocalStep.{local_step, Settled}
+use Rattle.slub_core.proofs.LocalStep.{local_step}
 use Rattle.slub_core.proofs.Locks.{ComesTo, one-self}
 use Rattle.slub_core.proofs.PopNode.{bare-walk}
 use Rattle.slub_core.proofs.UnderLock.{stocked-within}

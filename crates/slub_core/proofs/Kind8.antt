@@ -1,7 +1,6 @@
 -- Kind 8, spot by spot: the word of a slab in hand is loaded, or of a slab of a node list.
-use Rattle.std.proofs.Common.{◌≡◌, ◌≢◌, ℕ, zero, suc, ◌+◌, ◌-◌, ◌^◌, ◌<◌, ◌≤◌, ◌==◌, ◌&&◌, not, true, false, cond, if◌then◌else◌, List, [], ◌∷◌, ◌++◌, length, refl, sym, ap, ◌∙◌, subst, arith, inl, inr}
-use Rattle.std.specs.Prelude.{slice_index}
-use Rattle.std.proofs.lemmas.Bool.{cases_Bool, eq-eqb, ne_eqb, le-ltb, cond_both, eqb-true, eqb-false, and_parts}
+use Rattle.std.proofs.Common.{◌≡◌, ◌≢◌, ℕ, zero, suc, ◌+◌, ◌-◌, ◌^◌, ◌<◌, ◌≤◌, ◌==◌, ◌&&◌, not, false, cond, List, [], ◌∷◌, ◌++◌, length, refl, ap, ◌∙◌, subst, arith, inl, inr}
+use Rattle.std.proofs.lemmas.Bool.{cases_Bool, le-ltb, cond_both, eqb-true, eqb-false, and_parts}
 use Rattle.std.proofs.lemmas.List.{length-append}
 use Rattle.std.proofs.lemmas.List.Elements.{All-head}
 use Rattle.slub_common.specs.Times.{times}
@@ -20,13 +19,13 @@ use Rattle.slub_core.specs.declared.spot.MoveSetSpot.TheVariants.{LoadMoved, Lis
 use Rattle.slub_core.specs.declared.spot.TrimSpot.TheVariants.{ScanNode, LoadScanned, DropScanned}
 use Rattle.slub_core.specs.Setup.{node_lock}
 use Rattle.slub_core.specs.Words.{slab_in}
-use Rattle.slub_core.specs.World.{World, pointer, exists_at, one_if, sum_below, frames_in, Leads}
-use Rattle.slub_core.specs.Local.{Local, Worker, hand_of, chain_of, at}
+use Rattle.slub_core.specs.World.{World, pointer, exists_at, Leads}
+use Rattle.slub_core.specs.Local.{Worker, hand_of, chain_of}
 use Rattle.slub_core.specs.Alloc.{alloc_advance, way_of_taken, way_of_popped, node_of}
 use Rattle.slub_core.specs.PutAway.{put_away_advance, way_of_end, has_enough}
 use Rattle.slub_core.specs.MoveSet.{move_set_advance, way_of_moved}
-use Rattle.slub_core.specs.Offline.{trim_advance, scanned_slab, scanned_word}
-use Rattle.slub_core.specs.Spots.{Role, Leaving, Untied, Popped, Kept, Ready, Loose, ready_of, beside_away, beside_move}
+use Rattle.slub_core.specs.Offline.{trim_advance, scanned_slab}
+use Rattle.slub_core.specs.Spots.{Leaving, Untied, Popped, Kept, Ready, Loose, ready_of, beside_away, beside_move}
 use Rattle.slub_core.specs.Placed.{owned}
 use Rattle.slub_core.specs.Listed.{home_of}
 use Rattle.slub_core.specs.Fresh.{AreHands, AreHeld, IsEmptied, IsAtWork}
@@ -39,7 +38,6 @@ use Rattle.slub_core.proofs.Lists.{times-at}
 use Rattle.slub_core.proofs.Pigeon.{sum_below-add, sum_below-le, length-as_sum}
 use Rattle.slub_core.proofs.LocalStep.{local_step}
 use Rattle.slub_core.proofs.Locks.{ComesTo, one-self}
-use Rattle.slub_core.proofs.Update.{term_le_sum}
 
 -- the worker with the slab word that it has loaded
 abbrev with_slab : Worker → SlabWord → Spot → Worker

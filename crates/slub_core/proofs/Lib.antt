@@ -6,6 +6,12 @@ pub mod TaleStep
 pub mod TaleQuiet
 pub mod TaleAnswer
 pub mod TaleWritten
+pub mod TaleReplies
+pub mod TaleAddress
+pub mod TaleGiven
+pub mod TaleTake
+pub mod TaleTurns
+pub mod TaleSpots
 pub mod Spots
 pub mod Homes
 pub mod Frames
@@ -58,8 +64,13 @@ pub mod CheckedStep
 pub mod CheckedSpots
 pub mod OneSlab
 pub mod CheckedFree
+pub mod DoChecked
+pub mod AddSlab
 pub mod GiveMove
 pub mod Kind12
+pub mod Kind9
+pub mod Kind19
+pub mod Kind29
 pub mod Leads
 pub mod LeadsLocks
 pub mod LeadsWords
@@ -77,6 +88,7 @@ pub mod Begin
 pub mod Kind8
 pub mod Tells
 pub mod Turns
+pub mod Quiet
 pub mod Kind27
 pub mod Kind25
 pub mod Kind23

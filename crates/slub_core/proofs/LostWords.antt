@@ -13,7 +13,7 @@ use Rattle.slub_core.specs.declared.spot.FreeSpot.TheVariants.{LoadSlab, FreeSla
 use Rattle.slub_core.specs.declared.spot.MoveSet.{MoveSet}
 use Rattle.slub_core.specs.declared.spot.MoveSetSpot.TheVariants.{LoadMoved, ListSlab}
 use Rattle.slub_core.specs.World.{World}
-use Rattle.slub_core.specs.Local.{Local, Worker, at}
+use Rattle.slub_core.specs.Local.{Worker, at}
 use Rattle.slub_core.specs.Alloc.{alloc_advance}
 use Rattle.slub_core.specs.PutAway.{put_away_advance}
 use Rattle.slub_core.specs.PutOnList.{put_on_list_advance}

@@ -98,7 +98,7 @@ can-put w x others run s has small is =
     }
 
 -- orders are small
-sized-small : (layout : Layout) (order objects : ℕ) → IsWithinBounds layout → IsSized layout order objects → order ≤ 10
+pub sized-small : (layout : Layout) (order objects : ℕ) → IsWithinBounds layout → IsSized layout order objects → order ≤ 10
 sized-small layout order objects b (inl usual) = omega (arith, usual.0, b.order)
 sized-small layout order objects b (inr least) = omega (arith, least.0, b.min_order, b.order)
 
@@ -160,7 +160,7 @@ put-work : (w : World) (x : Worker) (n : ℕ) (v : LockValue) (discard : Discard
     → IsAtWork (set_value w n v) (record x { local = record x.local { run = None; spot = InDiscard GiveDiscard discard } })
 put-work w x n v discard is known hands string scan locks ok = grind arith
 
-some-run : (run : Option FrameRun) → IsSome run → run ≡ Some (run_in run)
+pub some-run : (run : Option FrameRun) → IsSome run → run ≡ Some (run_in run)
 some-run None some = absurd (false≢true some)
 some-run (Some run) some = refl
 

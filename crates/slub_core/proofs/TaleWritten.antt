@@ -140,7 +140,7 @@ two-held f i (k ∷ ks) zero (suc q) a b d x y = let s = sum_by-cons (held_as f 
 two-held f i (k ∷ ks) (suc p) zero a b d x y = let s = sum_by-cons (held_as f i) k ks in let t = get_or-le-sum_by (held_as f i) ks p nobody (omega arith) in omega arith
 two-held f i (k ∷ ks) (suc p) (suc q) a b d x y = let s = sum_by-cons (held_as f i) k ks in let r = two-held f i ks p q (omega arith) (omega arith) (λ e. d (ap suc e)) x y in omega arith
 
-held_as-one : (k : Known) (f i : ℕ) → k.held ≡ true → k.frame ≡ f → k.index ≡ i → held_as f i k ≡ 1
+pub held_as-one : (k : Known) (f i : ℕ) → k.held ≡ true → k.frame ≡ f → k.index ≡ i → held_as f i k ≡ 1
 held_as-one k f i h e g = rw (h, eq-eqb k.frame f e, eq-eqb k.index i g) refl
 
 -- nor is a word of the object of its call one of another object that it holds

@@ -18,7 +18,7 @@ use Rattle.slub_core.specs.Run.{System, Pick, idle, after_step, turn, run}
 use Rattle.slub_core.specs.Spots.{uses_word}
 use Rattle.slub_core.specs.Fresh.{IsAtWork}
 use Rattle.slub_core.specs.Coherent.{Stands}
-use Rattle.slub_core.specs.Law.{covers, covers_once, AreCovered, TakesStep, IsRested, IsStanding, MayBeginFirst, MayTurn, MayRun, TurnsKeepAll, StandsAlong, RunsKeepAll, answer_to}
+use Rattle.slub_core.specs.Law.{TakesStep, IsRested, IsStanding, MayBeginFirst, MayTurn, MayRun, TurnsKeepAll, StandsAlong, RunsKeepAll}
 use Rattle.slub_core.proofs.Among.{to_front, from_front}
 use Rattle.slub_core.proofs.Begin.{begin}
 use Rattle.slub_core.proofs.Dispatch.{leads}
@@ -49,15 +49,13 @@ noted-comes w others l (Some r) (inr away) c = answered-comes w others l r away 
 
 -- ---- what is done at once
 
-once-comes : (m : Setup) (value : ℕ → LockValue) (words : List ℕ) (refused : Bool) (others : List Worker) (l : Local) → covers_once l.spot ≡ true → ComesTo (world_of m value words) others l
+once-comes : (m : Setup) (value : ℕ → LockValue) (words : List ℕ) (refused : Bool) (others : List Worker) (l : Local) → ComesTo (world_of m value words) others l
     → let c = at_once m refused value l l.spot in ComesTo (world_of m c.value words) others (noted c.local c.reply)
 unfolding world_of world_from
-once-comes m value words refused others l covered (z, e, s) =
-    subst (λ l. covers_once l.spot ≡ true → let c = at_once m refused value l l.spot in ComesTo (world_of m c.value words) others (noted c.local c.reply)) e
-    (λ covered.
-    let c = at_once m refused value z.local z.local.spot in
-    noted-comes (world_of m c.value words) others c.local c.reply (change-quits m refused value z.local z.local.spot) (makes (world_of m value words) refused z others z.local.spot refl covered s))
-    covered
+once-comes m value words refused others l (z, e, s) =
+    subst (λ l. let c = at_once m refused value l l.spot in ComesTo (world_of m c.value words) others (noted c.local c.reply)) e
+    (let c = at_once m refused value z.local z.local.spot in
+    noted-comes (world_of m c.value words) others c.local c.reply (change-quits m refused value z.local z.local.spot) (makes (world_of m value words) refused z others z.local.spot refl s))
 
 -- ---- replies that take no step
 
@@ -94,22 +92,22 @@ is_rested m l _ e = λ between. absurd (let z = sym e ∙ between in cc)
 
 pub steps : (m : Setup) (value : ℕ → LockValue) (words : List ℕ) (refused : Bool) (x : Worker) (others : List Worker) → length words ≡ word_count m → Stands (world_of m value words) (x ∷ others)
     → let step = step_of m value x.local in let n = number_of m step.place in let q = get_or words n 0 in let a = answer_of step.op q in
-    AreCovered m refused value x.local a → let c = advance_of m refused value x.local a in ComesTo (world_of m c.value (set words n (after_op step.op q))) others c.local
-steps m value words refused x others long s covered =
+    let c = advance_of m refused value x.local a in ComesTo (world_of m c.value (set words n (after_op step.op q))) others c.local
+steps m value words refused x others long s =
     let step = step_of m value x.local in
     let n = number_of m step.place in
     let q = get_or words n 0 in
     let a = answer_of step.op q in
     let after = set words n (after_op step.op q) in
     let turn = advance_at m value x.local x.local.spot a in
-    let led = leads x.local.spot covered.0 m value words x others (table m value words x others long s) refl s in
+    let led = leads x.local.spot m value words x others (table m value words x others long s) refl s in
     let l0 = told turn in
     let c1 = at_once m refused value l0 l0.spot in
     let l1 = noted c1.local c1.reply in
     let c2 = at_once m refused c1.value l1 l1.spot in
     let l2 = noted c2.local c2.reply in
-    let first = once-comes m value after refused others l0 covered.1 (noted-comes (world_of m value after) others turn.local turn.reply (turn-tells m value x.local x.local.spot a) led) in
-    let second = once-comes m c1.value after refused others l1 covered.2 first in
+    let first = once-comes m value after refused others l0 (noted-comes (world_of m value after) others turn.local turn.reply (turn-tells m value x.local x.local.spot a) led) in
+    let second = once-comes m c1.value after refused others l1 first in
     rests-at (world_of m c2.value after) others m l2 l2.spot refl second
 
 -- ---- a worker among the others
@@ -158,7 +156,7 @@ turn_keeps m s pick below stands may =
         let mine : x.local ≡ l = sym (subst (λ ls. get_or ls (length (map (λ (x : Worker). x.local) front)) idle ≡ x.local) lay.0 (get_or-middle (map (λ (x : Worker). x.local) front) (map (λ (x : Worker). x.local) back) x.local idle)) ∙ ap (λ n. get_or s.locals n idle) lay.1 in
         let rest = stands.rested k idle below in
         let began = subst (λ l. ComesTo w others (begun m false l)) mine
-        (begin w x others (to_front w front back x all) (subst (λ l. l.spot ≡ Between → MayBeginFirst m l l.todo) (sym mine) may.begins) (subst (λ l. l.spot ≡ Between → TakesStep m l l.todo) (sym mine) rest)) in
+        (begin w x others (to_front w front back x all) (subst (λ l. l.spot ≡ Between → MayBeginFirst m l l.todo) (sym mine) may) (subst (λ l. l.spot ≡ Between → TakesStep m l l.todo) (sym mine) rest)) in
         let y = began.0 in
         let step = step_of m s.value (begun m false l) in
         let n = number_of m step.place in
@@ -166,8 +164,8 @@ turn_keeps m s pick below stands may =
         let c = advance_of m pick.refused s.value (begun m false l) (answer_of step.op q) in
         let led : ComesTo (world_of m c.value (set s.words n (after_op step.op q))) others c.local
         = subst (λ b. let step = step_of m s.value b in let n = number_of m step.place in let q = get_or s.words n 0 in let a = answer_of step.op q in
-        AreCovered m pick.refused s.value b a → let c = advance_of m pick.refused s.value b a in ComesTo (world_of m c.value (set s.words n (after_op step.op q))) others c.local) began.1
-        (steps m s.value s.words pick.refused y others stands.words began.2) may.covered in
+        let c = advance_of m pick.refused s.value b a in ComesTo (world_of m c.value (set s.words n (after_op step.op q))) others c.local) began.1
+        (steps m s.value s.words pick.refused y others stands.words began.2) in
         let z = led.0 in
         let turned = advance_at m s.value (begun m false l) (begun m false l).spot (answer_of step.op q) in
         let last = settled m pick.refused (record { value = s.value; local = turned.local; reply = turned.reply }) in

@@ -87,7 +87,7 @@ pub data Role : Type 0 where
   Loaded : Role
   -- to be put away: frozen, with a chain in hand, which may be empty
   Leaving : Role
-  -- under the node lock too: where the end of its chain leads isn't relied on, since that is stored before each try
+  -- the same before the end of its chain is stored, which is done again before each try: where it leads isn't relied on
   Untied : Role
   -- off the node list: marked as listed still, with a free object
   Popped : Role

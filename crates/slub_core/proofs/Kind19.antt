@@ -5,7 +5,7 @@ use Rattle.std.proofs.lemmas.Bool.{cases_eq, cases_Bool, eq-eqb, ne_eqb, lt-ltb,
 use Rattle.std.proofs.lemmas.List.{length-append}
 use Rattle.std.proofs.lemmas.List.Elements.{All-head}
 use Rattle.slub_common.specs.Times.{times}
-use Rattle.slub_page_pool.proofs.Times.{times-append}
+use Rattle.slub_common.proofs.Times.{times-append}
 use Rattle.slub_words.specs.declared.slab.SlabWord.{SlabWord}
 use Rattle.slub_core.specs.declared.local.Known.{Known}
 use Rattle.slub_core.specs.declared.local.Hand.{Hand}

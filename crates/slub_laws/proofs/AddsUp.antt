@@ -44,7 +44,7 @@ all_below s shaped f i past = none_past i (slab_of s f) past (few_in s shaped (s
 
 -- ---- a live cache has one of the numbers
 
-is_number : (s : State) (cache : ℕ) → IsShaped s → IsSome (cache_of s cache) → cache < 32
+pub is_number : (s : State) (cache : ℕ) → IsShaped s → IsSome (cache_of s cache) → cache < 32
 is_number s cache shaped live =
     let long : length s.table.caches ≡ 32 = shaped.table.numbers in
     elim (cases_lt cache (length s.table.caches)) [

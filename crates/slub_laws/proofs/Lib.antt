@@ -11,3 +11,7 @@ pub mod Moved
 pub mod TrimmedLast
 mod Rounds
 mod Pokes
+mod Swept
+mod Flushed
+mod SweptChecked
+mod Shrunk

@@ -2,3 +2,4 @@ pub mod Freed
 pub mod Trimmed
 pub mod Poked
 pub mod Rounds
+pub mod Shrinking

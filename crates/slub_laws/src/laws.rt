@@ -4,7 +4,7 @@
 ghost use Rattle.std.specs.Prelude.{◌≡◌, ℕ, ◌+◌, ◌≤◌, false, IfSome, IsSome};
 ghost use Rattle.slub_lists.specs.Alloc.{cache_of};
 ghost use Rattle.slub_lists.specs.Coherent.{IsCoherent};
-ghost use Rattle.slub_lists.specs.Shrink.{has_slab};
+ghost use Rattle.slub_lists.specs.Shrink.{ShrinksCache, has_slab};
 ghost use Rattle.slub_lists.specs.State.{State};
 ghost use Rattle.slub_object_layout.specs.declared.event.Round.{Round as Events};
 ghost use Rattle.slub_journal.specs.declared.journal.RoundResult.{RoundResult as Outcome};
@@ -15,6 +15,7 @@ ghost use Rattle.slub_laws.specs.Freed.{freed_times, given_times};
 ghost use Rattle.slub_laws.specs.Trimmed.{EndsTrimmed};
 ghost use Rattle.slub_laws.specs.Poked.{HasPokedDamages};
 ghost use Rattle.slub_laws.specs.Rounds.{HasLawfulRounds};
+ghost use Rattle.slub_laws.specs.Shrinking.{LeavesUsedSlabs};
 
 use slub_journal::journal::Journal;
 use slub_trace_reader::trace::Trace;
@@ -72,4 +73,11 @@ pub fn objects_add_up()
 pub fn trimmed_cache_is_empty()
     ensures { (s : State) (round : Events) (result : Outcome) (cache : ℕ) (after : State) →
         EndsTrimmed s round result cache after → has_slab after cache ≡ false }
+{}
+
+/// Shrinking a cache leaves exactly the slabs of its node list with an object in use (of a checked
+/// cache: the listed slabs with an object that isn't free), in the order that promotion says.
+pub fn shrinking_leaves_the_used_slabs()
+    ensures { (s : State) (cache : ℕ) (after : State) → IsCoherent s → ShrinksCache s cache after →
+        LeavesUsedSlabs s cache after }
 {}

@@ -270,7 +270,6 @@ module _ (before : State) (past : List Answered) (s : State) (one : Answered) (a
       | inr is ↦ as-is _ _ asks is tt
     ]
   ]
-
   cause-by coherent (trims place cache slabs asks names unchecked is kept same_slabs) =
       let live = found (cache_of s cache) (place-live s place cache tale.coherent.shaped names) in
       as-is _ _ asks is (subst (λ (x : Option ℕ). MatchOption x ⊥ (λ cache. checked_of before cache ≡ None)) (sym names ∙ named-before place)

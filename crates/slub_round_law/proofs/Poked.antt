@@ -1,5 +1,5 @@
 -- Through a round: each examined byte that isn't the wanted one was poked, and so is each that is told of.
-use Rattle.std.proofs.Common.{append_assoc, Contains, zero, suc, All, T, nat_lt, ◌≡◌, ◌≢◌, ℕ, ◌+◌, ◌*◌, ◌<◌, ◌≤◌, Bool, true, false, List, [], ◌∷◌, ◌++◌, length, get_or, replicate, refl, sym, ◌∙◌, ap, subst, arith, Option, Some, None, MatchOption, inl, inr, ◌⊎◌, ℤ, get_or-set_other, get_or-set_same, length-set}
+use Rattle.std.proofs.Common.{append_assoc, Contains, zero, suc, All, T, nat_lt, ◌≡◌, ◌≢◌, ℕ, ◌+◌, ◌*◌, ◌<◌, ◌≤◌, Bool, true, false, List, [], ◌∷◌, ◌++◌, length, get_or, replicate, refl, sym, ◌∙◌, ap, subst, arith, Option, Some, None, inl, inr, ◌⊎◌, ℤ, get_or-set_other, get_or-set_same, length-set}
 use Rattle.std.specs.Prelude.{pos, ◌+ℤ◌, nat_abs, slice_get, ◌<ℤ◌, ⊤}
 use Rattle.std.specs.Option.{option_and_then, option_or}
 use Rattle.std.specs.Int.Signed.{pos-nat_abs, yes_non_neg}
@@ -37,7 +37,7 @@ use Rattle.std.proofs.Math.Nat.{mul-le-mul_right}
 use Rattle.slub_lists.specs.State.{State}
 use Rattle.slub_lists.specs.Alloc.{FindsRun, cache_of, checked_of}
 use Rattle.slub_lists.specs.Checked.{new_given, slot_of_held}
-use Rattle.slub_lists.specs.Coherent.{IsCheckedOf, IsCoherent, held_under}
+use Rattle.slub_lists.specs.Coherent.{IsCacheOf, IsCheckedOf, IsCoherent, IsSetFrom, held_under}
 use Rattle.slub_lists.specs.Words.{known_to, own, word_of}
 use Rattle.slub_lists.proofs.CheckedTaking.{held-used}
 use Rattle.slub_lists.proofs.Kept.{consistent-of}
@@ -90,7 +90,7 @@ less-of a b below = by (nat_lt a b) refl below.lt
     by false is never = absurd never
 
 -- a byte inside a slot has its place
-offset-place : (layout : Layout) (offset : ℤ) → IsOffset layout offset → (nat_abs (place_of layout offset) < layout.size) × (pos (nat_abs (place_of layout offset)) ≡ place_of layout offset)
+pub offset-place : (layout : Layout) (offset : ℤ) → IsOffset layout offset → (nat_abs (place_of layout offset) < layout.size) × (pos (nat_abs (place_of layout offset)) ≡ place_of layout offset)
 offset-place layout offset inside =
     let is : pos (nat_abs (place_of layout offset)) ≡ place_of layout offset = pos-nat_abs (place_of layout offset) (yes_non_neg inside.0) in
     (let below : pos (nat_abs (place_of layout offset)) <ℤ pos layout.size = subst (λ z. z <ℤ pos layout.size) (sym is) inside.1 in less-of (nat_abs (place_of layout offset)) layout.size below, is)
@@ -112,6 +112,10 @@ module _ (told : List Answered) where
   word-clean s slot word value sound used ends clean =
       clean-with (WasPoked told) s slot.frame _ s.listed s.reports clean
       (written-clean (by_place (WasPoked told) s.layout slot.frame) s.layout s.flags sound.layout (checked_slab s slot.frame) slot.index word value ends (used-inside s slot sound used) used (clean slot.frame))
+
+-- where `min_partial` alone is set, an object has the address that it had
+set-address : (first layout : Layout) (frame index : ℕ) → IsSetFrom first layout → address_of frame index layout ≡ address_of frame index first
+set-address first layout frame index set = ap (λ (l : Layout). address_of frame index l) set
 
 -- what a give leaves of the cache
 record Same (s after : CheckedState) : Type 0 where
@@ -198,9 +202,8 @@ module _ (told : List Answered) (s : State) (one : Answered) (after : State) (co
       let was = was-there (checked_of s held.cache) (checked_of after held.cache) slabs (reports held.cache) now in
       let same = layout-kept (checked_of s held.cache) (checked_of after held.cache) was.0 slabs (reports held.cache) was.1 now in
       let live = live-spot s held (record { cache = held.cache; address = address }) spot in
-      let of : MatchOption (cache_of s held.cache) ⊥ (λ live. (live.layout ≡ was.0.layout) × (live.flags ≡ was.0.flags)) = (slabs-sound s held.cache was.0 coherent was.1).live in
-      let mine : live.0.layout ≡ was.0.layout = (subst (λ x. MatchOption x ⊥ (λ live. (live.layout ≡ was.0.layout) × (live.flags ≡ was.0.flags))) live.1 of).0 in
-      let at : address ≡ address_of held.frame held.index slabs.layout = live.2 ∙ ap (λ (l : Layout). address_of held.frame held.index l) (mine ∙ sym same) in
+      let mine : IsSetFrom was.0.layout live.0.layout = (at_match (cache_of s held.cache) live.0 (λ live. IsCacheOf was.0 live.layout live.flags) live.1 (slabs-sound s held.cache was.0 coherent was.1).live).0 in
+      let at : address ≡ address_of held.frame held.index slabs.layout = live.2 ∙ set-address was.0.layout live.0.layout held.frame held.index mine ∙ ap (λ (l : Layout). address_of held.frame held.index l) (sym same) in
       (one, Contains-append_right told (one ∷ []) one (0, omega arith, refl), is ∙ ap reply.Given at, allocs)
     where
       allocs : is_alloc_of object one.0.act ≡ true
@@ -302,14 +305,14 @@ module _ (told : List Answered) (s : State) (one : Answered) (after : State) (co
       let of = of-cache cache slabs swaps.was in
       let done = gives-clean (WasPoked now-told) slabs give.Empty rest of.sound asked (clean-now cache slabs swaps.was) in
       let kept = gives-same slabs give.Empty rest of.sound.layout asked in
-      let layout : live.layout ≡ slabs.layout = (at_match (cache_of s cache) live (λ live. (live.layout ≡ slabs.layout) × (live.flags ≡ slabs.flags)) is_live of.live).0 in
+      let layout : IsSetFrom slabs.layout live.layout = (at_match (cache_of s cache) live (λ live. IsCacheOf slabs live.layout live.flags) is_live of.live).0 in
       let some : 1 ≤ run.objects = run-some s.pool live.layout run pool finds (subst (λ (l : Layout). 1 ≤ l.objects) (sym layout) of.sound.layout.bounds.objects.0) (subst (λ (l : Layout). 1 ≤ l.min_objects_slab) (sym layout) of.sound.layout.bounds.min_objects_slab.0) in
       let free = run-free s.pool live.layout run pool finds in
       let usable = coherent.shaped.pool.usable free.0 run.frame free.1 in
       let below : run.frame < 4096 = subst (λ f. f < 4096) free.2 (omega (arith, usable.1, coherent.shaped.pool.most)) in
       let clean = made-clean now-told rest run kept.good (kept.slabs ∙ of.sound.frames) some below done.clean in
       record { clean = swapped-clean cache slabs _ swaps clean; adds = swapped-adds cache slabs _ swaps done.found done.reports done.told }
-  bytes-by (took object held slabs mid rest limit run there swaps takes out) =
+  bytes-by (took object held slabs mid rest limit run asks there swaps takes out) =
       let used : IsUsed slabs (slot_of_held held) = held-used s object held slabs there swaps.was (consistent-of s coherent) in
       let back : Clean (WasPoked now-told) mid = subst (Clean (WasPoked now-told)) (sym takes.1) (back-clean (WasPoked now-told) slabs (slot_of_held held) (of-cache held.cache slabs swaps.was).sound used (clean-now held.cache slabs swaps.was)) in
       record { clean = swapped-clean held.cache slabs rest swaps (empty-clean (WasPoked now-told) mid held.frame limit run rest out back); adds = swapped-quiet held.cache slabs rest swaps (kept-reports run out ∙ ap (λ (c : CheckedState). c.reports) takes.1) }
@@ -317,7 +320,7 @@ module _ (told : List Answered) (s : State) (one : Answered) (after : State) (co
       kept-reports : (run : Option SlabRun) → TakesEmpty mid held.frame limit run rest → rest.reports ≡ mid.reports
       kept-reports None out = ap (λ (c : CheckedState). c.reports) out.1
       kept-reports (Some run) out = ap (λ (c : CheckedState). c.reports) out.2
-  bytes-by (wrote object word value held live slabs holds within swaps) =
+  bytes-by (wrote object word value held live slabs asks holds within swaps) =
       let there = own-is one.0.worker (held_under s object) held holds.here in
       let used = used-word s held live.layout (record { object = object; here = there }) (rw holds.cache refl) coherent word within slabs swaps.was in
       record { clean = swapped-clean held.cache slabs _ swaps (word-clean now-told slabs (slot_of_held held) word value (of-cache held.cache slabs swaps.was).sound used.0 used.1 (clean-now held.cache slabs swaps.was)); adds = swapped-quiet held.cache slabs _ swaps refl }

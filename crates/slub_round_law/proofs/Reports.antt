@@ -81,10 +81,10 @@ module _ (s : State) (one : Answered) (after : State) (coherent : IsCoherent s) 
       swaps-told s cache slabs _ after swaps
       (told-then slabs rest _ (gives-told slabs give.Empty rest (slabs-sound s cache slabs coherent swaps.was).sound asked)
       (told-then rest (with_new_slab rest (record { frame = run.frame; order = run.order }) run.objects) _ (new-told rest (record { frame = run.frame; order = run.order }) run.objects) (given-told (with_new_slab rest (record { frame = run.frame; order = run.order }) run.objects) (first_slot run))))
-  event-told (took object held slabs mid rest limit run there swaps takes goes) =
+  event-told (took object held slabs mid rest limit run asks there swaps takes goes) =
       swaps-told s held.cache slabs rest after swaps
       (told-then slabs mid rest (subst (Told slabs) (sym takes.1) (taken-told slabs (record { frame = held.frame; index = held.index }))) (taken-out mid held.frame limit run rest goes))
-  event-told (wrote object word value held live slabs holds within swaps) = swaps-told s held.cache slabs _ after swaps (bytes-told slabs held.frame _)
+  event-told (wrote object word value held live slabs asks holds within swaps) = swaps-told s held.cache slabs _ after swaps (bytes-told slabs held.frame _)
   event-told (poked_byte object offset byte held slabs asks is knows inside swaps) = swaps-told s held.cache slabs _ after swaps (bytes-told slabs held.frame _)
 
 pub reports-more : (before s after : State) → Reports before s → Reports s after → Reports before after

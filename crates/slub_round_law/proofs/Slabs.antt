@@ -2,7 +2,7 @@
 use Rattle.std.proofs.Common.{◌≡◌, ℕ, zero, suc, Bool, true, false, cond, List, [], ◌∷◌, get_or, set, refl, ◌∙◌, ap, subst, Option, Some, None, MatchOption, Result, Ok, Err, inl, inr, ◌⊎◌, ℤ}
 use Rattle.std.specs.Option.{option_map_or}
 use Rattle.slub_page_pool.specs.FreeFrames.{FreeFrames}
-use Rattle.slub_object_layout.specs.declared.event.Act.TheVariants.{Alloc, Free, Poke}
+use Rattle.slub_object_layout.specs.declared.event.Act.TheVariants.{Alloc, Free, Write, Poke}
 use Rattle.slub_object_layout.specs.declared.event.Event.{Event}
 use Rattle.slub_object_layout.specs.declared.layout.Layout.{Layout}
 use Rattle.slub_cache_create.specs.declared.caches.Cache.{Cache}
@@ -42,9 +42,9 @@ pub data Slabs (s : State) (event : Event) (answer : Reply) (after : State) : Ty
   -- none was there, and a slab was made
   made : (cache : ℕ) (slabs rest : CheckedState) (run : Run) (pool : FreeFrames) (live : Cache) → cache_of s cache ≡ Some live → Swaps s cache slabs (new_given rest run) after → Gives slabs give.Empty rest → FindsRun s.pool live.layout (Some run) pool → Slabs s event answer after
   -- one was taken back, and its slab may be gone
-  took : (object : ℕ) (held : Held) (slabs mid rest : CheckedState) (limit : ℕ) (run : Option SlabRun) → held_under s object ≡ Some held → Swaps s held.cache slabs rest after → TakesBack slabs (slot_of_held held) (Ok tt) mid
+  took : (object : ℕ) (held : Held) (slabs mid rest : CheckedState) (limit : ℕ) (run : Option SlabRun) → event.act ≡ Free object → held_under s object ≡ Some held → Swaps s held.cache slabs rest after → TakesBack slabs (slot_of_held held) (Ok tt) mid
       → TakesEmpty mid held.frame limit run rest → Slabs s event answer after
-  wrote : (object word value : ℕ) (held : Held) (live : Cache) (slabs : CheckedState) → Holds s event.worker object held live → is_word live.layout word ≡ true → Swaps s held.cache slabs (slab_word slabs (slot_of_held held) word value) after → Slabs s event answer after
+  wrote : (object word value : ℕ) (held : Held) (live : Cache) (slabs : CheckedState) → event.act ≡ Write object word value → Holds s event.worker object held live → is_word live.layout word ≡ true → Swaps s held.cache slabs (slab_word slabs (slot_of_held held) word value) after → Slabs s event answer after
   poked_byte : (object : ℕ) (offset : ℤ) (byte : ℕ) (held : Held) (slabs : CheckedState) → event.act ≡ Poke object offset byte → answer ≡ reply.Poked → known_to s event.worker object ≡ Some held → IsOffset slabs.layout offset
       → Swaps s held.cache slabs (with_byte slabs (slot_of_held held) offset byte) after → Slabs s event answer after
 
@@ -89,7 +89,7 @@ freed-checked : (s : State) (layout : Layout) (cache cpu frame index : ℕ) → 
 freed-checked s layout cache cpu frame index =
     either-checked s (freed_here s cache cpu index) _ (is_current frame (lists_of s cache cpu).current) refl (same_settled (with_freed s frame index) layout cache cpu frame (own_free s frame)).3
 
-module _ (s : State) (event : Event) (object : ℕ) (held : Held) (answer : Reply) (after : State) (there : held_under s object ≡ Some held) where
+module _ (s : State) (event : Event) (object : ℕ) (held : Held) (answer : Reply) (after : State) (asks : event.act ≡ Free object) (there : held_under s object ≡ Some held) where
   of-unchecked : (layout : Layout) → FreesUnchecked s layout event.cpu event.worker object held answer after → Slabs s event answer after
   of-unchecked layout done = same (ap (λ (t : State). t.checked) done.1 ∙ freed-checked (with_taken s object held.cache) layout held.cache event.cpu held.frame held.index)
 
@@ -97,20 +97,20 @@ module _ (s : State) (event : Event) (object : ℕ) (held : Held) (answer : Repl
       → IsFreedOrKept s layout rest event.worker object held found answer after → Slabs s event answer after
   of-checked layout slabs rest (Err damage) was taken done = same (ap (λ (t : State). t.checked) done.1)
   of-checked layout slabs rest (Ok x) was taken done =
-      took object held slabs rest done.2 layout.min_partial done.1 there (record { was = was; now = ap (λ (t : State). t.checked) done.4 ∙ where-checked done.1 }) taken done.3
+      took object held slabs rest done.2 layout.min_partial done.1 asks there (record { was = was; now = ap (λ (t : State). t.checked) done.4 ∙ where-checked done.1 }) taken done.3
     where
       where-checked : (run : Option SlabRun) → (discarded_where (with_checked (with_taken s object held.cache) held.cache done.2) held.frame run).checked ≡ set s.checked held.cache (Some done.2)
       where-checked None = refl
       where-checked (Some run) = refl
 
-free-slabs : (s : State) (event : Event) (object : ℕ) (answer : Reply) (after : State) → Frees s event.cpu event.worker object answer after → Slabs s event answer after
-free-slabs s event object answer after done = match_either (get_or s.board object None) _ _ (Slabs s event answer after) done
+free-slabs : (s : State) (event : Event) (object : ℕ) (answer : Reply) (after : State) → event.act ≡ Free object → Frees s event.cpu event.worker object answer after → Slabs s event answer after
+free-slabs s event object answer after asks done = match_either (get_or s.board object None) _ _ (Slabs s event answer after) done
     (λ none nothing. same (ap (λ (t : State). t.checked) nothing.1))
     (λ held there done. match_bool (is_freeable event.worker held.worker) _ _ (Slabs s event answer after) done
     (λ may done. match_some (cache_of s held.cache) _ (Slabs s event answer after) done (λ live is_live done.
     match_either (checked_of s held.cache) _ _ (Slabs s event answer after) done
-    (λ unchecked done. of-unchecked s event object held answer after there live.layout done)
-    (λ slabs was done. of-checked s event object held answer after there live.layout slabs done.1 done.0 was done.2 done.3)))
+    (λ unchecked done. of-unchecked s event object held answer after asks there live.layout done)
+    (λ slabs was done. of-checked s event object held answer after asks there live.layout slabs done.1 done.0 was done.2 done.3)))
     (λ other none. same (ap (λ (t : State). t.checked) none.1)))
 
 -- ---- words and bytes
@@ -124,7 +124,7 @@ of-step s event answer after answers (wants place object cache live slabs asks n
     let done : Answers s event (Alloc place object) answer after = subst (λ act. Answers s event act answer after) asks answers in alloc-slabs s event place object answer after done
 of-step s event answer after answers (nameless place object asks none is now) = same (ap (λ (t : State). t.checked) now)
 of-step s event answer after answers (frees object live held asks was may is_live is board gone table memory cpus frames dry) =
-    let done : Answers s event (Free object) answer after = subst (λ act. Answers s event act answer after) asks answers in free-slabs s event object answer after done
+    let done : Answers s event (Free object) answer after = subst (λ act. Answers s event act answer after) asks answers in free-slabs s event object answer after asks done
 of-step s event answer after answers (keeps object damage held slabs asks was may checked taken is now) = same (ap (λ (t : State). t.checked) now)
 of-step s event answer after answers (refuses object asks why is now) = same (ap (λ (t : State). t.checked) now)
 of-step s event answer after answers (writes object word value live held asks holds within is now) = by (checked_of s held.cache) refl
@@ -134,7 +134,7 @@ of-step s event answer after answers (writes object word value live held asks ho
 
     by : (x : Option CheckedState) → checked_of s held.cache ≡ x → Slabs s event answer after
     by None e = same (ap (λ (t : State). t.checked) (at None e))
-    by (Some slabs) e = wrote object word value held live slabs holds within (record { was = e; now = ap (λ (t : State). t.checked) (at (Some slabs) e) })
+    by (Some slabs) e = wrote object word value held live slabs asks holds within (record { was = e; now = ap (λ (t : State). t.checked) (at (Some slabs) e) })
 of-step s event answer after answers (writes_none object word value live held asks holds past is now) = same (ap (λ (t : State). t.checked) now)
 of-step s event answer after answers (writes_not object word value asks none is now) = same (ap (λ (t : State). t.checked) now)
 of-step s event answer after answers (reads object word live held asks holds within is now) = same (ap (λ (t : State). t.checked) now)

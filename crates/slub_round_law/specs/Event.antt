@@ -1,7 +1,10 @@
 -- What one event finds before it, and what it leaves.
-use Rattle.std.specs.Prelude.{◌≡◌, ℕ, [], Some, IsSome, IfSome, All, Contains, slice_index, sum_by}
+use Rattle.std.specs.Prelude.{◌≡◌, ℕ, true, [], Some, IsSome, IfSome, MatchOption, ⊤, All, Contains, slice_index, sum_by}
 use Rattle.slub_page_pool.specs.Block.{HasNoBlock}
-use Rattle.slub_red_zone.specs.declared.slab.ObjectState.TheVariants.{Free}
+use Rattle.slub_object_layout.specs.declared.event.Act.{Act}
+use Rattle.slub_object_layout.specs.declared.event.Act.TheVariants.{Alloc, Free, Write, Read, Poke}
+use Rattle.slub_object_layout.specs.declared.layout.Layout.{Layout}
+use Rattle.slub_red_zone.specs.declared.slab.ObjectState.TheVariants.{Free as FreeObject}
 use Rattle.slub_red_zone.specs.declared.checked.Slot.{Slot}
 use Rattle.slub_red_zone.specs.State.{CheckedState, slab_of as checked_slab, state_of}
 use Rattle.slub_red_zone.specs.Steps.{damage_of_free}
@@ -10,6 +13,8 @@ use Rattle.slub_lists.specs.State.{State}
 use Rattle.slub_lists.specs.Alloc.{cache_of, checked_of, held_here, lists_of, named, node_of, own_free}
 use Rattle.slub_lists.specs.Checked.{slot_of_held}
 use Rattle.slub_lists.specs.Coherent.{held_under}
+use Rattle.slub_lists.specs.Laws.{KeepsWords, Names}
+use Rattle.slub_lists.specs.Words.{is_word, known_to, word_of}
 use Rattle.slub_round_law.specs.Round.{spot_of}
 
 -- ---- an object that is given
@@ -26,7 +31,7 @@ pub data IsFree (s : State) (cache cpu : ℕ) (held : Held) : Type 0 where
       → Contains (own_free s held.frame) held.index → IsFree s cache cpu held
   on_node : Contains (node_of s cache) held.frame
       → Contains (own_free s held.frame) held.index → IsFree s cache cpu held
-  in_checked : IfSome (checked_of s cache) (λ slabs. state_of slabs (slot_of_held held) ≡ Some Free)
+  in_checked : IfSome (checked_of s cache) (λ slabs. state_of slabs (slot_of_held held) ≡ Some FreeObject)
       → IsSome (checked_of s cache) → IsFree s cache cpu held
   in_frames : Contains s.pool.free held.frame → IsFree s cache cpu held
 
@@ -63,3 +68,28 @@ pub record LacksFrames (s : State) (place cpu : ℕ) : Type 0 where
   pub name : named s place ≡ Some cache
   pub no_object : HasNoObject s cache cpu
   pub no_block : IfSome (cache_of s cache) (λ live. HasNoBlock s.pool.free live.layout.min_order)
+
+-- ---- the words of others
+
+-- the object is the one that a number names to a worker, which holds or freed it
+abbrev pub IsNamed : State → ℕ → ℕ → Held → Type 0
+IsNamed s worker object held =
+    MatchOption (known_to s worker object) ⊥
+    (λ known. (known.frame ≡ held.frame) × (known.index ≡ held.index))
+
+-- the words of each object on the board are as before, but of the one that is poked
+abbrev pub KeepsButPoked : State → ℕ → ℕ → State → Type 0
+KeepsButPoked s worker object after =
+    (other word : ℕ) (held : Held) (layout : Layout) → Names s other held layout
+    → ¬ IsNamed s worker object held → is_word layout word ≡ true
+    → word_of after layout held word ≡ word_of s layout held word
+
+-- an act under a number leaves the words of each other object on the board, and so does a poke, but
+-- for an object that stands where the number's freed one stood
+abbrev pub SparesWords : State → ℕ → Act → State → Type 0
+SparesWords s worker (Alloc place object) after = KeepsWords s object after
+SparesWords s worker (Free object) after = KeepsWords s object after
+SparesWords s worker (Write object word value) after = KeepsWords s object after
+SparesWords s worker (Read object word) after = KeepsWords s object after
+SparesWords s worker (Poke object offset byte) after = KeepsButPoked s worker object after
+SparesWords s worker _ after = ⊤

@@ -90,8 +90,8 @@ abbrev pub NamesUnchecked : State → ℕ → Type 0
 NamesUnchecked before place =
     MatchOption (named before place) ⊥ (λ cache. checked_of before cache ≡ None)
 
--- ---- why an event is answered so: `own` are the events of the same worker before it, `answers` all
--- ---- of the round, of every worker
+-- ---- why an event is answered so: `own` are the events of the same worker before it, `answers`
+-- ---- all of the round, of every worker
 
 -- what is given is no object that the worker holds, and none that was on the board before, but for
 -- one that was freed in the round
@@ -162,8 +162,8 @@ PokeCause reply.NotChecked = ⊤
 PokeCause reply.NotHeld = ⊤
 PokeCause _ = ⊥
 
--- a trim answers that the name isn't live exactly where that is so, that the cache is checked exactly
--- where it is, and otherwise how many slabs went
+-- a trim answers that the name isn't live exactly where that is so, that its cache is checked
+-- exactly where it is, and otherwise how many slabs went
 abbrev pub TrimCause : State → ℕ → Reply → Type 0
 TrimCause before place (reply.Trimmed slabs) = NamesUnchecked before place
 TrimCause before place reply.Checked = NamesChecked before place

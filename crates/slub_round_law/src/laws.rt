@@ -2,14 +2,16 @@
 //! anything.
 
 ghost use Rattle.std.specs.Prelude.{ℕ, ◌<◌, length};
+ghost use Rattle.slub_object_layout.specs.declared.event.Event.{Event};
 ghost use Rattle.slub_object_layout.specs.declared.event.Round.{Round};
+ghost use Rattle.slub_answers.specs.declared.reply.Reply.{Reply};
 ghost use Rattle.slub_answers.specs.declared.reply.Reply.TheVariants.{Given, NoFrames};
 ghost use Rattle.slub_lists.specs.Coherent.{IsCoherent};
 ghost use Rattle.slub_lists.specs.Named.{AllocatesNamed};
 ghost use Rattle.slub_lists.specs.State.{State};
 ghost use Rattle.slub_journal.specs.declared.journal.RoundResult.{RoundResult};
-ghost use Rattle.slub_journal.specs.Lawful.{DoesRound, IsAtRest};
-ghost use Rattle.slub_round_law.specs.Event.{GivesFree, LacksFrames};
+ghost use Rattle.slub_journal.specs.Lawful.{Answers, DoesRound, IsAtRest};
+ghost use Rattle.slub_round_law.specs.Event.{GivesFree, LacksFrames, SparesWords};
 ghost use Rattle.slub_round_law.specs.Round.{Fits, IsRound};
 
 /// A round that is done event by event, in the order of the text, is lawful.
@@ -33,4 +35,11 @@ pub fn want_of_frames_has_its_cause()
     ensures { (s : State) (place cpu worker object : ℕ) (after : State) → IsCoherent s →
         cpu < s.cpus → AllocatesNamed s place cpu worker object NoFrames after →
         LacksFrames s place cpu }
+{}
+
+/// An event leaves the words of each object on the board but that of its own number; a poke, of each
+/// but the one that stands where the poked one stood.
+pub fn events_spare_other_objects()
+    ensures { (s : State) (event : Event) (reply : Reply) (after : State) → IsCoherent s →
+        Answers s event event.act reply after → SparesWords s event.worker event.act after }
 {}

@@ -88,7 +88,6 @@ pub mod Begin
 pub mod Kind8
 pub mod Tells
 pub mod Turns
-pub mod Quiet
 pub mod Kind27
 pub mod Kind25
 pub mod Kind23

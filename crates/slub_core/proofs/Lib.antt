@@ -12,6 +12,8 @@ pub mod TaleGiven
 pub mod TaleTake
 pub mod TaleTurns
 pub mod TaleSpots
+pub mod TaleUses
+pub mod TaleEnds
 pub mod Spots
 pub mod Homes
 pub mod Frames

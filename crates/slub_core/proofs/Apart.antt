@@ -39,7 +39,7 @@ slab-below w xs f i s some =
     s.listed.shaped.within f (omega arith)
 
 -- so does a run in hand
-run-covers : (m : Setup) (cache : ℕ) (run : FrameRun) (i p : ℕ) → IsRun m cache run → i < run.objects → run.objects * (m.layout cache).size ≤ 4096 * 2 ^ run.order → IsWordOf (m.layout cache) run.frame i p → covered_by (p / 512) (Some run) ≡ 1
+pub run-covers : (m : Setup) (cache : ℕ) (run : FrameRun) (i p : ℕ) → IsRun m cache run → i < run.objects → run.objects * (m.layout cache).size ≤ 4096 * 2 ^ run.order → IsWordOf (m.layout cache) run.frame i p → covered_by (p / 512) (Some run) ≡ 1
 run-covers m cache run i p held below fits is = let frame = word-frame (m.layout cache) run.frame i run.objects run.order p is below fits in in_run-one (p / 512) run.frame run.order frame.0 frame.1
 
 pub role-most : (w : World) (xs : List Worker) (g : ℕ) → Stands w xs → frame_roles w xs g ≤ 1
@@ -60,7 +60,7 @@ one-object w xs f i g j p s some other at_i at_j =
     ]
 
 -- the runs in the hands of the others
-held-run : (w : World) (cache : ℕ) (o : Local) (run : FrameRun) (stored : ℕ) → o.run ≡ Some run → IsHeldRun w cache o.run stored → IsRun w.setup cache run
+pub held-run : (w : World) (cache : ℕ) (o : Local) (run : FrameRun) (stored : ℕ) → o.run ≡ Some run → IsHeldRun w cache o.run stored → IsRun w.setup cache run
 held-run w cache o run stored is held = let h : IsHeldRun w cache (Some run) stored = rw is at held in h.0
 
 others-run : (w : World) (x : Worker) (others : List Worker) (k : ℕ) (d : Worker) (run : FrameRun) (j p : ℕ) → Stands w (x ∷ others) → k < length others → (get_or others k d).local.run ≡ Some run → j < run.objects → w.setup.lives (get_or others k d).local.cache ≡ true
@@ -76,7 +76,7 @@ others-run w x others k d run j p s below is within live at_p =
     let e : covered_by (p / 512) o.local.run ≡ covered_by (p / 512) (Some run) = ap (covered_by (p / 512)) is in
     omega arith
 
-run-live : (w : World) (o : Worker) (run : FrameRun) → IsAtWork w o → o.local.run ≡ Some run → w.setup.lives o.local.cache ≡ true
+pub run-live : (w : World) (o : Worker) (run : FrameRun) → IsAtWork w o → o.local.run ≡ Some run → w.setup.lives o.local.cache ≡ true
 run-live w o run ok is = elim (cases_Bool (has_run o.local.spot)) [
   | inl e ↦ elim (run-cache o.local.spot e) [ inl a ↦ (ok.spot.plain a).1 | inr b ↦ (ok.spot.checked b).1 ]
   | inr e ↦ absurd (none-some run (sym (ok.spot.no_run e) ∙ is))

@@ -12,6 +12,8 @@ pub mod TaleGiven
 pub mod TaleTake
 pub mod TaleTurns
 pub mod TaleSpots
+pub mod TaleUses
+pub mod TaleEnds
 pub mod Spots
 pub mod Homes
 pub mod Frames
@@ -88,7 +90,6 @@ pub mod Begin
 pub mod Kind8
 pub mod Tells
 pub mod Turns
-pub mod Quiet
 pub mod Kind27
 pub mod Kind25
 pub mod Kind23

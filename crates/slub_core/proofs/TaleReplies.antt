@@ -115,7 +115,7 @@ pub record AnswersKept (l n : Local) (r : Reply) : Type 0 where
   pub freeing : is_freeing n.spot ≡ false
   pub call : doing n.spot ≡ None
 
-answers-here : (l n : Local) (r : Reply) → AnswersKept l n r → Answers l n (here l) r
+pub answers-here : (l n : Local) (r : Reply) → AnswersKept l n r → Answers l n (here l) r
 answers-here l n r after = record { known = after.known ∙ sym (set-get_or l.known l.place nobody); done = after.done; todo = after.todo; freeing = after.freeing; call = after.call }
 
 pub told-of : (opening w : World) (x : Worker) (others : List Worker) → IsAccounted opening w (x ∷ others) → IsTold w.setup opening.board (public w (x ∷ others)) x.local

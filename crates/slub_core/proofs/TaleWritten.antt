@@ -160,7 +160,7 @@ mine-spares w x others p s inside mine some at_p o a other is plain within =
     let one = object_at-le w f i in
     absurd (omega arith))
 
-all-written : (w : World) (before : ℕ → Option BoardWord) (p v : ℕ) (xs : List Worker) → All (λ (o : Worker). Spares w o.local p) xs → All (λ (o : Worker). IsWritten w before o.local) xs → All (λ (o : Worker). IsWritten (set_memory w p v) before o.local) xs
+pub all-written : (w : World) (before : ℕ → Option BoardWord) (p v : ℕ) (xs : List Worker) → All (λ (o : Worker). Spares w o.local p) xs → All (λ (o : Worker). IsWritten w before o.local) xs → All (λ (o : Worker). IsWritten (set_memory w p v) before o.local) xs
 all-written w before p v xs spare all k d below = written-spared w before (get_or xs k d).local p v (spare k d below) (all k d below)
 
 -- a word of memory is stored in which no worker wrote, in an object that it holds

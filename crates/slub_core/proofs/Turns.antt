@@ -1,8 +1,9 @@
 -- A turn of any worker keeps all, and so does a run of turns.
 use Rattle.std.proofs.Common.{◌≡◌, ℕ, zero, suc, ◌+◌, ◌<◌, ◌≤◌, Bool, true, false, Option, Some, None, List, [], ◌∷◌, ◌++◌, length, get_or, set, map, refl, sym, ap, ◌∙◌, subst, arith, inl, inr}
 use Rattle.std.specs.Prelude.{All}
-use Rattle.std.proofs.lemmas.List.{length-set}
-use Rattle.std.proofs.lemmas.List.Elements.{All-head, All-tail, All-weaker, All-set}
+use Rattle.std.proofs.lemmas.List.{length-set, set-get_or}
+use Rattle.std.proofs.lemmas.List.Elements.{All-head, All-set}
+use Rattle.std.proofs.lemmas.Bool.{cases_lt}
 use Rattle.std.proofs.lemmas.Option.{none-some}
 use Rattle.slub_answers.specs.declared.reply.Reply.{Reply}
 use Rattle.slub_core.specs.declared.call.Call.{Call}
@@ -140,9 +141,9 @@ length-mapped f (x ∷ xs) = ap suc (length-mapped f xs)
 locals-middle : (f : Worker → Local) (front back : List Worker) (x : Worker) (ls : List Local) (k : ℕ) → length front ≡ k → map f (front ++ x ∷ back) ≡ ls → (map f front ++ f x ∷ map f back ≡ ls) × (length (map f front) ≡ k)
 locals-middle f front back x ls k at is = (sym (map-append f front (x ∷ back)) ∙ is, length-mapped f front ∙ at)
 
-pub turn_keeps : TurnsKeepAll
+turn_below : (m : Setup) (s : System) (pick : Pick) → pick.worker < length s.locals → IsStanding m s → MayTurn m s pick → IsStanding m (turn m s pick)
 unfolding world_of world_from
-turn_keeps m s pick below stands may =
+turn_below m s pick below stands may =
     let r = split stands.workers pick.worker (let e = ap (λ ls. length ls) stands.locals in let g = length-mapped (λ (x : Worker). x.local) stands.workers in omega arith) in
     by_split r.0 r.2 r.1 r.4 (sym (ap (map (λ (x : Worker). x.local)) r.3) ∙ stands.locals) (subst (Stands (world_of m s.value s.words)) r.3 stands.stands)
   where
@@ -180,17 +181,32 @@ turn_keeps m s pick below stands may =
           rested = All-set (IsRested m) s.locals k c.local (is_rested m told_last told_last.spot refl) stands.rested;
         }
 
--- a turn changes no number of workers
-length-turn : (m : Setup) (s : System) (pick : Pick) → length (turn m s pick).locals ≡ length s.locals
-length-turn m s pick = length-set s.locals pick.worker _
+-- a pick of no worker changes nothing
+set-beyond : {X : Type 0} (xs : List X) (k : ℕ) (v : X) → length xs ≤ k → set xs k v ≡ xs
+set-beyond [] k v past = refl
+set-beyond (x ∷ xs) zero v past = absurd (omega arith)
+set-beyond (x ∷ xs) (suc k) v past = ap (λ ys. x ∷ ys) (set-beyond xs k v (omega arith))
+
+get_or-beyond : {X : Type 0} (xs : List X) (k : ℕ) (d : X) → length xs ≤ k → get_or xs k d ≡ d
+get_or-beyond [] k d past = refl
+get_or-beyond (x ∷ xs) zero d past = absurd (omega arith)
+get_or-beyond (x ∷ xs) (suc k) d past = get_or-beyond xs k d (omega arith)
+
+idle-turn : (m : Setup) (s : System) (refused : Bool) (k : ℕ) → length s.locals ≤ k → after_step m refused s k idle ≡ s
+idle-turn m s refused k past =
+    let words = set-get_or s.words 0 0 in
+    let locals = set-beyond s.locals k idle past in
+    λ i. record { words = words i; value = s.value; locals = locals i }
+
+no-turn : (m : Setup) (s : System) (pick : Pick) → length s.locals ≤ pick.worker → turn m s pick ≡ s
+no-turn m s pick past = ap (λ l. after_step m pick.refused s pick.worker (begun m false l)) (get_or-beyond s.locals pick.worker idle past) ∙ idle-turn m s pick.refused pick.worker past
+
+pub turn_keeps : TurnsKeepAll
+turn_keeps m s pick stands may = elim (cases_lt pick.worker (length s.locals)) [
+  | inl below ↦ turn_below m s pick below stands may
+  | inr past ↦ subst (IsStanding m) (sym (no-turn m s pick past)) stands
+]
 
 pub run_keeps : RunsKeepAll
-run_keeps m s [] below stands may = stands
-run_keeps m s (pick ∷ picks) below stands may =
-    let first = All-head (λ (pick : Pick). pick.worker < length s.locals) pick picks below in (
-      stands,
-      run_keeps m (turn m s pick) picks
-          (All-weaker (λ (pick : Pick). pick.worker < length s.locals) (λ (other : Pick). other.worker < length (turn m s pick).locals) (λ other less. let e = length-turn m s pick in omega arith) picks
-          (All-tail (λ (pick : Pick). pick.worker < length s.locals) pick picks below))
-          (turn_keeps m s pick first stands may.0) may.1,
-    )
+run_keeps m s [] stands may = stands
+run_keeps m s (pick ∷ picks) stands may = (stands, run_keeps m (turn m s pick) picks (turn_keeps m s pick stands may.0) may.1)

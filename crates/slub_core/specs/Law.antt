@@ -61,7 +61,7 @@ MayRun m s (pick ∷ picks) = MayTurn m s pick × MayRun m (turn m s pick) picks
 -- stands to such a machine
 abbrev pub TurnsKeepAll : Type 0
 TurnsKeepAll =
-    (m : Setup) (s : System) (pick : Pick) → pick.worker < length s.locals
+    (m : Setup) (s : System) (pick : Pick)
     → IsStanding m s → MayTurn m s pick → IsStanding m (turn m s pick)
 
 -- before each pick of a run and after the last one all stands
@@ -72,5 +72,4 @@ StandsAlong m s (pick ∷ picks) = IsStanding m s × StandsAlong m (turn m s pic
 abbrev pub RunsKeepAll : Type 0
 RunsKeepAll =
     (m : Setup) (s : System) (picks : List Pick)
-    → All (λ (pick : Pick). pick.worker < length s.locals) picks
     → IsStanding m s → MayRun m s picks → StandsAlong m s picks

@@ -1,0 +1,179 @@
+-- What the replies of a worker say: which objects it holds, where they stand, what it wrote; and what causes a reply has. No step stands here.
+use Rattle.std.specs.Prelude.{◌≡◌, ◌≢◌, ℕ, zero, suc, ◌+◌, ◌-◌, ◌*◌, ◌<◌, ◌≤◌, Bool, true, false, not, ◌&&◌, ◌==◌, nat_le, cond, if◌then◌else◌, List, [], ◌∷◌, length, Option, Some, None, ◌⊎◌, ℤ}
+use Rattle.std.specs.Option.{option_map}
+use Rattle.slub_object_layout.specs.Layout.{address_of}
+use Rattle.slub_words.specs.declared.board.BoardWord.{BoardWord}
+use Rattle.slub_words.specs.Words.{IsSpent}
+use Rattle.slub_answers.specs.declared.reply.Reply.{Reply}
+use Rattle.slub_answers.specs.declared.reply.Reply.TheVariants as reply
+use Rattle.slub_core.specs.declared.call.Call.{Call}
+use Rattle.slub_core.specs.declared.call.CallKind.{CallKind}
+use Rattle.slub_core.specs.declared.call.CallKind.TheVariants.{Alloc, Free, Write, Read, Poke, Trim, Flush}
+use Rattle.slub_core.specs.declared.local.Answered.{Answered}
+use Rattle.slub_core.specs.Setup.{Setup, IsChecked, IsPlain}
+use Rattle.slub_core.specs.Checked.{is_offset}
+use Rattle.slub_core.specs.Steps.{is_outside}
+
+-- ---- kinds of calls and replies
+
+abbrev pub is_alloc : CallKind → Bool
+is_alloc Alloc = true
+is_alloc _ = false
+
+abbrev pub is_given : Reply → Bool
+is_given (reply.Given address) = true
+is_given _ = false
+
+abbrev pub is_freed : Reply → Bool
+is_freed (reply.Freed address) = true
+is_freed _ = false
+
+abbrev pub is_dry : Reply → Bool
+is_dry reply.NoFrames = true
+is_dry _ = false
+
+-- ---- what a worker's replies say, the last one first
+
+-- whether it holds the object
+abbrev pub holds_after : Reply → Bool → Bool
+holds_after (reply.Given address) b = true
+holds_after (reply.Freed address) b = false
+holds_after (reply.Corrupt damage) b = true
+holds_after _ b = b
+
+abbrev pub holding : List Answered → ℕ → Bool
+holding [] o = false
+holding (d ∷ ds) o = cond (d.call.object == o) (holds_after d.reply (holding ds o)) (holding ds o)
+
+-- whether it knows where the object stands
+abbrev pub knows_after : Reply → Bool → Bool
+knows_after (reply.Given address) b = true
+knows_after (reply.Freed address) b = true
+knows_after (reply.Corrupt damage) b = true
+knows_after _ b = b
+
+abbrev pub knows : List Answered → ℕ → Bool
+knows [] o = false
+knows (d ∷ ds) o = cond (d.call.object == o) (knows_after d.reply (knows ds o)) (knows ds o)
+
+-- the address of an object of the board
+abbrev pub address_on : Setup → Option BoardWord → Option ℕ
+address_on m b = option_map (λ (b : BoardWord). address_of b.frame b.index (m.layout b.cache)) b
+
+-- the address of the object, by the replies and the board before
+abbrev pub address_after : Reply → Option ℕ → Option ℕ
+address_after (reply.Given address) x = Some address
+address_after _ x = x
+
+abbrev pub address_by : Setup → (ℕ → Option BoardWord) → List Answered → ℕ → Option ℕ
+address_by m before [] o = address_on m (before o)
+address_by m before (d ∷ ds) o = cond (d.call.object == o) (address_after d.reply (address_by m before ds o)) (address_by m before ds o)
+
+-- its cache
+abbrev pub cache_after : Call → Reply → Option ℕ → Option ℕ
+cache_after call (reply.Given address) x = call.cache
+cache_after call _ x = x
+
+abbrev pub cache_by : (ℕ → Option BoardWord) → List Answered → ℕ → Option ℕ
+cache_by before [] o = option_map (λ (b : BoardWord). b.cache) (before o)
+cache_by before (d ∷ ds) o = cond (d.call.object == o) (cache_after d.call d.reply (cache_by before ds o)) (cache_by before ds o)
+
+-- what the worker wrote last in a word of the object, since it came to hold it
+abbrev pub wrote_after : Call → Reply → ℕ → Option ℕ → Option ℕ
+wrote_after call (reply.Given address) a x = None
+wrote_after call (reply.Freed address) a x = None
+wrote_after call reply.Wrote a x = cond (call.word == a) (Some call.value) x
+wrote_after call _ a x = x
+
+abbrev pub last_wrote : List Answered → ℕ → ℕ → Option ℕ
+last_wrote [] o a = None
+last_wrote (d ∷ ds) o a = cond (d.call.object == o) (wrote_after d.call d.reply a (last_wrote ds o a)) (last_wrote ds o a)
+
+-- ---- counts
+
+abbrev pub one_if : Bool → ℕ
+one_if b = cond b 1 0
+
+-- how often the object was given, and how often it was freed
+abbrev pub given_in : ℕ → List Answered → ℕ
+given_in o [] = 0
+given_in o (d ∷ ds) = one_if (is_given d.reply && (d.call.object == o)) + given_in o ds
+
+abbrev pub freed_in : ℕ → List Answered → ℕ
+freed_in o [] = 0
+freed_in o (d ∷ ds) = one_if (is_freed d.reply && (d.call.object == o)) + freed_in o ds
+
+-- how often these calls are to allocate the object
+abbrev pub asked_in : ℕ → List Call → ℕ
+asked_in o [] = 0
+asked_in o (c ∷ cs) = one_if (is_alloc c.kind && (c.object == o)) + asked_in o cs
+
+-- the least order of the slabs of an allocation's cache
+abbrev pub least_order : Setup → Option ℕ → ℕ
+least_order m None = 0
+least_order m (Some cache) = (m.layout cache).min_order
+
+-- how often no run of this least order was there
+abbrev pub dry_in : Setup → ℕ → List Answered → ℕ
+dry_in m order [] = 0
+dry_in m order (d ∷ ds) = one_if (is_dry d.reply && (least_order m d.call.cache == order)) + dry_in m order ds
+
+-- ---- causes
+
+-- what a reply may rest on beside the worker's own earlier ones: facts that stay, once they are so
+pub record Public : Type 0 where
+  -- 1 where the object number is on the board
+  pub boarded : ℕ → ℕ
+  -- how often it was freed, over all workers
+  pub freed : ℕ → ℕ
+  -- by CPU word: its transaction id
+  pub tid : ℕ → ℕ
+
+-- later no more is on the board, no less was freed, and no transaction id is less
+pub record Later (p q : Public) : Type 0 where
+  pub boarded : (o : ℕ) → q.boarded o ≤ p.boarded o
+  pub freed : (o : ℕ) → p.freed o ≤ q.freed o
+  pub tid : (n : ℕ) → p.tid n ≤ q.tid n
+
+-- the object is of a live cache without checks
+abbrev pub IsOfPlain : Setup → Option ℕ → Type 0
+IsOfPlain m cache = (k : ℕ) × (cache ≡ Some k) × (m.checks k ≡ false)
+
+abbrev pub IsOfChecked : Setup → Option ℕ → Type 0
+IsOfChecked m cache = (k : ℕ) × (cache ≡ Some k) × (m.checks k ≡ true)
+
+-- the call of a worker that was answered `ds` had cause for this reply
+abbrev pub Cause : Setup → (ℕ → Option BoardWord) → Public → List Answered → Call → Reply → Type 0
+-- an object is given that the worker holds under no number, and that stood under no number on the board but one that was freed since
+Cause m before p ds c (reply.Given a) =
+    (c.kind ≡ Alloc) × ((o : ℕ) → address_by m before ds o ≡ Some a → holding ds o ≡ false) × ((o : ℕ) → address_on m (before o) ≡ Some a → 1 ≤ p.freed o)
+Cause m before p ds c reply.NoFrames = (c.kind ≡ Alloc) × ((k : ℕ) × (c.cache ≡ Some k))
+Cause m before p ds c reply.NoSuchCache = ((c.kind ≡ Alloc) ⊎ (c.kind ≡ Trim)) × (c.cache ≡ None)
+Cause m before p ds c reply.NoMemory = (c.kind ≡ Alloc) × IsOfChecked m c.cache
+-- the CPU word had that transaction id, and has it or a later one since
+Cause m before p ds c (reply.IdsSpent t) = (c.kind ≡ Alloc) × IsSpent t m.step × ((k : ℕ) × (c.cache ≡ Some k) × (t ≤ p.tid (16 * k + c.cpu)))
+-- what is freed was the worker's or on the board, and stood at this address
+Cause m before p ds c (reply.Freed a) =
+    (c.kind ≡ Free) × (address_by m before ds c.object ≡ Some a) × ((holding ds c.object ≡ true) ⊎ (address_on m (before c.object) ≡ Some a))
+-- the worker doesn't hold it, and where it is to be freed it isn't on the board
+Cause m before p ds c reply.NotHeld = (is_alloc c.kind ≡ false) × (holding ds c.object ≡ false) × (c.kind ≡ Free → p.boarded c.object ≡ 0)
+Cause m before p ds c (reply.Corrupt d) =
+    (c.kind ≡ Free) × (d.found ≢ d.wanted) × IsOfChecked m (cache_by before ds c.object) × ((holding ds c.object ≡ true) ⊎ ((a : ℕ) × (address_on m (before c.object) ≡ Some a)))
+Cause m before p ds c reply.Wrote = (c.kind ≡ Write) × (holding ds c.object ≡ true)
+-- of an unchecked object the value is what the worker wrote last
+Cause m before p ds c (reply.Value v) =
+    (c.kind ≡ Read) × (holding ds c.object ≡ true) × (IsOfPlain m (cache_by before ds c.object) → last_wrote ds c.object c.word ≡ Some v)
+Cause m before p ds c reply.OutOfObject =
+    ((c.kind ≡ Write) ⊎ (c.kind ≡ Read)) × (holding ds c.object ≡ true) × ((k : ℕ) × (cache_by before ds c.object ≡ Some k) × (is_outside (m.layout k) c ≡ true))
+Cause m before p ds c reply.Poked = (c.kind ≡ Poke) × (knows ds c.object ≡ true) × IsOfChecked m (cache_by before ds c.object)
+Cause m before p ds c reply.OutOfSlot =
+    (c.kind ≡ Poke) × (knows ds c.object ≡ true) × ((k : ℕ) × (cache_by before ds c.object ≡ Some k) × (is_offset (m.layout k) c.offset ≡ false))
+Cause m before p ds c reply.NotChecked = (c.kind ≡ Poke) × (knows ds c.object ≡ true) × IsOfPlain m (cache_by before ds c.object)
+Cause m before p ds c (reply.Trimmed n) = (c.kind ≡ Trim) × IsOfPlain m c.cache
+Cause m before p ds c reply.Checked = (c.kind ≡ Trim) × IsOfChecked m c.cache
+Cause m before p ds c (reply.Flushed n) = c.kind ≡ Flush
+
+-- each reply had its cause
+abbrev pub Caused : Setup → (ℕ → Option BoardWord) → Public → List Answered → Type 0
+Caused m before p [] = Unit {0}
+Caused m before p (d ∷ ds) = Cause m before p ds d.call d.reply × Caused m before p ds

@@ -1,0 +1,13 @@
+//! The step machine: what the workers of a round do to the words of the allocator, one atomic step after another.
+//!
+//! A worker stands at a `Spot`, which calls for one `Step` on one word; the `Answer` leads it to the next
+//! spot. `specs/` says which step and which way (`step_of`, `advance_of`), and what holds between any two
+//! steps of all workers (`IsCoherent`); `proofs/` has the law that each step keeps it, whatever the other
+//! workers are doing. Nothing here runs: the crates above make the steps, and cite the law.
+#![tactic(auto)]
+
+pub mod call;
+pub mod laws;
+pub mod local;
+pub mod spot;
+pub mod step;

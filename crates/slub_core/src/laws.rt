@@ -2,8 +2,8 @@
 
 ghost use Rattle.slub_core.specs.Law.{TurnsKeepAll, RunsKeepAll};
 
-/// From a machine in which all stands the turn of any worker, at any spot that the law covers, leads to one
-/// in which all stands, whatever the other workers are at.
+/// From a machine in which all stands the turn of any worker leads to one in which all stands,
+/// whatever the other workers are at.
 pub fn turns_keep_all()
     ensures { TurnsKeepAll }
 {}

@@ -14,6 +14,7 @@ pub mod TaleTurns
 pub mod TaleSpots
 pub mod TaleUses
 pub mod TaleEnds
+pub mod TaleBegin
 pub mod Spots
 pub mod Homes
 pub mod Frames

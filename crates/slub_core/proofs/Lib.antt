@@ -15,6 +15,7 @@ pub mod TaleSpots
 pub mod TaleUses
 pub mod TaleEnds
 pub mod TaleBegin
+pub mod TaleRest
 pub mod Spots
 pub mod Homes
 pub mod Frames

@@ -16,6 +16,7 @@ pub mod TaleUses
 pub mod TaleEnds
 pub mod TaleBegin
 pub mod TaleRest
+pub mod TaleChecked
 pub mod Spots
 pub mod Homes
 pub mod Frames

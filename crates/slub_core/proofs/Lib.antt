@@ -17,6 +17,7 @@ pub mod TaleEnds
 pub mod TaleBegin
 pub mod TaleRest
 pub mod TaleChecked
+pub mod TaleDry
 pub mod Spots
 pub mod Homes
 pub mod Frames

@@ -1,10 +1,9 @@
 -- A worker begins its next call; and the account does not depend on the order of the workers.
-use Rattle.std.proofs.Common.{◌≡◌, ℕ, ◌+◌, ◌<◌, ◌≤◌, ◌⊎◌, ◌++◌, Bool, true, false, List, [], ◌∷◌, length, get_or, refl, sym, ap, ◌∙◌, subst, arith, inl, inr, Some, None, Option}
+use Rattle.std.proofs.Common.{◌≡◌, ℕ, ◌+◌, ◌++◌, Bool, true, false, List, ◌∷◌, length, get_or, refl, sym, ap, ◌∙◌, subst, arith, inl, Some, None, Option}
 use Rattle.std.specs.Prelude.{All, sum_by, unwrap_or}
-use Rattle.std.proofs.lemmas.Bool.{cases_Bool, false≢true}
+use Rattle.std.proofs.lemmas.Bool.{false≢true}
 use Rattle.std.proofs.lemmas.Option.{none-some}
 use Rattle.std.proofs.lemmas.List.Elements.{All-head, All-weaker}
-use Rattle.slub_words.specs.declared.board.BoardWord.{BoardWord}
 use Rattle.slub_core.specs.declared.call.Call.{Call}
 use Rattle.slub_core.specs.declared.call.CallKind.{CallKind}
 use Rattle.slub_core.specs.declared.call.CallKind.TheVariants.{Alloc, Free, Write, Read, Poke, Trim, Flush}
@@ -15,7 +14,7 @@ use Rattle.slub_core.specs.World.{World}
 use Rattle.slub_core.specs.Local.{Local, Worker, nobody, no_call, here, call_of}
 use Rattle.slub_core.specs.Steps.{told_of_alloc, told_of_trim, told_at_once, cache_for, first_spot, first_cpu, begun_call}
 use Rattle.slub_core.specs.Spots.{doing, is_freeing}
-use Rattle.slub_core.specs.Replies.{given_in, freed_in, asked_in, dry_in, holding, Later}
+use Rattle.slub_core.specs.Replies.{given_in, freed_in, asked_in, dry_in, Later}
 use Rattle.slub_core.specs.Accounted.{had, public, place_of, known_of, Fits, NamesCache, IsTold, IsWritten, IsAccounted}
 use Rattle.slub_core.specs.Law.{MayBegin}
 use Rattle.slub_core.proofs.Among.{sum_by-middle, All-middle, All-back}
@@ -96,14 +95,14 @@ told_begun opening w fast x others call calls is todo may none ac =
       frees = λ f. absurd (false≢true (rw is at f));
       source = λ f. inl (sym (tale.holds (here n).object (λ g. absurd (false≢true (rw is at g)))) ∙ ap (λ (k : Known). k.held) knew ∙ first-freeing call.kind _ known.held f);
       call = λ kind e. let same : call.kind ≡ kind = kind-same (sym (first-doing call.kind _ known.held) ∙ e) in (
-          record {
-            some = rw todo (omega arith);
-            same_kind = ap (λ (c : Call). c.kind) mine ∙ same;
-            object = ap (λ (c : Call). c.object) mine ∙ sym object;
-            place = ap (λ (c : Call). c.place) (sym mine);
-          },
-          subst (NamesCache n) same (names-first m known n call call.kind mine refl refl none),
-        );
+        record {
+          some = rw todo (omega arith);
+          same_kind = ap (λ (c : Call). c.kind) mine ∙ same;
+          object = ap (λ (c : Call). c.object) mine ∙ sym object;
+          place = ap (λ (c : Call). c.place) (sym mine);
+        },
+        subst (NamesCache n) same (names-first m known n call call.kind mine refl refl none),
+      );
     })
 
 -- ---- the order of the workers

@@ -1,26 +1,23 @@
 -- The calls of a checked cache in the account.
-use Rattle.std.proofs.Common.{◌≡◌, ◌≢◌, ℕ, zero, suc, ◌+◌, ◌*◌, ◌<◌, ◌≤◌, ◌⊎◌, cond, Bool, true, false, List, [], ◌∷◌, length, get_or, refl, sym, ap, ◌∙◌, subst, arith, inl, inr, Some, None, Option}
-use Rattle.std.specs.Prelude.{All}
-use Rattle.std.proofs.lemmas.Bool.{cases_eq, eq-eqb, ne_eqb, false≢true}
+use Rattle.std.proofs.Common.{◌≡◌, ℕ, ◌+◌, ◌*◌, ◌<◌, ◌≤◌, true, false, List, ◌∷◌, refl, sym, ap, ◌∙◌, subst, arith, inl, inr, Some}
+use Rattle.std.proofs.lemmas.Bool.{cases_eq, ne_eqb, false≢true}
 use Rattle.std.proofs.lemmas.List.Sums.{get_or-le-sum_by}
-use Rattle.std.proofs.lemmas.List.Elements.{All-cons, All-head}
 use Rattle.slub_object_layout.specs.Layout.{address_of}
 use Rattle.slub_answers.specs.declared.reply.Reply.TheVariants as reply
-use Rattle.slub_core.specs.declared.call.CallKind.TheVariants.{Alloc, Write, Read, Poke}
+use Rattle.slub_core.specs.declared.call.CallKind.TheVariants.{Alloc, Write, Read}
 use Rattle.slub_core.specs.declared.local.Known.{Known}
 use Rattle.slub_core.specs.World.{World, cache_at, object_at, idle_in, on_board}
-use Rattle.slub_core.specs.Local.{Local, Worker, here, call_of}
+use Rattle.slub_core.specs.Local.{Worker, here, call_of}
 use Rattle.slub_core.specs.Spots.{doing, is_freeing}
-use Rattle.slub_core.specs.Placed.{held, owned}
+use Rattle.slub_core.specs.Placed.{owned}
 use Rattle.slub_core.specs.Coherent.{Stands}
-use Rattle.slub_core.specs.Replies.{holding, last_wrote, cache_by, knows}
-use Rattle.slub_core.specs.Accounted.{public, place_of, known_of, IsWritten, IsAccounted}
-use Rattle.slub_core.proofs.Counts.{places-cons}
+use Rattle.slub_core.specs.Replies.{holding, cache_by}
+use Rattle.slub_core.specs.Accounted.{public, known_of, IsAccounted}
 use Rattle.slub_core.proofs.Update.{term_le_sum}
 use Rattle.slub_core.proofs.Exists.{object_at-le}
 use Rattle.slub_core.proofs.TaleQuiet.{Unseen}
 use Rattle.slub_core.proofs.TaleAnswer.{place-here}
-use Rattle.slub_core.proofs.TaleReplies.{AnswersKept, answers-here, Spoken, spoken, spoken-on, spoken-counts, written-spoken, told-of, written-of, known-here, told_kept, told_same}
+use Rattle.slub_core.proofs.TaleReplies.{AnswersKept, answers-here, spoken, spoken-on, spoken-counts, written-spoken, told-of, written-of, known-here, told_kept, told_same}
 use Rattle.slub_core.proofs.TaleGiven.{IsUnheld, place-unheld}
 
 -- an object that is free or set aside in a checked slab is held by nobody, and isn't on the board

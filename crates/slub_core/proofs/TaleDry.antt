@@ -1,20 +1,20 @@
 -- A pool that lacks a run counts it, and the call is answered so.
-use Rattle.std.proofs.Common.{◌≡◌, ℕ, zero, suc, ◌+◌, ◌-◌, ◌*◌, ◌^◌, ◌<◌, ◌≤◌, ◌&&◌, eqb, Bool, true, false, List, [], ◌∷◌, length, set, refl, sym, ap, ◌∙◌, subst, arith, inl, inr, Some, None, Option}
-use Rattle.std.specs.Prelude.{All, sum_by, slice_index, min}
+use Rattle.std.proofs.Common.{◌≡◌, ℕ, zero, suc, ◌+◌, ◌-◌, ◌^◌, ◌<◌, ◌≤◌, ◌&&◌, eqb, true, false, List, [], ◌∷◌, length, set, refl, ap, ◌∙◌, subst, arith, inl, inr, Some}
+use Rattle.std.specs.Prelude.{sum_by, slice_index, min}
 use Rattle.std.proofs.lemmas.Bool.{cases_eq, eq-eqb, ne_eqb, cond_both}
 use Rattle.std.proofs.lemmas.List.Sums.{sum_by-cons}
 use Rattle.slub_answers.specs.declared.reply.Reply.TheVariants as reply
 use Rattle.slub_core.specs.declared.call.CallKind.TheVariants.{Alloc}
 use Rattle.slub_core.specs.declared.local.Answered.{Answered}
 use Rattle.slub_core.specs.Setup.{Setup, pool_lock}
-use Rattle.slub_core.specs.World.{World, Pool, update, pool_in, pool_of}
-use Rattle.slub_core.specs.Local.{Local, Worker, call_of}
+use Rattle.slub_core.specs.World.{World, Pool, pool_in, pool_of}
+use Rattle.slub_core.specs.Local.{Worker, call_of}
 use Rattle.slub_core.specs.Alloc.{noted_dry, pool_with}
 use Rattle.slub_core.specs.Spots.{doing, is_freeing}
 use Rattle.slub_core.specs.Replies.{one_if, is_dry, least_order, dry_in}
 use Rattle.slub_core.specs.Accounted.{IsAccounted}
 use Rattle.slub_core.proofs.Update.{update_same}
-use Rattle.slub_core.proofs.TaleReplies.{AnswersKept, Spoken, told-of, told_same}
+use Rattle.slub_core.proofs.TaleReplies.{AnswersKept, told-of, told_same}
 
 index-same : (xs : List ℕ) (k v : ℕ) → k < length xs → slice_index (set xs k v) k ≡ v
 index-same [] k v below = absurd (omega arith)

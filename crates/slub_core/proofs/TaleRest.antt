@@ -1,10 +1,9 @@
 -- The replies that take no step: the call of a worker between two calls is answered at once.
-use Rattle.std.proofs.Common.{◌≡◌, ℕ, ◌+◌, ◌<◌, ◌≤◌, ◌⊎◌, ◌==◌, eqb, Bool, true, false, not, List, [], ◌∷◌, length, get_or, refl, sym, ap, ◌∙◌, subst, arith, inl, inr, Some, None, Option}
+use Rattle.std.proofs.Common.{◌≡◌, ℕ, ◌<◌, ◌≤◌, ◌⊎◌, eqb, true, false, List, [], ◌∷◌, length, get_or, refl, sym, ap, ◌∙◌, subst, arith, inl, inr, Some, None, Option}
 use Rattle.std.specs.Prelude.{All}
 use Rattle.std.proofs.lemmas.Bool.{cases_Bool, cases_eq, eq-eqb, ne_eqb, eqb-true, false≢true}
 use Rattle.std.proofs.lemmas.Option.{none-some}
 use Rattle.std.proofs.lemmas.List.Elements.{All-head}
-use Rattle.slub_words.specs.declared.board.BoardWord.{BoardWord}
 use Rattle.slub_answers.specs.declared.reply.Reply.{Reply}
 use Rattle.slub_answers.specs.declared.reply.Reply.TheVariants as reply
 use Rattle.slub_core.specs.declared.call.Call.{Call}
@@ -15,12 +14,11 @@ use Rattle.slub_core.specs.declared.local.Answered.{Answered}
 use Rattle.slub_core.specs.declared.spot.Spot.TheVariants.{Between}
 use Rattle.slub_core.specs.Setup.{Setup}
 use Rattle.slub_core.specs.World.{World, object_at}
-use Rattle.slub_core.specs.Local.{Local, Worker, nobody, no_call, here, call_of, answered}
+use Rattle.slub_core.specs.Local.{Local, Worker, nobody, no_call, call_of, answered}
 use Rattle.slub_core.specs.Steps.{told_of_alloc, told_of_trim, told_of_use, told_of_poke, told_at_once, is_outside}
-use Rattle.slub_core.specs.Spots.{doing, is_freeing}
 use Rattle.slub_core.specs.Coherent.{Stands}
-use Rattle.slub_core.specs.Replies.{is_alloc, is_dry, holding, holds_after, knows, knows_after, cache_by, Public, Cause}
-use Rattle.slub_core.specs.Accounted.{public, place_of, known_of, Fits, IsDoing, IsTold, IsAccounted}
+use Rattle.slub_core.specs.Replies.{is_dry, holding, holds_after, knows, knows_after, Cause}
+use Rattle.slub_core.specs.Accounted.{public, known_of, Fits, IsDoing, IsTold, IsAccounted}
 use Rattle.slub_core.proofs.Exists.{nothing-there}
 use Rattle.slub_core.proofs.TaleKnowns.{place_of-object}
 use Rattle.slub_core.proofs.TaleQuiet.{told_like}

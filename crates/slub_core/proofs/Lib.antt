@@ -14,6 +14,10 @@ pub mod TaleTurns
 pub mod TaleSpots
 pub mod TaleUses
 pub mod TaleEnds
+pub mod TaleBegin
+pub mod TaleRest
+pub mod TaleChecked
+pub mod TaleDry
 pub mod Spots
 pub mod Homes
 pub mod Frames

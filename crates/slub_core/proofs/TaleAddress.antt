@@ -1,19 +1,19 @@
 -- No two objects stand at one address.
-use Rattle.std.proofs.Common.{◌≡◌, ℕ, suc, ◌+◌, ◌-◌, ◌*◌, ◌/◌, ◌%◌, ◌^◌, ◌<◌, ◌≤◌, ◌&&◌, true, List, [], ◌∷◌, length, refl, sym, ap, ◌∙◌, subst, arith, inl, inr, Some, None, Option}
+use Rattle.std.proofs.Common.{◌≡◌, ℕ, ◌+◌, ◌*◌, ◌/◌, ◌%◌, ◌^◌, ◌≤◌, true, List, refl, ap, ◌∙◌, subst, arith, inl, inr, Some, None, Option}
 use Rattle.std.specs.Prelude.{nat_lt, unwrap_or, IfSome, slice_index_or}
 use Rattle.std.proofs.lemmas.Bool.{cases_eq, cases_lt, lt-ltb, cond-true}
 use Rattle.slub_object_layout.specs.declared.layout.Layout.{Layout}
-use Rattle.slub_object_layout.specs.Layout.{address_of, IsWithinBounds}
+use Rattle.slub_object_layout.specs.Layout.{address_of}
 use Rattle.slub_object_layout.proofs.Slots.{mul-words}
 use Rattle.slub_red_zone.specs.State.{CheckedState, SlabState, no_slab, objects_in, slab_of}
-use Rattle.slub_red_zone.specs.Sound.{IsSlab, IsSound}
+use Rattle.slub_red_zone.specs.Sound.{IsSlab}
 use Rattle.slub_core.specs.Setup.{Setup, IsSetup}
-use Rattle.slub_core.specs.World.{World, Checked, size_in, order_in, objects_at, cache_at, order_at, order_in_values, object_at, in_run, covers}
+use Rattle.slub_core.specs.World.{World, size_in, order_in, objects_at, cache_at, order_at, order_in_values, object_at, in_run, covers}
 use Rattle.slub_core.specs.Local.{Worker}
 use Rattle.slub_core.specs.Listed.{IsCheckedOf}
 use Rattle.slub_core.specs.Coherent.{Stands}
 use Rattle.slub_core.proofs.Exists.{word-object}
-use Rattle.slub_core.proofs.Values.{word-objects, word-cache, object-within, in-value, unworded-objects, unworded-cache, checked-value, cache-live}
+use Rattle.slub_core.proofs.Values.{word-cache, object-within, in-value, unworded-objects, unworded-cache, checked-value, cache-live}
 use Rattle.slub_core.proofs.Slots.{IsWordOf, word-index, word-frame, in_run-one, two_terms}
 use Rattle.slub_core.proofs.Apart.{slab-covers, role-most}
 

@@ -1,21 +1,20 @@
 -- Steps with a reply: what a worker knows of the object of its call changes, and of no other.
-use Rattle.std.proofs.Common.{◌≡◌, ℕ, suc, ◌+◌, ◌<◌, ◌≤◌, Bool, true, false, eqb, ◌&&◌, List, [], ◌∷◌, length, get_or, set, drop, refl, sym, ap, ◌∙◌, arith, inl, inr, ◌⊎◌, Some, None, Option}
+use Rattle.std.proofs.Common.{◌≡◌, ℕ, ◌+◌, ◌<◌, ◌≤◌, Bool, true, false, eqb, ◌&&◌, List, [], ◌∷◌, length, get_or, set, drop, refl, sym, ap, ◌∙◌, arith, inl, inr, ◌⊎◌, Some, None, Option}
 use Rattle.std.specs.Prelude.{All, slice_index}
 use Rattle.std.proofs.lemmas.Bool.{cases_eq, eq-eqb, ne_eqb, false≢true}
 use Rattle.std.proofs.lemmas.Option.{none-some}
-use Rattle.std.proofs.lemmas.List.Elements.{All-cons, All-head, All-drop, All-set}
+use Rattle.std.proofs.lemmas.List.Elements.{All-head, All-drop, All-set}
 use Rattle.slub_words.specs.declared.board.BoardWord.{BoardWord}
 use Rattle.slub_answers.specs.declared.reply.Reply.{Reply}
 use Rattle.slub_core.specs.declared.call.Call.{Call}
 use Rattle.slub_core.specs.declared.call.CallKind.{CallKind}
 use Rattle.slub_core.specs.declared.local.Known.{Known}
-use Rattle.slub_core.specs.declared.local.Answered.{Answered}
 use Rattle.slub_core.specs.Setup.{Setup}
 use Rattle.slub_core.specs.World.{World, pool_of}
 use Rattle.slub_core.specs.Local.{Local, Worker, nobody, no_call, here, call_of, address_in}
-use Rattle.slub_core.specs.Spots.{doing, frees, is_freeing}
-use Rattle.slub_core.specs.Replies.{one_if, is_alloc, is_given, is_freed, is_dry, least_order, holds_after, holding, knows_after, knows, address_after, address_by, cache_after, cache_by, given_in, freed_in, asked_in, dry_in, Public, Later, Cause, Caused}
-use Rattle.slub_core.specs.Accounted.{boarded, had, public, place_of, known_of, Fits, IsDoing, NamesCache, IsTold, IsWritten, IsAccounted}
+use Rattle.slub_core.specs.Spots.{doing, is_freeing}
+use Rattle.slub_core.specs.Replies.{one_if, is_alloc, is_given, is_freed, is_dry, least_order, holds_after, holding, knows_after, knows, address_after, address_by, cache_after, cache_by, Public, Cause}
+use Rattle.slub_core.specs.Accounted.{boarded, public, place_of, known_of, Fits, IsDoing, IsTold, IsWritten, IsAccounted}
 use Rattle.slub_core.proofs.TaleKnowns.{known_of-here, known_of-other, fits-set, distinct-set, asked-drop, length-drop}
 use Rattle.slub_core.proofs.TaleStep.{Onward, Moved, caused-later, told-later, told_step}
 

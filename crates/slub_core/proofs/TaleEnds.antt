@@ -1,8 +1,7 @@
 -- An object of a chain in hand is given; ends of calls without an object; what is done under a lock; and the begin of a call.
-use Rattle.std.proofs.Common.{◌≡◌, ◌≢◌, ℕ, zero, suc, ◌+◌, ◌-◌, ◌*◌, ◌<◌, ◌≤◌, ◌⊎◌, Bool, true, false, List, [], ◌∷◌, length, get_or, refl, sym, ap, ◌∙◌, subst, arith, inl, inr, Some, None, Option}
-use Rattle.std.specs.Prelude.{All, slice_index, unwrap_or}
-use Rattle.std.proofs.lemmas.Bool.{cases_eq, cases_Bool, eq-eqb, false≢true}
-use Rattle.std.proofs.lemmas.Option.{none-some}
+use Rattle.std.proofs.Common.{◌≡◌, ℕ, zero, suc, ◌-◌, ◌<◌, ◌≤◌, false, List, [], ◌∷◌, length, get_or, refl, sym, ap, ◌∙◌, subst, arith, inl, inr, Some}
+use Rattle.std.specs.Prelude.{slice_index}
+use Rattle.std.proofs.lemmas.Bool.{cases_eq, eq-eqb}
 use Rattle.std.proofs.lemmas.List.Sums.{get_or-le-sum_by}
 use Rattle.std.proofs.lemmas.List.Elements.{All-head}
 use Rattle.slub_common.specs.Times.{times}
@@ -16,8 +15,8 @@ use Rattle.slub_core.specs.declared.spot.Spot.TheVariants.{InAlloc}
 use Rattle.slub_core.specs.declared.spot.AllocSpot.TheVariants.{Install}
 use Rattle.slub_core.specs.declared.step.Answer.TheVariants.{Won}
 use Rattle.slub_core.specs.Setup.{pool_lock}
-use Rattle.slub_core.specs.World.{World, LockValue, set_cpu, set_value, update, pool_in, pointer, cache_at, object_at, exists_at, in_chain, on_board}
-use Rattle.slub_core.specs.Local.{Local, Worker, no_hand, here, hand_of, call_of}
+use Rattle.slub_core.specs.World.{World, LockValue, set_cpu, set_value, pool_in, pointer, cache_at, object_at, exists_at, on_board}
+use Rattle.slub_core.specs.Local.{Worker, no_hand, hand_of}
 use Rattle.slub_core.specs.Ops.{own_cpu}
 use Rattle.slub_core.specs.Alloc.{installed_word, alloc_advance}
 use Rattle.slub_core.specs.Steps.{told}
@@ -25,7 +24,7 @@ use Rattle.slub_core.specs.Spots.{Loaded, doing, is_freeing}
 use Rattle.slub_core.specs.Placed.{held, in_hands, owned}
 use Rattle.slub_core.specs.Fresh.{AreHands, AreHeld, IsAtWork}
 use Rattle.slub_core.specs.Coherent.{Stands}
-use Rattle.slub_core.specs.Accounted.{public, IsAccounted}
+use Rattle.slub_core.specs.Accounted.{IsAccounted}
 use Rattle.slub_core.proofs.Counts.{places-cons}
 use Rattle.slub_core.proofs.Update.{update_other, term_le_sum}
 use Rattle.slub_core.proofs.Chains.{IsChain-first}
@@ -33,7 +32,7 @@ use Rattle.slub_core.proofs.Exists.{object_at-le, word-object, exists_at-within,
 use Rattle.slub_core.proofs.Values.{word-cache}
 use Rattle.slub_core.proofs.Hands.{one-hand}
 use Rattle.slub_core.proofs.TaleQuiet.{Unseen}
-use Rattle.slub_core.proofs.TaleReplies.{AnswersKept, Spoken, spoken, told-of, told_same}
+use Rattle.slub_core.proofs.TaleReplies.{AnswersKept, spoken, told-of, told_same}
 use Rattle.slub_core.proofs.TaleGiven.{IsUnheld, place-unheld, told_given}
 use Rattle.slub_core.proofs.TaleSpots.{unseen-cpu, unseen-same}
 

@@ -1,10 +1,10 @@
 -- An object is given that nobody has.
-use Rattle.std.proofs.Common.{◌≡◌, ℕ, suc, ◌+◌, ◌*◌, ◌<◌, ◌≤◌, ◌&&◌, Bool, true, false, eqb, List, [], ◌∷◌, length, get_or, set, refl, sym, ap, ◌∙◌, subst, arith, inl, inr, Some, None, Option}
+use Rattle.std.proofs.Common.{◌≡◌, ℕ, ◌<◌, ◌≤◌, ◌&&◌, true, false, eqb, List, [], ◌∷◌, length, get_or, refl, sym, ap, ◌∙◌, subst, arith, inl, inr, Some, None, Option}
 use Rattle.std.specs.Prelude.{All, sum_by}
 use Rattle.std.proofs.lemmas.Bool.{cases_eq, cases_Bool, eq-eqb, ne_eqb, false≢true}
 use Rattle.std.proofs.lemmas.Option.{none-some}
 use Rattle.std.proofs.lemmas.List.Sums.{sum_by-cons, get_or-le-sum_by}
-use Rattle.std.proofs.lemmas.List.Elements.{All-cons, All-head, All-tail}
+use Rattle.std.proofs.lemmas.List.Elements.{All-head, All-tail}
 use Rattle.slub_object_layout.specs.Layout.{address_of}
 use Rattle.slub_words.specs.declared.board.BoardWord.{BoardWord}
 use Rattle.slub_answers.specs.declared.reply.Reply.{Reply}
@@ -13,18 +13,18 @@ use Rattle.slub_core.specs.declared.call.CallKind.TheVariants.{Alloc}
 use Rattle.slub_core.specs.declared.local.Known.{Known}
 use Rattle.slub_core.specs.declared.local.Answered.{Answered}
 use Rattle.slub_core.specs.Setup.{Setup}
-use Rattle.slub_core.specs.World.{World, cache_at, object_at, on_board, is_at}
-use Rattle.slub_core.specs.Local.{Local, Worker, nobody, here, call_of, address_in}
+use Rattle.slub_core.specs.World.{World, cache_at, object_at, on_board}
+use Rattle.slub_core.specs.Local.{Local, Worker, nobody, here, address_in}
 use Rattle.slub_core.specs.Spots.{doing, is_freeing}
-use Rattle.slub_core.specs.Placed.{held_as, held, owned}
+use Rattle.slub_core.specs.Placed.{held_as, held}
 use Rattle.slub_core.specs.Coherent.{Stands}
-use Rattle.slub_core.specs.Replies.{one_if, is_given, given_in, freed_in, address_after, address_by, address_on, holding}
-use Rattle.slub_core.specs.Accounted.{boarded, had, public, place_of, known_of, IsTold, IsAccounted}
+use Rattle.slub_core.specs.Replies.{one_if, is_given, given_in, freed_in, address_after, address_by, address_on}
+use Rattle.slub_core.specs.Accounted.{boarded, had, public, place_of, known_of, IsAccounted}
 use Rattle.slub_core.proofs.Exists.{owned-object}
 use Rattle.slub_core.proofs.ValueStep.{known-owned, board-object}
 use Rattle.slub_core.proofs.TaleKnowns.{held-inside}
 use Rattle.slub_core.proofs.TaleAddress.{one-address}
-use Rattle.slub_core.proofs.TaleAnswer.{Answers, place-here, told_answer}
+use Rattle.slub_core.proofs.TaleAnswer.{Answers, told_answer}
 use Rattle.slub_core.proofs.TaleReplies.{Spoken, spoken-on, spoken-counts, written-spoken, told-of, place-inside}
 use Rattle.slub_core.proofs.TaleWritten.{held_as-one}
 

@@ -1,12 +1,12 @@
 -- Steps without a reply: what the worker knows and what it was answered stay.
-use Rattle.std.proofs.Common.{◌≡◌, ℕ, ◌+◌, ◌≤◌, ◌<◌, Bool, true, false, List, [], ◌∷◌, length, get_or, refl, sym, ap, ◌∙◌, subst, arith, inl, inr, ◌⊎◌, Some, None, Option}
+use Rattle.std.proofs.Common.{◌≡◌, ℕ, ◌≤◌, true, List, ◌∷◌, refl, sym, ap, ◌∙◌, arith, inr, ◌⊎◌, Some, Option}
 use Rattle.std.specs.Prelude.{All, slice_index}
 use Rattle.std.proofs.lemmas.List.Elements.{All-cons, All-head, All-tail, All-weaker}
 use Rattle.slub_words.specs.declared.board.BoardWord.{BoardWord}
 use Rattle.slub_core.specs.declared.call.CallKind.{CallKind}
 use Rattle.slub_core.specs.Setup.{Setup}
 use Rattle.slub_core.specs.World.{World, pool_of, content}
-use Rattle.slub_core.specs.Local.{Local, Worker, nobody, here, address_in}
+use Rattle.slub_core.specs.Local.{Local, Worker, here, address_in}
 use Rattle.slub_core.specs.Spots.{doing, frees, is_freeing}
 use Rattle.slub_core.specs.Replies.{holding, address_on, Public}
 use Rattle.slub_core.specs.Accounted.{boarded, public, IsDoing, NamesCache, IsTold, IsWritten, IsAccounted}

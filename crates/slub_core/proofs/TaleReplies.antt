@@ -1,10 +1,9 @@
 -- The replies after which a worker has what it had; and an object is freed, or found damaged.
-use Rattle.std.proofs.Common.{◌≡◌, ◌≢◌, ℕ, suc, ◌+◌, ◌*◌, ◌<◌, ◌≤◌, ◌⊎◌, Bool, true, false, eqb, cond, ◌&&◌, List, [], ◌∷◌, length, get_or, set, drop, refl, sym, ap, ◌∙◌, subst, arith, inl, inr, Some, None, Option}
+use Rattle.std.proofs.Common.{◌≡◌, ◌≢◌, ℕ, ◌+◌, ◌*◌, ◌<◌, ◌≤◌, Bool, true, false, eqb, ◌&&◌, List, [], ◌∷◌, length, get_or, drop, refl, sym, ap, ◌∙◌, subst, arith, inl, inr, Some, None, Option}
 use Rattle.std.specs.Prelude.{All, slice_index}
 use Rattle.std.proofs.lemmas.Bool.{false≢true}
-use Rattle.std.proofs.lemmas.Option.{none-some}
 use Rattle.std.proofs.lemmas.List.{set-get_or}
-use Rattle.std.proofs.lemmas.List.Elements.{All-cons, All-head, All-tail}
+use Rattle.std.proofs.lemmas.List.Elements.{All-cons, All-head}
 use Rattle.slub_words.specs.declared.board.BoardWord.{BoardWord}
 use Rattle.slub_red_zone.specs.declared.zones.Damage.{Damage}
 use Rattle.slub_answers.specs.declared.reply.Reply.{Reply}
@@ -19,11 +18,11 @@ use Rattle.slub_core.specs.Setup.{Setup}
 use Rattle.slub_core.specs.World.{World, pool_of, content}
 use Rattle.slub_core.specs.Local.{Local, Worker, nobody, no_call, here, call_of, address_in}
 use Rattle.slub_core.specs.Spots.{doing, frees, is_freeing}
-use Rattle.slub_core.specs.Replies.{one_if, is_alloc, is_given, is_freed, is_dry, least_order, holds_after, holding, knows_after, knows, address_after, address_by, address_on, cache_after, cache_by, wrote_after, last_wrote, Public, Cause, IsOfChecked}
+use Rattle.slub_core.specs.Replies.{one_if, is_given, is_freed, is_dry, least_order, holds_after, holding, knows_after, knows, address_after, address_by, cache_after, cache_by, wrote_after, last_wrote, Public, Cause}
 use Rattle.slub_core.specs.Accounted.{public, place_of, known_of, Fits, IsDoing, IsTold, IsWritten, IsAccounted}
 use Rattle.slub_core.proofs.TaleStep.{Onward}
 use Rattle.slub_core.proofs.TaleQuiet.{Unseen, content-same, others-written}
-use Rattle.slub_core.proofs.TaleAnswer.{Answer, Answers, Counts, place-here, told_answer}
+use Rattle.slub_core.proofs.TaleAnswer.{Answers, Counts, place-here, told_answer}
 use Rattle.slub_core.proofs.TaleWritten.{asked-new, written-answer}
 
 -- ---- replies after which the worker has what it had

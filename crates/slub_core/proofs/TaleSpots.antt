@@ -1,8 +1,7 @@
 -- What the steps of spots do to the account: those without a reply, an object popped, installed or freed, a take from the board, and the ends of calls.
-use Rattle.std.proofs.Common.{◌≡◌, ◌≢◌, ℕ, suc, ◌+◌, ◌-◌, ◌*◌, ◌<◌, ◌≤◌, ◌⊎◌, Bool, true, false, eqb, ◌&&◌, List, [], ◌∷◌, length, get_or, set, refl, sym, ap, ◌∙◌, subst, arith, inl, inr, Some, None, Option}
-use Rattle.std.specs.Prelude.{All, sum_by, nat_lt}
-use Rattle.std.proofs.lemmas.Bool.{cases_eq, cases_Bool, false≢true}
-use Rattle.std.proofs.lemmas.List.Sums.{sum_by-cons, get_or-le-sum_by}
+use Rattle.std.proofs.Common.{◌≡◌, ℕ, ◌-◌, ◌<◌, ◌≤◌, true, false, List, ◌∷◌, length, refl, sym, ap, ◌∙◌, subst, arith, inl, inr, Some, None, Option}
+use Rattle.std.proofs.lemmas.Bool.{cases_eq, cases_Bool}
+use Rattle.std.proofs.lemmas.List.Sums.{get_or-le-sum_by}
 use Rattle.std.proofs.lemmas.List.Elements.{All-head}
 use Rattle.slub_object_layout.specs.Layout.{address_of}
 use Rattle.slub_words.specs.declared.cpu.CpuWord.{CpuWord}
@@ -10,39 +9,34 @@ use Rattle.slub_words.specs.declared.slab.SlabWord.{SlabWord}
 use Rattle.slub_words.specs.declared.board.BoardWord.{BoardWord}
 use Rattle.slub_cpu_partial.specs.declared.words.ListWord.{ListWord}
 use Rattle.slub_answers.specs.declared.reply.Reply.TheVariants as reply
-use Rattle.slub_core.specs.declared.call.CallKind.{CallKind}
-use Rattle.slub_core.specs.declared.call.CallKind.TheVariants.{Alloc, Free, Trim}
-use Rattle.slub_core.specs.declared.local.Known.{Known}
+use Rattle.slub_core.specs.declared.call.CallKind.TheVariants.{Free, Trim}
 use Rattle.slub_core.specs.declared.spot.Spot.{Spot}
-use Rattle.slub_core.specs.declared.spot.Spot.TheVariants.{Between, InAlloc, InFree, InTrim, InChecked}
-use Rattle.slub_core.specs.declared.spot.AllocSpot.TheVariants.{LoadCpu, Pop}
-use Rattle.slub_core.specs.declared.spot.FreeSpot.TheVariants.{TakeBoard, LoadOwn, Push, FreeSlab, FreeLocked, TakeOff}
+use Rattle.slub_core.specs.declared.spot.Spot.TheVariants.{InAlloc, InFree, InTrim}
+use Rattle.slub_core.specs.declared.spot.AllocSpot.TheVariants.{Pop}
+use Rattle.slub_core.specs.declared.spot.FreeSpot.TheVariants.{TakeBoard, Push, FreeSlab, FreeLocked}
 use Rattle.slub_core.specs.declared.spot.TrimSpot.TheVariants.{GiveTrim}
-use Rattle.slub_core.specs.declared.spot.CheckedSpot.TheVariants.{LockChecked}
 use Rattle.slub_core.specs.declared.step.Answer.{Answer}
-use Rattle.slub_core.specs.declared.step.Answer.TheVariants.{Word, Done, Won}
-use Rattle.slub_core.specs.Setup.{Setup, pool_lock}
-use Rattle.slub_core.specs.World.{World, LockValue, set_cpu, set_list, set_slab, set_link, set_board, set_memory, set_lock, set_value, update, cache_at, object_at, exists_at, in_chain, on_board}
-use Rattle.slub_core.specs.Local.{Local, Worker, here, call_of, address_in}
+use Rattle.slub_core.specs.declared.step.Answer.TheVariants.{Done, Won}
+use Rattle.slub_core.specs.World.{World, LockValue, set_cpu, set_list, set_slab, set_link, set_board, set_lock, cache_at, object_at, in_chain, on_board}
+use Rattle.slub_core.specs.Local.{Worker, here, address_in}
 use Rattle.slub_core.specs.Ops.{own_cpu}
 use Rattle.slub_core.specs.Alloc.{popped_word, alloc_advance}
 use Rattle.slub_core.specs.Free.{pushed_word, freed_word, was_full, way_of_freed, board_taken, free_advance}
 use Rattle.slub_core.specs.Offline.{trim_advance}
 use Rattle.slub_core.specs.Steps.{told, advance_at}
 use Rattle.slub_core.specs.Spots.{doing, is_freeing, takes_board}
-use Rattle.slub_core.specs.Placed.{held, owned}
+use Rattle.slub_core.specs.Placed.{owned}
 use Rattle.slub_core.specs.Fresh.{IsAtWork}
 use Rattle.slub_core.specs.Coherent.{Stands}
 use Rattle.slub_core.specs.Accounted.{boarded, public, IsDoing, IsTold, IsAccounted}
-use Rattle.slub_core.proofs.Counts.{places-cons}
-use Rattle.slub_core.proofs.Update.{update_same, update_other, each_updated, term_le_sum}
+use Rattle.slub_core.proofs.Update.{each_updated, term_le_sum}
 use Rattle.slub_core.proofs.Exists.{object_at-le, word-object, head-exists, head-slab, exists_at-within, nothing-there, owned-object}
 use Rattle.slub_core.proofs.Values.{word-cache}
 use Rattle.slub_core.proofs.ValueStep.{known-owned, board-object}
 use Rattle.slub_core.proofs.Changes.{own-word}
-use Rattle.slub_core.proofs.TaleQuiet.{Unseen, told_quiet, IsQuiet}
+use Rattle.slub_core.proofs.TaleQuiet.{Unseen, told_quiet}
 use Rattle.slub_core.proofs.TaleAnswer.{Answers}
-use Rattle.slub_core.proofs.TaleReplies.{AnswersKept, Spoken, spoken, told-of, not-holding, told_same, told_freed}
+use Rattle.slub_core.proofs.TaleReplies.{spoken, told-of, not-holding, told_same, told_freed}
 use Rattle.slub_core.proofs.TaleGiven.{IsUnheld, place-unheld, told_given}
 use Rattle.slub_core.proofs.TaleTake.{told_take}
 use Rattle.slub_core.proofs.TaleTurns.{quiet_turn}

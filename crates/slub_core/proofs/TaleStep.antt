@@ -1,20 +1,18 @@
 -- What a step owes to the account of what the workers were answered.
-use Rattle.std.proofs.Common.{◌≡◌, ℕ, ◌+◌, ◌*◌, ◌≤◌, ◌<◌, Bool, true, false, List, [], ◌∷◌, length, refl, sym, ap, ◌∙◌, subst, arith, inl, inr, ◌⊎◌, Some, None, Option}
+use Rattle.std.proofs.Common.{◌≡◌, ℕ, ◌+◌, ◌*◌, ◌≤◌, List, [], ◌∷◌, length, sym, ◌∙◌, subst, arith, inl, inr, ◌⊎◌, None, Option}
 use Rattle.std.specs.Prelude.{All, sum_by, slice_index}
 use Rattle.std.proofs.lemmas.List.Sums.{sum_by-cons}
-use Rattle.std.proofs.lemmas.List.Elements.{All-cons, All-head, All-tail, All-weaker}
+use Rattle.std.proofs.lemmas.List.Elements.{All-cons, All-tail, All-weaker}
 use Rattle.slub_words.specs.declared.board.BoardWord.{BoardWord}
 use Rattle.slub_answers.specs.declared.reply.Reply.{Reply}
 use Rattle.slub_answers.specs.declared.reply.Reply.TheVariants as reply
 use Rattle.slub_core.specs.declared.call.Call.{Call}
-use Rattle.slub_core.specs.declared.call.CallKind.{CallKind}
 use Rattle.slub_core.specs.declared.local.Answered.{Answered}
 use Rattle.slub_core.specs.Setup.{Setup}
 use Rattle.slub_core.specs.World.{World, pool_of}
-use Rattle.slub_core.specs.Local.{Local, Worker, here}
-use Rattle.slub_core.specs.Spots.{doing, frees, is_freeing}
+use Rattle.slub_core.specs.Local.{Local, Worker}
 use Rattle.slub_core.specs.Replies.{given_in, freed_in, asked_in, dry_in, Public, Later, Cause, Caused}
-use Rattle.slub_core.specs.Accounted.{boarded, had, public, IsDoing, NamesCache, IsTold, IsWritten, IsAccounted}
+use Rattle.slub_core.specs.Accounted.{boarded, had, public, IsTold, IsWritten, IsAccounted}
 
 -- a cause stays
 cause-later : (m : Setup) (before : ℕ → Option BoardWord) (p q : Public) (ds : List Answered) (c : Call) (r : Reply) → Later p q → Cause m before p ds c r → Cause m before q ds c r

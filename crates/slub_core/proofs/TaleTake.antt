@@ -1,11 +1,9 @@
 -- An object is taken from the board, and is then freed.
-use Rattle.std.proofs.Common.{◌≡◌, ℕ, suc, ◌+◌, ◌<◌, ◌≤◌, ◌⊎◌, ◌&&◌, Bool, true, false, eqb, List, [], ◌∷◌, length, get_or, set, refl, sym, ap, ◌∙◌, subst, arith, inl, inr, Some, None, Option}
-use Rattle.std.specs.Prelude.{All}
+use Rattle.std.proofs.Common.{◌≡◌, ℕ, ◌<◌, ◌≤◌, ◌&&◌, true, false, eqb, List, [], ◌∷◌, length, set, refl, sym, ap, ◌∙◌, subst, arith, inl, inr, Some, None, Option}
 use Rattle.std.proofs.lemmas.Bool.{cases_eq, eq-eqb, ne_eqb, false≢true}
 use Rattle.std.proofs.lemmas.Option.{none-some}
 use Rattle.std.proofs.lemmas.List.{get_or-set_same}
 use Rattle.std.proofs.lemmas.List.Elements.{All-cons, All-head, All-set}
-use Rattle.slub_object_layout.specs.Layout.{address_of}
 use Rattle.slub_words.specs.declared.board.BoardWord.{BoardWord}
 use Rattle.slub_answers.specs.declared.reply.Reply.{Reply}
 use Rattle.slub_answers.specs.declared.reply.Reply.TheVariants as reply
@@ -16,13 +14,13 @@ use Rattle.slub_core.specs.declared.local.Known.{Known}
 use Rattle.slub_core.specs.declared.local.Answered.{Answered}
 use Rattle.slub_core.specs.Setup.{Setup}
 use Rattle.slub_core.specs.World.{World, set_board, update}
-use Rattle.slub_core.specs.Local.{Local, Worker, nobody, here, call_of, address_in}
+use Rattle.slub_core.specs.Local.{Local, Worker, nobody, here, address_in}
 use Rattle.slub_core.specs.Spots.{doing, is_freeing}
-use Rattle.slub_core.specs.Replies.{one_if, is_given, given_in, cache_after, cache_by, address_by, address_on, knows, holding, holds_after, last_wrote, wrote_after, Public, Cause, Caused}
-use Rattle.slub_core.specs.Accounted.{boarded, public, place_of, known_of, IsDoing, NamesCache, IsTold, IsWritten, IsAccounted}
+use Rattle.slub_core.specs.Replies.{one_if, is_given, given_in, cache_after, cache_by, address_by, address_on, holding, holds_after, last_wrote, wrote_after, Public, Cause, Caused}
+use Rattle.slub_core.specs.Accounted.{boarded, public, known_of, NamesCache, IsWritten, IsAccounted}
 use Rattle.slub_core.proofs.Update.{update_at, update_other}
-use Rattle.slub_core.proofs.TaleKnowns.{place_of-set, known_of-here, known_of-other, fits-set, distinct-set}
-use Rattle.slub_core.proofs.TaleStep.{Onward, Moved, told-later, told_step}
+use Rattle.slub_core.proofs.TaleKnowns.{known_of-here, known_of-other, fits-set, distinct-set}
+use Rattle.slub_core.proofs.TaleStep.{told-later, told_step}
 use Rattle.slub_core.proofs.TaleQuiet.{others-written}
 use Rattle.slub_core.proofs.TaleAnswer.{place-here}
 use Rattle.slub_core.proofs.TaleReplies.{told-of, written-of, known-here, place-inside, freeing-frees}

@@ -1,15 +1,11 @@
 -- Without a reply a worker goes on in its call, spot by spot.
-use Rattle.std.proofs.Common.{◌≡◌, ℕ, ◌+◌, ◌-◌, ◌<◌, ◌==◌, Bool, true, false, not, ◌&&◌, ◌||◌, if◌then◌else◌, Option, Some, None, List, [], ◌∷◌, length, refl, sym, ap, ◌∙◌, arith, inl, inr}
+use Rattle.std.proofs.Common.{◌≡◌, ℕ, ◌+◌, ◌-◌, ◌==◌, Bool, true, false, not, ◌&&◌, ◌||◌, if◌then◌else◌, Some, None, length, refl, sym, ap, ◌∙◌, inl, inr}
 use Rattle.std.specs.Prelude.{nat_lt}
 use Rattle.std.proofs.lemmas.Bool.{cases_Bool, false≢true}
 use Rattle.std.proofs.lemmas.Option.{none-some}
-use Rattle.slub_words.specs.declared.cpu.CpuWord.{CpuWord}
-use Rattle.slub_words.specs.declared.slab.SlabWord.{SlabWord}
 use Rattle.slub_cpu_partial.specs.declared.words.ListWord.{ListWord}
 use Rattle.slub_core.specs.declared.call.CallKind.{CallKind}
 use Rattle.slub_core.specs.declared.call.CallKind.TheVariants.{Alloc, Free, Write, Read, Poke, Trim, Flush}
-use Rattle.slub_core.specs.declared.local.Hand.{Hand}
-use Rattle.slub_core.specs.declared.local.FrameRun.{FrameRun}
 use Rattle.slub_core.specs.declared.step.Answer.{Answer}
 use Rattle.slub_core.specs.declared.step.Answer.TheVariants.{Word, Done, Won, Lost}
 use Rattle.slub_core.specs.declared.spot.Spot.{Spot}
@@ -25,34 +21,34 @@ use Rattle.slub_core.specs.declared.spot.Sweep.{Sweep}
 use Rattle.slub_core.specs.declared.spot.MoveSet.TheVariants.{ForFree, ForOffline}
 use Rattle.slub_core.specs.declared.spot.Sweep.TheVariants.{Trimming, Flushing}
 use Rattle.slub_core.specs.declared.spot.AllocSpot.{AllocSpot}
-use Rattle.slub_core.specs.declared.spot.AllocSpot.TheVariants.{LoadCpu, LoadNext, Pop, Detach, LoadTaken, TakeAll, MarkFull, TakeList, FollowFront, LoadKept, FreezeKept, LockNode, LoadPopped, FreezePopped, Unlist, GiveNode, LockPool, GivePool, GiveDry, LinkNew, Make, LoadReady, LoadAgain, DetachOther, Install, PopNode, TakeRun}
+use Rattle.slub_core.specs.declared.spot.AllocSpot.TheVariants.{LoadCpu, LoadNext, Pop, Detach, LoadTaken, TakeAll, MarkFull, TakeList, FollowFront, LoadKept, FreezeKept, LockNode, LoadPopped, FreezePopped, Unlist, GiveNode, LockPool, GivePool, GiveDry, LinkNew, Make, LoadReady, LoadAgain, DetachOther, Install}
 use Rattle.slub_core.specs.declared.spot.PutAwaySpot.{PutAwaySpot}
-use Rattle.slub_core.specs.declared.spot.PutAwaySpot.TheVariants.{WalkChain, LockAway, LoadAway, LinkLast, Unfreeze, GiveAway, PutNode}
+use Rattle.slub_core.specs.declared.spot.PutAwaySpot.TheVariants.{WalkChain, LockAway, LoadAway, LinkLast, Unfreeze, GiveAway}
 use Rattle.slub_core.specs.declared.spot.DiscardSpot.{DiscardSpot}
-use Rattle.slub_core.specs.declared.spot.DiscardSpot.TheVariants.{Unmake, LockDiscard, GiveDiscard, PutRun}
+use Rattle.slub_core.specs.declared.spot.DiscardSpot.TheVariants.{Unmake, LockDiscard, GiveDiscard}
 use Rattle.slub_core.specs.declared.spot.PutOnListSpot.{PutOnListSpot}
 use Rattle.slub_core.specs.declared.spot.PutOnListSpot.TheVariants.{LoadList, WalkString, LinkString, PushString}
 use Rattle.slub_core.specs.declared.spot.FreeSpot.{FreeSpot}
-use Rattle.slub_core.specs.declared.spot.FreeSpot.TheVariants.{TakeBoard, LoadOwn, LinkOwn, Push, LoadSlab, LinkSlab, FreeSlab, LockFree, LoadLocked, GoBack, LinkLocked, FreeLocked, GiveFree, LoadCount, TakeSet, TakeOff}
+use Rattle.slub_core.specs.declared.spot.FreeSpot.TheVariants.{TakeBoard, LoadOwn, LinkOwn, Push, LoadSlab, LinkSlab, FreeSlab, LockFree, LoadLocked, GoBack, LinkLocked, FreeLocked, GiveFree, LoadCount, TakeSet}
 use Rattle.slub_core.specs.declared.spot.MoveSetSpot.{MoveSetSpot}
-use Rattle.slub_core.specs.declared.spot.MoveSetSpot.TheVariants.{LockMove, FollowSet, LoadMoved, ListSlab, GiveMove, ChooseFront, PutTail}
+use Rattle.slub_core.specs.declared.spot.MoveSetSpot.TheVariants.{LockMove, FollowSet, LoadMoved, ListSlab, GiveMove}
 use Rattle.slub_core.specs.declared.spot.OfflineSpot.{OfflineSpot}
 use Rattle.slub_core.specs.declared.spot.OfflineSpot.TheVariants.{LoadCurrent, DetachCurrent, TakeCurrent}
 use Rattle.slub_core.specs.declared.spot.TrimSpot.{TrimSpot}
-use Rattle.slub_core.specs.declared.spot.TrimSpot.TheVariants.{LockTrim, LoadScanned, GiveTrim, ScanNode, DropScanned}
+use Rattle.slub_core.specs.declared.spot.TrimSpot.TheVariants.{LockTrim, LoadScanned, GiveTrim}
 use Rattle.slub_core.specs.declared.spot.CheckedSpot.{CheckedSpot}
-use Rattle.slub_core.specs.declared.spot.CheckedSpot.TheVariants.{LockChecked, LockRun, GiveRun, GiveChecked, DoChecked, MoveRun, AddSlab}
+use Rattle.slub_core.specs.declared.spot.CheckedSpot.TheVariants.{LockChecked, LockRun, GiveRun, GiveChecked, DoChecked, MoveRun}
 use Rattle.slub_core.specs.Setup.{Setup}
 use Rattle.slub_core.specs.Words.{cpu_in, slab_in, list_in}
 use Rattle.slub_core.specs.World.{LockValue}
-use Rattle.slub_core.specs.Local.{Local, Turn, here, hand_of, run_of, string_of}
-use Rattle.slub_core.specs.Alloc.{is_spent, way_of_word, way_of_lost, way_of_taken, way_of_list, way_of_popped, way_of_node, way_of_link, way_of_again, way_of_away, reached, walked_on, found_at, alloc_advance}
-use Rattle.slub_core.specs.PutAway.{has_enough, head_away, is_to_discard, way_of_put, way_of_end, unfrozen, put_away_advance}
+use Rattle.slub_core.specs.Local.{Local, here, hand_of, run_of, string_of}
+use Rattle.slub_core.specs.Alloc.{is_spent, reached, walked_on, found_at, alloc_advance}
+use Rattle.slub_core.specs.PutAway.{has_enough, head_away, is_to_discard, way_of_put, unfrozen, put_away_advance}
 use Rattle.slub_core.specs.Discard.{way_of_discarded, discard_advance}
-use Rattle.slub_core.specs.PutOnList.{leads_to, way_of_string, way_of_front, way_of_pushed, put_on_list_advance}
-use Rattle.slub_core.specs.Free.{is_last_listed, was_full, way_of_own, way_of_slab, way_of_locked, is_long, free_advance, count_loaded, set_taken}
-use Rattle.slub_core.specs.MoveSet.{way_of_moved, after_move, move_set_advance}
-use Rattle.slub_core.specs.Offline.{next_swept, list_swept, way_of_current, offline_advance, trim_advance}
+use Rattle.slub_core.specs.PutOnList.{leads_to, way_of_pushed, put_on_list_advance}
+use Rattle.slub_core.specs.Free.{is_last_listed, is_long, free_advance, count_loaded, set_taken}
+use Rattle.slub_core.specs.MoveSet.{after_move, move_set_advance}
+use Rattle.slub_core.specs.Offline.{next_swept, list_swept, offline_advance, trim_advance}
 use Rattle.slub_core.specs.Checked.{checked_advance}
 use Rattle.slub_core.specs.Steps.{advance_at}
 use Rattle.slub_core.specs.Spots.{doing, frees, is_freeing, takes_board, of_sweep}

@@ -1,6 +1,6 @@
 -- Words of objects: free pointers that are stored, writes, and reads of what was written.
-use Rattle.std.proofs.Common.{◌≡◌, ◌≢◌, ℕ, suc, ◌+◌, ◌-◌, ◌*◌, ◌/◌, ◌<◌, ◌≤◌, ◌⊎◌, Bool, true, false, eqb, not, cond, List, [], ◌∷◌, length, get_or, refl, sym, ap, ◌∙◌, subst, arith, inl, inr, Some, None, Option}
-use Rattle.std.specs.Prelude.{All, nat_le}
+use Rattle.std.proofs.Common.{◌≡◌, ◌≢◌, ℕ, suc, ◌+◌, ◌*◌, ◌/◌, ◌<◌, ◌≤◌, true, false, eqb, List, [], ◌∷◌, length, get_or, refl, sym, ap, ◌∙◌, subst, arith, inl, inr, Some, Option}
+use Rattle.std.specs.Prelude.{nat_le}
 use Rattle.std.proofs.lemmas.Bool.{cases_eq, cases_Bool, eq-eqb, ne_eqb, false≢true, leb-true, le-leb, eqb-true}
 use Rattle.std.proofs.lemmas.List.Elements.{All-cons, All-head, All-tail}
 use Rattle.slub_words.specs.declared.board.BoardWord.{BoardWord}
@@ -9,15 +9,15 @@ use Rattle.slub_answers.specs.declared.reply.Reply.{Reply}
 use Rattle.slub_answers.specs.declared.reply.Reply.TheVariants as reply
 use Rattle.slub_core.specs.declared.call.Call.{Call}
 use Rattle.slub_core.specs.declared.call.CallKind.{CallKind}
-use Rattle.slub_core.specs.declared.call.CallKind.TheVariants.{Alloc, Free, Write, Read, Poke, Trim, Flush}
+use Rattle.slub_core.specs.declared.call.CallKind.TheVariants.{Alloc, Write, Read, Poke, Trim, Flush}
 use Rattle.slub_core.specs.declared.local.Known.{Known}
 use Rattle.slub_core.specs.declared.local.FrameRun.{FrameRun}
 use Rattle.slub_core.specs.declared.local.Answered.{Answered}
 use Rattle.slub_core.specs.declared.spot.Spot.TheVariants.{WriteWord, ReadWord}
 use Rattle.slub_core.specs.declared.step.Answer.TheVariants.{Word, Done}
 use Rattle.slub_core.specs.Setup.{Setup, pointer_at, word_at}
-use Rattle.slub_core.specs.World.{World, LockValue, content, set_memory, exists_at, object_at, covers, update}
-use Rattle.slub_core.specs.Local.{Local, Worker, nobody, no_call, here, call_of}
+use Rattle.slub_core.specs.World.{World, LockValue, content, set_memory, exists_at, object_at, covers}
+use Rattle.slub_core.specs.Local.{Worker, nobody, no_call, here, call_of}
 use Rattle.slub_core.specs.Spots.{frees, in_plain}
 use Rattle.slub_core.specs.Steps.{told, advance_at, is_outside}
 use Rattle.slub_core.specs.Placed.{held, in_hands, owned}
@@ -25,7 +25,7 @@ use Rattle.slub_core.specs.Listed.{covered_by}
 use Rattle.slub_core.specs.Fresh.{IsAtWork}
 use Rattle.slub_core.specs.Coherent.{Stands}
 use Rattle.slub_core.specs.Replies.{holds_after, holding, cache_after, cache_by, wrote_after, last_wrote, Public, Cause, Caused}
-use Rattle.slub_core.specs.Accounted.{public, known_of, calls_of, written, written_by, MayCome, AreReadable, IsTold, IsWritten, IsAccounted}
+use Rattle.slub_core.specs.Accounted.{public, known_of, calls_of, written, written_by, MayCome, AreReadable, IsWritten, IsAccounted}
 use Rattle.slub_core.proofs.Counts.{roles-cons}
 use Rattle.slub_core.proofs.Update.{update_same, update_other, term_le_sum}
 use Rattle.slub_core.proofs.Exists.{IsPlainObject, plain-object, owned-object, object_at-le, exists_at-within}
@@ -33,10 +33,10 @@ use Rattle.slub_core.proofs.Values.{word-objects}
 use Rattle.slub_core.proofs.ValueStep.{known-owned}
 use Rattle.slub_core.proofs.Slots.{IsWordOf, pointer-word, word-word, sized-fits}
 use Rattle.slub_core.proofs.Apart.{slab-covers, run-covers, held-run, run-live, role-most}
-use Rattle.slub_core.proofs.TaleQuiet.{IsQuiet, Unseen, told_quiet}
+use Rattle.slub_core.proofs.TaleQuiet.{IsQuiet, told_quiet}
 use Rattle.slub_core.proofs.TaleAnswer.{place-here}
 use Rattle.slub_core.proofs.TaleWritten.{asked-new, written-answer, held-plain, far-word, Spares, others-spare, mine-spares, all-written, told_stored}
-use Rattle.slub_core.proofs.TaleReplies.{AnswersKept, answers-here, spoken, told-of, written-of, known-here, place-inside, told_kept, told_same}
+use Rattle.slub_core.proofs.TaleReplies.{AnswersKept, answers-here, spoken, told-of, written-of, known-here, told_kept, told_same}
 use Rattle.slub_core.proofs.TaleGiven.{known-object}
 use Rattle.slub_core.proofs.TaleSpots.{unseen-same}
 

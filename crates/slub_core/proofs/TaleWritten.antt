@@ -1,7 +1,7 @@
 -- What a step owes of the words that workers wrote in the objects that they hold.
-use Rattle.std.proofs.Common.{◌≡◌, ◌≢◌, ℕ, zero, suc, ◌+◌, ◌*◌, ◌<◌, ◌≤◌, Bool, true, false, eqb, cond, ◌&&◌, List, [], ◌∷◌, length, get_or, set, drop, refl, sym, ap, ◌∙◌, subst, arith, inl, inr, Some, None, Option}
+use Rattle.std.proofs.Common.{◌≡◌, ◌≢◌, ℕ, zero, suc, ◌+◌, ◌*◌, ◌<◌, ◌≤◌, true, false, eqb, ◌&&◌, List, [], ◌∷◌, length, get_or, set, drop, refl, sym, ap, ◌∙◌, subst, arith, inl, inr, Some, None, Option}
 use Rattle.std.specs.Prelude.{All, sum_by}
-use Rattle.std.proofs.lemmas.Bool.{cases_eq, cases_Bool, eq-eqb, ne_eqb, false≢true}
+use Rattle.std.proofs.lemmas.Bool.{cases_eq, cases_Bool, eq-eqb, ne_eqb}
 use Rattle.std.proofs.lemmas.List.Sums.{sum_by-cons, get_or-le-sum_by}
 use Rattle.std.proofs.lemmas.List.Elements.{All-cons, All-head, All-tail}
 use Rattle.slub_words.specs.declared.board.BoardWord.{BoardWord}
@@ -9,16 +9,14 @@ use Rattle.slub_answers.specs.declared.reply.Reply.{Reply}
 use Rattle.slub_core.specs.declared.call.Call.{Call}
 use Rattle.slub_core.specs.declared.call.CallKind.{CallKind}
 use Rattle.slub_core.specs.declared.local.Known.{Known}
-use Rattle.slub_core.specs.declared.local.Answered.{Answered}
 use Rattle.slub_core.specs.Setup.{Setup, word_at}
 use Rattle.slub_core.specs.World.{World, content, set_memory, exists_at, object_at}
 use Rattle.slub_core.specs.Local.{Local, Worker, nobody, no_call, here, call_of}
 use Rattle.slub_core.specs.Spots.{frees}
-use Rattle.slub_core.specs.Placed.{held_as, held, owned}
-use Rattle.slub_core.specs.Fresh.{IsAtWork}
+use Rattle.slub_core.specs.Placed.{held_as, owned}
 use Rattle.slub_core.specs.Coherent.{Stands}
-use Rattle.slub_core.specs.Replies.{one_if, is_alloc, last_wrote, wrote_after, asked_in, given_in}
-use Rattle.slub_core.specs.Accounted.{boarded, place_of, known_of, was_asked, calls_of, AreReadable, IsDoing, IsWritten, IsAccounted}
+use Rattle.slub_core.specs.Replies.{one_if, is_alloc, last_wrote, wrote_after, asked_in}
+use Rattle.slub_core.specs.Accounted.{boarded, place_of, known_of, calls_of, AreReadable, IsDoing, IsWritten, IsAccounted}
 use Rattle.slub_core.proofs.Exists.{IsPlainObject, plain-object, owned-object, object_at-le, alone}
 use Rattle.slub_core.proofs.ValueStep.{known-owned}
 use Rattle.slub_core.proofs.Slots.{IsWordOf, word-word}

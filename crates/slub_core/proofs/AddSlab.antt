@@ -1,38 +1,34 @@
 -- At once: a run in hand is added to a checked cache as a slab, of which the first object is given; or it is put back.
-use Rattle.std.proofs.Common.{◌≡◌, ◌≢◌, ℕ, zero, suc, ◌+◌, ◌-◌, ◌%◌, ◌^◌, ◌<◌, ◌≤◌, ◌⊎◌, ◌==◌, ◌&&◌, Bool, true, false, cond, Option, Some, None, List, [], ◌∷◌, length, get_or, set, refl, sym, ap, ◌∙◌, subst, arith, inl, inr}
+use Rattle.std.proofs.Common.{◌≡◌, ℕ, suc, ◌+◌, ◌-◌, ◌%◌, ◌^◌, ◌<◌, ◌≤◌, Bool, true, false, Option, Some, None, List, ◌∷◌, length, get_or, set, refl, sym, ap, ◌∙◌, subst, arith, inl, inr}
 use Rattle.std.specs.Prelude.{All, IsSome, IfSome, nat_lt, option_map, unwrap_or, slice_index_or, if◌then◌else◌}
-use Rattle.std.proofs.lemmas.Bool.{cases_eq, cases_lt, eq-eqb, ne_eqb, lt-ltb, le-ltb, false≢true}
+use Rattle.std.proofs.lemmas.Bool.{cases_lt, ne_eqb, lt-ltb, le-ltb, false≢true}
 use Rattle.std.proofs.lemmas.Option.{none-some, same_Some}
 use Rattle.std.proofs.lemmas.List.{length-set}
 use Rattle.std.proofs.lemmas.List.Elements.{All-head}
-use Rattle.slub_object_layout.specs.declared.layout.Layout.{Layout}
-use Rattle.slub_page_pool.specs.FreeFrames.{FreeFrames}
 use Rattle.slub_red_zone.specs.declared.checked.Slot.{Slot}
 use Rattle.slub_red_zone.specs.declared.checked.Run.{Run}
 use Rattle.slub_red_zone.specs.State.{SlabState, CheckedState, Has, no_slab, slab_of, objects_in, free_count, used_count, aside_count}
 use Rattle.slub_red_zone.specs.Sound.{IsSound, IsSlab}
 use Rattle.slub_red_zone.specs.Zones.{red_active}
-use Rattle.slub_red_zone.specs.Objects.{AddsGivenSlab, shape_of, shape_at, idle}
-use Rattle.slub_red_zone.specs.Steps.{first_of, with_new_slab, with_given}
+use Rattle.slub_red_zone.specs.Objects.{shape_of, shape_at, idle}
+use Rattle.slub_red_zone.specs.Steps.{with_new_slab, with_given}
 use Rattle.slub_red_zone.proofs.Comings.{new-kept}
 use Rattle.slub_red_zone.proofs.Given.{next-inside, given-sound}
 use Rattle.slub_red_zone.proofs.Objects.{first-comes, adds-given}
-use Rattle.slub_red_zone.proofs.Whole.{slab-sound}
 use Rattle.slub_core.specs.declared.call.CallKind.{CallKind}
 use Rattle.slub_core.specs.declared.call.CallKind.TheVariants.{Alloc}
 use Rattle.slub_core.specs.declared.local.Known.{Known}
 use Rattle.slub_core.specs.declared.local.FrameRun.{FrameRun}
 use Rattle.slub_core.specs.declared.spot.Spot.TheVariants.{InChecked}
 use Rattle.slub_core.specs.declared.spot.CheckedSpot.TheVariants.{AddSlab, GiveRun}
-use Rattle.slub_core.specs.Setup.{Setup, node_lock, pool_lock}
-use Rattle.slub_core.specs.World.{World, LockValue, Checked, Pool, set_value, cache_at, objects_at, object_at, size_in, idle_in, pool_of, pool_in, one_if, is_at, sum_below, in_run}
-use Rattle.slub_core.specs.Local.{Local, Worker, Change, nobody, here, run_of, gets, at, stays}
-use Rattle.slub_core.specs.Alloc.{pool_with}
+use Rattle.slub_core.specs.Setup.{node_lock, pool_lock}
+use Rattle.slub_core.specs.World.{World, LockValue, Checked, Pool, set_value, cache_at, object_at, size_in, idle_in, pool_of, one_if, is_at, in_run}
+use Rattle.slub_core.specs.Local.{Worker, nobody, here, run_of}
 use Rattle.slub_core.specs.Discard.{with_put}
-use Rattle.slub_core.specs.Checked.{slabs_of, slabs_in, with_slabs, slab_added, slab_refused, checked_at_once}
+use Rattle.slub_core.specs.Checked.{slabs_of, slabs_in, slab_added, slab_refused, checked_at_once}
 use Rattle.slub_core.specs.Placed.{owned}
 use Rattle.slub_core.specs.Listed.{covered_by, takes, IsSized, IsCheckedOf}
-use Rattle.slub_core.specs.Fresh.{IsHeldRun, IsRun, IsAtWork}
+use Rattle.slub_core.specs.Fresh.{IsHeldRun, IsAtWork}
 use Rattle.slub_core.specs.Coherent.{Stands}
 use Rattle.slub_core.proofs.CheckedBytes.{length-set_slot, length-new_bytes}
 use Rattle.slub_core.proofs.CheckedFree.{kept-of}
@@ -40,7 +36,7 @@ use Rattle.slub_core.proofs.CheckedStep.{the-slabs}
 use Rattle.slub_core.proofs.Counts.{places-cons}
 use Rattle.slub_core.proofs.Kind21.{no-values, nobody-covers, run-some}
 use Rattle.slub_core.proofs.Knowns.{held-gets, known-set, here-set}
-use Rattle.slub_core.proofs.OneSlab.{IsOneSlab, having, one_slab_step, new-here, run_at_slab}
+use Rattle.slub_core.proofs.OneSlab.{IsOneSlab, one_slab_step, new-here, run_at_slab}
 use Rattle.slub_core.proofs.PoolSpots.{sized-small, put-pool, some-run}
 use Rattle.slub_core.proofs.RemakeStep.{run-first, pow-some}
 use Rattle.slub_core.proofs.UnderLock.{Makes, takes-node, pool_step, known-same, locks-same}

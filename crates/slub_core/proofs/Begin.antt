@@ -1,8 +1,7 @@
 -- A worker begins its next call: no word changes, and it relies on no more than what a call that may begin has.
-use Rattle.std.proofs.Common.{◌≡◌, ℕ, suc, ◌+◌, ◌*◌, ◌<◌, ◌≤◌, ◌⊎◌, ◌==◌, Bool, true, false, if◌then◌else◌, not, Option, Some, None, List, [], ◌∷◌, length, get_or, refl, sym, ap, ◌∙◌, subst, arith, inl, inr}
-use Rattle.std.specs.Prelude.{All, IfSome, slice_index, slice_index_or}
+use Rattle.std.proofs.Common.{◌≡◌, ℕ, ◌<◌, ◌≤◌, ◌⊎◌, ◌==◌, Bool, true, false, if◌then◌else◌, not, Option, Some, None, List, [], ◌∷◌, length, get_or, refl, sym, ◌∙◌, subst, arith, inl, inr}
+use Rattle.std.specs.Prelude.{slice_index}
 use Rattle.std.proofs.lemmas.Bool.{cases_Bool, false≢true, eq-eqb, cases_eq}
-use Rattle.std.proofs.lemmas.List.Elements.{All-head}
 use Rattle.std.proofs.lemmas.Option.{none-some}
 use Rattle.slub_answers.specs.declared.reply.Reply.TheVariants as reply
 use Rattle.slub_core.specs.declared.call.Call.{Call}
@@ -16,11 +15,11 @@ use Rattle.slub_core.specs.declared.spot.FreeSpot.TheVariants.{TakeBoard, LoadOw
 use Rattle.slub_core.specs.declared.spot.Sweep.TheVariants.{Trimming, Flushing}
 use Rattle.slub_core.specs.declared.spot.OfflineSpot.TheVariants.{LoadCurrent}
 use Rattle.slub_core.specs.declared.spot.CheckedSpot.TheVariants.{LockChecked}
-use Rattle.slub_core.specs.Setup.{Setup, IsSetup, IsPlain, IsChecked}
-use Rattle.slub_core.specs.World.{World, object_at}
+use Rattle.slub_core.specs.Setup.{Setup, IsPlain, IsChecked}
+use Rattle.slub_core.specs.World.{World}
 use Rattle.slub_core.specs.Local.{Local, Worker, nobody, call_of}
 use Rattle.slub_core.specs.Listed.{marked_of, takes}
-use Rattle.slub_core.specs.Steps.{told_at_once, told_of_alloc, told_of_trim, told_of_use, told_of_poke, is_outside, cache_for, first_spot, first_cpu, begun_call, begun_at, begun_with, begun}
+use Rattle.slub_core.specs.Steps.{told_at_once, told_of_alloc, told_of_trim, is_outside, cache_for, first_spot, first_cpu, begun_at, begun_with, begun}
 use Rattle.slub_core.specs.Fresh.{IsAtWork}
 use Rattle.slub_core.specs.Coherent.{Stands}
 use Rattle.slub_core.specs.Law.{MayBegin, MayBeginFirst, TakesStep}

@@ -1,8 +1,6 @@
 -- The bytes of a checked slab keep their number, whatever is written of one slot.
-use Rattle.std.proofs.Common.{◌≡◌, ℕ, zero, suc, ◌+◌, ◌-◌, ◌*◌, ◌<◌, ◌≤◌, ◌++◌, Bool, true, false, cond, List, [], ◌∷◌, length, take, drop, set, replicate, refl, sym, ap, ◌∙◌, arith, length-append}
-use Rattle.std.proofs.lemmas.Bool.{cases_Bool}
+use Rattle.std.proofs.Common.{◌≡◌, ℕ, zero, suc, ◌+◌, ◌-◌, ◌*◌, ◌≤◌, ◌++◌, Bool, true, false, List, [], ◌∷◌, length, take, drop, replicate, ◌∙◌, arith, length-append}
 use Rattle.std.proofs.lemmas.List.{length-take, length-drop, length-replicate}
-use Rattle.std.proofs.Math.Nat.{mul-le-mul_right}
 use Rattle.std.specs.Prelude.{if◌then◌else◌}
 use Rattle.std.specs.List.{fold, concat}
 use Rattle.slub_object_layout.specs.declared.layout.Flags.{Flags}
@@ -10,7 +8,7 @@ use Rattle.slub_object_layout.specs.declared.layout.Layout.{Layout}
 use Rattle.slub_object_layout.specs.Layout.{IsWithinBounds}
 use Rattle.slub_red_zone.specs.declared.zones.Part.{Part}
 use Rattle.slub_red_zone.specs.Zones.{set_up, with_part, left_zone, right_zone, poison_but_end, poison_last, new_slot, fill_byte, red_inactive}
-use Rattle.slub_red_zone.specs.State.{SlabState, slot_of, with_slot, objects_in}
+use Rattle.slub_red_zone.specs.State.{slot_of, with_slot}
 
 length-part : (slot : List ℕ) (part : Part) → part.from ≤ part.to → part.to ≤ length slot → length (with_part slot part) ≡ length slot
 length-part slot part rises inside =

@@ -1,18 +1,16 @@
 -- At once: the last object of a checked slab is taken back, and the slab goes where enough are listed.
-use Rattle.std.proofs.Common.{◌≡◌, ◌≢◌, ℕ, zero, suc, ◌+◌, ◌-◌, ◌%◌, ◌^◌, ◌<◌, ◌≤◌, ◌⊎◌, ◌==◌, ◌&&◌, Bool, true, false, cond, Option, Some, None, List, [], ◌∷◌, length, get_or, set, refl, sym, ap, ◌∙◌, subst, arith, inl, inr}
-use Rattle.std.specs.Prelude.{All, IsSome, nat_lt, nat_le, option_map, unwrap_or, slice_index_or, if◌then◌else◌}
+use Rattle.std.proofs.Common.{◌≡◌, ℕ, suc, ◌+◌, ◌<◌, ◌≤◌, true, false, Option, Some, None, List, ◌∷◌, length, get_or, set, refl, sym, ap, ◌∙◌, subst, arith, inr}
+use Rattle.std.specs.Prelude.{All, IsSome, nat_lt, option_map, unwrap_or, slice_index_or}
 use Rattle.std.proofs.lemmas.Option.{none-some}
-use Rattle.std.proofs.lemmas.Bool.{cases_eq, cases_lt, cases_Bool, eq-eqb, lt-ltb, le-ltb, leb-true, eqb-true, false≢true}
+use Rattle.std.proofs.lemmas.Bool.{lt-ltb, le-ltb, false≢true}
 use Rattle.std.proofs.lemmas.List.{length-set}
 use Rattle.std.proofs.lemmas.List.Elements.{All-head}
-use Rattle.slub_object_layout.specs.declared.layout.Layout.{Layout}
-use Rattle.slub_red_zone.specs.declared.totals.Totals.{Totals}
 use Rattle.slub_red_zone.specs.declared.checked.Run.{Run}
-use Rattle.slub_red_zone.specs.State.{SlabState, CheckedState, Has, no_slab, slab_of, objects_in, free_count, used_count, aside_count, slab_count}
+use Rattle.slub_red_zone.specs.State.{SlabState, CheckedState, no_slab, slab_of, objects_in, free_count, used_count, aside_count, slab_count}
 use Rattle.slub_red_zone.specs.Sound.{IsSound}
 use Rattle.slub_red_zone.specs.Kept.{IsKept}
 use Rattle.slub_red_zone.specs.Zones.{red_inactive}
-use Rattle.slub_red_zone.specs.Objects.{TakesSlab, shape_of, shape_at, idle, one_of}
+use Rattle.slub_red_zone.specs.Objects.{shape_of, shape_at, idle}
 use Rattle.slub_red_zone.specs.Steps.{IsSpare, with_taken, without_slab}
 use Rattle.slub_red_zone.proofs.Comings.{gone-kept}
 use Rattle.slub_red_zone.proofs.Objects.{taken-object, takes-slab}
@@ -23,13 +21,13 @@ use Rattle.slub_core.specs.declared.local.Known.{Known}
 use Rattle.slub_core.specs.declared.local.FrameRun.{FrameRun}
 use Rattle.slub_core.specs.declared.spot.Spot.TheVariants.{InChecked}
 use Rattle.slub_core.specs.declared.spot.CheckedSpot.TheVariants.{DoChecked, LockRun}
-use Rattle.slub_core.specs.Setup.{Setup, node_lock, pool_lock}
-use Rattle.slub_core.specs.World.{World, LockValue, Checked, set_value, cache_at, objects_at, order_at, object_at, size_in, idle_in, one_if, sum_below, in_run}
-use Rattle.slub_core.specs.Local.{Local, Worker, nobody, here, loses, stays}
-use Rattle.slub_core.specs.Checked.{slot_of, with_slabs, is_spare, run_at}
+use Rattle.slub_core.specs.Setup.{node_lock}
+use Rattle.slub_core.specs.World.{World, LockValue, Checked, set_value, cache_at, objects_at, order_at, object_at, size_in, idle_in, one_if, in_run}
+use Rattle.slub_core.specs.Local.{Worker, nobody, here, loses, stays}
+use Rattle.slub_core.specs.Checked.{slot_of, with_slabs, run_at}
 use Rattle.slub_core.specs.Placed.{owned}
 use Rattle.slub_core.specs.Listed.{takes, IsSized, IsCheckedOf}
-use Rattle.slub_core.specs.Fresh.{IsHeldRun, IsRun, IsAtWork}
+use Rattle.slub_core.specs.Fresh.{IsHeldRun, IsAtWork}
 use Rattle.slub_core.specs.Coherent.{Stands}
 use Rattle.slub_core.proofs.CheckedBytes.{length-set_slot}
 use Rattle.slub_core.proofs.CheckedSpots.{held-object}

@@ -1,43 +1,39 @@
 -- At once, under a checked cache's lock: its calls.
-use Rattle.std.proofs.Common.{◌≡◌, ◌≢◌, ℕ, zero, suc, ◌+◌, ◌-◌, ◌*◌, ◌<◌, ◌≤◌, ◌⊎◌, ◌==◌, ◌&&◌, Bool, true, false, cond, Option, Some, None, List, [], ◌∷◌, ◌++◌, length, get_or, set, take, drop, refl, sym, ap, ◌∙◌, subst, arith, inl, inr, not}
-use Rattle.std.specs.Prelude.{All, nat_lt, nat_le, if◌then◌else◌}
-use Rattle.std.proofs.lemmas.Bool.{cases_eq, cases_lt, cases_Bool, ltb-true, leb-true, not-false, false≢true}
+use Rattle.std.proofs.Common.{◌≡◌, ℕ, suc, ◌+◌, ◌-◌, ◌*◌, ◌<◌, ◌≤◌, ◌&&◌, Bool, true, false, None, List, ◌∷◌, ◌++◌, length, get_or, set, take, drop, refl, sym, ap, ◌∙◌, arith}
+use Rattle.std.specs.Prelude.{All, nat_lt, if◌then◌else◌}
+use Rattle.std.proofs.lemmas.Bool.{ltb-true, leb-true, not-false, false≢true}
 use Rattle.std.proofs.lemmas.List.{length-set}
 use Rattle.std.proofs.lemmas.List.Elements.{All-head}
-use Rattle.slub_common.specs.Times.{times}
-use Rattle.slub_red_zone.specs.declared.zones.Damage.{Damage}
-use Rattle.slub_red_zone.specs.declared.checked.Slot.{Slot}
 use Rattle.slub_red_zone.specs.declared.checked.CheckedGive.{CheckedGive}
 use Rattle.slub_red_zone.specs.declared.checked.CheckedGive.TheVariants as give
 use Rattle.slub_red_zone.specs.State.{CheckedState, slab_of, objects_in, IsUsed}
 use Rattle.slub_red_zone.specs.Sound.{IsSound}
-use Rattle.slub_red_zone.specs.Objects.{KeepsSlabs, KeepsObjects, idle}
+use Rattle.slub_red_zone.specs.Objects.{KeepsObjects}
 use Rattle.slub_red_zone.specs.Zones.{red_inactive, red_active}
 use Rattle.slub_object_layout.specs.declared.layout.Layout.{Layout}
 use Rattle.std.specs.Int.{w64, to_le_bytes}
-use Rattle.slub_red_zone.specs.Steps.{with_word, with_byte, word_place, damage_of_used, with_taken, with_given, with_damaged, Gives, nothing_listed, next_is_whole, next_is_damaged}
+use Rattle.slub_red_zone.specs.Steps.{with_word, with_byte, word_place, with_taken, with_damaged, Gives, nothing_listed, next_is_whole, next_is_damaged}
 use Rattle.slub_red_zone.proofs.Objects.{written-objects, taken-object, gives-object}
 use Rattle.slub_red_zone.proofs.Given.{next-inside, given-sound, damaged-sound}
 use Rattle.slub_red_zone.proofs.Taken.{used-some, used-inside, word-inside, written-sound, taken-sound}
 use Rattle.slub_core.specs.declared.call.CallKind.{CallKind}
-use Rattle.slub_core.specs.declared.call.CallKind.TheVariants.{Alloc, Free, Write, Read, Poke, Trim, Flush}
+use Rattle.slub_core.specs.declared.call.CallKind.TheVariants.{Alloc, Free, Write, Poke}
 use Rattle.slub_core.specs.declared.local.Known.{Known}
-use Rattle.slub_core.specs.declared.local.FrameRun.{FrameRun}
 use Rattle.slub_core.specs.declared.spot.Spot.TheVariants.{InChecked}
 use Rattle.slub_core.specs.declared.spot.CheckedSpot.TheVariants.{DoChecked, LockRun, GiveChecked}
-use Rattle.slub_core.specs.Setup.{Setup, node_lock}
-use Rattle.slub_core.specs.World.{World, LockValue, Checked, set_value, cache_at, size_in, one_if}
-use Rattle.slub_core.specs.Local.{Local, Worker, Change, nobody, here, call_of, at, gets, loses, stays}
-use Rattle.slub_core.specs.Checked.{slabs_of, slabs_in, slot_of, with_slabs, do_checked, gave, took_back, taken_back, poked, is_spare, is_offset, checked_at_once}
+use Rattle.slub_core.specs.Setup.{node_lock}
+use Rattle.slub_core.specs.World.{World, LockValue, Checked, set_value, cache_at, size_in}
+use Rattle.slub_core.specs.Local.{Worker, nobody, here, call_of, at, loses, stays}
+use Rattle.slub_core.specs.Checked.{slot_of, with_slabs, do_checked, gave, poked, is_offset}
 use Rattle.slub_core.specs.Spots.{in_checked, keeps}
 use Rattle.slub_core.specs.Listed.{takes, IsCheckedOf}
 use Rattle.slub_core.specs.Fresh.{IsAtWork}
 use Rattle.slub_core.specs.Coherent.{Stands}
 use Rattle.slub_core.proofs.CheckedBytes.{length-set_slot, length-with_word}
-use Rattle.slub_core.proofs.CheckedStep.{the-slabs, checked_step, held-used, shape-size}
+use Rattle.slub_core.proofs.CheckedStep.{checked_step, held-used, shape-size}
 use Rattle.slub_core.proofs.Knowns.{held-gets, held-loses, known-set, here-set}
-use Rattle.slub_core.proofs.LocalStep.{local_step, Settled}
-use Rattle.slub_core.proofs.UnderLock.{Makes, HasSameSlabs, cache-same_value, known-same, locks-same}
+use Rattle.slub_core.proofs.LocalStep.{local_step}
+use Rattle.slub_core.proofs.UnderLock.{Makes, cache-same_value, known-same, locks-same}
 use Rattle.slub_core.proofs.Values.{value-slab}
 use Rattle.slub_core.proofs.ValueStep.{known-owned}
 

@@ -1,19 +1,18 @@
 -- Changes of a checked cache under its lock that make or unmake no slab, and what they rest on.
-use Rattle.std.proofs.Common.{◌≡◌, ◌≢◌, ℕ, zero, suc, ◌+◌, ◌-◌, ◌<◌, ◌≤◌, ◌⊎◌, ◌==◌, Bool, true, false, cond, Option, Some, None, List, [], ◌∷◌, length, get_or, refl, sym, ap, ◌∙◌, subst, arith, inl, inr}
-use Rattle.std.specs.Prelude.{All, nat_lt, option_map, unwrap_or, slice_get, slice_index_or, if◌then◌else◌}
-use Rattle.std.proofs.lemmas.Bool.{cases_eq, cases_lt, false≢true}
+use Rattle.std.proofs.Common.{◌≡◌, ℕ, zero, suc, ◌+◌, ◌<◌, ◌≤◌, Bool, true, false, Option, Some, None, List, [], ◌∷◌, length, refl, sym, ap, ◌∙◌, arith, inl, inr}
+use Rattle.std.specs.Prelude.{nat_lt, option_map, unwrap_or, slice_get, slice_index_or}
+use Rattle.std.proofs.lemmas.Bool.{cases_lt, false≢true}
 use Rattle.std.proofs.lemmas.List.Elements.{All-head}
 use Rattle.slub_common.specs.Times.{times}
 use Rattle.slub_red_zone.specs.declared.slab.ObjectState.{ObjectState}
 use Rattle.slub_red_zone.specs.declared.slab.ObjectState.TheVariants.{Free, Used, Aside}
-use Rattle.slub_red_zone.specs.declared.checked.Slot.{Slot}
-use Rattle.slub_red_zone.specs.State.{SlabState, CheckedState, no_slab, slab_of, slab_at, objects_in, state_of, IsUsed}
+use Rattle.slub_red_zone.specs.State.{SlabState, CheckedState, no_slab, slab_of, objects_in, IsUsed}
 use Rattle.slub_red_zone.specs.Sound.{IsSound}
 use Rattle.slub_red_zone.specs.Objects.{KeepsSlabs, shape_of, shape_at, idle, is_idle}
 use Rattle.slub_core.specs.declared.local.Known.{Known}
-use Rattle.slub_core.specs.Setup.{Setup, IsChecked, node_lock, pool_lock}
-use Rattle.slub_core.specs.World.{World, LockValue, Checked, set_value, objects_at, cache_at, object_at, idle_in, size_in, order_in, frames_in, pool_in, pool_of, sum_below, one_if}
-use Rattle.slub_core.specs.Local.{Local, Worker, nobody}
+use Rattle.slub_core.specs.Setup.{node_lock, pool_lock}
+use Rattle.slub_core.specs.World.{World, Checked, set_value, objects_at, cache_at, object_at, idle_in, size_in, frames_in, pool_in, pool_of, one_if}
+use Rattle.slub_core.specs.Local.{Worker}
 use Rattle.slub_core.specs.Spots.{has_node, in_checked}
 use Rattle.slub_core.specs.Placed.{owned}
 use Rattle.slub_core.specs.Listed.{home_of, marked_of, covered_by, takes, IsCheckedOf}
@@ -23,7 +22,6 @@ use Rattle.slub_core.proofs.Counts.{places-cons}
 use Rattle.slub_core.proofs.UnderLock.{HasSameSlabs, checked-is, same_step, takes-node}
 use Rattle.slub_core.proofs.Update.{update_other, term_le_sum}
 use Rattle.slub_core.proofs.Values.{word-cache, unworded-cache, unworded-objects, object-within, in-value, checked-value}
-use Rattle.slub_core.proofs.ValueStep.{known-owned}
 
 -- ---- slabs of the same shape
 

@@ -4,10 +4,10 @@ use Rattle.std.specs.Prelude.{All, sum_by}
 use Rattle.std.proofs.lemmas.List.Sums.{sum_by-cons}
 use Rattle.std.proofs.lemmas.List.Elements.{All-nil, All-cons}
 use Rattle.slub_common.specs.Times.{times}
-use Rattle.slub_core.specs.World.{World, Chains, sum_below, in_chain, on_board, idle_in, one_if, pool_of, covers, frames_in}
+use Rattle.slub_core.specs.World.{World, Chains, sum_below, in_chain, on_board, idle_in, one_if, pool_of, covers}
 use Rattle.slub_core.specs.Local.{Worker}
 use Rattle.slub_core.specs.Placed.{owned, places}
-use Rattle.slub_core.specs.Listed.{home_of, homes, on_lists, marked_of, covered_by, frame_roles, takes}
+use Rattle.slub_core.specs.Listed.{home_of, homes, on_lists, covered_by, frame_roles}
 
 -- a list of which each has no more than nothing
 pub All-from_no_sum : {X : Type 0} (f : X → ℕ) (xs : List X) → sum_by f xs ≡ 0 → All (λ x. f x ≡ 0) xs

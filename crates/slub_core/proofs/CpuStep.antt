@@ -1,17 +1,16 @@
 -- A step that changes a CPU word.
 use Rattle.std.proofs.Common.{◌≡◌, ℕ, ◌+◌, ◌<◌, ◌≢◌, true, List, ◌∷◌, ap, arith, inl, inr, ◌/◌, ◌%◌, ◌^◌, ◌==◌, ◌-◌, ◌⊎◌}
-use Rattle.std.specs.Prelude.{sum_by}
 use Rattle.std.proofs.lemmas.Bool.{cases_eq}
 use Rattle.std.proofs.lemmas.List.Sums.{sum_by-cons}
 use Rattle.std.proofs.lemmas.List.Elements.{All-cons, All-tail, All-weaker}
 use Rattle.slub_words.specs.declared.cpu.CpuWord.{CpuWord}
 use Rattle.slub_core.specs.World.{World, Chains, update, set_cpu, pointer, one_if, in_chain, IsChain}
-use Rattle.slub_core.specs.Local.{Local, Worker}
+use Rattle.slub_core.specs.Local.{Worker}
 use Rattle.slub_core.specs.Ops.{own_cpu}
 use Rattle.slub_core.specs.Spots.{notes_cpu, notes_next}
-use Rattle.slub_core.specs.Placed.{owned, IsPlaced}
-use Rattle.slub_core.specs.Listed.{home_of, marked_of, covered_by, takes, IsListed}
-use Rattle.slub_core.specs.Fresh.{IsSeen, IsAtWork, IsWorded, IsFreshWord}
+use Rattle.slub_core.specs.Placed.{owned}
+use Rattle.slub_core.specs.Listed.{home_of, marked_of, covered_by, takes}
+use Rattle.slub_core.specs.Fresh.{IsAtWork, IsFreshWord}
 use Rattle.slub_core.specs.Coherent.{Stands}
 use Rattle.slub_core.proofs.Counts.{places-cons, homes-cons, roles-cons}
 use Rattle.slub_core.proofs.Spots.{next-cpu}

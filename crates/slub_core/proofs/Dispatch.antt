@@ -1,5 +1,5 @@
 -- The step of each spot that the law covers, spot by spot.
-use Rattle.std.proofs.Common.{◌≡◌, ℕ, true, false, List, ◌∷◌, refl, sym, arith}
+use Rattle.std.proofs.Common.{refl}
 use Rattle.slub_core.specs.declared.call.CallKind.{CallKind}
 use Rattle.slub_core.specs.declared.spot.Spot.{Spot}
 use Rattle.slub_core.specs.declared.spot.Spot.TheVariants.{Between, InAlloc, InPutAway, InDiscard, InPutOnList, InFree, InMoveSet, InOffline, InTrim, WriteWord, ReadWord, InChecked}
@@ -27,13 +27,9 @@ use Rattle.slub_core.specs.declared.spot.TrimSpot.TheVariants.{LockTrim, LoadSca
 use Rattle.slub_core.specs.declared.spot.CheckedSpot.{CheckedSpot}
 use Rattle.slub_core.specs.declared.spot.CheckedSpot.TheVariants.{LockChecked, LockRun, GiveRun, GiveChecked, DoChecked, MoveRun, AddSlab}
 use Rattle.slub_core.specs.declared.step.Place.TheVariants.{LockOf}
-use Rattle.slub_core.specs.World.{World, world_from, world_of}
-use Rattle.slub_core.specs.Local.{Local, Worker}
 use Rattle.slub_core.specs.Steps.{advance_at}
-use Rattle.slub_core.specs.Coherent.{Stands}
 use Rattle.slub_core.proofs.Locks.{ComesTo}
 use Rattle.slub_core.proofs.Leads.{AtSpot}
-use Rattle.slub_core.proofs.Words.{IsTable}
 use Rattle.slub_core.proofs.WordSteps.{load}
 use Rattle.slub_core.proofs.LeadsLocks.{leads_LockNode, leads_LockPool, leads_LockAway, leads_LockDiscard, leads_LockFree, leads_LockMove, leads_LockTrim, leads_LockChecked, leads_LockRun, leads_GiveNode, leads_GivePool, leads_GiveDry, leads_GiveAway, leads_GiveDiscard, leads_GoBack, leads_GiveFree, leads_GiveMove, leads_GiveTrim, leads_GiveRun, leads_GiveChecked}
 use Rattle.slub_core.proofs.LeadsWords.{leads_LoadCpu, leads_LoadAgain, leads_LoadOwn, leads_LoadCurrent, leads_LoadNext, leads_ReadWord, leads_LoadSlab, leads_LoadLocked, leads_Unmake, leads_TakeBoard}

@@ -1,22 +1,17 @@
 -- At once, under a checked cache's lock, spot by spot: the call is made, or a run is added as a slab.
-use Rattle.std.proofs.Common.{◌≡◌, ◌≢◌, ℕ, zero, suc, ◌+◌, ◌-◌, ◌%◌, ◌^◌, ◌<◌, ◌≤◌, ◌⊎◌, ◌==◌, ◌&&◌, Bool, true, false, cond, Option, Some, None, List, [], ◌∷◌, length, get_or, set, refl, sym, ap, ◌∙◌, subst, arith, inl, inr}
-use Rattle.std.specs.Prelude.{All, IsSome, IfSome, nat_lt, nat_le, option_map, unwrap_or, slice_index_or, if◌then◌else◌}
-use Rattle.std.proofs.lemmas.Bool.{cases_eq, cases_lt, cases_Bool, eq-eqb, ne_eqb, lt-ltb, le-ltb, leb-true, eqb-true, false≢true}
-use Rattle.std.proofs.lemmas.List.{length-set}
-use Rattle.std.proofs.lemmas.List.Elements.{All-head}
-use Rattle.slub_object_layout.specs.declared.layout.Layout.{Layout}
+use Rattle.std.proofs.Common.{◌≡◌, ℕ, ◌==◌, ◌&&◌, Bool, true, false, Option, Some, None, List, ◌∷◌, length, refl, sym, ap, subst, inl, inr}
+use Rattle.std.specs.Prelude.{nat_le}
+use Rattle.std.proofs.lemmas.Bool.{cases_Bool, leb-true, eqb-true, false≢true}
 use Rattle.slub_red_zone.specs.declared.zones.Damage.{Damage}
-use Rattle.slub_red_zone.specs.declared.checked.Slot.{Slot}
-use Rattle.slub_red_zone.specs.declared.checked.Run.{Run}
 use Rattle.slub_red_zone.specs.State.{CheckedState, slab_of, objects_in}
 use Rattle.slub_red_zone.specs.Steps.{IsSpare, damage_of_used, with_taken}
 use Rattle.slub_core.specs.declared.call.CallKind.{CallKind}
 use Rattle.slub_core.specs.declared.call.CallKind.TheVariants.{Alloc, Free, Write, Read, Poke, Trim, Flush}
 use Rattle.slub_core.specs.declared.spot.Spot.TheVariants.{InChecked}
-use Rattle.slub_core.specs.declared.spot.CheckedSpot.TheVariants.{DoChecked, GiveChecked}
+use Rattle.slub_core.specs.declared.spot.CheckedSpot.TheVariants.{DoChecked}
 use Rattle.slub_core.specs.Setup.{Setup, node_lock}
-use Rattle.slub_core.specs.World.{World, LockValue, Checked}
-use Rattle.slub_core.specs.Local.{Local, Worker, here, at, stays}
+use Rattle.slub_core.specs.World.{World, Checked}
+use Rattle.slub_core.specs.Local.{Worker, here}
 use Rattle.slub_core.specs.Checked.{slabs_of, slabs_in, slot_of, do_checked, took_back, is_spare, checked_at_once}
 use Rattle.slub_core.specs.Listed.{IsCheckedOf}
 use Rattle.slub_core.specs.Coherent.{Stands}

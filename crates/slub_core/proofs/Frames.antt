@@ -1,9 +1,7 @@
 -- What a change of one class of words leaves as it was.
 use Rattle.std.proofs.Common.{ℕ, Option}
 use Rattle.slub_words.specs.declared.board.BoardWord.{BoardWord}
-use Rattle.slub_words.specs.declared.slab.SlabWord.{SlabWord}
-use Rattle.slub_cpu_partial.specs.declared.words.ListWord.{ListWord}
-use Rattle.slub_core.specs.World.{World, Chains, LockValue, set_lock, set_board, set_memory, set_link, set_list, set_slab, set_value}
+use Rattle.slub_core.specs.World.{World, Chains, LockValue, set_lock, set_board, set_memory, set_value}
 use Rattle.slub_core.specs.Listed.{IsShaped}
 use Rattle.slub_core.specs.Fresh.{IsWorded}
 

@@ -1,9 +1,8 @@
 -- The node lock is given back when a set of slabs was moved.
-use Rattle.std.proofs.Common.{◌≡◌, ℕ, suc, ◌+◌, ◌-◌, ◌<◌, ◌≤◌, ◌==◌, true, false, cond, Option, Some, None, List, [], ◌∷◌, length, refl, sym, ap, ◌∙◌, arith, inl, inr}
-use Rattle.std.specs.Prelude.{slice_index, drop}
+use Rattle.std.proofs.Common.{◌≡◌, ℕ, suc, ◌+◌, ◌<◌, ◌≤◌, ◌==◌, false, Some, None, List, [], ◌∷◌, length, refl, sym, ap, ◌∙◌, arith, inl, inr}
+use Rattle.std.specs.Prelude.{slice_index}
 use Rattle.std.proofs.lemmas.Bool.{cases_eq, cases_lt, ne_eqb, lt-ltb, le-ltb}
 use Rattle.std.proofs.lemmas.List.Elements.{All-head}
-use Rattle.slub_common.specs.Times.{times}
 use Rattle.slub_core.specs.declared.local.Hand.{Hand}
 use Rattle.slub_core.specs.declared.step.Answer.TheVariants.{Done}
 use Rattle.slub_core.specs.declared.spot.Spot.TheVariants.{Between, InMoveSet, InPutOnList, InOffline, InTrim}
@@ -15,9 +14,9 @@ use Rattle.slub_core.specs.declared.spot.PutOnListSpot.TheVariants.{LoadList}
 use Rattle.slub_core.specs.declared.spot.Sweep.TheVariants.{Trimming, Flushing}
 use Rattle.slub_core.specs.declared.spot.OfflineSpot.TheVariants.{LoadCurrent}
 use Rattle.slub_core.specs.declared.spot.TrimSpot.TheVariants.{LockTrim}
-use Rattle.slub_core.specs.Setup.{Setup, IsPlain, node_lock}
+use Rattle.slub_core.specs.Setup.{IsPlain, node_lock}
 use Rattle.slub_core.specs.World.{World, set_lock, one_if}
-use Rattle.slub_core.specs.Local.{Local, Worker, hand_of, at}
+use Rattle.slub_core.specs.Local.{Local, Worker, at}
 use Rattle.slub_core.specs.Alloc.{single_string}
 use Rattle.slub_core.specs.Spots.{Kept, is_marked}
 use Rattle.slub_core.specs.Free.{alone}

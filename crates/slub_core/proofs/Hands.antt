@@ -1,7 +1,6 @@
 -- Slabs in hand by their number: none, one, or one with one beside.
-use Rattle.std.proofs.Common.{◌≡◌, ℕ, ◌+◌, ◌≤◌, ◌==◌, cond, List, [], ◌∷◌, length, refl, ap, arith}
+use Rattle.std.proofs.Common.{◌≡◌, ℕ, ◌==◌, List, [], ◌∷◌, refl, ap}
 use Rattle.std.proofs.lemmas.Bool.{cond_both}
-use Rattle.slub_common.specs.Times.{times}
 use Rattle.slub_core.specs.declared.local.Hand.{Hand}
 use Rattle.slub_core.specs.World.{in_chain}
 use Rattle.slub_core.specs.Spots.{Role}

@@ -1,6 +1,6 @@
 -- Kinds 12 and 28, where they are won: a slab in hand without a free object is unfrozen and leaves the hand; a popped slab is unmarked and becomes a string.
-use Rattle.std.proofs.Common.{◌≡◌, ◌≢◌, ℕ, suc, ◌+◌, ◌-◌, ◌^◌, ◌<◌, ◌≤◌, ◌==◌, Bool, true, false, Some, None, List, [], ◌∷◌, length, get_or, refl, sym, ap, ◌∙◌, subst, arith, inl, inr}
-use Rattle.std.specs.Prelude.{All, nat_lt}
+use Rattle.std.proofs.Common.{◌≡◌, ◌≢◌, ℕ, suc, ◌≤◌, ◌==◌, Bool, true, false, Some, List, [], ◌∷◌, get_or, refl, sym, ap, ◌∙◌, subst, arith, inl, inr}
+use Rattle.std.specs.Prelude.{All}
 use Rattle.std.proofs.lemmas.Bool.{false≢true, cases_eq, eq-eqb, ne_eqb, lt-ltb}
 use Rattle.std.proofs.lemmas.List.Elements.{All-head}
 use Rattle.slub_common.specs.Times.{times}
@@ -8,18 +8,16 @@ use Rattle.slub_words.specs.declared.slab.SlabWord.{SlabWord}
 use Rattle.slub_core.specs.declared.local.Known.{Known}
 use Rattle.slub_core.specs.declared.local.Hand.{Hand}
 use Rattle.slub_core.specs.declared.step.Answer.TheVariants.{Won}
-use Rattle.slub_core.specs.declared.spot.Spot.{Spot}
 use Rattle.slub_core.specs.declared.spot.Spot.TheVariants.{InAlloc, InPutOnList}
 use Rattle.slub_core.specs.declared.spot.AllocSpot.TheVariants.{MarkFull, TakeList, Unlist}
 use Rattle.slub_core.specs.declared.spot.PutOnList.TheVariants.{OfNode}
 use Rattle.slub_core.specs.declared.spot.PutOnListSpot.TheVariants.{LoadList}
-use Rattle.slub_core.specs.World.{World, set_slab, pointer, cache_at, one_if, off_list, live, in_chain, IsChain}
-use Rattle.slub_core.specs.Local.{Local, Worker, hand_of, hand_from}
+use Rattle.slub_core.specs.World.{World, set_slab, pointer, cache_at, one_if, off_list, IsChain}
+use Rattle.slub_core.specs.Local.{Worker, hand_of}
 use Rattle.slub_core.specs.Alloc.{alloc_advance, thawed_word, unlisted_word, single_string}
-use Rattle.slub_core.specs.Spots.{Role, Taken, Popped, Ready}
-use Rattle.slub_core.specs.Placed.{owned}
-use Rattle.slub_core.specs.Listed.{home_of, hands_count, homes, marked_of, takes}
-use Rattle.slub_core.specs.Fresh.{AreHands, AreHeld, IsHeldString, IsWalk, IsAtWork}
+use Rattle.slub_core.specs.Spots.{Taken, Popped, Ready}
+use Rattle.slub_core.specs.Listed.{home_of, hands_count}
+use Rattle.slub_core.specs.Fresh.{AreHands, AreHeld, IsHeldString, IsAtWork}
 use Rattle.slub_core.specs.Coherent.{Stands}
 use Rattle.slub_core.proofs.Counts.{homes-cons}
 use Rattle.slub_core.proofs.Exists.{home-live}
@@ -27,7 +25,7 @@ use Rattle.slub_core.proofs.Hands.{one-hand, two-hands, in_chain-nil}
 use Rattle.slub_core.proofs.Homes.{mine-marked, live-most, off-some}
 use Rattle.slub_core.proofs.Lists.{times-first}
 use Rattle.slub_core.proofs.Locks.{ComesTo}
-use Rattle.slub_core.proofs.SlabStep.{MayChange, is_mine, slab_step, cache_at-same, held-apart}
+use Rattle.slub_core.proofs.SlabStep.{is_mine, slab_step, cache_at-same, held-apart}
 use Rattle.slub_core.proofs.Update.{update_same}
 
 is-not : (f g : ℕ) → (f ≡ g → ⊥) → one_if (f == g) ≡ 0

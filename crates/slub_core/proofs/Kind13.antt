@@ -1,5 +1,5 @@
 -- Kind 13, spot by spot: a free lock is taken. A lock that isn't free is tried again, and nothing has changed.
-use Rattle.std.proofs.Common.{◌≡◌, ℕ, suc, ◌+◌, ◌<◌, ◌≤◌, true, false, List, [], ◌∷◌, length, refl, arith}
+use Rattle.std.proofs.Common.{◌≡◌, ℕ, suc, List, [], ◌∷◌, refl, arith}
 use Rattle.std.proofs.lemmas.List.Elements.{All-head}
 use Rattle.slub_core.specs.declared.call.CallKind.{CallKind}
 use Rattle.slub_core.specs.declared.step.Answer.TheVariants.{Won}
@@ -16,7 +16,7 @@ use Rattle.slub_core.specs.declared.spot.TrimSpot.TheVariants.{LockTrim, ScanNod
 use Rattle.slub_core.specs.declared.spot.CheckedSpot.TheVariants.{LockChecked, DoChecked, LockRun, MoveRun}
 use Rattle.slub_core.specs.Setup.{node_lock, pool_lock}
 use Rattle.slub_core.specs.World.{World, set_lock}
-use Rattle.slub_core.specs.Local.{Local, Worker, at}
+use Rattle.slub_core.specs.Local.{Worker, at}
 use Rattle.slub_core.specs.Alloc.{alloc_advance}
 use Rattle.slub_core.specs.PutAway.{put_away_advance}
 use Rattle.slub_core.specs.Discard.{discard_advance}
@@ -26,7 +26,7 @@ use Rattle.slub_core.specs.Offline.{trim_advance}
 use Rattle.slub_core.specs.Checked.{checked_advance}
 use Rattle.slub_core.specs.Fresh.{IsAtWork}
 use Rattle.slub_core.specs.Coherent.{Stands}
-use Rattle.slub_core.proofs.Locks.{ComesTo, HasSame, lent, take-node, take-pool}
+use Rattle.slub_core.proofs.Locks.{ComesTo, lent, take-node, take-pool}
 
 lock_node-work : (w : World) (x : Worker) → x.local.spot ≡ InAlloc LockNode → ((n : ℕ) → w.lock n ≡ suc x.local.worker) → IsAtWork w x → IsAtWork w (record x { local = record x.local { put = 0; spot = InAlloc PopNode } })
 lock_node-work w x is locks ok = grind arith

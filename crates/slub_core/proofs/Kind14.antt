@@ -1,5 +1,5 @@
 -- Kind 14, spot by spot: a lock is given back.
-use Rattle.std.proofs.Common.{◌≡◌, ℕ, suc, ◌+◌, ◌<◌, ◌≤◌, ◌==◌, true, false, cond, inl, inr, Option, Some, None, List, [], ◌∷◌, length, refl, sym, ap, ◌∙◌, arith}
+use Rattle.std.proofs.Common.{◌≡◌, ℕ, suc, ◌<◌, ◌≤◌, true, false, cond, inl, inr, Option, Some, None, List, [], ◌∷◌, length, refl, sym, ap, ◌∙◌, arith}
 use Rattle.std.specs.Prelude.{IsSome}
 use Rattle.std.proofs.lemmas.Bool.{ne_eqb, false≢true}
 use Rattle.std.proofs.lemmas.List.Elements.{All-head}
@@ -7,7 +7,7 @@ use Rattle.slub_core.specs.declared.call.CallKind.{CallKind}
 use Rattle.slub_core.specs.declared.local.Hand.{Hand}
 use Rattle.slub_core.specs.declared.local.FrameRun.{FrameRun}
 use Rattle.slub_core.specs.declared.step.Answer.TheVariants.{Done}
-use Rattle.slub_core.specs.declared.spot.Spot.TheVariants.{Between, InAlloc, InPutAway, InDiscard, InFree, InMoveSet, InTrim, InChecked}
+use Rattle.slub_core.specs.declared.spot.Spot.TheVariants.{Between, InAlloc, InPutAway, InDiscard, InFree, InTrim, InChecked}
 use Rattle.slub_core.specs.declared.spot.AllocSpot.TheVariants.{GiveNode, LockPool, LoadReady, GivePool, GiveDry, LinkNew}
 use Rattle.slub_core.specs.declared.spot.Away.{Away}
 use Rattle.slub_core.specs.declared.spot.Away.TheVariants.{ForInstall, ForSpent, ForSweep}
@@ -16,26 +16,22 @@ use Rattle.slub_core.specs.declared.spot.Discard.{Discard}
 use Rattle.slub_core.specs.declared.spot.Discard.TheVariants.{FromAway, FromFree, FromMove, FromTrim}
 use Rattle.slub_core.specs.declared.spot.DiscardSpot.TheVariants.{GiveDiscard}
 use Rattle.slub_core.specs.declared.spot.FreeSpot.TheVariants.{GoBack, GiveFree, LoadSlab}
-use Rattle.slub_core.specs.declared.spot.MoveSet.{MoveSet}
-use Rattle.slub_core.specs.declared.spot.MoveSet.TheVariants.{ForFree, ForOffline}
-use Rattle.slub_core.specs.declared.spot.MoveSetSpot.TheVariants.{GiveMove}
 use Rattle.slub_core.specs.declared.spot.TrimSpot.TheVariants.{GiveTrim}
 use Rattle.slub_core.specs.declared.spot.CheckedSpot.TheVariants.{GiveRun, GiveChecked}
 use Rattle.slub_core.specs.Setup.{Setup, IsSetup, node_lock, pool_lock}
-use Rattle.slub_core.specs.World.{World, set_lock, one_if}
-use Rattle.slub_core.specs.Local.{Local, Worker, at, run_of, run_in}
+use Rattle.slub_core.specs.World.{World, set_lock}
+use Rattle.slub_core.specs.Local.{Worker, at, run_of, run_in}
 use Rattle.slub_core.specs.Spots.{has_node, has_pool, is_marked}
 use Rattle.slub_core.specs.Alloc.{alloc_advance, way_of_node}
 use Rattle.slub_core.specs.PutAway.{put_away_advance, way_of_put}
 use Rattle.slub_core.specs.Discard.{discard_advance, way_of_discarded}
 use Rattle.slub_core.specs.Free.{free_advance}
-use Rattle.slub_core.specs.MoveSet.{move_set_advance}
 use Rattle.slub_core.specs.Offline.{trim_advance}
 use Rattle.slub_core.specs.Checked.{checked_advance}
 use Rattle.slub_core.specs.Listed.{IsSized}
 use Rattle.slub_core.specs.Fresh.{IsHeldRun, IsAtWork}
 use Rattle.slub_core.specs.Coherent.{Stands}
-use Rattle.slub_core.proofs.Locks.{ComesTo, HasSame, lent, give-node, give-pool}
+use Rattle.slub_core.proofs.Locks.{ComesTo, lent, give-node, give-pool}
 
 -- where no slab is in hand, and where one is
 give_node-none : (w : World) (x : Worker) → x.local.spot ≡ InAlloc GiveNode → x.local.hands ≡ [] → ((n : ℕ) → w.lock n ≡ suc x.local.worker) → IsAtWork w x → IsAtWork w (record x { local = at x.local (InAlloc LockPool) })

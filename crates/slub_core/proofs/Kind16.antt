@@ -11,7 +11,7 @@ use Rattle.slub_core.specs.declared.step.Answer.TheVariants.{Won}
 use Rattle.slub_core.specs.declared.spot.Spot.TheVariants.{Between, InAlloc}
 use Rattle.slub_core.specs.declared.spot.AllocSpot.TheVariants.{Install}
 use Rattle.slub_core.specs.World.{World, set_cpu, pointer, cache_at, exists_at, one_if, in_chain, Leads, IsChain}
-use Rattle.slub_core.specs.Local.{Local, Worker, here, nobody, gets, hand_of}
+use Rattle.slub_core.specs.Local.{Worker, nobody, gets, hand_of}
 use Rattle.slub_core.specs.Ops.{own_cpu}
 use Rattle.slub_core.specs.Alloc.{alloc_advance, installed_word, second_of}
 use Rattle.slub_core.specs.Spots.{Loaded}

@@ -1,5 +1,5 @@
 -- Kind 21: a run in hand, whose free pointers were stored, becomes a slab.
-use Rattle.std.proofs.Common.{◌≡◌, ◌≢◌, ℕ, zero, suc, ◌+◌, ◌%◌, ◌^◌, ◌<◌, ◌≤◌, ◌⊎◌, ◌==◌, ◌&&◌, Bool, true, false, Option, Some, None, List, [], ◌∷◌, length, get_or, refl, sym, ap, ◌∙◌, subst, arith, inl, inr}
+use Rattle.std.proofs.Common.{◌≡◌, ◌≢◌, ℕ, zero, suc, ◌+◌, ◌^◌, ◌<◌, ◌≤◌, ◌==◌, ◌&&◌, Bool, true, false, Option, Some, None, List, [], ◌∷◌, length, get_or, refl, sym, ap, ◌∙◌, subst, arith, inl, inr}
 use Rattle.std.specs.Prelude.{All, IsSome, nat_lt}
 use Rattle.std.proofs.lemmas.Bool.{cases_eq, cases_lt, eq-eqb, ne_eqb, lt-ltb, le-ltb, false≢true}
 use Rattle.std.proofs.lemmas.List.Elements.{All-head}
@@ -12,14 +12,13 @@ use Rattle.slub_core.specs.declared.local.FrameRun.{FrameRun}
 use Rattle.slub_core.specs.declared.step.Answer.TheVariants.{Done}
 use Rattle.slub_core.specs.declared.spot.Spot.TheVariants.{InAlloc}
 use Rattle.slub_core.specs.declared.spot.AllocSpot.TheVariants.{Make, LoadReady}
-use Rattle.slub_core.specs.Setup.{Setup, order_for}
-use Rattle.slub_core.specs.World.{World, set_slab, pointer, Leads, IsChain, one_if, sum_below, size_in, objects_at, object_at, cache_at, order_at, in_run, in_chain, live, off_list, covers}
-use Rattle.slub_core.specs.Local.{Local, Worker, hand_from, run_in, run_of}
+use Rattle.slub_core.specs.Setup.{order_for}
+use Rattle.slub_core.specs.World.{World, set_slab, pointer, IsChain, one_if, sum_below, size_in, objects_at, object_at, cache_at, order_at, in_chain, live, off_list, covers}
+use Rattle.slub_core.specs.Local.{Worker, hand_from, run_in, run_of}
 use Rattle.slub_core.specs.Alloc.{alloc_advance, made_word}
 use Rattle.slub_core.specs.Spots.{Ready}
-use Rattle.slub_core.specs.Placed.{owned}
 use Rattle.slub_core.specs.Listed.{home_of, covered_by, IsSized}
-use Rattle.slub_core.specs.Fresh.{AreHands, AreHeld, IsHeldRun, IsRun, IsWalk, IsAtWork, rising_next}
+use Rattle.slub_core.specs.Fresh.{AreHands, AreHeld, IsHeldRun, IsWalk, IsAtWork, rising_next}
 use Rattle.slub_core.specs.Coherent.{Stands}
 use Rattle.slub_core.proofs.Counts.{places-cons, homes-cons, roles-cons}
 use Rattle.slub_core.proofs.Hands.{no-hands}

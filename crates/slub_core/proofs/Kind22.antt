@@ -1,7 +1,7 @@
 -- Kind 22: a slab in hand without an object in use becomes a run in hand.
-use Rattle.std.proofs.Common.{◌≡◌, ◌≢◌, ℕ, zero, suc, ◌+◌, ◌-◌, ◌%◌, ◌^◌, ◌<◌, ◌≤◌, ◌⊎◌, ◌==◌, ◌&&◌, Bool, true, false, cond, Option, Some, None, List, [], ◌∷◌, length, get_or, refl, sym, ap, ◌∙◌, subst, arith, inl, inr}
-use Rattle.std.specs.Prelude.{All, nat_lt, nat_le}
-use Rattle.std.proofs.lemmas.Bool.{cases_eq, cases_lt, eq-eqb, ne_eqb, lt-ltb, le-ltb, le-leb, false≢true}
+use Rattle.std.proofs.Common.{◌≡◌, ◌≢◌, ℕ, suc, ◌+◌, ◌-◌, ◌^◌, ◌≤◌, ◌==◌, ◌&&◌, Bool, true, false, cond, Some, None, List, [], ◌∷◌, get_or, refl, sym, ap, ◌∙◌, subst, arith, inl, inr}
+use Rattle.std.specs.Prelude.{All, nat_lt}
+use Rattle.std.proofs.lemmas.Bool.{cases_lt, eq-eqb, ne_eqb, lt-ltb, le-ltb, le-leb}
 use Rattle.std.proofs.lemmas.List.Elements.{All-head}
 use Rattle.slub_common.specs.Times.{times}
 use Rattle.slub_words.specs.declared.slab.SlabWord.{SlabWord}
@@ -13,25 +13,25 @@ use Rattle.slub_core.specs.declared.spot.Spot.TheVariants.{InDiscard}
 use Rattle.slub_core.specs.declared.spot.Discard.{Discard}
 use Rattle.slub_core.specs.declared.spot.Discard.TheVariants.{FromAway, FromFree, FromMove, FromTrim}
 use Rattle.slub_core.specs.declared.spot.DiscardSpot.TheVariants.{Unmake, LockDiscard}
-use Rattle.slub_core.specs.Setup.{Setup, order_for}
+use Rattle.slub_core.specs.Setup.{order_for}
 use Rattle.slub_core.specs.Words.{no_slab_word}
-use Rattle.slub_core.specs.World.{World, set_slab, pointer, one_if, sum_below, size_in, objects_at, object_at, cache_at, order_at, in_run, in_chain, live, off_list, covers}
-use Rattle.slub_core.specs.Local.{Local, Worker, hand_of, run_of}
-use Rattle.slub_core.specs.Discard.{discard_advance, counts_for, run_of_slab}
+use Rattle.slub_core.specs.World.{World, set_slab, one_if, sum_below, size_in, objects_at, object_at, cache_at, order_at, in_run, in_chain, live, covers}
+use Rattle.slub_core.specs.Local.{Worker, hand_of}
+use Rattle.slub_core.specs.Discard.{discard_advance, counts_for}
 use Rattle.slub_core.specs.Spots.{Loose, is_marked, beside_discard}
 use Rattle.slub_core.specs.Placed.{owned, in_hands}
-use Rattle.slub_core.specs.Listed.{home_of, hands_count, marked_of, covered_by, IsSized}
-use Rattle.slub_core.specs.Fresh.{AreHands, AreHeld, IsHeldRun, IsHeldString, IsRun, IsEmptied, IsAtWork}
+use Rattle.slub_core.specs.Listed.{hands_count}
+use Rattle.slub_core.specs.Fresh.{AreHands, AreHeld, IsHeldRun, IsHeldString, IsEmptied, IsAtWork}
 use Rattle.slub_core.specs.Coherent.{Stands}
-use Rattle.slub_core.proofs.Counts.{places-cons, homes-cons, roles-cons}
-use Rattle.slub_core.proofs.Hands.{first-hand, in_chain-nil}
-use Rattle.slub_core.proofs.Homes.{mine-marked, off-some, live-most}
+use Rattle.slub_core.proofs.Counts.{places-cons, homes-cons}
+use Rattle.slub_core.proofs.Hands.{first-hand}
+use Rattle.slub_core.proofs.Homes.{mine-marked, off-some}
 use Rattle.slub_core.proofs.Locks.{ComesTo}
 use Rattle.slub_core.proofs.Pigeon.{full-chain}
 use Rattle.slub_core.proofs.RemakeStep.{remake_step, unseen, run-first, pow-some, objects-new, cache-elsewhere, covers-none}
 use Rattle.slub_core.proofs.SlabStep.{held-apart, string-apart}
 use Rattle.slub_core.proofs.Update.{update_same, term_le_sum}
-use Rattle.slub_core.proofs.Values.{word-objects, word-order, object-within}
+use Rattle.slub_core.proofs.Values.{word-objects, word-order}
 use Rattle.slub_core.proofs.ValueStep.{known-owned}
 
 -- where no object of a slab is in use, each is on the slab's own freelist

@@ -1,5 +1,5 @@
 -- Kind 7: an object is taken from the board, where it is there.
-use Rattle.std.proofs.Common.{◌≡◌, ℕ, suc, ◌+◌, ◌<◌, ◌≤◌, ◌⊎◌, true, false, Option, Some, None, List, [], ◌∷◌, length, get_or, set, refl, sym, ap, ◌∙◌, subst, arith, inl, inr}
+use Rattle.std.proofs.Common.{◌≡◌, ℕ, ◌+◌, ◌⊎◌, true, Option, Some, None, List, ◌∷◌, length, get_or, set, refl, sym, ap, ◌∙◌, arith, inl, inr}
 use Rattle.std.specs.Prelude.{All}
 use Rattle.std.proofs.lemmas.Bool.{cases_Bool, false≢true}
 use Rattle.std.proofs.lemmas.List.{length-set}
@@ -11,7 +11,7 @@ use Rattle.slub_core.specs.declared.spot.Spot.TheVariants.{Between, InFree, InCh
 use Rattle.slub_core.specs.declared.spot.FreeSpot.TheVariants.{TakeBoard, LoadOwn}
 use Rattle.slub_core.specs.declared.spot.CheckedSpot.TheVariants.{LockChecked}
 use Rattle.slub_core.specs.Setup.{IsPlain, IsChecked}
-use Rattle.slub_core.specs.World.{World, set_board, on_board, is_at, one_if, cache_at, object_at, objects_at}
+use Rattle.slub_core.specs.World.{World, set_board, on_board, is_at, one_if, cache_at}
 use Rattle.slub_core.specs.Local.{Local, Worker, here, gets, nobody, at}
 use Rattle.slub_core.specs.Free.{board_taken}
 use Rattle.slub_core.specs.Placed.{owned}

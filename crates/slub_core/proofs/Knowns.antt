@@ -1,12 +1,12 @@
 -- What a worker knows, where it gets the object of its call or loses it.
-use Rattle.std.proofs.Common.{◌≡◌, ℕ, ◌+◌, ◌<◌, ◌&&◌, Bool, true, false, cond, List, length, get_or, set, refl, sym, ap, ◌∙◌, arith}
-use Rattle.std.specs.Prelude.{All, sum_by}
+use Rattle.std.proofs.Common.{◌≡◌, ℕ, ◌+◌, ◌<◌, true, false, List, length, get_or, set, refl, arith}
+use Rattle.std.specs.Prelude.{All}
 use Rattle.std.proofs.lemmas.List.{get_or-set_same}
 use Rattle.std.proofs.lemmas.List.Sums.{sum_by-set}
-use Rattle.std.proofs.lemmas.List.Elements.{All-weaker, All-set}
+use Rattle.std.proofs.lemmas.List.Elements.{All-set}
 use Rattle.slub_core.specs.declared.local.Known.{Known}
 use Rattle.slub_core.specs.World.{World, cache_at, one_if, is_at}
-use Rattle.slub_core.specs.Local.{Local, Worker, nobody, here, gets, loses}
+use Rattle.slub_core.specs.Local.{Local, nobody, here, gets, loses}
 use Rattle.slub_core.specs.Placed.{held, held_as}
 
 not-held : (f i : ℕ) (k : Known) → k.held ≡ false → held_as f i k ≡ 0

@@ -1,15 +1,14 @@
 -- What the step of a spot leads to, on the table of words: all stands again, with the worker where the answer leads it and the others unchanged.
-use Rattle.std.proofs.Common.{◌≡◌, ◌≢◌, ℕ, ◌+◌, ◌*◌, ◌<◌, ◌≤◌, true, false, List, ◌∷◌, length, refl, subst, arith}
+use Rattle.std.proofs.Common.{◌≡◌, ◌≢◌, ℕ, ◌<◌, ◌≤◌, true, List, ◌∷◌, length, subst, arith}
 use Rattle.std.proofs.lemmas.List.Elements.{All-head}
 use Rattle.slub_words.specs.declared.cpu.CpuWord.{CpuWord}
 use Rattle.slub_words.specs.declared.slab.SlabWord.{SlabWord}
 use Rattle.slub_cpu_partial.specs.declared.words.ListWord.{ListWord}
 use Rattle.slub_core.specs.declared.spot.Spot.{Spot}
-use Rattle.slub_core.specs.Setup.{Setup, IsPlain, IsChecked, node_lock, pool_lock, cpu_number}
+use Rattle.slub_core.specs.Setup.{Setup, IsPlain, IsChecked, node_lock, pool_lock}
 use Rattle.slub_core.specs.Words.{word_count}
-use Rattle.slub_core.specs.Placed.{owned}
-use Rattle.slub_core.specs.Listed.{home_of, homes}
-use Rattle.slub_core.specs.World.{World, LockValue, set_cpu, set_slab, set_list, object_at, objects_at, world_from, world_of}
+use Rattle.slub_core.specs.Listed.{home_of}
+use Rattle.slub_core.specs.World.{World, LockValue, set_cpu, set_slab, set_list, world_from, world_of}
 use Rattle.slub_core.specs.Local.{Local, Worker, here, nobody}
 use Rattle.slub_core.specs.Ops.{own_cpu}
 use Rattle.slub_core.specs.Spots.{in_plain, in_checked}

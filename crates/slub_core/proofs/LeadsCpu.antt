@@ -1,22 +1,18 @@
 -- The step of a spot, on the table of words: exchanges on CPU words.
-use Rattle.std.proofs.Common.{◌≡◌, ℕ, suc, ◌+◌, ◌-◌, ◌*◌, ◌^◌, ◌<◌, ◌≤◌, true, false, List, ◌∷◌, length, refl, sym, ap, ◌∙◌, subst, arith}
-use Rattle.slub_core.specs.declared.spot.Spot.{Spot}
+use Rattle.std.proofs.Common.{refl}
 use Rattle.slub_core.specs.declared.spot.Spot.TheVariants.{InAlloc, InFree, InOffline}
 use Rattle.slub_core.specs.declared.spot.AllocSpot.TheVariants.{Pop, Detach, DetachOther, Install}
 use Rattle.slub_core.specs.declared.spot.FreeSpot.TheVariants.{Push}
 use Rattle.slub_core.specs.declared.spot.Sweep.{Sweep}
 use Rattle.slub_core.specs.declared.spot.OfflineSpot.TheVariants.{DetachCurrent}
-use Rattle.slub_core.specs.declared.step.Answer.TheVariants.{Won, Lost}
-use Rattle.slub_core.specs.World.{World, LockValue, world_from, world_of}
-use Rattle.slub_core.specs.Local.{Local, Worker}
+use Rattle.slub_core.specs.declared.step.Answer.TheVariants.{Won}
+use Rattle.slub_core.specs.World.{world_from, world_of}
 use Rattle.slub_core.specs.Ops.{own_cpu}
 use Rattle.slub_core.specs.Alloc.{popped_word, detached_word, installed_word}
 use Rattle.slub_core.specs.Free.{pushed_word}
-use Rattle.slub_core.specs.Steps.{step_at, advance_at}
-use Rattle.slub_core.specs.Coherent.{Stands}
+use Rattle.slub_core.specs.Steps.{advance_at}
 use Rattle.slub_core.proofs.Locks.{ComesTo}
 use Rattle.slub_core.proofs.Leads.{AtSpot, at_work, cpu_below, cpu_fits}
-use Rattle.slub_core.proofs.Words.{IsTable}
 use Rattle.slub_core.proofs.WordSteps.{cpu_exchange}
 use Rattle.slub_core.proofs.Kind3.{at_Pop-won}
 use Rattle.slub_core.proofs.Kind6.{at_Push-won}

@@ -1,10 +1,7 @@
 -- The step of a spot, on the table of words: words of slabs in hand and of scanned slabs.
-use Rattle.std.proofs.Common.{◌≡◌, ◌≢◌, [], ℕ, suc, ◌+◌, ◌-◌, ◌*◌, ◌^◌, ◌<◌, ◌≤◌, ◌==◌, true, false, List, ◌∷◌, length, get_or, refl, sym, ap, ◌∙◌, subst, arith}
-use Rattle.std.specs.Prelude.{slice_index}
+use Rattle.std.proofs.Common.{◌≡◌, [], ℕ, ◌+◌, ◌-◌, ◌<◌, ◌≤◌, ◌==◌, List, ◌∷◌, length, get_or, refl, arith}
 use Rattle.std.proofs.lemmas.Bool.{eq-eqb}
-use Rattle.slub_common.specs.Times.{times}
 use Rattle.slub_core.specs.declared.local.Hand.{Hand}
-use Rattle.slub_core.specs.declared.spot.Spot.{Spot}
 use Rattle.slub_core.specs.declared.spot.Spot.TheVariants.{InAlloc, InPutAway, InMoveSet, InTrim}
 use Rattle.slub_core.specs.declared.spot.AllocSpot.TheVariants.{LoadTaken, LoadKept, LoadPopped}
 use Rattle.slub_core.specs.declared.spot.Away.{Away}
@@ -12,26 +9,24 @@ use Rattle.slub_core.specs.declared.spot.PutAwaySpot.TheVariants.{LoadAway}
 use Rattle.slub_core.specs.declared.spot.MoveSet.{MoveSet}
 use Rattle.slub_core.specs.declared.spot.MoveSetSpot.TheVariants.{LoadMoved}
 use Rattle.slub_core.specs.declared.spot.TrimSpot.TheVariants.{LoadScanned}
-use Rattle.slub_core.specs.declared.step.Answer.TheVariants.{Done}
 use Rattle.slub_core.specs.declared.step.Place.TheVariants.{SlabOf}
-use Rattle.slub_core.specs.Setup.{Setup}
 use Rattle.slub_core.specs.Words.{slab_base}
-use Rattle.slub_core.specs.World.{World, LockValue, one_if, world_from, world_of}
-use Rattle.slub_core.specs.Local.{Local, Worker, hand_of, run_of, no_run, run_in}
-use Rattle.slub_core.specs.Alloc.{made_word, node_of}
+use Rattle.slub_core.specs.World.{World, one_if, world_from, world_of}
+use Rattle.slub_core.specs.Local.{Worker, hand_of}
+use Rattle.slub_core.specs.Alloc.{node_of}
 use Rattle.slub_core.specs.Offline.{scanned_slab}
-use Rattle.slub_core.specs.Spots.{Role, Taken, Leaving, Popped, Kept, Ready, beside_away, beside_move, ready_of}
+use Rattle.slub_core.specs.Spots.{Role, Taken, Leaving, Popped, Kept, beside_away, beside_move, ready_of}
 use Rattle.slub_core.specs.Fresh.{AreHands}
 use Rattle.slub_core.specs.Listed.{home_of}
-use Rattle.slub_core.specs.Steps.{step_at, advance_at}
+use Rattle.slub_core.specs.Steps.{advance_at}
 use Rattle.slub_core.specs.Coherent.{Stands}
 use Rattle.slub_core.proofs.Hands.{first-hand}
 use Rattle.slub_core.proofs.Locks.{ComesTo}
-use Rattle.slub_core.proofs.Leads.{AtSpot, at_work, home_below, slab_fits}
+use Rattle.slub_core.proofs.Leads.{AtSpot, at_work, home_below}
 use Rattle.slub_core.proofs.Lists.{times-at}
 use Rattle.slub_core.proofs.UnderLock.{stocked-within}
-use Rattle.slub_core.proofs.Words.{IsTable, slab-read}
-use Rattle.slub_core.proofs.WordSteps.{load, slab_store}
+use Rattle.slub_core.proofs.Words.{slab-read}
+use Rattle.slub_core.proofs.WordSteps.{load}
 use Rattle.slub_core.proofs.Kind8.{at_LoadTaken, at_LoadKept, at_LoadPopped, at_LoadAway, at_LoadMoved, at_LoadScanned}
 
 -- a slab in hand is among the frames

@@ -1,6 +1,5 @@
 -- The step of a spot, on the table of words: partial lists taken and put before, links stored.
-use Rattle.std.proofs.Common.{◌≡◌, ◌≢◌, ℕ, suc, ◌+◌, ◌-◌, ◌*◌, ◌^◌, ◌<◌, ◌≤◌, true, false, List, [], ◌∷◌, length, get_or, refl, sym, ap, ◌∙◌, subst, arith}
-use Rattle.slub_core.specs.declared.spot.Spot.{Spot}
+use Rattle.std.proofs.Common.{◌+◌, ◌≤◌, get_or, refl}
 use Rattle.slub_core.specs.declared.spot.Spot.TheVariants.{InPutOnList, InAlloc, InFree, InOffline}
 use Rattle.slub_core.specs.declared.spot.PutOnListSpot.TheVariants.{PushString, LinkString}
 use Rattle.slub_core.specs.declared.spot.AllocSpot.TheVariants.{TakeList}
@@ -9,17 +8,16 @@ use Rattle.slub_core.specs.declared.spot.OfflineSpot.TheVariants.{TakeCurrent}
 use Rattle.slub_core.specs.declared.spot.PutOnList.{PutOnList}
 use Rattle.slub_core.specs.declared.spot.Sweep.{Sweep}
 use Rattle.slub_core.specs.declared.step.Answer.TheVariants.{Won}
-use Rattle.slub_core.specs.World.{World, LockValue, world_from, world_of}
+use Rattle.slub_core.specs.World.{world_from, world_of}
 use Rattle.slub_core.specs.Words.{list_base}
-use Rattle.slub_core.specs.Local.{Local, Worker, string_of}
+use Rattle.slub_core.specs.Local.{string_of}
 use Rattle.slub_core.specs.Ops.{own_cpu}
 use Rattle.slub_core.specs.PutOnList.{longer_list}
-use Rattle.slub_core.specs.Steps.{step_at, advance_at}
-use Rattle.slub_core.specs.Coherent.{Stands}
+use Rattle.slub_core.specs.Steps.{advance_at}
 use Rattle.slub_core.proofs.Locks.{ComesTo}
 use Rattle.slub_core.proofs.Leads.{AtSpot, at_work, cpu_below, list_fits}
 use Rattle.slub_core.proofs.LeadsStrings.{cursor_below}
-use Rattle.slub_core.proofs.Words.{IsTable, list-read}
+use Rattle.slub_core.proofs.Words.{list-read}
 use Rattle.slub_core.proofs.WordSteps.{list_exchange, list_swap, link_store}
 use Rattle.slub_core.proofs.Kind24.{at_PushString-won, at_LinkString}
 use Rattle.slub_core.proofs.LostWords.{at_PushString-lost}

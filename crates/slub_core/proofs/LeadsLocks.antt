@@ -1,8 +1,6 @@
 -- The step of a spot, on the table of words: spots whose step takes a lock or gives one back.
-use Rattle.std.proofs.Common.{◌≡◌, ℕ, suc, ◌+◌, ◌*◌, ◌^◌, ◌<◌, ◌≤◌, true, false, List, ◌∷◌, length, get_or, refl, sym, ap, ◌∙◌, subst, arith}
-use Rattle.std.proofs.lemmas.List.Elements.{All-head}
+use Rattle.std.proofs.Common.{refl}
 use Rattle.slub_core.specs.declared.call.CallKind.{CallKind}
-use Rattle.slub_core.specs.declared.spot.Spot.{Spot}
 use Rattle.slub_core.specs.declared.spot.Spot.TheVariants.{InAlloc, InPutAway, InDiscard, InFree, InMoveSet, InTrim, InChecked}
 use Rattle.slub_core.specs.declared.spot.AllocSpot.TheVariants.{LockNode, GiveNode, LockPool, GivePool, GiveDry}
 use Rattle.slub_core.specs.declared.spot.Away.{Away}
@@ -14,16 +12,11 @@ use Rattle.slub_core.specs.declared.spot.MoveSet.{MoveSet}
 use Rattle.slub_core.specs.declared.spot.MoveSetSpot.TheVariants.{LockMove, GiveMove}
 use Rattle.slub_core.specs.declared.spot.TrimSpot.TheVariants.{LockTrim, GiveTrim}
 use Rattle.slub_core.specs.declared.spot.CheckedSpot.TheVariants.{LockChecked, LockRun, GiveRun, GiveChecked}
-use Rattle.slub_core.specs.Setup.{Setup, IsPlain, IsChecked, node_lock, pool_lock}
-use Rattle.slub_core.specs.World.{World, LockValue, set_lock, world_from, world_of}
-use Rattle.slub_core.specs.Local.{Local, Worker}
-use Rattle.slub_core.specs.Spots.{in_plain, in_checked}
-use Rattle.slub_core.specs.Steps.{step_at, advance_at}
-use Rattle.slub_core.specs.Fresh.{IsAtWork}
-use Rattle.slub_core.specs.Coherent.{Stands}
+use Rattle.slub_core.specs.Setup.{node_lock, pool_lock}
+use Rattle.slub_core.specs.World.{world_from, world_of}
+use Rattle.slub_core.specs.Steps.{advance_at}
 use Rattle.slub_core.proofs.Locks.{ComesTo}
-use Rattle.slub_core.proofs.Leads.{AtSpot, at_work, node_below, pool_below, plain_here, checked_here}
-use Rattle.slub_core.proofs.Words.{IsTable}
+use Rattle.slub_core.proofs.Leads.{AtSpot, node_below, pool_below, plain_here, checked_here}
 use Rattle.slub_core.proofs.WordSteps.{lock_exchange, lock_store}
 use Rattle.slub_core.proofs.Kind13.{at_LockNode, at_LockPool, at_LockAway, at_LockDiscard, at_LockFree, at_LockMove, at_LockTrim, at_LockChecked, at_LockRun}
 use Rattle.slub_core.proofs.Kind14.{at_GiveNode, at_GivePool, at_GiveDry, at_GiveAway, at_GiveDiscard, at_GoBack, at_GiveFree, at_GiveTrim, at_GiveRun, at_GiveChecked}

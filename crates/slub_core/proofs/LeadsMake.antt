@@ -1,22 +1,19 @@
 -- The step of a spot, on the table of words: a run in hand becomes a slab.
-use Rattle.std.proofs.Common.{◌≡◌, ℕ, suc, ◌+◌, ◌^◌, ◌<◌, ◌≤◌, Option, Some, None, List, ◌∷◌, false, refl, arith}
+use Rattle.std.proofs.Common.{ℕ, ◌<◌, Option, Some, None, refl, arith}
 use Rattle.std.specs.Prelude.{IsSome}
 use Rattle.std.proofs.lemmas.Bool.{false≢true}
 use Rattle.slub_core.specs.declared.local.FrameRun.{FrameRun}
-use Rattle.slub_core.specs.declared.spot.Spot.{Spot}
 use Rattle.slub_core.specs.declared.spot.Spot.TheVariants.{InAlloc}
 use Rattle.slub_core.specs.declared.spot.AllocSpot.TheVariants.{Make}
 use Rattle.slub_core.specs.declared.step.Answer.TheVariants.{Done}
-use Rattle.slub_core.specs.World.{World, LockValue, world_from, world_of}
-use Rattle.slub_core.specs.Local.{Local, Worker, run_of, run_in}
+use Rattle.slub_core.specs.World.{World, world_from, world_of}
+use Rattle.slub_core.specs.Local.{run_of, run_in}
 use Rattle.slub_core.specs.Alloc.{made_word}
 use Rattle.slub_core.specs.Fresh.{IsHeldRun}
-use Rattle.slub_core.specs.Steps.{step_at, advance_at}
-use Rattle.slub_core.specs.Coherent.{Stands}
+use Rattle.slub_core.specs.Steps.{advance_at}
 use Rattle.slub_core.proofs.Locks.{ComesTo}
 use Rattle.slub_core.proofs.Leads.{AtSpot, at_work, slab_fits}
 use Rattle.slub_core.proofs.RemakeStep.{pow-some}
-use Rattle.slub_core.proofs.Words.{IsTable}
 use Rattle.slub_core.proofs.WordSteps.{slab_store}
 use Rattle.slub_core.proofs.Kind21.{at_Make}
 

@@ -1,6 +1,5 @@
 -- The step of a spot, on the table of words: exchanges on slab words.
-use Rattle.std.proofs.Common.{◌≡◌, ◌≢◌, ℕ, suc, ◌+◌, ◌-◌, ◌*◌, ◌^◌, ◌<◌, ◌≤◌, true, false, List, [], ◌∷◌, length, get_or, refl, sym, ap, ◌∙◌, subst, arith}
-use Rattle.slub_core.specs.declared.spot.Spot.{Spot}
+use Rattle.std.proofs.Common.{[], ◌∷◌, refl}
 use Rattle.slub_core.specs.declared.spot.Spot.TheVariants.{InAlloc, InFree, InPutAway, InMoveSet}
 use Rattle.slub_core.specs.declared.spot.AllocSpot.TheVariants.{TakeAll, MarkFull, FreezeKept, FreezePopped, Unlist}
 use Rattle.slub_core.specs.declared.spot.FreeSpot.TheVariants.{FreeSlab, FreeLocked}
@@ -9,19 +8,17 @@ use Rattle.slub_core.specs.declared.spot.MoveSetSpot.TheVariants.{ListSlab}
 use Rattle.slub_core.specs.declared.spot.Away.{Away}
 use Rattle.slub_core.specs.declared.spot.MoveSet.{MoveSet}
 use Rattle.slub_core.specs.declared.step.Answer.TheVariants.{Won}
-use Rattle.slub_core.specs.World.{World, LockValue, world_from, world_of}
-use Rattle.slub_core.specs.Local.{Local, Worker, here, hand_of}
+use Rattle.slub_core.specs.World.{world_from, world_of}
+use Rattle.slub_core.specs.Local.{here, hand_of}
 use Rattle.slub_core.specs.Alloc.{emptied_word, thawed_word, frozen_word, unlisted_word}
 use Rattle.slub_core.specs.PutAway.{unfrozen_word}
 use Rattle.slub_core.specs.MoveSet.{listed_word}
 use Rattle.slub_core.specs.Free.{freed_word}
 use Rattle.slub_core.specs.Spots.{Taken, Kept, Popped, Ready, Leaving, beside_away, beside_move}
-use Rattle.slub_core.specs.Steps.{step_at, advance_at}
-use Rattle.slub_core.specs.Coherent.{Stands}
+use Rattle.slub_core.specs.Steps.{advance_at}
 use Rattle.slub_core.proofs.Locks.{ComesTo}
 use Rattle.slub_core.proofs.Leads.{AtSpot, at_work, slab_fits, held_below}
 use Rattle.slub_core.proofs.LeadsHands.{hand_below}
-use Rattle.slub_core.proofs.Words.{IsTable}
 use Rattle.slub_core.proofs.WordSteps.{slab_exchange}
 use Rattle.slub_core.proofs.Kind18.{at_TakeAll-won, at_FreezeKept-won, at_FreezePopped-won}
 use Rattle.slub_core.proofs.LostWords.{at_TakeAll-lost, at_MarkFull-lost, at_FreezeKept-lost, at_FreezePopped-lost, at_Unlist-lost, at_FreeSlab-lost, at_FreeLocked-lost, at_Unfreeze-lost, at_ListSlab-lost}

@@ -1,8 +1,7 @@
 -- The step of a spot, on the table of words: list words and links are loaded.
-use Rattle.std.proofs.Common.{◌≡◌, ◌≢◌, ℕ, suc, ◌+◌, ◌-◌, ◌*◌, ◌^◌, ◌<◌, ◌≤◌, ◌==◌, true, false, Option, Some, None, List, [], ◌∷◌, length, get_or, refl, sym, ap, ◌∙◌, subst, arith}
+use Rattle.std.proofs.Common.{◌≡◌, ℕ, ◌+◌, ◌-◌, ◌<◌, ◌≤◌, Option, Some, None, List, [], ◌∷◌, get_or, refl, sym, arith}
 use Rattle.slub_common.specs.Times.{times}
 use Rattle.slub_core.specs.declared.local.PartialString.{PartialString}
-use Rattle.slub_core.specs.declared.spot.Spot.{Spot}
 use Rattle.slub_core.specs.declared.spot.Spot.TheVariants.{InAlloc, InPutOnList, InFree, InMoveSet}
 use Rattle.slub_core.specs.declared.spot.AllocSpot.TheVariants.{FollowFront}
 use Rattle.slub_core.specs.declared.spot.PutOnList.{PutOnList}
@@ -11,20 +10,18 @@ use Rattle.slub_core.specs.declared.spot.FreeSpot.TheVariants.{LoadCount}
 use Rattle.slub_core.specs.declared.spot.MoveSet.{MoveSet}
 use Rattle.slub_core.specs.declared.spot.MoveSetSpot.TheVariants.{FollowSet}
 use Rattle.slub_core.specs.declared.step.Place.TheVariants.{ListOf, LinkOf}
-use Rattle.slub_core.specs.Setup.{Setup}
 use Rattle.slub_core.specs.Words.{list_base, link_base}
-use Rattle.slub_core.specs.World.{World, LockValue, IsString, world_from, world_of}
-use Rattle.slub_core.specs.Local.{Local, Worker, string_of, string_in}
+use Rattle.slub_core.specs.World.{World, world_from, world_of}
+use Rattle.slub_core.specs.Local.{Worker, string_of}
 use Rattle.slub_core.specs.Ops.{own_cpu}
-use Rattle.slub_core.specs.Listed.{home_of}
 use Rattle.slub_core.specs.Fresh.{IsStringOf, IsHeldString}
-use Rattle.slub_core.specs.Steps.{step_at, advance_at}
+use Rattle.slub_core.specs.Steps.{advance_at}
 use Rattle.slub_core.specs.Coherent.{Stands}
 use Rattle.slub_core.proofs.Exists.{times-self}
 use Rattle.slub_core.proofs.Lists.{times-at}
 use Rattle.slub_core.proofs.Locks.{ComesTo}
 use Rattle.slub_core.proofs.Leads.{AtSpot, at_work, cpu_below, home_below}
-use Rattle.slub_core.proofs.Words.{IsTable, list-read, link-read}
+use Rattle.slub_core.proofs.Words.{list-read, link-read}
 use Rattle.slub_core.proofs.WordSteps.{load}
 use Rattle.slub_core.proofs.Kind25.{at_LoadList, at_LoadCount}
 use Rattle.slub_core.proofs.Kind27.{at_FollowFront, at_FollowSet, at_WalkString}

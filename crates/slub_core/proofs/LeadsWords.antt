@@ -1,6 +1,5 @@
 -- The step of a spot, on the table of words: words that are loaded, the board, and slabs made and unmade.
-use Rattle.std.proofs.Common.{◌≡◌, ℕ, suc, ◌+◌, ◌-◌, ◌*◌, ◌^◌, ◌<◌, ◌≤◌, true, false, List, ◌∷◌, length, get_or, None, refl, sym, ap, ◌∙◌, subst, arith}
-use Rattle.slub_core.specs.declared.spot.Spot.{Spot}
+use Rattle.std.proofs.Common.{◌+◌, ◌-◌, ◌*◌, ◌<◌, ◌≤◌, ◌∷◌, get_or, None, refl, subst, arith}
 use Rattle.slub_core.specs.declared.spot.Spot.TheVariants.{InAlloc, InDiscard, InFree, InOffline, ReadWord}
 use Rattle.slub_core.specs.declared.spot.AllocSpot.TheVariants.{LoadCpu, LoadNext, LoadAgain}
 use Rattle.slub_core.specs.declared.spot.Discard.{Discard}
@@ -9,19 +8,18 @@ use Rattle.slub_core.specs.declared.spot.FreeSpot.TheVariants.{TakeBoard, LoadOw
 use Rattle.slub_core.specs.declared.spot.Sweep.{Sweep}
 use Rattle.slub_core.specs.declared.spot.OfflineSpot.TheVariants.{LoadCurrent}
 use Rattle.slub_core.specs.declared.step.Answer.TheVariants.{Word}
-use Rattle.slub_core.specs.declared.step.Place.TheVariants.{CpuOf, SlabOf, BoardOf, MemoryOf}
-use Rattle.slub_core.specs.Setup.{Setup, pointer_at}
-use Rattle.slub_core.specs.Words.{no_slab_word, cpu_base, slab_base, board_base, memory_base, cpu_in, slab_in, board_in, number_of}
-use Rattle.slub_core.specs.World.{World, LockValue, set_board, world_from, world_of}
-use Rattle.slub_core.specs.Local.{Local, Worker, here, hand_of}
-use Rattle.slub_core.specs.Ops.{own_cpu, load_word}
+use Rattle.slub_core.specs.declared.step.Place.TheVariants.{CpuOf, SlabOf, MemoryOf}
+use Rattle.slub_core.specs.Setup.{pointer_at}
+use Rattle.slub_core.specs.Words.{no_slab_word, cpu_base, slab_base, number_of}
+use Rattle.slub_core.specs.World.{set_board, world_from, world_of}
+use Rattle.slub_core.specs.Local.{here, hand_of}
+use Rattle.slub_core.specs.Ops.{own_cpu}
 use Rattle.slub_core.specs.Alloc.{alloc_advance}
 use Rattle.slub_core.specs.Free.{board_taken}
 use Rattle.slub_core.specs.Steps.{step_at, advance_at}
-use Rattle.slub_core.specs.Coherent.{Stands}
 use Rattle.slub_core.proofs.Locks.{ComesTo}
 use Rattle.slub_core.proofs.Leads.{AtSpot, at_work, cpu_below, slab_below, held_below}
-use Rattle.slub_core.proofs.Words.{IsTable, cpu-read, slab-read, board-read, memory-read}
+use Rattle.slub_core.proofs.Words.{cpu-read, slab-read, board-read, memory-read}
 use Rattle.slub_core.proofs.WordSteps.{load, board_swap, slab_store}
 use Rattle.slub_core.proofs.Kind1.{at_LoadCpu, at_LoadAgain, at_LoadOwn, at_LoadCurrent}
 use Rattle.slub_core.proofs.Kind7.{at_TakeBoard}

@@ -1,16 +1,16 @@
 -- Steps that change a list word, or a link of a slab in hand.
-use Rattle.std.proofs.Common.{◌≡◌, ◌≢◌, ℕ, suc, ◌+◌, ◌-◌, ◌/◌, ◌^◌, ◌<◌, ◌≤◌, ◌⊎◌, ◌==◌, true, false, Option, Some, None, List, [], ◌∷◌, length, get_or, refl, sym, ap, ◌∙◌, arith, inl, inr}
-use Rattle.std.specs.Prelude.{sum_by, slice_index}
+use Rattle.std.proofs.Common.{◌≡◌, ◌≢◌, ℕ, ◌+◌, ◌-◌, ◌/◌, ◌^◌, ◌<◌, ◌≤◌, ◌==◌, false, Option, Some, None, List, [], ◌∷◌, length, get_or, refl, ap, arith, inl, inr}
+use Rattle.std.specs.Prelude.{slice_index}
 use Rattle.std.proofs.lemmas.Bool.{cases_eq, eq-eqb}
 use Rattle.std.proofs.lemmas.List.Elements.{All-cons, All-tail, All-weaker}
 use Rattle.slub_common.specs.Times.{times}
 use Rattle.slub_cpu_partial.specs.declared.words.ListWord.{ListWord}
 use Rattle.slub_core.specs.declared.local.PartialString.{PartialString}
-use Rattle.slub_core.specs.World.{World, Chains, update, set_list, set_link, one_if, sum_below, frames_in, Links, IsString}
+use Rattle.slub_core.specs.World.{World, Chains, update, set_list, set_link, one_if, Links, IsString}
 use Rattle.slub_core.specs.Local.{Worker}
-use Rattle.slub_core.specs.Placed.{owned, IsPlaced}
-use Rattle.slub_core.specs.Listed.{home_of, marked_of, covered_by, takes, on_lists, IsStocked, IsListed}
-use Rattle.slub_core.specs.Fresh.{IsStringOf, IsHeldString, IsLinked, IsAtWork, IsWorded}
+use Rattle.slub_core.specs.Placed.{owned}
+use Rattle.slub_core.specs.Listed.{home_of, marked_of, covered_by, takes, on_lists, IsStocked}
+use Rattle.slub_core.specs.Fresh.{IsStringOf, IsHeldString, IsLinked, IsAtWork}
 use Rattle.slub_core.specs.Coherent.{Stands}
 use Rattle.std.proofs.lemmas.List.Sums.{sum_by-cons}
 use Rattle.slub_core.proofs.Counts.{places-cons, homes-cons, roles-cons}

@@ -4,8 +4,8 @@ use Rattle.std.specs.Prelude.{sum_by}
 use Rattle.std.proofs.lemmas.Bool.{cases_eq}
 use Rattle.std.proofs.lemmas.List.Sums.{sum_by-cons}
 use Rattle.std.proofs.lemmas.List.Elements.{All-cons, All-tail}
-use Rattle.slub_core.specs.World.{World, Chains, update, set_lock, one_if}
-use Rattle.slub_core.specs.Local.{Local, Worker}
+use Rattle.slub_core.specs.World.{World, update, set_lock, one_if}
+use Rattle.slub_core.specs.Local.{Worker}
 use Rattle.slub_core.specs.Placed.{owned}
 use Rattle.slub_core.specs.Listed.{home_of, marked_of, covered_by, takes}
 use Rattle.slub_core.specs.Fresh.{IsAtWork}
@@ -13,7 +13,7 @@ use Rattle.slub_core.specs.Coherent.{Stands}
 use Rattle.slub_core.proofs.Counts.{places-cons, homes-cons, roles-cons}
 use Rattle.slub_core.proofs.Frames.{shaped-lock, worded-lock}
 use Rattle.slub_core.proofs.Homes.{lock-alone}
-use Rattle.slub_core.proofs.Update.{update_same, update_other, update_at}
+use Rattle.slub_core.proofs.Update.{update_other, update_at}
 
 -- the others don't have the lock
 others-lock : (w : World) (n v : ℕ) (o : Worker) → takes n o ≡ 0 → IsAtWork w o → IsAtWork (set_lock w n v) o

@@ -1,9 +1,8 @@
 -- Kinds 13 and 14, spot by spot: a free lock is taken, or a lock is given back.
-use Rattle.std.proofs.Common.{◌≡◌, ℕ, suc, ◌+◌, ◌<◌, ◌≤◌, ◌⊎◌, ◌==◌, Bool, true, false, cond, List, [], ◌∷◌, length, refl, sym, ap, ◌∙◌, arith, inl, inr}
-use Rattle.std.specs.Prelude.{All, sum_by}
+use Rattle.std.proofs.Common.{◌≡◌, ℕ, suc, ◌+◌, ◌<◌, ◌≤◌, ◌==◌, Bool, true, false, cond, List, ◌∷◌, refl, sym, ap, ◌∙◌, arith, inl, inr}
 use Rattle.std.proofs.lemmas.Bool.{cases_eq, eq-eqb, ne_eqb}
 use Rattle.std.proofs.lemmas.List.Elements.{All-head}
-use Rattle.slub_core.specs.Setup.{Setup, node_lock, pool_lock}
+use Rattle.slub_core.specs.Setup.{node_lock, pool_lock}
 use Rattle.slub_core.specs.World.{World, update, set_lock, one_if}
 use Rattle.slub_core.specs.Local.{Local, Worker}
 use Rattle.slub_core.specs.Spots.{has_node, has_pool}
@@ -12,7 +11,7 @@ use Rattle.slub_core.specs.Listed.{home_of, marked_of, covered_by, takes}
 use Rattle.slub_core.specs.Fresh.{IsSeen, IsAtWork}
 use Rattle.slub_core.specs.Coherent.{Stands}
 use Rattle.slub_core.proofs.LockStep.{lock_step}
-use Rattle.slub_core.proofs.Update.{update_same, update_other, update_at}
+use Rattle.slub_core.proofs.Update.{update_other, update_at}
 
 -- a step leads a worker to this local, and all stands after it
 abbrev pub ComesTo : World → List Worker → Local → Type 0

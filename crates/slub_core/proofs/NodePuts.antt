@@ -1,7 +1,7 @@
 -- At once: a slab in hand is put on the node list, and the front of a string in hand is chosen.
-use Rattle.std.proofs.Common.{◌≡◌, ◌≢◌, ℕ, zero, suc, ◌+◌, ◌-◌, ◌^◌, ◌<◌, ◌≤◌, ◌⊎◌, ◌==◌, Bool, true, false, cond, Option, Some, None, List, [], ◌∷◌, ◌++◌, length, refl, sym, ap, ◌∙◌, subst, arith, inl, inr}
+use Rattle.std.proofs.Common.{◌≡◌, ℕ, suc, ◌+◌, ◌<◌, ◌≤◌, ◌==◌, true, Option, Some, None, List, [], ◌∷◌, ◌++◌, length, refl, sym, ap, ◌∙◌, subst, arith, inl, inr}
 use Rattle.std.specs.Prelude.{All}
-use Rattle.std.proofs.lemmas.Bool.{cases_eq, cases_Bool, eq-eqb, ne_eqb, false≢true}
+use Rattle.std.proofs.lemmas.Bool.{cases_eq, cases_Bool, eq-eqb, ne_eqb}
 use Rattle.std.proofs.lemmas.List.Elements.{All-head}
 use Rattle.slub_common.specs.Times.{times}
 use Rattle.slub_common.proofs.Times.{times-append}
@@ -15,22 +15,21 @@ use Rattle.slub_core.specs.declared.spot.PutAwaySpot.TheVariants.{PutNode, GiveA
 use Rattle.slub_core.specs.declared.spot.MoveSet.{MoveSet}
 use Rattle.slub_core.specs.declared.spot.MoveSetSpot.TheVariants.{ChooseFront, PutTail, LoadMoved, FollowSet, GiveMove}
 use Rattle.slub_core.specs.Setup.{node_lock}
-use Rattle.slub_core.specs.World.{World, LockValue, Node, set_value, cache_at, one_if, sum_below, frames_in}
-use Rattle.slub_core.specs.Local.{Local, Worker, Change, hand_of, at, less_hand, bare_hand, stays}
+use Rattle.slub_core.specs.World.{World, LockValue, Node, set_value, cache_at, one_if, frames_in}
+use Rattle.slub_core.specs.Local.{Worker, hand_of, at, less_hand, bare_hand, stays}
 use Rattle.slub_core.specs.Alloc.{node_of, with_node}
 use Rattle.slub_core.specs.PutAway.{put_on_node, put_away_at_once}
 use Rattle.slub_core.specs.MoveSet.{front_taken, move_set_at_once}
 use Rattle.slub_core.specs.Spots.{Loose, Kept, beside_away, beside_move}
-use Rattle.slub_core.specs.Placed.{owned}
 use Rattle.slub_core.specs.Listed.{takes, IsStocked}
-use Rattle.slub_core.specs.Fresh.{AreHands, AreHeld, IsHeldString, IsStringOf, IsWalk, IsAtWork}
+use Rattle.slub_core.specs.Fresh.{AreHands, AreHeld, IsHeldString, IsStringOf, IsAtWork}
 use Rattle.slub_core.specs.Coherent.{Stands}
 use Rattle.slub_core.proofs.Hands.{first-hand, in_chain-nil}
 use Rattle.slub_core.proofs.Lists.{times-first}
-use Rattle.slub_core.proofs.LocalStep.{local_step, Settled}
+use Rattle.slub_core.proofs.LocalStep.{local_step}
 use Rattle.slub_core.proofs.PopNode.{bare-walk}
 use Rattle.slub_core.proofs.Update.{term_le_sum}
-use Rattle.slub_core.proofs.UnderLock.{Makes, HasSameSlabs, node_step, stocked-within, known-same, locks-same, takes-same}
+use Rattle.slub_core.proofs.UnderLock.{Makes, node_step, stocked-within, known-same, locks-same}
 
 -- ---- a slab is put away
 

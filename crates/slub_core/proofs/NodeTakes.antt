@@ -1,26 +1,25 @@
 -- At once: an empty slab is taken off the node list, and a trim scans it.
-use Rattle.std.proofs.Common.{◌≡◌, ◌≢◌, ℕ, zero, suc, ◌+◌, ◌-◌, ◌^◌, ◌<◌, ◌≤◌, ◌⊎◌, ◌==◌, Bool, true, false, cond, eqb, Option, Some, None, List, [], ◌∷◌, ◌++◌, length, take, drop, refl, sym, ap, ◌∙◌, subst, arith, inl, inr}
-use Rattle.std.specs.Prelude.{All, not, filter, nat_lt, slice_index}
-use Rattle.std.proofs.lemmas.Bool.{cases_eq, cases_lt, cases_Bool, eq-eqb, ne_eqb, lt-ltb, le-ltb, false≢true}
+use Rattle.std.proofs.Common.{◌≡◌, ◌≢◌, ℕ, zero, suc, ◌+◌, ◌^◌, ◌<◌, ◌≤◌, ◌==◌, true, false, cond, eqb, List, [], ◌∷◌, ◌++◌, length, take, drop, refl, sym, ap, ◌∙◌, arith, inl, inr}
+use Rattle.std.specs.Prelude.{All, not, slice_index}
+use Rattle.std.proofs.lemmas.Bool.{cases_eq, cases_lt, cases_Bool, eq-eqb, ne_eqb, lt-ltb, le-ltb}
 use Rattle.std.proofs.lemmas.List.Elements.{All-head}
 use Rattle.std.proofs.lemmas.List.Sorted.{sum_by-IsPermutation}
 use Rattle.slub_common.specs.Times.{times}
 use Rattle.slub_common.proofs.Times.{times-filter_pass, times-filter_fail}
 use Rattle.slub_node_partial.proofs.Promotions.{keeps}
 use Rattle.slub_core.specs.declared.local.Known.{Known}
-use Rattle.slub_core.specs.declared.local.Hand.{Hand}
 use Rattle.slub_core.specs.declared.spot.Spot.TheVariants.{InFree, InDiscard, InTrim}
 use Rattle.slub_core.specs.declared.spot.FreeSpot.TheVariants.{TakeOff, GiveFree}
 use Rattle.slub_core.specs.declared.spot.Discard.TheVariants.{FromFree, FromTrim}
 use Rattle.slub_core.specs.declared.spot.DiscardSpot.TheVariants.{Unmake}
 use Rattle.slub_core.specs.declared.spot.TrimSpot.TheVariants.{ScanNode, LoadScanned, DropScanned, GiveTrim}
 use Rattle.slub_core.specs.Setup.{node_lock}
-use Rattle.slub_core.specs.World.{World, LockValue, Node, update, set_value, cache_at, one_if, sum_below, frames_in}
-use Rattle.slub_core.specs.Local.{Local, Worker, Change, here, at, with_hand, bare_hand, stays}
+use Rattle.slub_core.specs.World.{World, LockValue, Node, update, set_value, cache_at, one_if, frames_in}
+use Rattle.slub_core.specs.Local.{Worker, here, at, with_hand, bare_hand, stays}
 use Rattle.slub_core.specs.Alloc.{node_of, with_node}
 use Rattle.slub_core.specs.PutAway.{has_enough}
 use Rattle.slub_core.specs.Free.{without, free_at_once}
-use Rattle.slub_core.specs.Offline.{scanned_slab, scan_node, without_at, trim_at_once}
+use Rattle.slub_core.specs.Offline.{scanned_slab, without_at, trim_at_once}
 use Rattle.slub_core.specs.Spots.{Loose, in_plain}
 use Rattle.slub_core.specs.Listed.{takes, IsStocked}
 use Rattle.slub_core.specs.Fresh.{AreHands, AreHeld, IsEmptied, IsAtWork}
@@ -29,10 +28,10 @@ use Rattle.slub_core.proofs.Counts.{homes-cons}
 use Rattle.slub_core.proofs.Hands.{no-hands, in_chain-nil}
 use Rattle.slub_core.proofs.Homes.{live-most}
 use Rattle.slub_core.proofs.Lists.{times-first}
-use Rattle.slub_core.proofs.LocalStep.{local_step, Settled}
+use Rattle.slub_core.proofs.LocalStep.{local_step}
 use Rattle.slub_core.proofs.PopNode.{bare-walk}
 use Rattle.slub_core.proofs.Update.{update_same, term_le_sum}
-use Rattle.slub_core.proofs.UnderLock.{Makes, HasSameSlabs, node_step, stocked-within, known-same, locks-same}
+use Rattle.slub_core.proofs.UnderLock.{Makes, node_step, stocked-within, known-same, locks-same}
 
 -- ---- after a free
 

@@ -1,6 +1,5 @@
 -- What is done at once at each spot that the law covers, spot by spot.
-use Rattle.std.proofs.Common.{◌≡◌, ℕ, Bool, true, false, List, ◌∷◌, refl, sym, arith}
-use Rattle.slub_core.specs.declared.call.CallKind.{CallKind}
+use Rattle.std.proofs.Common.{◌≡◌, Bool, List, ◌∷◌, refl}
 use Rattle.slub_core.specs.declared.spot.Spot.{Spot}
 use Rattle.slub_core.specs.declared.spot.Spot.TheVariants.{InAlloc, InPutAway, InDiscard, InFree, InMoveSet, InTrim, InChecked}
 use Rattle.slub_core.specs.declared.spot.AllocSpot.TheVariants.{PopNode, TakeRun}
@@ -11,7 +10,7 @@ use Rattle.slub_core.specs.declared.spot.MoveSetSpot.TheVariants.{ChooseFront, P
 use Rattle.slub_core.specs.declared.spot.TrimSpot.TheVariants.{ScanNode, DropScanned}
 use Rattle.slub_core.specs.declared.spot.CheckedSpot.TheVariants.{DoChecked, MoveRun, AddSlab}
 use Rattle.slub_core.specs.World.{World}
-use Rattle.slub_core.specs.Local.{Local, Worker}
+use Rattle.slub_core.specs.Local.{Worker}
 use Rattle.slub_core.specs.Steps.{at_once}
 use Rattle.slub_core.specs.Coherent.{Stands}
 use Rattle.slub_core.proofs.UnderLock.{Makes}

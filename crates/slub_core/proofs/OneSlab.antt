@@ -1,22 +1,21 @@
 -- A change of a checked cache under its lock by which one slab comes or goes.
-use Rattle.std.proofs.Common.{◌≡◌, ◌≢◌, ℕ, zero, suc, ◌+◌, ◌-◌, ◌%◌, ◌^◌, ◌<◌, ◌≤◌, ◌⊎◌, ◌==◌, Bool, true, false, cond, List, [], ◌∷◌, length, refl, sym, ap, ◌∙◌, subst, arith, inl, inr}
-use Rattle.std.specs.Prelude.{All, nat_lt}
-use Rattle.std.proofs.lemmas.Bool.{cases_eq, cases_lt, lt-ltb, le-ltb, false≢true}
-use Rattle.std.proofs.lemmas.List.Elements.{All-head}
+use Rattle.std.proofs.Common.{◌≡◌, ◌≢◌, ℕ, zero, suc, ◌+◌, ◌-◌, ◌%◌, ◌^◌, ◌<◌, ◌≤◌, ◌⊎◌, Bool, true, false, cond, List, [], ◌∷◌, refl, sym, ap, ◌∙◌, subst, arith, inl, inr}
+use Rattle.std.specs.Prelude.{nat_lt}
+use Rattle.std.proofs.lemmas.Bool.{cases_eq, cases_lt, lt-ltb, le-ltb}
 use Rattle.slub_common.specs.Times.{times}
 use Rattle.slub_red_zone.specs.State.{CheckedState, slab_of, objects_in}
 use Rattle.slub_red_zone.specs.Objects.{shape_at, idle}
 use Rattle.slub_core.specs.World.{World, LockValue, Checked, update, set_value, objects_at, cache_at, order_at, object_at, size_in, order_in, idle_in, frames_in, pool_in, pool_of, objects_in_values, cache_in_values, order_in_values, one_if, sum_below, live, in_run, covers}
-use Rattle.slub_core.specs.Setup.{node_lock, pool_lock}
-use Rattle.slub_core.specs.Local.{Local, Worker}
+use Rattle.slub_core.specs.Setup.{pool_lock}
+use Rattle.slub_core.specs.Local.{Worker}
 use Rattle.slub_core.specs.Placed.{owned}
-use Rattle.slub_core.specs.Listed.{home_of, marked_of, covered_by, takes, IsCheckedOf, IsGuarded}
+use Rattle.slub_core.specs.Listed.{home_of, marked_of, covered_by, takes, IsGuarded}
 use Rattle.slub_core.specs.Fresh.{IsAtWork}
 use Rattle.slub_core.specs.Coherent.{Stands}
 use Rattle.slub_core.proofs.CheckedStep.{shape-size, shape-order}
 use Rattle.slub_core.proofs.RemakeStep.{no_value-objects}
 use Rattle.slub_core.proofs.Update.{update_same, update_other, update_at, sum_below_change, sum_below_same}
-use Rattle.slub_core.proofs.Values.{alone-in, unworded-objects, unworded-cache}
+use Rattle.slub_core.proofs.Values.{alone-in}
 use Rattle.slub_core.proofs.ValueStep.{value_step}
 
 -- how many values have a slab at a frame

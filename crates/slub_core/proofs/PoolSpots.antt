@@ -1,5 +1,5 @@
 -- At once, under the pool's lock, spot by spot: a run is taken, or put back.
-use Rattle.std.proofs.Common.{◌≡◌, ◌≢◌, ℕ, zero, suc, ◌+◌, ◌%◌, ◌^◌, ◌<◌, ◌≤◌, ◌⊎◌, ◌==◌, ◌&&◌, Bool, true, false, cond, Option, Some, None, List, [], ◌∷◌, length, refl, sym, ap, ◌∙◌, subst, arith, inl, inr, Contains}
+use Rattle.std.proofs.Common.{◌≡◌, ℕ, suc, ◌+◌, ◌^◌, ◌<◌, ◌≤◌, ◌&&◌, Bool, true, false, Option, Some, None, List, ◌∷◌, length, refl, sym, ap, arith, inl, inr}
 use Rattle.std.specs.Prelude.{All, IsSome, nat_lt}
 use Rattle.std.proofs.lemmas.Bool.{cases_lt, lt-ltb, false≢true}
 use Rattle.std.proofs.lemmas.List.Elements.{All-head}
@@ -7,7 +7,7 @@ use Rattle.slub_common.specs.Times.{times}
 use Rattle.slub_object_layout.specs.declared.layout.Layout.{Layout}
 use Rattle.slub_object_layout.specs.Layout.{IsWithinBounds}
 use Rattle.slub_page_pool.specs.FreeFrames.{FreeFrames, IsPool}
-use Rattle.slub_page_pool.specs.Block.{IsTaken, CanPut, less_run, with_run}
+use Rattle.slub_page_pool.specs.Block.{CanPut, less_run}
 use Rattle.slub_page_pool.proofs.FreeRuns.{IsTaken-free, IsTaken-aligned}
 use Rattle.slub_page_pool.proofs.Steps.{IsTaken-within, IsPool-less_run, IsPool-with_run}
 use Rattle.slub_common.proofs.Times.{times-rising}
@@ -20,10 +20,10 @@ use Rattle.slub_core.specs.declared.spot.AllocSpot.TheVariants.{TakeRun, GivePoo
 use Rattle.slub_core.specs.declared.spot.Discard.{Discard}
 use Rattle.slub_core.specs.declared.spot.DiscardSpot.TheVariants.{PutRun, GiveDiscard}
 use Rattle.slub_core.specs.declared.spot.CheckedSpot.TheVariants.{MoveRun, AddSlab, GiveRun}
-use Rattle.slub_core.specs.Setup.{Setup, node_lock, pool_lock}
-use Rattle.slub_core.specs.World.{World, LockValue, Pool, update, set_value, cache_at, objects_at, frames_in, pool_in, pool_of, one_if, in_run, sum_below, order_at, covers}
-use Rattle.slub_core.specs.Local.{Local, Worker, Change, run_in, run_of, at, stays}
-use Rattle.slub_core.specs.Alloc.{found_run, noted_dry, run_taken, take_run, way_of_run, alloc_at_once, node_of, pool_with}
+use Rattle.slub_core.specs.Setup.{node_lock, pool_lock}
+use Rattle.slub_core.specs.World.{World, LockValue, Pool, update, set_value, cache_at, objects_at, frames_in, pool_of, one_if, order_at, covers}
+use Rattle.slub_core.specs.Local.{Local, Worker, run_in, run_of, at, stays}
+use Rattle.slub_core.specs.Alloc.{found_run, noted_dry, run_taken, way_of_run, alloc_at_once, node_of, pool_with}
 use Rattle.slub_core.specs.Discard.{with_put, discard_at_once}
 use Rattle.slub_core.specs.Checked.{move_run, way_of_found, checked_at_once}
 use Rattle.slub_core.specs.Spots.{beside_discard, has_run, scans}
@@ -33,7 +33,7 @@ use Rattle.slub_core.specs.Coherent.{Stands}
 use Rattle.slub_core.proofs.Counts.{roles-cons}
 use Rattle.slub_core.proofs.Pools.{IsFound, AllFound, all-found, dry-pool, in-run-yes, times-less, times-with}
 use Rattle.slub_core.proofs.RemakeStep.{run-first, pow-some}
-use Rattle.slub_core.proofs.UnderLock.{Makes, HasSameSlabs, pool-is, pool_step, known-same, locks-same}
+use Rattle.slub_core.proofs.UnderLock.{Makes, pool-is, pool_step, known-same, locks-same}
 use Rattle.slub_core.proofs.Update.{update_other, term_le_sum}
 use Rattle.slub_core.proofs.Values.{word-objects}
 

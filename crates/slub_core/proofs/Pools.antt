@@ -1,21 +1,18 @@
 -- At once: a run is taken from the pool, or put back into it.
-use Rattle.std.proofs.Common.{◌≡◌, ◌≢◌, ℕ, zero, suc, ◌+◌, ◌-◌, ◌%◌, ◌^◌, ◌<◌, ◌≤◌, ◌⊎◌, ◌==◌, ◌&&◌, ◌||◌, Bool, true, false, cond, Option, Some, None, List, [], ◌∷◌, ◌++◌, length, refl, sym, ap, ◌∙◌, subst, arith, inl, inr, Contains}
+use Rattle.std.proofs.Common.{◌≡◌, ℕ, ◌+◌, ◌^◌, ◌<◌, ◌≤◌, ◌⊎◌, ◌&&◌, ◌||◌, Bool, true, false, Option, Some, None, List, ◌++◌, refl, ap, ◌∙◌, arith, inl, inr}
 use Rattle.std.specs.List.{filter, range_with_len}
-use Rattle.std.specs.Prelude.{All, IsSome, nat_lt, nat_le}
-use Rattle.std.proofs.lemmas.Bool.{cases_eq, cases_lt, cases_Bool, eq-eqb, ne_eqb, lt-ltb, le-ltb, le-leb, lt-leb, or_left, or_right, or_from, false≢true}
+use Rattle.std.specs.Prelude.{nat_lt, nat_le}
+use Rattle.std.proofs.lemmas.Bool.{cases_eq, cases_lt, eq-eqb, ne_eqb, lt-ltb, le-ltb, le-leb, lt-leb, or_left, or_right, or_from}
 use Rattle.std.proofs.lemmas.List.{length-set}
-use Rattle.std.proofs.lemmas.List.Elements.{All-head}
 use Rattle.slub_common.specs.Times.{times}
 use Rattle.slub_object_layout.specs.declared.layout.Layout.{Layout}
-use Rattle.slub_object_layout.specs.Layout.{IsWithinBounds}
 use Rattle.slub_page_pool.specs.FreeFrames.{FreeFrames, IsPool}
-use Rattle.slub_page_pool.specs.Block.{IsTaken, Takes, CanPut, less_run, with_run}
-use Rattle.slub_page_pool.proofs.FreeRuns.{IsTaken-free, IsTaken-aligned}
-use Rattle.slub_page_pool.proofs.Steps.{IsTaken-within, IsPool-less_run, IsPool-with_run}
+use Rattle.slub_page_pool.specs.Block.{IsTaken, Takes, less_run, with_run}
+use Rattle.slub_page_pool.proofs.FreeRuns.{IsTaken-free}
 use Rattle.slub_common.proofs.Times.{times-append, times-filter_pass, times-filter_fail, times-rising, times-within, times-below, times-above}
 use Rattle.slub_core.specs.declared.local.FrameRun.{FrameRun}
-use Rattle.slub_core.specs.Setup.{Setup, pool_lock, pool_after}
-use Rattle.slub_core.specs.World.{World, one_if, in_run}
+use Rattle.slub_core.specs.Setup.{Setup, pool_after}
+use Rattle.slub_core.specs.World.{one_if, in_run}
 use Rattle.slub_core.specs.Alloc.{run_found, or_least, found_run, noted_dry}
 use Rattle.slub_core.specs.Listed.{IsSized}
 

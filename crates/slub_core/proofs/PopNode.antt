@@ -1,27 +1,25 @@
 -- At once: the head of a node list is popped, or the list is left.
-use Rattle.std.proofs.Common.{◌≡◌, ◌≢◌, ℕ, zero, suc, ◌+◌, ◌-◌, ◌^◌, ◌<◌, ◌≤◌, ◌⊎◌, ◌==◌, Bool, true, false, cond, List, [], ◌∷◌, length, refl, sym, ap, ◌∙◌, subst, arith, inl, inr}
+use Rattle.std.proofs.Common.{◌≡◌, ℕ, suc, ◌+◌, ◌<◌, ◌≤◌, ◌==◌, true, List, [], ◌∷◌, length, refl, sym, ap, subst, arith, inl, inr}
 use Rattle.std.specs.Prelude.{All}
 use Rattle.std.proofs.lemmas.Bool.{cases_eq, cases_Bool, eq-eqb, false≢true}
 use Rattle.std.proofs.lemmas.List.Elements.{All-head}
 use Rattle.slub_common.specs.Times.{times}
 use Rattle.slub_core.specs.declared.local.Known.{Known}
-use Rattle.slub_core.specs.declared.local.Hand.{Hand}
 use Rattle.slub_core.specs.declared.spot.Spot.TheVariants.{InAlloc}
 use Rattle.slub_core.specs.declared.spot.AllocSpot.TheVariants.{PopNode, LoadPopped, GiveNode}
 use Rattle.slub_core.specs.Setup.{node_lock}
-use Rattle.slub_core.specs.World.{World, LockValue, Node, set_value, cache_at, one_if, sum_below, frames_in}
-use Rattle.slub_core.specs.Local.{Local, Worker, Change, at, with_hand, bare_hand, stays}
+use Rattle.slub_core.specs.World.{World, LockValue, Node, set_value, cache_at, one_if, frames_in}
+use Rattle.slub_core.specs.Local.{Worker, at, bare_hand, stays}
 use Rattle.slub_core.specs.Alloc.{node_of, pop_node, asks_for_another, alloc_at_once}
 use Rattle.slub_core.specs.Spots.{Popped, ready_of, roles}
 use Rattle.slub_core.specs.Listed.{takes, IsStocked}
 use Rattle.slub_core.specs.Fresh.{AreHands, AreHeld, IsWalk, IsAtWork}
 use Rattle.slub_core.specs.Coherent.{Stands}
 use Rattle.slub_core.proofs.Hands.{in_chain-nil}
-use Rattle.slub_core.proofs.Homes.{on-node}
 use Rattle.slub_core.proofs.Lists.{times-first}
-use Rattle.slub_core.proofs.LocalStep.{local_step, Settled}
+use Rattle.slub_core.proofs.LocalStep.{local_step}
 use Rattle.slub_core.proofs.Update.{term_le_sum}
-use Rattle.slub_core.proofs.UnderLock.{Makes, HasSameSlabs, node_step, stocked-within, known-same, locks-same, takes-same}
+use Rattle.slub_core.proofs.UnderLock.{Makes, node_step, stocked-within, known-same, locks-same}
 
 leave-work : (w : World) (x : Worker) → x.local.spot ≡ InAlloc PopNode → IsAtWork w x → IsAtWork w (record x { local = at x.local (InAlloc GiveNode) })
 leave-work w x is ok = grind arith

@@ -1,5 +1,5 @@
 -- A step that makes a slab of a run in hand, or a run of a slab in hand.
-use Rattle.std.proofs.Common.{◌≡◌, ◌≢◌, ℕ, zero, suc, ◌+◌, ◌/◌, ◌%◌, ◌^◌, ◌<◌, ◌≤◌, ◌⊎◌, ◌==◌, ◌&&◌, Bool, true, false, Option, Some, None, List, ◌∷◌, length, get_or, refl, sym, ap, ◌∙◌, subst, arith, inl, inr}
+use Rattle.std.proofs.Common.{◌≡◌, ◌≢◌, ℕ, zero, suc, ◌+◌, ◌%◌, ◌^◌, ◌<◌, ◌≤◌, ◌⊎◌, ◌==◌, ◌&&◌, Bool, true, false, Option, Some, None, List, ◌∷◌, length, get_or, refl, sym, ap, ◌∙◌, subst, arith, inl, inr}
 use Rattle.std.specs.Prelude.{All, sum_by, nat_lt}
 use Rattle.std.proofs.lemmas.Bool.{cases_eq, cases_lt, eq-eqb, lt-ltb, le-ltb, le-leb, false≢true}
 use Rattle.std.proofs.lemmas.List.Sums.{sum_by-cons}
@@ -9,14 +9,14 @@ use Rattle.slub_words.specs.declared.slab.SlabWord.{SlabWord}
 use Rattle.slub_words.specs.declared.board.BoardWord.{BoardWord}
 use Rattle.slub_core.specs.declared.local.Known.{Known}
 use Rattle.slub_core.specs.declared.local.FrameRun.{FrameRun}
-use Rattle.slub_core.specs.Setup.{Setup, IsPlain, IsSetup, node_lock, order_for}
+use Rattle.slub_core.specs.Setup.{IsPlain, IsSetup, node_lock, order_for}
 use Rattle.slub_core.specs.World.{World, Chains, LockValue, update, set_slab, pointer, objects_at, cache_at, order_at, object_at, objects_in_values, on_board, frames_in, size_in, one_if, sum_below, live, off_list, in_run, covers, IsChain}
-use Rattle.slub_core.specs.Local.{Local, Worker, here, hand_of, run_of}
+use Rattle.slub_core.specs.Local.{Worker, here, hand_of, run_of}
 use Rattle.slub_core.specs.Offline.{scanned_slab}
-use Rattle.slub_core.specs.Spots.{has_freed_last, notes_scanned, is_emptied, roles, stored_in}
+use Rattle.slub_core.specs.Spots.{roles, stored_in}
 use Rattle.slub_core.specs.Placed.{owned}
-use Rattle.slub_core.specs.Listed.{home_of, homes, on_lists, marked_of, covered_by, takes, IsSized, IsStocked}
-use Rattle.slub_core.specs.Fresh.{IsHeldRun, IsEmptied, IsAtWork, end_of}
+use Rattle.slub_core.specs.Listed.{home_of, homes, on_lists, marked_of, covered_by, takes, IsSized}
+use Rattle.slub_core.specs.Fresh.{IsHeldRun, IsAtWork, end_of}
 use Rattle.slub_core.specs.Coherent.{Stands}
 use Rattle.slub_core.proofs.Counts.{All-from_no_sum, places-cons, homes-cons, roles-cons}
 use Rattle.slub_core.proofs.Homes.{on-cpu, on-list, on-node, hand-home}

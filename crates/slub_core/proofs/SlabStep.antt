@@ -1,29 +1,27 @@
 -- A step that changes a slab word.
-use Rattle.std.proofs.Common.{◌≡◌, ◌≢◌, ℕ, suc, ◌+◌, ◌/◌, ◌%◌, ◌^◌, ◌<◌, ◌≤◌, ◌⊎◌, ◌==◌, Bool, true, false, Option, Some, None, List, [], ◌∷◌, length, get_or, refl, sym, ap, ◌∙◌, subst, arith, inl, inr}
-use Rattle.std.specs.Prelude.{All, sum_by, nat_lt}
-use Rattle.std.proofs.lemmas.Bool.{cases_eq, false≢true}
+use Rattle.std.proofs.Common.{◌≡◌, ◌≢◌, ℕ, ◌+◌, ◌/◌, ◌^◌, ◌<◌, ◌≤◌, ◌⊎◌, ◌==◌, true, false, Option, Some, None, List, [], ◌∷◌, length, get_or, refl, sym, ap, ◌∙◌, subst, arith, inl, inr}
+use Rattle.std.specs.Prelude.{sum_by, nat_lt}
+use Rattle.std.proofs.lemmas.Bool.{cases_eq}
 use Rattle.std.proofs.lemmas.List.Sums.{sum_by-cons}
 use Rattle.std.proofs.lemmas.List.Elements.{All-cons, All-tail}
 use Rattle.slub_common.specs.Times.{times}
 use Rattle.slub_words.specs.declared.slab.SlabWord.{SlabWord}
-use Rattle.slub_words.specs.declared.board.BoardWord.{BoardWord}
-use Rattle.slub_core.specs.declared.local.Known.{Known}
 use Rattle.slub_core.specs.declared.local.Hand.{Hand}
 use Rattle.slub_core.specs.declared.local.PartialString.{PartialString}
 use Rattle.slub_core.specs.declared.local.FrameRun.{FrameRun}
 use Rattle.slub_core.specs.Setup.{IsSetup, node_lock}
-use Rattle.slub_core.specs.World.{World, Chains, update, set_slab, pointer, objects_at, cache_at, order_at, object_at, frames_in, one_if, sum_below, live, off_list, covers, in_run, IsChain}
-use Rattle.slub_core.specs.Local.{Local, Worker, here, hand_of, run_of}
+use Rattle.slub_core.specs.World.{World, Chains, update, set_slab, pointer, objects_at, cache_at, order_at, object_at, frames_in, one_if, sum_below, live, off_list, covers, IsChain}
+use Rattle.slub_core.specs.Local.{Worker, here, hand_of, run_of}
 use Rattle.slub_core.specs.Offline.{scanned_slab}
-use Rattle.slub_core.specs.Spots.{Role, Taken, Ready, Loaded, Leaving, Untied, Popped, Kept, Loose, roles, is_emptied, has_freed_last, notes_scanned, stored_in}
+use Rattle.slub_core.specs.Spots.{Role, Taken, Ready, Loaded, Leaving, Untied, Popped, Kept, Loose, roles, is_emptied, stored_in}
 use Rattle.slub_core.specs.Placed.{owned}
-use Rattle.slub_core.specs.Listed.{home_of, hands_count, homes, on_lists, marked_of, covered_by, frame_roles, takes, IsStocked, IsShaped}
-use Rattle.slub_core.specs.Fresh.{AreHands, AreHeld, HasMarks, IsHeldString, IsKeptSlab, IsHeldRun, IsEmptied, IsAtWork, IsWorded, end_of}
+use Rattle.slub_core.specs.Listed.{home_of, hands_count, homes, on_lists, marked_of, covered_by, takes, IsStocked}
+use Rattle.slub_core.specs.Fresh.{AreHeld, HasMarks, IsHeldString, IsHeldRun, IsEmptied, IsAtWork, end_of}
 use Rattle.slub_core.specs.Coherent.{Stands}
 use Rattle.slub_core.proofs.Counts.{places-cons, homes-cons, roles-cons}
 use Rattle.slub_core.proofs.Homes.{mine-alone, live-most, on-cpu, on-list, on-node, hand-home}
 use Rattle.slub_core.proofs.Spots.{freed_last-plain, scanned-plain, emptied-hand}
-use Rattle.slub_core.proofs.Update.{update_same, update_other, update_at, each_updated, sum_below_same, term_le_sum}
+use Rattle.slub_core.proofs.Update.{update_other, update_at, each_updated, sum_below_same, term_le_sum}
 
 -- what others may find a slab word changed to: an object more on the freelist of a slab with an object in use, with the marks that it had; or the slab is the worker's, or on no list
 pub data MayChange (w : World) (x : Worker) (f : ℕ) (v : SlabWord) : Type 0 where

@@ -1,5 +1,5 @@
 -- A call has a reply only by a step that ends its use of an object's words: no worker with a reply stands at a load or a store of such a word.
-use Rattle.std.proofs.Common.{◌≡◌, ℕ, ◌+◌, ◌⊎◌, ◌==◌, Bool, true, false, not, ◌&&◌, ◌||◌, cond, if◌then◌else◌, Option, Some, None, List, [], ◌∷◌, length, refl, inl, inr, arith}
+use Rattle.std.proofs.Common.{◌≡◌, ℕ, ◌+◌, ◌⊎◌, ◌==◌, Bool, true, false, not, ◌||◌, if◌then◌else◌, Option, Some, None, List, [], ◌∷◌, length, refl, inl, inr}
 use Rattle.std.specs.Prelude.{nat_lt}
 use Rattle.std.proofs.lemmas.Bool.{cases_Bool}
 use Rattle.slub_answers.specs.declared.reply.Reply.{Reply}
@@ -21,7 +21,7 @@ use Rattle.slub_core.specs.declared.local.FrameRun.{FrameRun}
 use Rattle.slub_core.specs.declared.step.Answer.{Answer}
 use Rattle.slub_core.specs.declared.step.Answer.TheVariants.{Word, Done, Won, Lost}
 use Rattle.slub_core.specs.declared.spot.Spot.{Spot}
-use Rattle.slub_core.specs.declared.spot.Spot.TheVariants.{Between, InAlloc, InPutAway, InDiscard, InPutOnList, InFree, InMoveSet, InOffline, InTrim, WriteWord, ReadWord, InChecked}
+use Rattle.slub_core.specs.declared.spot.Spot.TheVariants.{InAlloc, InPutAway, InDiscard, InPutOnList, InFree, InMoveSet, InOffline, InTrim, WriteWord, ReadWord, InChecked}
 use Rattle.slub_core.specs.declared.spot.Away.{Away}
 use Rattle.slub_core.specs.declared.spot.Discard.{Discard}
 use Rattle.slub_core.specs.declared.spot.PutOnList.{PutOnList}
@@ -50,15 +50,15 @@ use Rattle.slub_core.specs.declared.spot.CheckedSpot.TheVariants.{LockChecked, L
 use Rattle.slub_core.specs.Setup.{Setup, pool_lock}
 use Rattle.slub_core.specs.Words.{cpu_in, board_in, list_in}
 use Rattle.slub_core.specs.World.{LockValue, pool_in}
-use Rattle.slub_core.specs.Local.{Local, Turn, Change, here, hand_of, run_of, at, with_hand, bare_hand, stays}
-use Rattle.slub_core.specs.Alloc.{is_spent, way_of_word, told_of_word, way_of_again, way_of_away, way_of_run, found_run, run_taken, alloc_advance, alloc_at_once, pop_node, node_of, with_node, asks_for_another, take_run}
-use Rattle.slub_core.specs.PutAway.{put_away_advance, put_away_at_once}
-use Rattle.slub_core.specs.Discard.{discard_advance, discard_at_once}
+use Rattle.slub_core.specs.Local.{Local, Turn, Change, here, hand_of, at, with_hand, bare_hand, stays}
+use Rattle.slub_core.specs.Alloc.{is_spent, way_of_word, told_of_word, way_of_again, way_of_away, way_of_run, found_run, run_taken, alloc_advance, pop_node, node_of, with_node, asks_for_another}
+use Rattle.slub_core.specs.PutAway.{put_away_advance}
+use Rattle.slub_core.specs.Discard.{discard_advance}
 use Rattle.slub_core.specs.PutOnList.{put_on_list_advance}
-use Rattle.slub_core.specs.Free.{free_advance, free_at_once, board_taken, way_of_freed, was_full}
-use Rattle.slub_core.specs.MoveSet.{move_set_advance, move_set_at_once, after_move}
-use Rattle.slub_core.specs.Offline.{offline_advance, trim_advance, trim_at_once, scan_node, next_swept, list_swept, flushed_cache}
-use Rattle.slub_core.specs.Checked.{checked_advance, checked_at_once, do_checked, gave, took_back, taken_back, is_spare, poked_reply, slab_added, slab_refused, move_run, way_of_found, slabs_of, slot_of}
+use Rattle.slub_core.specs.Free.{free_advance, board_taken, way_of_freed, was_full}
+use Rattle.slub_core.specs.MoveSet.{move_set_advance, after_move}
+use Rattle.slub_core.specs.Offline.{offline_advance, trim_advance, scan_node, next_swept, list_swept}
+use Rattle.slub_core.specs.Checked.{checked_advance, do_checked, gave, took_back, is_spare, move_run, way_of_found, slabs_of, slot_of}
 use Rattle.slub_core.specs.Spots.{uses_word}
 use Rattle.slub_core.specs.Steps.{advance_at, at_once}
 

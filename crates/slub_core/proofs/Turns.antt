@@ -1,6 +1,5 @@
 -- A turn of any worker keeps all, and so does a run of turns.
-use Rattle.std.proofs.Common.{◌≡◌, ℕ, zero, suc, ◌+◌, ◌<◌, ◌≤◌, Bool, true, false, Option, Some, None, List, [], ◌∷◌, ◌++◌, length, get_or, set, map, refl, sym, ap, ◌∙◌, subst, arith, inl, inr}
-use Rattle.std.specs.Prelude.{All}
+use Rattle.std.proofs.Common.{◌≡◌, ℕ, zero, suc, ◌<◌, ◌≤◌, Bool, false, Option, Some, None, List, [], ◌∷◌, ◌++◌, length, get_or, set, map, refl, sym, ap, ◌∙◌, subst, arith, inl, inr}
 use Rattle.std.proofs.lemmas.List.{length-set, set-get_or}
 use Rattle.std.proofs.lemmas.List.Elements.{All-head, All-set}
 use Rattle.std.proofs.lemmas.Bool.{cases_lt}
@@ -9,17 +8,16 @@ use Rattle.slub_answers.specs.declared.reply.Reply.{Reply}
 use Rattle.slub_core.specs.declared.call.Call.{Call}
 use Rattle.slub_core.specs.declared.spot.Spot.{Spot}
 use Rattle.slub_core.specs.declared.spot.Spot.TheVariants.{Between}
-use Rattle.slub_core.specs.declared.step.Answer.{Answer}
 use Rattle.slub_core.specs.Setup.{Setup}
 use Rattle.slub_core.specs.Words.{word_count, number_of, after_op, answer_of}
 use Rattle.slub_core.specs.World.{World, LockValue, world_from, world_of}
 use Rattle.slub_core.specs.Local.{Local, Worker, nobody, answered, noted}
-use Rattle.slub_core.specs.Steps.{step_of, advance_at, advance_of, at_once, told, changed, settled, told_at_once, or_step, rested_with, rested_at, rested, begun}
-use Rattle.slub_core.specs.Run.{System, Pick, idle, after_step, turn, run}
+use Rattle.slub_core.specs.Steps.{step_of, advance_at, advance_of, at_once, told, settled, told_at_once, or_step, rested_with, rested_at, begun}
+use Rattle.slub_core.specs.Run.{System, Pick, idle, after_step, turn}
 use Rattle.slub_core.specs.Spots.{uses_word}
 use Rattle.slub_core.specs.Fresh.{IsAtWork}
 use Rattle.slub_core.specs.Coherent.{Stands}
-use Rattle.slub_core.specs.Law.{TakesStep, IsRested, IsStanding, MayBeginFirst, MayTurn, MayRun, TurnsKeepAll, StandsAlong, RunsKeepAll}
+use Rattle.slub_core.specs.Law.{TakesStep, IsRested, IsStanding, MayBeginFirst, MayTurn, TurnsKeepAll, RunsKeepAll}
 use Rattle.slub_core.proofs.Among.{to_front, from_front}
 use Rattle.slub_core.proofs.Begin.{begin}
 use Rattle.slub_core.proofs.Dispatch.{leads}

@@ -1,15 +1,15 @@
 -- Changes of what a lock guards that make or unmake no slab: of a node list, of the pool, of the objects of a checked cache.
-use Rattle.std.proofs.Common.{◌≡◌, ◌≢◌, ℕ, zero, suc, ◌+◌, ◌-◌, ◌%◌, ◌^◌, ◌<◌, ◌≤◌, ◌⊎◌, ◌==◌, Bool, true, false, cond, List, [], ◌∷◌, length, get_or, refl, sym, ap, ◌∙◌, subst, arith, inl, inr}
+use Rattle.std.proofs.Common.{◌≡◌, ℕ, zero, suc, ◌+◌, ◌<◌, ◌≤◌, ◌⊎◌, true, false, List, [], ◌∷◌, get_or, refl, sym, ap, ◌∙◌, subst, arith, inl, inr}
 use Rattle.std.specs.Prelude.{All, nat_lt}
-use Rattle.std.proofs.lemmas.Bool.{cases_eq, cases_lt, eq-eqb, false≢true}
+use Rattle.std.proofs.lemmas.Bool.{cases_eq, cases_lt, false≢true}
 use Rattle.std.proofs.lemmas.List.Elements.{All-head}
 use Rattle.slub_common.specs.Times.{times}
 use Rattle.slub_page_pool.specs.FreeFrames.{FreeFrames, IsPool}
 use Rattle.slub_red_zone.specs.State.{CheckedState}
 use Rattle.slub_core.specs.declared.local.Known.{Known}
 use Rattle.slub_core.specs.Setup.{Setup, IsPlain, IsChecked, node_lock, pool_lock}
-use Rattle.slub_core.specs.World.{World, Chains, LockValue, Nothing, Node, Checked, Pool, update, set_value, objects_at, cache_at, order_at, object_at, frames_in, pool_in, pool_of, size_in, order_in, idle_in, objects_in_values, cache_in_values, order_in_values, one_if, sum_below, live, covers}
-use Rattle.slub_core.specs.Local.{Local, Worker, Change}
+use Rattle.slub_core.specs.World.{World, Chains, LockValue, Nothing, Node, Checked, Pool, update, set_value, objects_at, cache_at, order_at, object_at, frames_in, pool_in, pool_of, size_in, order_in, idle_in, objects_in_values, cache_in_values, order_in_values, one_if, covers}
+use Rattle.slub_core.specs.Local.{Worker, Change}
 use Rattle.slub_core.specs.Alloc.{node_of}
 use Rattle.slub_core.specs.Spots.{has_node, has_pool, in_plain}
 use Rattle.slub_core.specs.Placed.{owned}
@@ -22,7 +22,7 @@ use Rattle.slub_core.proofs.Locks.{one-self}
 use Rattle.slub_core.proofs.Pigeon.{length-below}
 use Rattle.slub_core.proofs.Update.{update_same, update_other, update_at, sum_below_same, term_le_sum}
 use Rattle.slub_core.proofs.Values.{word-objects}
-use Rattle.slub_core.proofs.ValueStep.{value_step, IsNewValue}
+use Rattle.slub_core.proofs.ValueStep.{value_step}
 
 -- what is done at once leads a worker to this local and these values, and all stands after it
 abbrev pub Makes : World → List Worker → Change → Type 0

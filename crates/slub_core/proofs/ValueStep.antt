@@ -1,6 +1,6 @@
 -- A change of what a lock guards, by the worker that has the lock.
-use Rattle.std.proofs.Common.{◌≡◌, ℕ, suc, ◌+◌, ◌%◌, ◌^◌, ◌<◌, ◌≤◌, ◌⊎◌, ◌==◌, ◌&&◌, Bool, true, Some, List, ◌∷◌, length, get_or, refl, sym, ap, ◌∙◌, subst, arith, inl, inr}
-use Rattle.std.specs.Prelude.{All, sum_by, nat_lt}
+use Rattle.std.proofs.Common.{◌≡◌, ℕ, ◌+◌, ◌%◌, ◌^◌, ◌<◌, ◌≤◌, ◌⊎◌, ◌==◌, true, Some, List, ◌∷◌, length, get_or, refl, sym, ap, ◌∙◌, arith, inl, inr}
+use Rattle.std.specs.Prelude.{nat_lt}
 use Rattle.std.proofs.lemmas.Bool.{cases_eq, eq-eqb, lt-ltb}
 use Rattle.std.proofs.lemmas.List.Sums.{sum_by-cons, get_or-le-sum_by}
 use Rattle.std.proofs.lemmas.List.Elements.{All-cons, All-tail}
@@ -8,19 +8,19 @@ use Rattle.slub_common.specs.Times.{times}
 use Rattle.slub_words.specs.declared.board.BoardWord.{BoardWord}
 use Rattle.slub_core.specs.declared.local.Known.{Known}
 use Rattle.slub_core.specs.Setup.{node_lock}
-use Rattle.slub_core.specs.World.{World, LockValue, update, set_value, objects_at, cache_at, order_at, object_at, on_board, is_at, frames_in, size_in, idle_in, pool_of, one_if, sum_below, live, covers}
-use Rattle.slub_core.specs.Local.{Local, Worker}
+use Rattle.slub_core.specs.World.{World, LockValue, update, set_value, objects_at, cache_at, order_at, object_at, on_board, frames_in, size_in, idle_in, pool_of, one_if, sum_below, live, covers}
+use Rattle.slub_core.specs.Local.{Worker}
 use Rattle.slub_core.specs.Alloc.{node_of}
-use Rattle.slub_core.specs.Spots.{has_node, has_freed_last, notes_scanned, scans, scans_next}
+use Rattle.slub_core.specs.Spots.{has_node}
 use Rattle.slub_core.specs.Placed.{owned, held_as, places}
-use Rattle.slub_core.specs.Listed.{home_of, homes, marked_of, covered_by, on_lists, takes, IsGuarded, IsSized, IsStocked}
+use Rattle.slub_core.specs.Listed.{home_of, marked_of, covered_by, takes, IsGuarded, IsStocked}
 use Rattle.slub_core.specs.Fresh.{IsAtWork}
 use Rattle.slub_core.specs.Coherent.{Stands}
 use Rattle.slub_core.proofs.Counts.{places-cons, homes-cons, roles-cons}
 use Rattle.slub_core.proofs.Frames.{worded-value}
 use Rattle.slub_core.proofs.Homes.{lock-alone}
 use Rattle.slub_core.proofs.Spots.{freed_last-node, scanned-node, scan-node, scan_next-node}
-use Rattle.slub_core.proofs.Update.{update_same, update_other, update_at, each_updated, sum_below_change, term_le_sum}
+use Rattle.slub_core.proofs.Update.{update_same, update_other, update_at, sum_below_change, term_le_sum}
 
 -- the new value is one that the lock may guard, its slabs are where no others are, and what exists keeps its cache
 pub record IsNewValue (w : World) (n : ℕ) (v : LockValue) : Type 0 where

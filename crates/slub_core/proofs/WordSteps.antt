@@ -1,5 +1,5 @@
 -- A step on the table of words, from what it does to the state: an exchange that is won and one that is lost, a swap, a store and a load.
-use Rattle.std.proofs.Common.{◌≡◌, ℕ, suc, ◌+◌, ◌*◌, ◌^◌, ◌<◌, ◌≤◌, ◌==◌, eqb, true, false, List, get_or, set, refl, sym, ap, ◌∙◌, subst, arith, inl, inr, Option, None}
+use Rattle.std.proofs.Common.{◌≡◌, ℕ, suc, ◌+◌, ◌*◌, ◌<◌, ◌≤◌, eqb, List, get_or, set, ap, ◌∙◌, subst, arith, inl, inr, None}
 use Rattle.std.proofs.lemmas.Bool.{eqb-true, cases_Bool}
 use Rattle.std.proofs.lemmas.List.{set-get_or}
 use Rattle.slub_words.specs.declared.cpu.CpuWord.{CpuWord}
@@ -14,7 +14,7 @@ use Rattle.slub_core.specs.declared.step.Answer.TheVariants.{Word, Done, Won, Lo
 use Rattle.slub_core.specs.declared.step.Place.{Place}
 use Rattle.slub_core.specs.declared.step.Place.TheVariants.{LockOf, ListOf, CpuOf, SlabOf, BoardOf, MemoryOf, LinkOf}
 use Rattle.slub_core.specs.Setup.{Setup}
-use Rattle.slub_core.specs.Words.{no_slab_word, no_list_word, list_base, cpu_base, slab_base, board_base, memory_base, link_base, number_of, after_op, answer_of, cpu_in, slab_in, board_in, list_in}
+use Rattle.slub_core.specs.Words.{no_list_word, list_base, cpu_base, slab_base, board_base, number_of, after_op, answer_of, cpu_in, slab_in, board_in, list_in}
 use Rattle.slub_core.specs.World.{World, LockValue, set_cpu, set_list, set_slab, set_link, set_board, set_memory, set_lock, world_of}
 use Rattle.slub_core.proofs.Words.{IsTable, world_of-lock, world_of-list, world_of-cpu, world_of-slab, world_of-board, world_of-memory, world_of-link, lock-read, list-read, cpu-read, slab-read}
 use Rattle.slub_core.proofs.Packed.{IsCpuFit, IsSlabFit, IsListFit, cpu_in-bits, slab_in-bits, list_in-bits}

@@ -1,5 +1,5 @@
 -- The calls of a checked cache, under its lock: `alloc_single_from_partial` and `free_debug_processing` of Linux 6.1; the rest is profile.
-use Rattle.std.specs.Prelude.{ℕ, ◌+◌, ◌<◌, Bool, true, false, ◌&&◌, ◌==◌, nat_lt, nat_le, if◌then◌else◌, List, [], length, ℤ, pos, int_lt, int_le, Option, Some, None}
+use Rattle.std.specs.Prelude.{ℕ, Bool, false, ◌&&◌, ◌==◌, nat_lt, nat_le, if◌then◌else◌, [], length, ℤ, pos, int_lt, int_le, Option, Some, None}
 use Rattle.slub_page_pool.specs.FreeFrames.{FreeFrames}
 use Rattle.slub_object_layout.specs.declared.layout.Layout.{Layout}
 use Rattle.slub_object_layout.specs.Layout.{address_of}
@@ -16,7 +16,7 @@ use Rattle.slub_core.specs.declared.call.CallKind.TheVariants.{Alloc, Free, Writ
 use Rattle.slub_core.specs.declared.local.FrameRun.{FrameRun}
 use Rattle.slub_core.specs.declared.step.Step.{Step}
 use Rattle.slub_core.specs.declared.step.Answer.{Answer}
-use Rattle.slub_core.specs.declared.step.Answer.TheVariants.{Word, Done, Won, Lost}
+use Rattle.slub_core.specs.declared.step.Answer.TheVariants.{Done, Won}
 use Rattle.slub_core.specs.declared.spot.Spot.{Spot}
 use Rattle.slub_core.specs.declared.spot.Spot.TheVariants.{Between, InChecked}
 use Rattle.slub_core.specs.declared.spot.CheckedSpot.{CheckedSpot}

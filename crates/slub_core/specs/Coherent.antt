@@ -1,5 +1,5 @@
 -- What holds between any two steps of all workers, and before and after what is done at once.
-use Rattle.std.specs.Prelude.{◌≡◌, List, []}
+use Rattle.std.specs.Prelude.{List, []}
 use Rattle.slub_core.specs.World.{World, Chains}
 use Rattle.slub_core.specs.Local.{Worker}
 use Rattle.slub_core.specs.Placed.{IsPlaced}

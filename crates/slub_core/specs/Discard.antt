@@ -1,11 +1,11 @@
 -- Discarding an empty slab in hand, under the node lock: `discard_slab` of Linux 6.1.
-use Rattle.std.specs.Prelude.{ℕ, ◌+◌, Option, Some, None}
+use Rattle.std.specs.Prelude.{ℕ, ◌+◌, Some, None}
 use Rattle.slub_page_pool.specs.FreeFrames.{FreeFrames}
 use Rattle.slub_page_pool.specs.Block.{with_run}
 use Rattle.slub_core.specs.declared.local.FrameRun.{FrameRun}
 use Rattle.slub_core.specs.declared.step.Step.{Step}
 use Rattle.slub_core.specs.declared.step.Answer.{Answer}
-use Rattle.slub_core.specs.declared.step.Answer.TheVariants.{Word, Done, Won, Lost}
+use Rattle.slub_core.specs.declared.step.Answer.TheVariants.{Done, Won}
 use Rattle.slub_core.specs.declared.spot.Spot.{Spot}
 use Rattle.slub_core.specs.declared.spot.Spot.TheVariants.{InPutAway, InDiscard, InFree, InMoveSet, InTrim}
 use Rattle.slub_core.specs.declared.spot.Away.TheVariants.{ForInstall, ForSpent, ForSweep}

@@ -1,23 +1,22 @@
 -- What a worker has noted is still good where it is relied on.
-use Rattle.std.specs.Prelude.{◌≡◌, ◌≢◌, ℕ, suc, ◌+◌, ◌-◌, ◌*◌, ◌/◌, ◌%◌, ◌^◌, ◌<◌, ◌≤◌, Bool, true, false, ◌&&◌, not, ◌==◌, nat_lt, cond, List, [], ◌∷◌, length, slice_index, slice_index_or, Option, Some, None, IsSome, All, ◌⊎◌}
+use Rattle.std.specs.Prelude.{◌≡◌, ◌≢◌, ℕ, suc, ◌+◌, ◌-◌, ◌*◌, ◌/◌, ◌%◌, ◌^◌, ◌<◌, ◌≤◌, true, false, ◌&&◌, not, ◌==◌, nat_lt, cond, List, [], ◌∷◌, length, slice_index, Option, Some, None, IsSome, All, ◌⊎◌}
 use Rattle.slub_common.specs.Times.{times}
 use Rattle.slub_words.specs.declared.cpu.CpuWord.{CpuWord}
 use Rattle.slub_words.specs.declared.slab.SlabWord.{SlabWord}
-use Rattle.slub_words.specs.Words.{IsSpent}
 use Rattle.slub_cpu_partial.specs.Strings.{IsList}
 use Rattle.slub_core.specs.declared.local.Known.{Known}
 use Rattle.slub_core.specs.declared.local.Hand.{Hand}
 use Rattle.slub_core.specs.declared.local.PartialString.{PartialString}
 use Rattle.slub_core.specs.declared.local.FrameRun.{FrameRun}
-use Rattle.slub_core.specs.Setup.{Setup, IsSetup, IsPlain, IsChecked, pointer_at, node_lock}
-use Rattle.slub_core.specs.World.{World, pointer, frames_in, cache_at, one_if, sum_below, live, Leads, IsString}
-use Rattle.slub_core.specs.Local.{Local, Worker, here, hand_of, beside, string_of, run_of, chain_of, call_of}
+use Rattle.slub_core.specs.Setup.{Setup, IsSetup, IsPlain, IsChecked, pointer_at}
+use Rattle.slub_core.specs.World.{World, pointer, cache_at, Leads, IsString}
+use Rattle.slub_core.specs.Local.{Local, Worker, here, hand_of, string_of, run_of, chain_of, call_of}
 use Rattle.slub_core.specs.Ops.{own_cpu}
 use Rattle.slub_core.specs.Alloc.{node_of}
 use Rattle.slub_core.specs.Offline.{scanned_slab}
 use Rattle.slub_core.specs.Free.{is_last_listed}
 use Rattle.slub_core.specs.Steps.{is_outside}
-use Rattle.slub_core.specs.Listed.{IsSized, takes, home_of}
+use Rattle.slub_core.specs.Listed.{IsSized, takes}
 use Rattle.slub_core.specs.Spots.{Role, Taken, Ready, Loaded, Leaving, Untied, Popped, Kept, Loose, roles, is_linked, is_walking, is_walked, is_emptied, least_string, may_string, ends_string, has_run, stored_in, links_new, notes_cpu, is_fresh, takes_head, detaches, detaches_empty, installs, notes_next, pushes, notes_some, notes_none, notes_away, links_last, frees_open, frees_locked, has_freed_last, notes_kept, notes_scanned, notes_list, walks_string, links_string, pushes_string, scans, scans_next, links_cpu, links_slab, frees, uses, uses_word, keeps, pokes, takes_board, awaits, in_checked, in_plain, doing}
 use Rattle.slub_core.specs.declared.call.CallKind.TheVariants.{Flush}
 

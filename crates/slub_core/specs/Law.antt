@@ -8,7 +8,7 @@ use Rattle.slub_core.specs.Words.{word_count}
 use Rattle.slub_core.specs.World.{world_of}
 use Rattle.slub_core.specs.Local.{Local, Worker, nobody}
 use Rattle.slub_core.specs.Steps.{told_at_once}
-use Rattle.slub_core.specs.Run.{System, Pick, idle, turn, run}
+use Rattle.slub_core.specs.Run.{System, Pick, idle, turn}
 use Rattle.slub_core.specs.Coherent.{Stands}
 
 -- ---- machines in which all stands

@@ -1,7 +1,7 @@
 -- Each slab, each frame and each lock is in exactly one role.
-use Rattle.std.specs.Prelude.{◌≡◌, ◌≢◌, ℕ, suc, ◌+◌, ◌-◌, ◌*◌, ◌/◌, ◌%◌, ◌^◌, ◌<◌, ◌≤◌, Bool, true, false, ◌&&◌, ◌==◌, nat_lt, cond, List, [], ◌∷◌, length, sum_by, Option, Some, None, ◌⊎◌}
+use Rattle.std.specs.Prelude.{◌≡◌, ◌≢◌, ℕ, ◌+◌, ◌-◌, ◌/◌, ◌%◌, ◌^◌, ◌<◌, ◌≤◌, true, false, ◌&&◌, ◌==◌, nat_lt, cond, List, [], ◌∷◌, length, sum_by, Option, Some, None, ◌⊎◌}
 use Rattle.slub_common.specs.Times.{times}
-use Rattle.slub_page_pool.specs.FreeFrames.{FreeFrames, IsPool}
+use Rattle.slub_page_pool.specs.FreeFrames.{IsPool}
 use Rattle.slub_object_layout.specs.declared.layout.Layout.{Layout}
 use Rattle.slub_red_zone.specs.State.{CheckedState}
 use Rattle.slub_red_zone.specs.Sound.{IsSound}
@@ -9,9 +9,9 @@ use Rattle.slub_words.specs.declared.slab.SlabWord.{SlabWord}
 use Rattle.slub_words.specs.declared.board.BoardWord.{BoardWord}
 use Rattle.slub_core.specs.declared.local.Hand.{Hand}
 use Rattle.slub_core.specs.declared.local.FrameRun.{FrameRun}
-use Rattle.slub_core.specs.Setup.{Setup, IsPlain, IsSetup, node_lock, pool_lock, order_for}
+use Rattle.slub_core.specs.Setup.{Setup, IsPlain, node_lock, pool_lock}
 use Rattle.slub_core.specs.World.{World, Chains, LockValue, Nothing, Node, Checked, Pool, pool_of, frames_in, size_in, objects_at, cache_at, order_at, one_if, sum_below, live, off_list, in_run, covers, Links}
-use Rattle.slub_core.specs.Local.{Local, Worker, hand_of}
+use Rattle.slub_core.specs.Local.{Worker, hand_of}
 use Rattle.slub_core.specs.Spots.{has_node, has_pool, is_marked}
 
 -- ---- slabs

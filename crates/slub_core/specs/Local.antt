@@ -1,8 +1,7 @@
 -- A worker: where it stands, what it has noted, what it knows and what it has in hand.
-use Rattle.std.specs.Prelude.{ℕ, Bool, false, List, [], ◌∷◌, slice_index_or, slice_set, drop, Option, Some, None, if◌then◌else◌, ◌==◌, ◌+◌, ◌-◌, suc, pos, true}
+use Rattle.std.specs.Prelude.{ℕ, Bool, false, List, [], ◌∷◌, slice_index_or, slice_set, drop, Option, Some, None, pos, true}
 use Rattle.slub_words.specs.declared.cpu.CpuWord.{CpuWord}
 use Rattle.slub_words.specs.declared.slab.SlabWord.{SlabWord}
-use Rattle.slub_words.specs.declared.board.BoardWord.{BoardWord}
 use Rattle.slub_cpu_partial.specs.declared.words.ListWord.{ListWord}
 use Rattle.slub_object_layout.specs.Layout.{address_of}
 use Rattle.slub_answers.specs.declared.reply.Reply.{Reply}

@@ -1,5 +1,5 @@
 -- Each object is in exactly one place.
-use Rattle.std.specs.Prelude.{◌≡◌, ℕ, ◌+◌, ◌*◌, ◌/◌, ◌<◌, ◌&&◌, List, [], ◌∷◌, sum_by}
+use Rattle.std.specs.Prelude.{◌≡◌, ℕ, ◌+◌, ◌/◌, ◌<◌, ◌&&◌, List, [], ◌∷◌, sum_by}
 use Rattle.slub_common.specs.Times.{times}
 use Rattle.slub_core.specs.declared.local.Known.{Known}
 use Rattle.slub_core.specs.declared.local.Hand.{Hand}

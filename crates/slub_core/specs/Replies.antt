@@ -1,5 +1,5 @@
 -- What the replies of a worker say: which objects it holds, where they stand, what it wrote; and what causes a reply has. No step stands here.
-use Rattle.std.specs.Prelude.{◌≡◌, ◌≢◌, ℕ, zero, suc, ◌+◌, ◌-◌, ◌*◌, ◌<◌, ◌≤◌, Bool, true, false, not, ◌&&◌, ◌==◌, nat_le, cond, if◌then◌else◌, List, [], ◌∷◌, length, Option, Some, None, ◌⊎◌, ℤ}
+use Rattle.std.specs.Prelude.{◌≡◌, ◌≢◌, ℕ, ◌+◌, ◌*◌, ◌≤◌, Bool, true, false, ◌&&◌, ◌==◌, cond, List, [], ◌∷◌, Option, Some, None, ◌⊎◌}
 use Rattle.std.specs.Option.{option_map}
 use Rattle.slub_object_layout.specs.Layout.{address_of}
 use Rattle.slub_words.specs.declared.board.BoardWord.{BoardWord}
@@ -10,7 +10,7 @@ use Rattle.slub_core.specs.declared.call.Call.{Call}
 use Rattle.slub_core.specs.declared.call.CallKind.{CallKind}
 use Rattle.slub_core.specs.declared.call.CallKind.TheVariants.{Alloc, Free, Write, Read, Poke, Trim, Flush}
 use Rattle.slub_core.specs.declared.local.Answered.{Answered}
-use Rattle.slub_core.specs.Setup.{Setup, IsChecked, IsPlain}
+use Rattle.slub_core.specs.Setup.{Setup}
 use Rattle.slub_core.specs.Checked.{is_offset}
 use Rattle.slub_core.specs.Steps.{is_outside}
 

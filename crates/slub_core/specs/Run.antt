@@ -1,7 +1,6 @@
 -- Rounds: workers make steps in some order, each on the one table of words.
 use Rattle.std.specs.Prelude.{ℕ, Bool, false, List, [], ◌∷◌, slice_index_or, slice_set, None, ◌≡◌}
 use Rattle.slub_core.specs.declared.spot.Spot.TheVariants.{Between}
-use Rattle.slub_core.specs.declared.step.Step.{Step}
 use Rattle.slub_core.specs.Setup.{Setup}
 use Rattle.slub_core.specs.Words.{number_of, after_op, answer_of}
 use Rattle.slub_core.specs.World.{LockValue}

@@ -1,5 +1,5 @@
 -- The table of spots: which locks a worker has at each, what it has in hand, what it has noted and may rely on.
-use Rattle.std.specs.Prelude.{ℕ, zero, suc, ◌+◌, ◌-◌, Bool, true, false, List, [], ◌∷◌, Option, Some, None}
+use Rattle.std.specs.Prelude.{ℕ, zero, suc, ◌-◌, Bool, true, false, List, [], ◌∷◌, Option, Some, None}
 use Rattle.slub_core.specs.declared.spot.Spot.{Spot}
 use Rattle.slub_core.specs.declared.spot.Spot.TheVariants.{Between, InAlloc, InPutAway, InDiscard, InPutOnList, InFree, InMoveSet, InOffline, InTrim, WriteWord, ReadWord, InChecked}
 use Rattle.slub_core.specs.declared.spot.AllocSpot.TheVariants.{LoadNext, Pop, Detach, LoadTaken, TakeAll, MarkFull, FollowFront, LoadKept, FreezeKept, PopNode, LoadPopped, FreezePopped, Unlist, GiveNode, TakeRun, GivePool, GiveDry, LinkNew, Make, LoadReady, LoadAgain, DetachOther, Install}

@@ -1,5 +1,5 @@
 -- The step that a worker's spot calls for, and where each answer leads.
-use Rattle.std.specs.Prelude.{ℕ, ◌+◌, ◌*◌, Bool, true, false, not, ◌&&◌, ◌||◌, ◌==◌, nat_le, if◌then◌else◌, List, [], ◌∷◌, length, slice_index, slice_index_or, Option, Some, None, unwrap_or}
+use Rattle.std.specs.Prelude.{ℕ, ◌+◌, ◌*◌, Bool, true, false, not, ◌==◌, nat_le, if◌then◌else◌, List, [], ◌∷◌, length, slice_index, slice_index_or, Option, Some, None, unwrap_or}
 use Rattle.slub_object_layout.specs.declared.layout.Layout.{Layout}
 use Rattle.slub_answers.specs.declared.reply.Reply.{Reply}
 use Rattle.slub_answers.specs.declared.reply.Reply.TheVariants.{NoSuchCache, NotHeld, Wrote, Value, OutOfObject, NotChecked, Flushed}
@@ -10,7 +10,7 @@ use Rattle.slub_core.specs.declared.call.CallKind.TheVariants.{Alloc, Free, Writ
 use Rattle.slub_core.specs.declared.local.Known.{Known}
 use Rattle.slub_core.specs.declared.step.Step.{Step}
 use Rattle.slub_core.specs.declared.step.Answer.{Answer}
-use Rattle.slub_core.specs.declared.step.Answer.TheVariants.{Word, Done, Won, Lost}
+use Rattle.slub_core.specs.declared.step.Answer.TheVariants.{Word, Done}
 use Rattle.slub_core.specs.declared.spot.Spot.{Spot}
 use Rattle.slub_core.specs.declared.spot.Spot.TheVariants.{Between, InAlloc, InPutAway, InDiscard, InPutOnList, InFree, InMoveSet, InOffline, InTrim, WriteWord, ReadWord, InChecked}
 use Rattle.slub_core.specs.declared.spot.AllocSpot.TheVariants.{LoadCpu}

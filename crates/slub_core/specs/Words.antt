@@ -1,11 +1,9 @@
 -- The words of the machine: what each says, and their numbers in the one table of words.
-use Rattle.std.specs.Prelude.{◌≡◌, ℕ, ◌+◌, ◌-◌, ◌*◌, ◌/◌, ◌%◌, ◌^◌, ◌<◌, ◌==◌, false, if◌then◌else◌, Option, Some, None}
+use Rattle.std.specs.Prelude.{ℕ, ◌+◌, ◌-◌, ◌*◌, ◌/◌, ◌%◌, ◌^◌, ◌==◌, false, if◌then◌else◌, Option, Some, None}
 use Rattle.slub_words.specs.declared.cpu.CpuWord.{CpuWord}
 use Rattle.slub_words.specs.declared.slab.SlabWord.{SlabWord}
 use Rattle.slub_words.specs.declared.board.BoardWord.{BoardWord}
-use Rattle.slub_words.specs.Words.{cpu_bits, slab_bits, board_bits}
 use Rattle.slub_cpu_partial.specs.declared.words.ListWord.{ListWord}
-use Rattle.slub_cpu_partial.specs.Strings.{list_bits}
 use Rattle.slub_core.specs.declared.step.Place.{Place}
 use Rattle.slub_core.specs.declared.step.Op.{Op}
 use Rattle.slub_core.specs.declared.step.Answer.{Answer}

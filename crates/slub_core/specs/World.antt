@@ -1,5 +1,5 @@
 -- The state of the machine, as reads of its words, with the values of its locks; and what is counted in it.
-use Rattle.std.specs.Prelude.{◌≡◌, ◌≢◌, ℕ, zero, suc, ◌+◌, ◌-◌, ◌*◌, ◌^◌, ◌/◌, ◌%◌, ◌<◌, ◌≤◌, Bool, true, false, ◌&&◌, ◌==◌, nat_lt, nat_le, cond, if◌then◌else◌, List, [], ◌∷◌, length, slice_index_or, Option, Some, None}
+use Rattle.std.specs.Prelude.{◌≡◌, ℕ, zero, suc, ◌+◌, ◌-◌, ◌*◌, ◌^◌, Bool, ◌&&◌, ◌==◌, nat_lt, nat_le, cond, List, [], ◌∷◌, slice_index_or, Option, Some, None}
 use Rattle.slub_common.specs.Times.{times}
 use Rattle.slub_page_pool.specs.FreeFrames.{FreeFrames}
 use Rattle.slub_red_zone.specs.State.{CheckedState, slab_of, objects_in}
@@ -9,7 +9,7 @@ use Rattle.slub_words.specs.declared.slab.SlabWord.{SlabWord}
 use Rattle.slub_words.specs.declared.board.BoardWord.{BoardWord}
 use Rattle.slub_cpu_partial.specs.declared.words.ListWord.{ListWord}
 use Rattle.slub_core.specs.Setup.{Setup, pool_lock, pointer_at, word_at, hardened, order_for}
-use Rattle.slub_core.specs.Words.{number_of, list_base, cpu_base, slab_base, board_base, memory_base, link_base, cpu_in, slab_in, board_in, list_in}
+use Rattle.slub_core.specs.Words.{list_base, cpu_base, slab_base, board_base, memory_base, link_base, cpu_in, slab_in, board_in, list_in}
 
 -- ---- the state
 

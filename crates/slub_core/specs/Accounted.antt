@@ -40,9 +40,11 @@ pub record Fits (m : Setup) (known : List Known) (c : Call) : Type 0 where
 -- whether one of these calls, the last one first, is to allocate the object
 abbrev pub was_asked : List Call → ℕ → Bool
 was_asked [] o = false
-was_asked (c ∷ cs) o = cond (c.object == o) (cond (is_alloc c.kind) true (was_asked cs o)) (was_asked cs o)
+was_asked (c ∷ cs) o =
+    cond (c.object == o) (cond (is_alloc c.kind) true (was_asked cs o)) (was_asked cs o)
 
--- whether a write of the word stands among these calls, the last one first, and after an allocation of the object where one stands there
+-- whether a write of the word stands among these calls, the last one first, and after an allocation
+-- of the object where one stands there
 abbrev pub written_by : Call → CallKind → ℕ → Bool → Bool
 written_by c Alloc a was = false
 written_by c Write a was = cond (c.word == a) true was
@@ -50,7 +52,8 @@ written_by c kind a was = was
 
 abbrev pub written : List Call → ℕ → ℕ → Bool
 written [] o a = false
-written (c ∷ cs) o a = cond (c.object == o) (written_by c c.kind a (written cs o a)) (written cs o a)
+written (c ∷ cs) o a =
+    cond (c.object == o) (written_by c c.kind a (written cs o a)) (written cs o a)
 
 -- a read is asked for only after a write of the same word
 abbrev pub MayCome : List Call → Call → CallKind → Type 0
@@ -80,29 +83,42 @@ NamesCache l Trim = (call_of l).cache ≡ Some l.cache
 NamesCache l kind = Unit {0}
 
 -- its records and its replies agree
-pub record IsTold (m : Setup) (before : ℕ → Option BoardWord) (p : Public) (l : Local) : Type 0 where
+pub record IsTold (m : Setup) (before : ℕ → Option BoardWord) (p : Public) (l : Local)
+    : Type 0 where
   pub caused : Caused m before p l.done
   -- what it holds it was given, or took from the board and answered Corrupt or is freeing
-  pub holds : (o : ℕ) → (is_freeing l.spot ≡ true → o ≡ (here l).object → ⊥) → (known_of l.known o).held ≡ holding l.done o
-  pub source : is_freeing l.spot ≡ true → (holding l.done (here l).object ≡ true) ⊎ (address_on m (before (here l).object) ≡ Some (address_in m (here l)))
+  pub holds : (o : ℕ) → (is_freeing l.spot ≡ true → o ≡ (here l).object → ⊥)
+      → (known_of l.known o).held ≡ holding l.done o
+  pub source : is_freeing l.spot ≡ true → (holding l.done (here l).object ≡ true)
+      ⊎ (address_on m (before (here l).object) ≡ Some (address_in m (here l)))
   -- what it knows is where the replies and the board before say
-  pub address : (o : ℕ) → (known_of l.known o).held ≡ true → address_by m before l.done o ≡ Some (address_in m (known_of l.known o))
-  pub cache : (o : ℕ) → (known_of l.known o).held ≡ true → cache_by before l.done o ≡ Some (known_of l.known o).cache
+  pub address : (o : ℕ) → (known_of l.known o).held ≡ true
+      → address_by m before l.done o ≡ Some (address_in m (known_of l.known o))
+  pub cache : (o : ℕ) → (known_of l.known o).held ≡ true
+      → cache_by before l.done o ≡ Some (known_of l.known o).cache
   pub tells : (o : ℕ) → knows l.done o ≡ true
-      → (address_by m before l.done o ≡ Some (address_in m (known_of l.known o))) × (cache_by before l.done o ≡ Some (known_of l.known o).cache) × (1 ≤ (known_of l.known o).frame)
-  pub unknown : (o : ℕ) → 1 ≤ (known_of l.known o).frame → (knows l.done o ≡ true) ⊎ ((known_of l.known o).held ≡ true)
+      → (address_by m before l.done o ≡ Some (address_in m (known_of l.known o)))
+      × (cache_by before l.done o ≡ Some (known_of l.known o).cache)
+      × (1 ≤ (known_of l.known o).frame)
+  pub unknown : (o : ℕ) → 1 ≤ (known_of l.known o).frame → (knows l.done o ≡ true)
+      ⊎ ((known_of l.known o).held ≡ true)
   -- its calls
   pub call : (kind : CallKind) → doing l.spot ≡ Some kind → IsDoing l kind × NamesCache l kind
   pub fits : All (Fits m l.known) l.todo
   pub distinct : AreDistinct l.known
   pub numbers : All (λ (k : Known). k.object < m.objects) l.known
 
--- what it wrote in the objects that it holds stands there; but in the one that it frees a free pointer may stand
+-- what it wrote in the objects that it holds stands there; but in the one that it frees a free
+-- pointer may stand
 pub record IsWritten (w : World) (before : ℕ → Option BoardWord) (l : Local) : Type 0 where
-  pub stands : (o a v : ℕ) → (frees l.spot ≡ true → o ≡ (here l).object → ⊥) → (known_of l.known o).held ≡ true → w.setup.checks (known_of l.known o).cache ≡ false
-      → last_wrote l.done o a ≡ Some v → content w (known_of l.known o).cache (known_of l.known o).frame (known_of l.known o).index a ≡ v
+  pub stands : (o a v : ℕ) → (frees l.spot ≡ true → o ≡ (here l).object → ⊥)
+      → (known_of l.known o).held ≡ true → w.setup.checks (known_of l.known o).cache ≡ false
+      → last_wrote l.done o a ≡ Some v
+      → content w (known_of l.known o).cache (known_of l.known o).frame
+      (known_of l.known o).index a ≡ v
   -- a word that was written lies in the object
-  pub inside : (o a v : ℕ) → (known_of l.known o).held ≡ true → last_wrote l.done o a ≡ Some v → 8 * (a + 1) ≤ (w.setup.layout (known_of l.known o).cache).object_size
+  pub inside : (o a v : ℕ) → (known_of l.known o).held ≡ true → last_wrote l.done o a ≡ Some v
+      → 8 * (a + 1) ≤ (w.setup.layout (known_of l.known o).cache).object_size
   pub reads : AreReadable (calls_of l.done) l.todo
   pub new : (o : ℕ) → was_asked (calls_of l.done) o ≡ true → before o ≡ None
 
@@ -130,12 +146,19 @@ pub record IsAccounted (opening w : World) (xs : List Worker) : Type 0 where
   -- the board is the one before less what was taken from it
   pub within : (o : ℕ) (b : BoardWord) → opening.board o ≡ Some b → (1 ≤ o) × (o < w.setup.objects)
   pub stands : (o : ℕ) → (w.board o ≡ None) ⊎ (w.board o ≡ opening.board o)
-  -- each number is on the board, held or freed as often as it was on the board before or was given; and that is once at most
-  pub count : (o : ℕ) → boarded (w.board o) + sum_by (λ (x : Worker). had o x.local) xs ≡ boarded (opening.board o) + sum_by (λ (x : Worker). given_in o x.local.done) xs
-  pub once : (o : ℕ) → boarded (opening.board o) + sum_by (λ (x : Worker). given_in o x.local.done) xs + sum_by (λ (x : Worker). asked_in o x.local.todo) xs ≤ 1
+  -- each number is on the board, held or freed as often as it was on the board before or was given;
+  -- and that is once at most
+  pub count : (o : ℕ) → boarded (w.board o) + sum_by (λ (x : Worker). had o x.local) xs
+      ≡ boarded (opening.board o) + sum_by (λ (x : Worker). given_in o x.local.done) xs
+  pub once : (o : ℕ) → boarded (opening.board o)
+      + sum_by (λ (x : Worker). given_in o x.local.done) xs
+      + sum_by (λ (x : Worker). asked_in o x.local.todo) xs ≤ 1
   -- a pool that lacked a run of an order has counted it: each is a NoFrames
-  pub few : (sum_by (λ (x : Worker). length x.local.done + length x.local.todo) xs ≤ 2 ^ 32) × ((order : ℕ) → slice_index (pool_of opening).dry order ≤ 2 ^ 62)
-  pub dry : (order : ℕ) → slice_index (pool_of w).dry order ≡ slice_index (pool_of opening).dry order + sum_by (λ (x : Worker). dry_in w.setup order x.local.done) xs
+  pub few : (sum_by (λ (x : Worker). length x.local.done + length x.local.todo) xs ≤ 2 ^ 32)
+      × ((order : ℕ) → slice_index (pool_of opening).dry order ≤ 2 ^ 62)
+  pub dry : (order : ℕ)
+      → slice_index (pool_of w).dry order ≡ slice_index (pool_of opening).dry order
+      + sum_by (λ (x : Worker). dry_in w.setup order x.local.done) xs
   -- each worker's records, and what it wrote
   pub told : All (λ (x : Worker). IsTold w.setup opening.board (public w xs) x.local) xs
   pub written : All (λ (x : Worker). IsWritten w opening.board x.local) xs

@@ -1,4 +1,5 @@
--- The allocation of an unchecked cache, step by step: `slab_alloc_node` and `___slab_alloc` of Linux 6.1.
+-- The allocation of an unchecked cache, step by step: `slab_alloc_node` and `___slab_alloc` of
+-- Linux 6.1.
 use Rattle.std.specs.Prelude.{ℕ, ◌+◌, ◌-◌, ◌*◌, ◌/◌, ◌%◌, ◌^◌, Bool, true, false, not, ◌&&◌, ◌||◌, ◌==◌, nat_lt, nat_le, if◌then◌else◌, List, [], ◌∷◌, length, slice_index, slice_set, min, Option, Some, None}
 use Rattle.slub_page_pool.specs.FreeFrames.{FreeFrames}
 use Rattle.slub_object_layout.specs.declared.layout.Layout.{Layout}
@@ -43,7 +44,11 @@ abbrev pub second_of : Hand → ℕ
 second_of hand = if hand.length == 2 then hand.last else 0
 
 abbrev pub installed_word : Setup → Local → CpuWord
-installed_word m l = record { tid = l.cpu_word.tid + m.step; frame = (hand_of l).frame; head = second_of (hand_of l) }
+installed_word m l = record {
+  tid = l.cpu_word.tid + m.step;
+  frame = (hand_of l).frame;
+  head = second_of (hand_of l);
+}
 
 -- all objects of a slab are in use once its freelist is taken (`get_freelist`, `acquire_slab`)
 abbrev pub emptied_word : SlabWord → SlabWord
@@ -60,7 +65,14 @@ abbrev pub unlisted_word : SlabWord → SlabWord
 unlisted_word s = record s { listed = false }
 
 abbrev pub made_word : Local → SlabWord
-made_word l = record { head = 0; inuse = (run_of l).objects; objects = (run_of l).objects; frozen = true; listed = false; cache = l.cache }
+made_word l = record {
+  head = 0;
+  inuse = (run_of l).objects;
+  objects = (run_of l).objects;
+  frozen = true;
+  listed = false;
+  cache = l.cache;
+}
 
 -- ---- ways
 
@@ -68,7 +80,8 @@ made_word l = record { head = 0; inuse = (run_of l).objects; objects = (run_of l
 abbrev pub is_spent : Setup → CpuWord → Bool
 is_spent m c = nat_lt (4294967295 - 2 * m.step) c.tid
 
--- where a CPU freelist leads: to the fast path, to the slab's own freelist, to another slab. A try ends where the fast path does
+-- where a CPU freelist leads: to the fast path, to the slab's own freelist, to another slab. A try
+-- ends where the fast path does
 abbrev pub way_of_word : Setup → Bool → CpuWord → Spot
 way_of_word m fast c =
     if is_spent m c then Between
@@ -86,28 +99,37 @@ way_of_lost fast = if fast then Between else InAlloc LoadCpu
 
 -- to where a slab is put away: along its chain where the end isn't known
 abbrev pub way_of_away : Hand → Away → Spot
-way_of_away hand away = if (hand.head == 0) || hand.walked then InPutAway LockAway away else InPutAway WalkChain away
+way_of_away hand away = if (hand.head == 0) || hand.walked then InPutAway LockAway away
+    else InPutAway WalkChain away
 
 abbrev pub way_of_taken : SlabWord → Spot
 way_of_taken s = if s.head == 0 then InAlloc MarkFull else InAlloc TakeAll
 
 -- the CPU's partial list: nothing, one slab, which is kept, or a string
 abbrev pub way_of_list : ListWord → Spot
-way_of_list list = if list.count == 0 then InAlloc LockNode else if list.count == 1 then InAlloc LoadKept else InAlloc FollowFront
+way_of_list list = if list.count == 0 then InAlloc LockNode else if list.count == 1
+    then InAlloc LoadKept else InAlloc FollowFront
 
 abbrev pub hands_of_list : ListWord → List Hand → List Hand
 hands_of_list list hands = if list.count == 1 then bare_hand list.front ∷ hands else hands
 
 -- a string of so many slabs from a front on, of which the last leads to nothing
 abbrev pub taken_string : ℕ → ℕ → PartialString
-taken_string front count = record { front = front; count = count; cursor = front; place = 1; link = Some 0 }
+taken_string front count = record {
+  front = front;
+  count = count;
+  cursor = front;
+  place = 1;
+  link = Some 0;
+}
 
 -- a string of one slab, of which nobody knows where it leads
 abbrev pub single_string : ℕ → PartialString
 single_string frame = record { front = frame; count = 1; cursor = frame; place = 1; link = None }
 
 abbrev pub string_of_list : ListWord → Option PartialString
-string_of_list list = if nat_lt 1 list.count then Some (taken_string list.front list.count) else None
+string_of_list list = if nat_lt 1 list.count then Some (taken_string list.front list.count)
+    else None
 
 -- the first popped slab is frozen, each later one goes to the CPU's partial list
 abbrev pub way_of_popped : List Hand → Spot
@@ -121,7 +143,8 @@ way_of_run None = InAlloc GiveDry
 way_of_run (Some run) = InAlloc GivePool
 
 abbrev pub way_of_link : Local → ℕ → Spot
-way_of_link l i = if nat_lt (i + 1) (run_of l).objects then InAlloc (LinkNew (i + 1)) else InAlloc Make
+way_of_link l i = if nat_lt (i + 1) (run_of l).objects then InAlloc (LinkNew (i + 1))
+    else InAlloc Make
 
 -- before an install: spent, another slab is current, or none
 abbrev pub way_of_again : Setup → Hand → CpuWord → Spot
@@ -137,7 +160,11 @@ reached hand = if hand.length == 0 then hand.head else hand.last
 -- a walk finds what that object leads to: nothing, or one object more
 abbrev pub walked_on : Hand → ℕ → Hand
 walked_on hand found =
-    if found == 0 then record hand { last = reached hand; length = (if hand.length == 0 then 1 else hand.length); walked = true }
+    if found == 0 then record hand {
+      last = reached hand;
+      length = (if hand.length == 0 then 1 else hand.length);
+      walked = true;
+    }
     else record hand { last = found; length = (if hand.length == 0 then 2 else hand.length + 1) }
 
 -- what was loaded of an object's free pointer
@@ -153,32 +180,45 @@ node_of value l = frames_in (value (node_lock l.cache))
 abbrev pub with_node : (ℕ → LockValue) → Local → List ℕ → ℕ → LockValue
 with_node value l frames = update value (node_lock l.cache) (Node frames)
 
--- one slab is taken, and then up to half of what the CPU's list is to hold, and one (`get_partial_node`)
+-- one slab is taken, and then up to half of what the CPU's list is to hold, and one
+-- (`get_partial_node`)
 abbrev pub asks_for_another : Setup → Local → Bool
-asks_for_another m l = (length l.hands == 0) || nat_le l.put ((m.layout l.cache).cpu_partial_slabs / 2)
+asks_for_another m l =
+    (length l.hands == 0) || nat_le l.put ((m.layout l.cache).cpu_partial_slabs / 2)
 
 abbrev pub pop_node : Setup → (ℕ → LockValue) → Local → List ℕ → Change
 pop_node m value l [] = stays value (at l (InAlloc GiveNode))
 pop_node m value l (frame ∷ frames) =
-    if asks_for_another m l then stays (with_node value l frames) (at (with_hand l (bare_hand frame)) (InAlloc LoadPopped))
+    if asks_for_another m l
+    then stays (with_node value l frames)
+    (at (with_hand l (bare_hand frame)) (InAlloc LoadPopped))
     else stays value (at l (InAlloc GiveNode))
 
 -- a run of the layout's order, else one of the least order (`allocate_slab`)
 abbrev pub run_found : Layout → ℕ → Option ℕ → Option FrameRun
 run_found layout order None = None
 run_found layout order (Some frame) =
-    Some (record { frame = frame; order = order; objects = (if order == layout.order then layout.objects else layout.min_objects_slab) })
+    Some (record {
+      frame = frame;
+      order = order;
+      objects = (if order == layout.order then layout.objects else layout.min_objects_slab);
+    })
 
 abbrev pub or_least : Setup → FreeFrames → Layout → Option FrameRun → Option FrameRun
 or_least m pool layout None = run_found layout layout.min_order (m.means.take pool layout.min_order)
 or_least m pool layout (Some run) = Some run
 
 abbrev pub found_run : Setup → FreeFrames → Layout → Option FrameRun
-found_run m pool layout = or_least m pool layout (run_found layout layout.order (m.means.take pool layout.order))
+found_run m pool layout =
+    or_least m pool layout (run_found layout layout.order (m.means.take pool layout.order))
 
 -- a machine without such a run counts it, up to the counter's end
 abbrev pub noted_dry : FreeFrames → ℕ → FreeFrames
-noted_dry pool order = record pool { dry = slice_set pool.dry order (min (slice_index pool.dry order + 1) (2 ^ 64 - 1)) }
+noted_dry pool order =
+    record pool {
+      dry = slice_set pool.dry order
+          (min (slice_index pool.dry order + 1) (2 ^ 64 - 1));
+    }
 
 abbrev pub pool_with : (ℕ → LockValue) → FreeFrames → ℕ → LockValue
 pool_with value pool = update value pool_lock (Pool pool)
@@ -186,13 +226,18 @@ pool_with value pool = update value pool_lock (Pool pool)
 -- a worker has the run in hand, or the reply that there is none
 abbrev pub run_taken : (ℕ → LockValue) → FreeFrames → Layout → Local → Option FrameRun → Change
 run_taken value pool layout l None =
-    record { value = pool_with value (noted_dry pool layout.min_order); local = l; reply = Some NoFrames }
+    record {
+      value = pool_with value (noted_dry pool layout.min_order);
+      local = l;
+      reply = Some NoFrames;
+    }
 run_taken value pool layout l (Some run) =
     record { value = pool_with value (pool_after pool run.order (Some run.frame)); local = record l { run = Some run }; reply = None }
 
 abbrev pub take_run : Setup → (ℕ → LockValue) → Local → FreeFrames → Change
 take_run m value l pool =
-    let found = found_run m pool (m.layout l.cache) in run_taken value pool (m.layout l.cache) (at l (way_of_run found)) found
+    let found = found_run m pool (m.layout l.cache) in
+    run_taken value pool (m.layout l.cache) (at l (way_of_run found)) found
 
 -- ---- spot by spot
 
@@ -224,7 +269,8 @@ alloc_step m l TakeRun = no_step
 alloc_step m l GivePool = give_pool l
 alloc_step m l GiveDry = give_pool l
 alloc_step m l (LinkNew i) =
-    store_pointer m l.cache (run_of l).frame i (if nat_lt (i + 1) (run_of l).objects then i + 2 else 0)
+    store_pointer m l.cache (run_of l).frame i (if nat_lt (i + 1) (run_of l).objects then i + 2
+    else 0)
 alloc_step m l Make = store_slab (run_of l).frame (made_word l)
 -- the slab becomes current (`load_freelist`, `retry_load_slab`)
 alloc_step m l LoadReady = load_pointer m l.cache (hand_of l).frame ((hand_of l).head - 1)
@@ -234,47 +280,80 @@ alloc_step m l Install = change_cpu l (installed_word m l)
 
 abbrev pub alloc_advance : Setup → Local → AllocSpot → Answer → Turn
 alloc_advance m l LoadCpu (Word x) =
-    record { local = record l { cpu_word = cpu_in x; spot = way_of_word m l.fast (cpu_in x) }; reply = told_of_word m l.fast (cpu_in x) }
+    record {
+      local = record l { cpu_word = cpu_in x; spot = way_of_word m l.fast (cpu_in x) };
+      reply = told_of_word m l.fast (cpu_in x);
+    }
 alloc_advance m l LoadNext (Word x) =
-    goes (record l { next = found_at m l.cache l.cpu_word.frame (l.cpu_word.head - 1) x; spot = InAlloc Pop })
+    goes (record l {
+      next = found_at m l.cache l.cpu_word.frame (l.cpu_word.head - 1) x;
+      spot = InAlloc Pop;
+    })
 alloc_advance m l Pop Won =
     tells (at (gets l l.cache l.cpu_word.frame (l.cpu_word.head - 1)) Between)
     (Given (address_of l.cpu_word.frame (l.cpu_word.head - 1) (m.layout l.cache)))
 alloc_advance m l Pop (Lost x) = goes (at l (way_of_lost l.fast))
-alloc_advance m l Detach Won = goes (at (with_hand l (hand_from l.cpu_word.frame l.cpu_word.head)) (InAlloc LoadTaken))
+alloc_advance m l Detach Won =
+    goes (at (with_hand l (hand_from l.cpu_word.frame l.cpu_word.head)) (InAlloc LoadTaken))
 alloc_advance m l Detach (Lost x) = goes (at l (InAlloc LoadCpu))
-alloc_advance m l LoadTaken (Word x) = goes (record l { slab_word = slab_in x; spot = way_of_taken (slab_in x) })
-alloc_advance m l TakeAll Won = goes (at (set_hand l (hand_from (hand_of l).frame l.slab_word.head)) (InAlloc LoadReady))
+alloc_advance m l LoadTaken (Word x) =
+    goes (record l { slab_word = slab_in x; spot = way_of_taken (slab_in x) })
+alloc_advance m l TakeAll Won =
+    goes (at (set_hand l (hand_from (hand_of l).frame l.slab_word.head)) (InAlloc LoadReady))
 alloc_advance m l TakeAll (Lost x) = goes (at l (InAlloc LoadTaken))
 alloc_advance m l MarkFull Won = goes (at (less_hand l) (InAlloc TakeList))
 alloc_advance m l MarkFull (Lost x) = goes (at l (InAlloc LoadTaken))
 alloc_advance m l TakeList (Word x) =
-    goes (record l { hands = hands_of_list (list_in x) l.hands; string = string_of_list (list_in x); spot = way_of_list (list_in x) })
+    goes (record l {
+      hands = hands_of_list (list_in x) l.hands;
+      string = string_of_list (list_in x);
+      spot = way_of_list (list_in x);
+    })
 -- the front leaves the string only here, when the front of the rest is known
 alloc_advance m l FollowFront (Word x) =
-    goes (record (with_hand l (bare_hand (string_of l).front)) { string = Some (taken_string (x % 2 ^ 16) ((string_of l).count - 1)); spot = InPutOnList LoadList OfRest })
-alloc_advance m l LoadKept (Word x) = goes (record l { slab_word = slab_in x; spot = InAlloc FreezeKept })
-alloc_advance m l FreezeKept Won = goes (at (set_hand l (hand_from (hand_of l).frame l.slab_word.head)) (InAlloc LoadReady))
+    goes (record (with_hand l (bare_hand (string_of l).front)) {
+      string = Some
+          (taken_string (x % 2 ^ 16) ((string_of l).count - 1));
+      spot = InPutOnList LoadList OfRest;
+    })
+alloc_advance m l LoadKept (Word x) =
+    goes (record l { slab_word = slab_in x; spot = InAlloc FreezeKept })
+alloc_advance m l FreezeKept Won =
+    goes (at (set_hand l (hand_from (hand_of l).frame l.slab_word.head)) (InAlloc LoadReady))
 alloc_advance m l FreezeKept (Lost x) = goes (at l (InAlloc LoadKept))
 alloc_advance m l LockNode Won = goes (record l { put = 0; spot = InAlloc PopNode })
-alloc_advance m l LoadPopped (Word x) = goes (record l { slab_word = slab_in x; spot = way_of_popped l.hands })
-alloc_advance m l FreezePopped Won = goes (at (set_hand l (hand_from (hand_of l).frame l.slab_word.head)) (InAlloc PopNode))
+alloc_advance m l LoadPopped (Word x) =
+    goes (record l { slab_word = slab_in x; spot = way_of_popped l.hands })
+alloc_advance m l FreezePopped Won =
+    goes (at (set_hand l (hand_from (hand_of l).frame l.slab_word.head)) (InAlloc PopNode))
 alloc_advance m l FreezePopped (Lost x) = goes (at l (InAlloc LoadPopped))
 alloc_advance m l Unlist Won =
-    goes (record (less_hand l) { string = Some (single_string (hand_of l).frame); spot = InPutOnList LoadList OfNode })
+    goes (record (less_hand l) {
+      string = Some (single_string (hand_of l).frame);
+      spot = InPutOnList LoadList OfNode;
+    })
 alloc_advance m l Unlist (Lost x) = goes (at l (InAlloc LoadPopped))
 alloc_advance m l GiveNode Done = goes (at l (way_of_node l.hands))
 alloc_advance m l LockPool Won = goes (at l (InAlloc TakeRun))
 alloc_advance m l GivePool Done = goes (at l (InAlloc (LinkNew 0)))
 alloc_advance m l GiveDry Done = goes (at l Between)
 alloc_advance m l (LinkNew i) Done = goes (at l (way_of_link l i))
-alloc_advance m l Make Done = goes (record (with_hand l (hand_from (run_of l).frame 1)) { run = None; spot = InAlloc LoadReady })
+alloc_advance m l Make Done =
+    goes (record (with_hand l (hand_from (run_of l).frame 1)) {
+      run = None;
+      spot = InAlloc LoadReady;
+    })
 alloc_advance m l LoadReady (Word x) =
-    goes (at (set_hand l (walked_on (hand_of l) (found_at m l.cache (hand_of l).frame ((hand_of l).head - 1) x))) (InAlloc LoadAgain))
+    goes (at (set_hand l (walked_on (hand_of l)
+    (found_at m l.cache (hand_of l).frame ((hand_of l).head - 1) x))) (InAlloc LoadAgain))
 alloc_advance m l LoadAgain (Word x) =
-    record { local = record l { cpu_word = cpu_in x; spot = way_of_again m (hand_of l) (cpu_in x) }; reply = told_of_word m false (cpu_in x) }
+    record {
+      local = record l { cpu_word = cpu_in x; spot = way_of_again m (hand_of l) (cpu_in x) };
+      reply = told_of_word m false (cpu_in x);
+    }
 alloc_advance m l DetachOther Won =
-    let hand = hand_from l.cpu_word.frame l.cpu_word.head in goes (at (with_hand l hand) (way_of_away hand ForInstall))
+    let hand = hand_from l.cpu_word.frame l.cpu_word.head in
+    goes (at (with_hand l hand) (way_of_away hand ForInstall))
 alloc_advance m l DetachOther (Lost x) = goes (at l (InAlloc LoadAgain))
 alloc_advance m l Install Won =
     tells (at (less_hand (gets l l.cache (hand_of l).frame ((hand_of l).head - 1))) Between)

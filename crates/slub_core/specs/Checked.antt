@@ -1,4 +1,5 @@
--- The calls of a checked cache, under its lock: `alloc_single_from_partial` and `free_debug_processing` of Linux 6.1; the rest is profile.
+-- The calls of a checked cache, under its lock: `alloc_single_from_partial` and
+-- `free_debug_processing` of Linux 6.1; the rest is profile.
 use Rattle.std.specs.Prelude.{ℕ, Bool, false, ◌&&◌, ◌==◌, nat_lt, nat_le, if◌then◌else◌, [], length, ℤ, pos, int_lt, int_le, Option, Some, None}
 use Rattle.slub_page_pool.specs.FreeFrames.{FreeFrames}
 use Rattle.slub_object_layout.specs.declared.layout.Layout.{Layout}
@@ -30,7 +31,23 @@ use Rattle.slub_core.specs.Discard.{with_put}
 
 -- the slabs of a checked cache that are another's, or of no cache
 abbrev pub no_checked : Layout → CheckedState
-no_checked layout = record { layout = layout; flags = record { line = false; reclaim = false; checks = false; zones = false; poison = false; user = false; trace = false; fail = false }; cache = 0; slabs = []; listed = []; reports = [] }
+no_checked layout = record {
+  layout = layout;
+  flags = record {
+    line = false;
+    reclaim = false;
+    checks = false;
+    zones = false;
+    poison = false;
+    user = false;
+    trace = false;
+    fail = false;
+  };
+  cache = 0;
+  slabs = [];
+  listed = [];
+  reports = [];
+}
 
 abbrev pub slabs_in : Layout → LockValue → CheckedState
 slabs_in layout Nothing = no_checked layout
@@ -65,10 +82,15 @@ gave m value l after give.Empty = stays (with_slabs value l after) (at l (InChec
 -- an empty slab is taken out, where enough slabs are listed (`remove_partial`, `slab_free`)
 abbrev pub is_spare : Setup → CheckedState → ℕ → ℕ → Bool
 is_spare m s cache frame =
-    (length (slab_of s frame).free == objects_in (slab_of s frame)) && nat_le (m.layout cache).min_partial (length s.listed)
+    (length (slab_of s frame).free == objects_in (slab_of s frame))
+    && nat_le (m.layout cache).min_partial (length s.listed)
 
 abbrev pub run_at : CheckedState → ℕ → FrameRun
-run_at s frame = record { frame = frame; order = (slab_of s frame).order; objects = objects_in (slab_of s frame) }
+run_at s frame = record {
+  frame = frame;
+  order = (slab_of s frame).order;
+  objects = objects_in (slab_of s frame);
+}
 
 abbrev pub taken_back : Setup → (ℕ → LockValue) → Local → CheckedState → Change
 taken_back m value l s =
@@ -76,7 +98,10 @@ taken_back m value l s =
     let spare = is_spare m s l.cache frame in
     record {
       value = with_slabs value l (if spare then without_slab s frame else s);
-      local = record (loses l) { run = (if spare then Some (run_at s frame) else None); spot = (if spare then InChecked LockRun Free else InChecked GiveChecked Free) };
+      local = record (loses l) {
+        run = (if spare then Some (run_at s frame) else None);
+        spot = (if spare then InChecked LockRun Free else InChecked GiveChecked Free);
+      };
       reply = Some (Freed (address_in m (here l)));
     }
 
@@ -84,21 +109,29 @@ taken_back m value l s =
 abbrev pub took_back : Setup → (ℕ → LockValue) → Local → CheckedState → Option Damage → Change
 took_back m value l s None = taken_back m value l (with_taken s (slot_of l))
 took_back m value l s (Some damage) =
-    record { value = value; local = at l (InChecked GiveChecked Free); reply = Some (Corrupt damage) }
+    record {
+      value = value;
+      local = at l (InChecked GiveChecked Free);
+      reply = Some (Corrupt damage);
+    }
 
 -- ---- a byte of the slot
 
 abbrev pub is_offset : Layout → ℤ → Bool
-is_offset layout offset = int_le (pos 0) (place_of layout offset) && int_lt (place_of layout offset) (pos layout.size)
+is_offset layout offset =
+    int_le (pos 0) (place_of layout offset) && int_lt (place_of layout offset) (pos layout.size)
 
 -- in this order: the byte lies outside of the slot, the slab is there no more, it is written
 abbrev pub poked_reply : Local → CheckedState → Reply
 poked_reply l s =
-    if is_offset s.layout (call_of l).offset then (if nat_lt (here l).index (objects_in (slab_of s (here l).frame)) then Poked else NotHeld) else OutOfSlot
+    if is_offset s.layout (call_of l).offset
+    then (if nat_lt (here l).index (objects_in (slab_of s (here l).frame)) then Poked
+    else NotHeld) else OutOfSlot
 
 abbrev pub poked : Local → CheckedState → CheckedState
 poked l s =
-    if is_offset s.layout (call_of l).offset && nat_lt (here l).index (objects_in (slab_of s (here l).frame))
+    if is_offset s.layout (call_of l).offset
+    && nat_lt (here l).index (objects_in (slab_of s (here l).frame))
     then with_byte s (slot_of l) (call_of l).offset (call_of l).byte else s
 
 -- ---- a new slab (`alloc_single_from_new_slab`)
@@ -108,14 +141,21 @@ abbrev pub slab_added : Setup → (ℕ → LockValue) → Local → CheckedState
 slab_added m value l s run =
     let slot : Slot = record { frame = run.frame; index = 0 } in
     record {
-      value = with_slabs value l (with_given (with_new_slab s (record { frame = run.frame; order = run.order }) run.objects) slot);
+      value = with_slabs value l (with_given (with_new_slab s (record {
+        frame = run.frame;
+        order = run.order;
+      }) run.objects) slot);
       local = record (gets l l.cache run.frame 0) { run = None; spot = InChecked GiveRun Alloc };
       reply = Some (Given (address_of run.frame 0 (m.layout l.cache)));
     }
 
 abbrev pub slab_refused : (ℕ → LockValue) → Local → FreeFrames → FrameRun → Change
 slab_refused value l pool run =
-    record { value = pool_with value (with_put pool run); local = record l { run = None; spot = InChecked GiveRun Alloc }; reply = Some NoMemory }
+    record {
+      value = pool_with value (with_put pool run);
+      local = record l { run = None; spot = InChecked GiveRun Alloc };
+      reply = Some NoMemory;
+    }
 
 -- where a run that was found or not leads to
 abbrev pub way_of_found : Option FrameRun → Spot
@@ -144,24 +184,44 @@ abbrev pub do_checked : Setup → (ℕ → LockValue) → Local → CallKind →
 do_checked m value l Alloc s = gave m value l (m.means.give s) (m.means.gave s)
 do_checked m value l Free s = took_back m value l s (damage_of_used s (slot_of l))
 do_checked m value l Write s =
-    record { value = with_slabs value l (with_word s (slot_of l) (call_of l).word (call_of l).value); local = at l (InChecked GiveChecked Write); reply = Some Wrote }
+    record {
+      value = with_slabs value l
+          (with_word s (slot_of l) (call_of l).word (call_of l).value);
+      local =
+          at l (InChecked GiveChecked Write);
+      reply = Some Wrote;
+    }
 do_checked m value l Read s =
-    record { value = value; local = at l (InChecked GiveChecked Read); reply = Some (Value (word_of s (slot_of l) (call_of l).word)) }
+    record {
+      value = value;
+      local = at l (InChecked GiveChecked Read);
+      reply = Some (Value (word_of s (slot_of l) (call_of l).word));
+    }
 do_checked m value l Poke s =
-    record { value = with_slabs value l (poked l s); local = at l (InChecked GiveChecked Poke); reply = Some (poked_reply l s) }
+    record {
+      value = with_slabs value l (poked l s);
+      local = at l (InChecked GiveChecked Poke);
+      reply = Some (poked_reply l s);
+    }
 do_checked m value l kind s = stays value l
 
 -- a run is looked for, or put back
 abbrev pub move_run : Setup → (ℕ → LockValue) → Local → CallKind → FreeFrames → Change
 move_run m value l Alloc pool =
-    let found = found_run m pool (m.layout l.cache) in run_taken value pool (m.layout l.cache) (at l (way_of_found found)) found
+    let found = found_run m pool (m.layout l.cache) in
+    run_taken value pool (m.layout l.cache) (at l (way_of_found found)) found
 move_run m value l kind pool =
-    stays (pool_with value (with_put pool (run_of l))) (record l { run = None; spot = InChecked GiveRun kind })
+    stays (pool_with value (with_put pool (run_of l))) (record l {
+      run = None;
+      spot = InChecked GiveRun kind;
+    })
 
 -- `refused`: there was no memory for the bytes of a new slab
-abbrev pub checked_at_once : Setup → Bool → (ℕ → LockValue) → Local → CheckedSpot → CallKind → Change
+abbrev pub checked_at_once : Setup → Bool → (ℕ → LockValue) → Local → CheckedSpot → CallKind
+    → Change
 checked_at_once m refused value l DoChecked kind = do_checked m value l kind (slabs_of m value l)
 checked_at_once m refused value l MoveRun kind = move_run m value l kind (pool_in (value pool_lock))
 checked_at_once m refused value l AddSlab kind =
-    if refused then slab_refused value l (pool_in (value pool_lock)) (run_of l) else slab_added m value l (slabs_of m value l) (run_of l)
+    if refused then slab_refused value l (pool_in (value pool_lock)) (run_of l)
+    else slab_added m value l (slabs_of m value l) (run_of l)
 checked_at_once m refused value l s kind = stays value l

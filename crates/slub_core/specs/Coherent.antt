@@ -7,14 +7,16 @@ use Rattle.slub_core.specs.Listed.{IsListed}
 use Rattle.slub_core.specs.Fresh.{IsFresh}
 use Rattle.slub_core.specs.Accounted.{IsAccounted}
 
--- of the machine and its workers: each object, each slab, each frame and each lock is in one place, and what workers rely on is so
+-- of the machine and its workers: each object, each slab, each frame and each lock is in one place,
+-- and what workers rely on is so
 pub record Stands (w : World) (xs : List Worker) : Type 0 where
   pub chains : Chains
   pub placed : IsPlaced w chains xs
   pub listed : IsListed w chains xs
   pub fresh : IsFresh w xs
 
--- the whole: `opening` is the state in which the round began, y has the freelists and the partial lists that the words lead to
+-- the whole: `opening` is the state in which the round began, y has the freelists and the partial
+-- lists that the words lead to
 pub record IsCoherent (opening w : World) (y : Chains) (xs : List Worker) : Type 0 where
   -- each object is in exactly one place
   pub placed : IsPlaced w y xs

@@ -38,7 +38,11 @@ counts_for FromTrim = 1
 
 -- the slab's frames: their order is that of a slab of as many objects
 abbrev pub run_of_slab : Setup → Local → FrameRun
-run_of_slab m l = record { frame = (hand_of l).frame; order = order_for (m.layout l.cache) l.slab_word.objects; objects = l.slab_word.objects }
+run_of_slab m l = record {
+  frame = (hand_of l).frame;
+  order = order_for (m.layout l.cache) l.slab_word.objects;
+  objects = l.slab_word.objects;
+}
 
 -- where a discarded slab leads to
 abbrev pub way_of_discarded : Discard → Spot
@@ -57,7 +61,11 @@ discard_step l GiveDiscard = give_pool l
 
 abbrev pub discard_advance : Setup → Local → DiscardSpot → Discard → Answer → Turn
 discard_advance m l Unmake discard Done =
-    goes (record (less_hand l) { run = Some (run_of_slab m l); count = l.count + counts_for discard; spot = InDiscard LockDiscard discard })
+    goes (record (less_hand l) {
+      run = Some (run_of_slab m l);
+      count = l.count + counts_for discard;
+      spot = InDiscard LockDiscard discard;
+    })
 discard_advance m l LockDiscard discard Won = goes (at l (InDiscard PutRun discard))
 discard_advance m l GiveDiscard discard Done = goes (at l (way_of_discarded discard))
 discard_advance m l s discard a = goes l

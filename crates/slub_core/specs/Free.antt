@@ -33,7 +33,11 @@ use Rattle.slub_core.specs.PutAway.{has_enough}
 
 -- the object is the head of the CPU freelist
 abbrev pub pushed_word : Setup → Local → CpuWord
-pushed_word m l = record { tid = l.cpu_word.tid + m.step; frame = l.cpu_word.frame; head = (here l).index + 1 }
+pushed_word m l = record {
+  tid = l.cpu_word.tid + m.step;
+  frame = l.cpu_word.frame;
+  head = (here l).index + 1;
+}
 
 -- the object is the head of its slab's freelist, and one object less is in use
 abbrev pub freed_word : Local → SlabWord
@@ -41,7 +45,8 @@ freed_word l = record l.slab_word { head = (here l).index + 1; inuse = l.slab_wo
 
 -- ---- what a free looks at
 
--- the last object in use of a listed slab: only under the node lock may it be freed, since the slab may have to go (`was_frozen`, `prior` of `__slab_free`)
+-- the last object in use of a listed slab: only under the node lock may it be freed, since the slab
+-- may have to go (`was_frozen`, `prior` of `__slab_free`)
 abbrev pub is_last_listed : SlabWord → Bool
 is_last_listed s = not s.frozen && s.listed && not (s.head == 0) && (s.inuse == 1)
 
@@ -55,7 +60,10 @@ was_full s = not s.frozen && (s.head == 0)
 abbrev pub board_taken : Setup → Local → Option BoardWord → Turn
 board_taken m l None = tells (at l Between) NotHeld
 board_taken m l (Some b) =
-    goes (record (gets l b.cache b.frame b.index) { cache = b.cache; spot = (if m.checks b.cache then InChecked LockChecked kind.Free else InFree LoadOwn) })
+    goes (record (gets l b.cache b.frame b.index) {
+      cache = b.cache;
+      spot = (if m.checks b.cache then InChecked LockChecked kind.Free else InFree LoadOwn);
+    })
 
 -- to the CPU freelist, where the object's slab is current (`likely(slab == c->slab)`)
 abbrev pub way_of_own : Setup → Local → CpuWord → Spot
@@ -75,19 +83,28 @@ hands_of_freed l = if was_full l.slab_word then bare_hand (here l).frame ∷ l.h
 
 -- the freed slab in hand becomes a string of one
 abbrev pub alone : Local → Local
-alone l = record (less_hand l) { string = Some (single_string (hand_of l).frame); spot = InPutOnList LoadList OfFree }
+alone l = record (less_hand l) {
+  string = Some (single_string (hand_of l).frame);
+  spot = InPutOnList LoadList OfFree;
+}
 
--- a list that holds enough is moved to the node before the slab is put on it (`pobjects >= s->cpu_partial` of `put_cpu_partial`)
+-- a list that holds enough is moved to the node before the slab is put on it (`pobjects >=
+-- s->cpu_partial` of `put_cpu_partial`)
 abbrev pub is_long : Setup → Local → ListWord → Bool
 is_long m l list = nat_lt 0 list.count && nat_le (m.layout l.cache).cpu_partial_slabs list.count
 
 abbrev pub count_loaded : Setup → Local → ListWord → Local
-count_loaded m l list = if is_long m l list then record l { list_word = list; spot = InFree TakeSet } else alone (record l { list_word = list })
+count_loaded m l list = if is_long m l list
+    then record l { list_word = list; spot = InFree TakeSet }
+    else alone (record l { list_word = list })
 
 abbrev pub set_taken : Local → ListWord → Local
 set_taken l list =
     if list.count == 0 then alone l
-    else record l { string = Some (taken_string list.front list.count); spot = InMoveSet LockMove ForFree }
+    else record l {
+      string = Some (taken_string list.front list.count);
+      spot = InMoveSet LockMove ForFree;
+    }
 
 -- ---- spot by spot
 
@@ -115,21 +132,28 @@ free_step m l TakeSet = take_list l
 
 abbrev pub free_advance : Setup → Local → FreeSpot → Answer → Turn
 free_advance m l TakeBoard (Word x) = board_taken m l (board_in x)
-free_advance m l LoadOwn (Word x) = goes (record l { cpu_word = cpu_in x; spot = way_of_own m l (cpu_in x) })
+free_advance m l LoadOwn (Word x) =
+    goes (record l { cpu_word = cpu_in x; spot = way_of_own m l (cpu_in x) })
 free_advance m l LinkOwn Done = goes (at l (InFree Push))
 free_advance m l Push Won = tells (at (loses l) Between) (Freed (address_in m (here l)))
 free_advance m l Push (Lost x) = goes (at l (InFree LoadOwn))
-free_advance m l LoadSlab (Word x) = goes (record l { slab_word = slab_in x; spot = way_of_slab (slab_in x) })
+free_advance m l LoadSlab (Word x) =
+    goes (record l { slab_word = slab_in x; spot = way_of_slab (slab_in x) })
 free_advance m l LinkSlab Done = goes (at l (InFree FreeSlab))
 free_advance m l FreeSlab Won =
-    tells (record (loses l) { hands = hands_of_freed l; spot = way_of_freed l.slab_word }) (Freed (address_in m (here l)))
+    tells (record (loses l) {
+      hands = hands_of_freed l;
+      spot = way_of_freed l.slab_word;
+    }) (Freed (address_in m (here l)))
 free_advance m l FreeSlab (Lost x) = goes (at l (InFree LoadSlab))
 free_advance m l LockFree Won = goes (at l (InFree LoadLocked))
 -- a second look under the lock
-free_advance m l LoadLocked (Word x) = goes (record l { slab_word = slab_in x; spot = way_of_locked (slab_in x) })
+free_advance m l LoadLocked (Word x) =
+    goes (record l { slab_word = slab_in x; spot = way_of_locked (slab_in x) })
 free_advance m l GoBack Done = goes (at l (InFree LoadSlab))
 free_advance m l LinkLocked Done = goes (at l (InFree FreeLocked))
-free_advance m l FreeLocked Won = tells (at (loses l) (InFree TakeOff)) (Freed (address_in m (here l)))
+free_advance m l FreeLocked Won =
+    tells (at (loses l) (InFree TakeOff)) (Freed (address_in m (here l)))
 free_advance m l FreeLocked (Lost x) = goes (at l (InFree LoadLocked))
 free_advance m l GiveFree Done = goes (at l Between)
 free_advance m l LoadCount (Word x) = goes (count_loaded m l (list_in x))
@@ -140,13 +164,15 @@ free_advance m l s a = goes l
 abbrev pub without : List ℕ → ℕ → List ℕ
 without frames frame = filter (λ other. not (other == frame)) frames
 
--- an empty slab is taken off and discarded, where the list has enough (`slab_empty` of `__slab_free`)
+-- an empty slab is taken off and discarded, where the list has enough (`slab_empty` of
+-- `__slab_free`)
 abbrev pub free_at_once : Setup → (ℕ → LockValue) → Local → FreeSpot → Change
 free_at_once m value l TakeOff =
     let off = has_enough m value l in
     record {
       value = (if off then with_node value l (without (node_of value l) (here l).frame) else value);
-      local = (if off then at (with_hand l (bare_hand (here l).frame)) (InDiscard Unmake FromFree) else at l (InFree GiveFree));
+      local = (if off then at (with_hand l (bare_hand (here l).frame)) (InDiscard Unmake FromFree)
+          else at l (InFree GiveFree));
       reply = None;
     }
 free_at_once m value l s = stays value l

@@ -24,8 +24,10 @@ use Rattle.slub_core.specs.declared.call.CallKind.TheVariants.{Flush}
 
 -- the words that it has noted are words
 pub record IsPacked (l : Local) : Type 0 where
-  pub cpu_word : (l.cpu_word.tid < 2 ^ 32) × (l.cpu_word.frame < 2 ^ 16) × (l.cpu_word.head < 2 ^ 16)
-  pub slab_word : (l.slab_word.head < 2 ^ 16) × (l.slab_word.inuse < 2 ^ 16) × (l.slab_word.objects < 2 ^ 16) × (l.slab_word.cache < 2 ^ 8)
+  pub cpu_word : (l.cpu_word.tid < 2 ^ 32) × (l.cpu_word.frame < 2 ^ 16)
+      × (l.cpu_word.head < 2 ^ 16)
+  pub slab_word : (l.slab_word.head < 2 ^ 16) × (l.slab_word.inuse < 2 ^ 16)
+      × (l.slab_word.objects < 2 ^ 16) × (l.slab_word.cache < 2 ^ 8)
   pub list_word : (l.list_word.front < 2 ^ 16) × (l.list_word.count < 2 ^ 16)
   pub next : l.next < 2 ^ 16
 
@@ -34,7 +36,8 @@ pub record IsNoted (m : Setup) (l : Local) : Type 0 where
   -- of CPU words
   pub fresh : is_fresh l.spot ≡ true → l.cpu_word.tid + 2 * m.step < 2 ^ 32
   pub step : notes_cpu l.spot ≡ true → l.cpu_word.tid + m.step < 2 ^ 32
-  pub head : takes_head l.spot ≡ true → (1 ≤ l.cpu_word.head) × (pointer_at m l.cache l.cpu_word.frame (l.cpu_word.head - 1) < 512 * m.frames)
+  pub head : takes_head l.spot ≡ true → (1 ≤ l.cpu_word.head)
+      × (pointer_at m l.cache l.cpu_word.frame (l.cpu_word.head - 1) < 512 * m.frames)
   pub slab : detaches l.spot ≡ true → l.cpu_word.frame ≢ 0
   pub empty : detaches_empty l.spot ≡ true → l.cpu_word.head ≡ 0
   pub none : installs l.spot ≡ true → (l.cpu_word.frame ≡ 0) × (l.cpu_word.head ≡ 0)
@@ -42,11 +45,14 @@ pub record IsNoted (m : Setup) (l : Local) : Type 0 where
   -- of slab words
   pub some_free : notes_some l.spot ≡ true → 1 ≤ l.slab_word.head
   pub none_free : notes_none l.spot ≡ true → l.slab_word.head ≡ 0
-  pub in_use : frees_open l.spot ≡ true → (1 ≤ l.slab_word.inuse) × (is_last_listed l.slab_word ≡ false)
+  pub in_use : frees_open l.spot ≡ true → (1 ≤ l.slab_word.inuse)
+      × (is_last_listed l.slab_word ≡ false)
   pub last_in_use : frees_locked l.spot ≡ true → is_last_listed l.slab_word ≡ true
-  pub kept : notes_kept l.spot ≡ true → (l.slab_word.frozen ≡ false) × (l.slab_word.listed ≡ false) × (1 ≤ l.slab_word.head)
+  pub kept : notes_kept l.spot ≡ true → (l.slab_word.frozen ≡ false) × (l.slab_word.listed ≡ false)
+      × (1 ≤ l.slab_word.head)
   -- of list words
-  pub list : notes_list l.spot ≡ true → IsList l.list_word.front l.list_word.count × (l.list_word.count + (string_of l).count ≤ m.frames - 1)
+  pub list : notes_list l.spot ≡ true → IsList l.list_word.front l.list_word.count
+      × (l.list_word.count + (string_of l).count ≤ m.frames - 1)
 
 -- ---- what it has in hand, by itself
 
@@ -77,7 +83,8 @@ IsChainOf Loose h xs = (h.head ≡ 0) × (xs ≡ [])
 -- each slab in hand has a role, and a chain that fits it
 abbrev pub AreHands : List Role → List Hand → List (List ℕ) → Type 0
 AreHands [] [] [] = Unit {0}
-AreHands (r ∷ rs) (h ∷ hs) (xs ∷ xss) = (1 ≤ h.frame) × (h.frame < 2 ^ 16) × (h.head < 2 ^ 16) × IsChainOf r h xs × IsWalk xs h × AreHands rs hs xss
+AreHands (r ∷ rs) (h ∷ hs) (xs ∷ xss) = (1 ≤ h.frame) × (h.frame < 2 ^ 16) × (h.head < 2 ^ 16)
+    × IsChainOf r h xs × IsWalk xs h × AreHands rs hs xss
 AreHands _ _ _ = ⊥
 
 -- the walk along a string in hand stands at its place
@@ -104,35 +111,48 @@ pub record IsAtSpot (m : Setup) (x : Worker) : Type 0 where
   pub cpu : x.local.cpu < m.cpus
   pub plain : in_plain x.local.spot ≡ true → IsPlain m x.local.cache
   pub checked : in_checked x.local.spot ≡ true → IsChecked m x.local.cache
-  pub flush : doing x.local.spot ≡ Some Flush → (x.local.turn < length m.plain) × (x.local.cache ≡ slice_index m.plain x.local.turn)
+  pub flush : doing x.local.spot ≡ Some Flush → (x.local.turn < length m.plain)
+      × (x.local.cache ≡ slice_index m.plain x.local.turn)
   -- the object of the call
   pub number : (here x.local).object < m.objects
   pub board : takes_board x.local.spot ≡ true → 1 ≤ (here x.local).object
-  pub awaits : awaits x.local.spot ≡ true → (x.local.place < length x.local.known) × ((here x.local).held ≡ false)
-  pub frees : frees x.local.spot ≡ true → (x.local.place < length x.local.known) × ((here x.local).held ≡ true) × ((here x.local).cache ≡ x.local.cache)
+  pub awaits : awaits x.local.spot ≡ true → (x.local.place < length x.local.known)
+      × ((here x.local).held ≡ false)
+  pub frees : frees x.local.spot ≡ true → (x.local.place < length x.local.known)
+      × ((here x.local).held ≡ true) × ((here x.local).cache ≡ x.local.cache)
   -- the word that is written or read lies in the object
-  pub inside : uses_word x.local.spot ≡ true → is_outside (m.layout x.local.cache) (call_of x.local) ≡ false
-  pub uses : uses x.local.spot ≡ true → (x.local.place < length x.local.known) × ((here x.local).held ≡ true) × ((here x.local).cache ≡ x.local.cache)
-  pub keeps : keeps x.local.spot ≡ true → (x.local.place < length x.local.known) × ((here x.local).held ≡ true) × ((here x.local).cache ≡ x.local.cache)
-  pub pokes : pokes x.local.spot ≡ true → (x.local.place < length x.local.known) × ((here x.local).cache ≡ x.local.cache)
+  pub inside : uses_word x.local.spot ≡ true
+      → is_outside (m.layout x.local.cache) (call_of x.local) ≡ false
+  pub uses : uses x.local.spot ≡ true → (x.local.place < length x.local.known)
+      × ((here x.local).held ≡ true) × ((here x.local).cache ≡ x.local.cache)
+  pub keeps : keeps x.local.spot ≡ true → (x.local.place < length x.local.known)
+      × ((here x.local).held ≡ true) × ((here x.local).cache ≡ x.local.cache)
+  pub pokes : pokes x.local.spot ≡ true → (x.local.place < length x.local.known)
+      × ((here x.local).cache ≡ x.local.cache)
   -- slabs in hand
   pub hands : AreHands (roles x.local.spot (length x.local.hands)) x.local.hands x.chains
-  pub walking : is_walking x.local.spot ≡ true → (1 ≤ (hand_of x.local).head) × ((hand_of x.local).walked ≡ false)
-  pub walked : is_walked x.local.spot ≡ true → (1 ≤ (hand_of x.local).head) → (hand_of x.local).walked ≡ true
+  pub walking : is_walking x.local.spot ≡ true → (1 ≤ (hand_of x.local).head)
+      × ((hand_of x.local).walked ≡ false)
+  pub walked : is_walked x.local.spot ≡ true → (1 ≤ (hand_of x.local).head)
+      → (hand_of x.local).walked ≡ true
   pub some_chain : links_last x.local.spot ≡ true → 1 ≤ (hand_of x.local).head
   pub away : notes_away x.local.spot ≡ true → length (chain_of x) ≤ x.local.slab_word.inuse
   -- a string in hand
   pub string : IsStringOf x.local.string x.string
   pub no_string : may_string x.local.spot ≡ false → x.local.string ≡ None
   pub least : least_string x.local.spot ≤ (string_of x.local).count
-  pub before_end : walks_string x.local.spot ≡ true → (string_of x.local).place < (string_of x.local).count
-  pub at_end : links_string x.local.spot ≡ true → (string_of x.local).place ≡ (string_of x.local).count
+  pub before_end : walks_string x.local.spot ≡ true
+      → (string_of x.local).place < (string_of x.local).count
+  pub at_end : links_string x.local.spot ≡ true
+      → (string_of x.local).place ≡ (string_of x.local).count
   pub ended : ends_string x.local.spot ≡ true → IsEnded x.local.string
-  pub linked : pushes_string x.local.spot ≡ true → (string_of x.local).link ≡ Some x.local.list_word.front
+  pub linked : pushes_string x.local.spot ≡ true
+      → (string_of x.local).link ≡ Some x.local.list_word.front
   -- a run in hand
   pub run : has_run x.local.spot ≡ true → IsSome x.local.run
   pub no_run : has_run x.local.spot ≡ false → x.local.run ≡ None
-  pub unstored : links_new x.local.spot ≡ true → stored_in x.local.spot (run_of x.local).objects < (run_of x.local).objects
+  pub unstored : links_new x.local.spot ≡ true
+      → stored_in x.local.spot (run_of x.local).objects < (run_of x.local).objects
   pub stored : stored_in x.local.spot (run_of x.local).objects ≤ (run_of x.local).objects
 
 -- ---- what it sees of the state
@@ -158,10 +178,12 @@ abbrev pub LeadsFor : Role → (ℕ → ℕ) → ℕ → List ℕ → ℕ → Ty
 LeadsFor Untied next head xs end = (to : ℕ) × Leads next head xs to
 LeadsFor _ next head xs end = Leads next head xs end
 
--- each slab in hand is of the call's cache, its marks are those of its role, and its chain is a chain: the first one's up to an end
+-- each slab in hand is of the call's cache, its marks are those of its role, and its chain is a
+-- chain: the first one's up to an end
 abbrev pub AreHeld : World → ℕ → List Role → List Hand → List (List ℕ) → ℕ → Type 0
 AreHeld w cache (r ∷ rs) (h ∷ hs) (xs ∷ xss) end =
-    LeadsFor r (pointer w cache h.frame) h.head xs end × ((w.slab h.frame).cache ≡ cache) × HasMarks r (w.slab h.frame) × AreHeld w cache rs hs xss 0
+    LeadsFor r (pointer w cache h.frame) h.head xs end × ((w.slab h.frame).cache ≡ cache)
+    × HasMarks r (w.slab h.frame) × AreHeld w cache rs hs xss 0
 AreHeld w cache _ _ _ end = Unit {0}
 
 -- where the chain in hand leads: to the slab's own head, once that is stored at its end
@@ -183,9 +205,11 @@ IsLinked link frames (Some to) = link (slice_index frames (length frames - 1)) �
 abbrev pub IsHeldString : World → ℕ → Option PartialString → List ℕ → Type 0
 IsHeldString w cache None frames = Unit {0}
 IsHeldString w cache (Some string) frames =
-    IsString w.link string.front frames × IsLinked w.link frames string.link × ((f : ℕ) → 1 ≤ times f frames → (1 ≤ f) × IsKeptSlab (w.slab f) cache)
+    IsString w.link string.front frames × IsLinked w.link frames string.link
+    × ((f : ℕ) → 1 ≤ times f frames → (1 ≤ f) × IsKeptSlab (w.slab f) cache)
 
--- a run in hand lies among the frames, and has the order and the objects of a slab of the call's cache
+-- a run in hand lies among the frames, and has the order and the objects of a slab of the call's
+-- cache
 pub record IsRun (m : Setup) (cache : ℕ) (run : FrameRun) : Type 0 where
   pub first : 1 ≤ run.frame
   pub inside : run.frame + 2 ^ run.order ≤ m.frames
@@ -199,7 +223,8 @@ rising_next objects i = cond (nat_lt (i + 1) objects) (i + 2) 0
 abbrev pub IsHeldRun : World → ℕ → Option FrameRun → ℕ → Type 0
 IsHeldRun w cache None stored = Unit {0}
 IsHeldRun w cache (Some run) stored =
-    IsRun w.setup cache run × ((w.slab run.frame).objects ≡ 0) × ((i : ℕ) → i < stored → pointer w cache run.frame i ≡ rising_next run.objects i)
+    IsRun w.setup cache run × ((w.slab run.frame).objects ≡ 0)
+    × ((i : ℕ) → i < stored → pointer w cache run.frame i ≡ rising_next run.objects i)
 
 -- a slab of which no object is in use, as the noted word has it
 pub record IsEmptied (s : SlabWord) (l : Local) : Type 0 where
@@ -210,25 +235,37 @@ pub record IsEmptied (s : SlabWord) (l : Local) : Type 0 where
 
 pub record IsSeen (w : World) (x : Worker) : Type 0 where
   -- words that it has noted
-  pub cpu_word : notes_cpu x.local.spot ≡ true → IsFreshWord x.local.cpu_word (w.cpu (own_cpu x.local))
+  pub cpu_word : notes_cpu x.local.spot ≡ true
+      → IsFreshWord x.local.cpu_word (w.cpu (own_cpu x.local))
   pub next : notes_next x.local.spot ≡ true → x.local.cpu_word.tid ≡ (w.cpu (own_cpu x.local)).tid
-      → x.local.next ≡ pointer w x.local.cache x.local.cpu_word.frame (x.local.cpu_word.head - 1) % 2 ^ 16
+      → x.local.next ≡ pointer w x.local.cache x.local.cpu_word.frame
+      (x.local.cpu_word.head - 1) % 2 ^ 16
   -- what it has stored in the object that it frees
-  pub linked_cpu : links_cpu x.local.spot ≡ true → pointer w (here x.local).cache (here x.local).frame (here x.local).index ≡ x.local.cpu_word.head
-  pub linked_slab : links_slab x.local.spot ≡ true → pointer w (here x.local).cache (here x.local).frame (here x.local).index ≡ x.local.slab_word.head
+  pub linked_cpu : links_cpu x.local.spot ≡ true
+      → pointer w (here x.local).cache (here x.local).frame (here x.local).index
+      ≡ x.local.cpu_word.head
+  pub linked_slab : links_slab x.local.spot ≡ true
+      → pointer w (here x.local).cache (here x.local).frame (here x.local).index
+      ≡ x.local.slab_word.head
   -- the objects that it holds are of their slabs' caches
   pub known : All (λ (k : Known). k.held ≡ true → k.cache ≡ cache_at w k.frame) x.local.known
   -- what it has in hand
-  pub hands : AreHeld w x.local.cache (roles x.local.spot (length x.local.hands)) x.local.hands x.chains (end_of x.local)
+  pub hands : AreHeld w x.local.cache
+      (roles x.local.spot (length x.local.hands)) x.local.hands x.chains (end_of x.local)
   pub string : IsHeldString w x.local.cache x.local.string x.string
   pub run : IsHeldRun w x.local.cache x.local.run (stored_in x.local.spot (run_of x.local).objects)
   -- slabs without an object in use: in hand, or on the node list still
   pub emptied : is_emptied x.local.spot ≡ true → IsEmptied (w.slab (hand_of x.local).frame) x.local
-  pub freed_last : has_freed_last x.local.spot ≡ true → IsEmptied (w.slab (here x.local).frame) x.local × (1 ≤ times (here x.local).frame (node_of w.value x.local))
-  pub scanned : notes_scanned x.local.spot ≡ true → IsEmptied (w.slab (scanned_slab w.value x.local)) x.local × (1 ≤ times (scanned_slab w.value x.local) (node_of w.value x.local))
+  pub freed_last : has_freed_last x.local.spot ≡ true
+      → IsEmptied (w.slab (here x.local).frame) x.local
+      × (1 ≤ times (here x.local).frame (node_of w.value x.local))
+  pub scanned : notes_scanned x.local.spot ≡ true
+      → IsEmptied (w.slab (scanned_slab w.value x.local)) x.local
+      × (1 ≤ times (scanned_slab w.value x.local) (node_of w.value x.local))
   -- a scan of the node list
   pub scan : scans x.local.spot ≡ true → length x.local.scanned ≤ length (node_of w.value x.local)
-  pub scan_next : scans_next x.local.spot ≡ true → length x.local.scanned < length (node_of w.value x.local)
+  pub scan_next : scans_next x.local.spot ≡ true
+      → length x.local.scanned < length (node_of w.value x.local)
   -- the locks that it has
   pub locks : (n : ℕ) → 1 ≤ takes n x → w.lock n ≡ suc x.local.worker
 
@@ -236,13 +273,17 @@ pub record IsSeen (w : World) (x : Worker) : Type 0 where
 
 -- the words are words, and the transaction id of CPU c leaves c by the step
 pub record IsWorded (w : World) : Type 0 where
-  pub cpu : (n : ℕ) → ((w.cpu n).tid < 2 ^ 32) × ((w.cpu n).frame < 2 ^ 16) × ((w.cpu n).head < 2 ^ 16)
-  pub slab : (f : ℕ) → ((w.slab f).head < 2 ^ 16) × ((w.slab f).inuse < 2 ^ 16) × ((w.slab f).objects < 2 ^ 16) × ((w.slab f).cache < 2 ^ 8)
+  pub cpu : (n : ℕ) → ((w.cpu n).tid < 2 ^ 32) × ((w.cpu n).frame < 2 ^ 16)
+      × ((w.cpu n).head < 2 ^ 16)
+  pub slab : (f : ℕ) → ((w.slab f).head < 2 ^ 16) × ((w.slab f).inuse < 2 ^ 16)
+      × ((w.slab f).objects < 2 ^ 16) × ((w.slab f).cache < 2 ^ 8)
   pub list : (n : ℕ) → ((w.list n).front < 2 ^ 16) × ((w.list n).count < 2 ^ 16)
   pub link : (f : ℕ) → w.link f < 2 ^ 16
   -- a current slab can be detached
-  pub room : (n : ℕ) → n < w.setup.cpu_words → (w.cpu n).frame ≢ 0 → (w.cpu n).tid + w.setup.step < 2 ^ 32
-  pub remainder : (n : ℕ) → n < w.setup.cpu_words → n % 16 < w.setup.cpus → w.setup.lives (n / 16) ≡ true → (w.cpu n).tid % w.setup.step ≡ n % 16
+  pub room : (n : ℕ) → n < w.setup.cpu_words → (w.cpu n).frame ≢ 0
+      → (w.cpu n).tid + w.setup.step < 2 ^ 32
+  pub remainder : (n : ℕ) → n < w.setup.cpu_words → n % 16 < w.setup.cpus
+      → w.setup.lives (n / 16) ≡ true → (w.cpu n).tid % w.setup.step ≡ n % 16
 
 -- what a worker relies on at its spot
 pub record IsAtWork (w : World) (x : Worker) : Type 0 where

@@ -46,11 +46,13 @@ pub record Local : Type 0 where
   pub count : ℕ
   -- of a trim: how many free objects each slab has that it has come by
   pub scanned : List ℕ
-  -- the calls without a reply, that of the call that it is in first, and those with one, the last one first
+  -- the calls without a reply, that of the call that it is in first, and those with one, the last
+  -- one first
   pub todo : List Call
   pub done : List Answered
 
--- a worker as the law sees it: with the chains in hand, one for each slab, and the slabs of the string in hand. No program has these two
+-- a worker as the law sees it: with the chains in hand, one for each slab, and the slabs of the
+-- string in hand. No program has these two
 pub record Worker : Type 0 where
   pub local : Local
   pub chains : List (List ℕ)
@@ -71,7 +73,17 @@ abbrev pub no_run : FrameRun
 no_run = record { frame = 0; order = 0; objects = 0 }
 
 abbrev pub no_call : Call
-no_call = record { kind = Flush; cpu = 0; cache = None; object = 0; place = 0; word = 0; value = 0; offset = pos 0; byte = 0 }
+no_call = record {
+  kind = Flush;
+  cpu = 0;
+  cache = None;
+  object = 0;
+  place = 0;
+  word = 0;
+  value = 0;
+  offset = pos 0;
+  byte = 0;
+}
 
 -- ---- what is read of a worker
 
@@ -121,7 +133,15 @@ at l spot = record l { spot = spot }
 -- it holds the object of this slot
 abbrev pub gets : Local → ℕ → ℕ → ℕ → Local
 gets l cache frame index =
-    record l { known = slice_set l.known l.place (record { object = (here l).object; frame = frame; index = index; cache = cache; held = true }) }
+    record l {
+      known = slice_set l.known l.place (record {
+        object = (here l).object;
+        frame = frame;
+        index = index;
+        cache = cache;
+        held = true;
+      });
+    }
 
 -- it holds the object of its call no more
 abbrev pub loses : Local → Local
@@ -147,7 +167,10 @@ bare_hand frame = hand_from frame 0
 
 -- the call that it is in has a reply
 abbrev pub answered : Local → Reply → Local
-answered l reply = record l { todo = drop 1 l.todo; done = record { call = call_of l; reply = reply } ∷ l.done }
+answered l reply = record l {
+  todo = drop 1 l.todo;
+  done = record { call = call_of l; reply = reply } ∷ l.done;
+}
 
 abbrev pub noted : Local → Option Reply → Local
 noted l None = l
@@ -164,7 +187,8 @@ goes l = record { local = l; reply = None }
 abbrev pub tells : Local → Reply → Turn
 tells l reply = record { local = l; reply = Some reply }
 
--- what a worker does at once, under a lock: the values of the locks and the worker after it, and the reply
+-- what a worker does at once, under a lock: the values of the locks and the worker after it, and
+-- the reply
 pub record Change : Type 0 where
   pub value : ℕ → LockValue
   pub local : Local

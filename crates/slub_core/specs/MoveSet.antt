@@ -1,4 +1,5 @@
--- Moving a string of slabs to the node list, its empty slabs to the pool: `__unfreeze_partials` of Linux 6.1.
+-- Moving a string of slabs to the node list, its empty slabs to the pool: `__unfreeze_partials` of
+-- Linux 6.1.
 use Rattle.std.specs.Prelude.{ℕ, ◌-◌, ◌%◌, ◌^◌, true, ◌&&◌, ◌==◌, if◌then◌else◌, [], ◌∷◌, ◌++◌, Option, Some, None}
 use Rattle.slub_words.specs.declared.slab.SlabWord.{SlabWord}
 use Rattle.slub_core.specs.declared.local.PartialString.{PartialString}
@@ -34,7 +35,10 @@ way_of_moved m value l move s = if (s.inuse == 0) && has_enough m value l then I
 abbrev pub front_taken : Local → MoveSet → Option PartialString → Local
 front_taken l move None = at l (InMoveSet GiveMove move)
 front_taken l move (Some string) =
-    if string.count == 1 then record (with_hand l (bare_hand string.front)) { string = None; spot = InMoveSet LoadMoved move }
+    if string.count == 1 then record (with_hand l (bare_hand string.front)) {
+      string = None;
+      spot = InMoveSet LoadMoved move;
+    }
     else at l (InMoveSet FollowSet move)
 
 -- a free goes on with the slab that it has in hand, a sweep with the next CPU or cache
@@ -53,11 +57,17 @@ move_set_step l ListSlab = change_slab l (hand_of l).frame (listed_word l.slab_w
 move_set_step l PutTail = no_step
 move_set_step l GiveMove = give_node l
 
-abbrev pub move_set_advance : Setup → (ℕ → LockValue) → Local → MoveSetSpot → MoveSet → Answer → Turn
+abbrev pub move_set_advance : Setup → (ℕ → LockValue) → Local → MoveSetSpot → MoveSet → Answer
+    → Turn
 move_set_advance m value l LockMove move Won = goes (at l (InMoveSet ChooseFront move))
 move_set_advance m value l FollowSet move (Word x) =
-    goes (record (with_hand l (bare_hand (string_of l).front)) { string = Some (taken_string (x % 2 ^ 16) ((string_of l).count - 1)); spot = InMoveSet LoadMoved move })
-move_set_advance m value l LoadMoved move (Word x) = goes (record l { slab_word = slab_in x; spot = way_of_moved m value l move (slab_in x) })
+    goes (record (with_hand l (bare_hand (string_of l).front)) {
+      string = Some
+          (taken_string (x % 2 ^ 16) ((string_of l).count - 1));
+      spot = InMoveSet LoadMoved move;
+    })
+move_set_advance m value l LoadMoved move (Word x) =
+    goes (record l { slab_word = slab_in x; spot = way_of_moved m value l move (slab_in x) })
 move_set_advance m value l ListSlab move Won = goes (at l (InMoveSet PutTail move))
 move_set_advance m value l ListSlab move (Lost x) = goes (at l (InMoveSet LoadMoved move))
 move_set_advance m value l GiveMove move Done = after_move m l move
@@ -66,5 +76,6 @@ move_set_advance m value l s move a = goes l
 abbrev pub move_set_at_once : (ℕ → LockValue) → Local → MoveSetSpot → MoveSet → Change
 move_set_at_once value l ChooseFront move = stays value (front_taken l move l.string)
 move_set_at_once value l PutTail move =
-    stays (with_node value l (node_of value l ++ (hand_of l).frame ∷ [])) (at (less_hand l) (InMoveSet ChooseFront move))
+    stays (with_node value l (node_of value l ++ (hand_of l).frame ∷ []))
+    (at (less_hand l) (InMoveSet ChooseFront move))
 move_set_at_once value l s move = stays value l

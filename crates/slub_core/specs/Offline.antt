@@ -1,4 +1,5 @@
--- A trim and a flush: `__kmem_cache_do_shrink` and `flush_cpu_slab` of Linux 6.1, while others allocate and free.
+-- A trim and a flush: `__kmem_cache_do_shrink` and `flush_cpu_slab` of Linux 6.1, while others
+-- allocate and free.
 use Rattle.std.specs.Prelude.{ℕ, ◌+◌, ◌-◌, ◌==◌, nat_lt, if◌then◌else◌, List, [], ◌∷◌, ◌++◌, length, take, drop, slice_index, Some, None}
 use Rattle.slub_words.specs.declared.cpu.CpuWord.{CpuWord}
 use Rattle.slub_words.specs.declared.slab.SlabWord.{SlabWord}
@@ -41,7 +42,14 @@ if_trimming Flushing n = 0
 -- a trim goes on to the next CPU, and from the last one to the node list
 abbrev pub trimmed_cpu : Setup → Local → Turn
 trimmed_cpu m l =
-    record { local = record l { cpu = (if nat_lt (l.cpu + 1) m.cpus then l.cpu + 1 else l.cpu); spot = (if nat_lt (l.cpu + 1) m.cpus then InOffline LoadCurrent Trimming else InTrim LockTrim) }; reply = None }
+    record {
+      local = record l {
+        cpu = (if nat_lt (l.cpu + 1) m.cpus then l.cpu + 1 else l.cpu);
+        spot = (if nat_lt (l.cpu + 1) m.cpus then InOffline LoadCurrent Trimming
+            else InTrim LockTrim);
+      };
+      reply = None;
+    }
 
 -- a flush goes on to the next unchecked cache, and ends after the last one
 abbrev pub flushed_cache : Setup → Local → Turn
@@ -62,7 +70,8 @@ next_swept m l Trimming = trimmed_cpu m l
 next_swept m l Flushing = flushed_cache m l
 
 abbrev pub way_of_current : Sweep → CpuWord → Spot
-way_of_current sweep c = if c.frame == 0 then InOffline TakeCurrent sweep else InOffline DetachCurrent sweep
+way_of_current sweep c = if c.frame == 0 then InOffline TakeCurrent sweep
+    else InOffline DetachCurrent sweep
 
 -- the slabs of the CPU's partial list are moved, where it had some
 abbrev pub list_swept : Setup → Local → Sweep → ListWord → Turn
@@ -90,11 +99,15 @@ offline_step m l DetachCurrent = change_cpu l (detached_word m l)
 offline_step m l TakeCurrent = take_list l
 
 abbrev pub offline_advance : Setup → Local → OfflineSpot → Sweep → Answer → Turn
-offline_advance m l LoadCurrent sweep (Word x) = goes (record l { cpu_word = cpu_in x; spot = way_of_current sweep (cpu_in x) })
+offline_advance m l LoadCurrent sweep (Word x) =
+    goes (record l { cpu_word = cpu_in x; spot = way_of_current sweep (cpu_in x) })
 -- also under a spent transaction id
 offline_advance m l DetachCurrent sweep Won =
     let hand = hand_from l.cpu_word.frame l.cpu_word.head in
-    goes (record (with_hand l hand) { count = l.count + if_flushing sweep 1; spot = way_of_away hand (ForSweep sweep) })
+    goes (record (with_hand l hand) {
+      count = l.count + if_flushing sweep 1;
+      spot = way_of_away hand (ForSweep sweep);
+    })
 offline_advance m l DetachCurrent sweep (Lost x) = goes (at l (InOffline LoadCurrent sweep))
 offline_advance m l TakeCurrent sweep (Word x) = list_swept m l sweep (list_in x)
 offline_advance m l s sweep a = goes l
@@ -114,7 +127,8 @@ trim_advance l LoadScanned (Word x) = goes (scanned_word l (slab_in x))
 trim_advance l GiveTrim Done = tells (at l Between) (Trimmed l.count)
 trim_advance l s a = goes l
 
--- once each slab was loaded, those with few free objects come first (`list_sort`, the promotion of `__kmem_cache_do_shrink`)
+-- once each slab was loaded, those with few free objects come first (`list_sort`, the promotion of
+-- `__kmem_cache_do_shrink`)
 abbrev pub scan_node : Setup → (ℕ → LockValue) → Local → List ℕ → Change
 scan_node m value l frames =
     if nat_lt (length l.scanned) (length frames) then stays value (at l (InTrim LoadScanned))
@@ -127,5 +141,6 @@ without_at frames n = take n frames ++ drop (n + 1) frames
 abbrev pub trim_at_once : Setup → (ℕ → LockValue) → Local → TrimSpot → Change
 trim_at_once m value l ScanNode = scan_node m value l (node_of value l)
 trim_at_once m value l DropScanned =
-    stays (with_node value l (without_at (node_of value l) (length l.scanned))) (at (with_hand l (bare_hand (scanned_slab value l))) (InDiscard Unmake FromTrim))
+    stays (with_node value l (without_at (node_of value l) (length l.scanned)))
+    (at (with_hand l (bare_hand (scanned_slab value l))) (InDiscard Unmake FromTrim))
 trim_at_once m value l s = stays value l

@@ -21,7 +21,10 @@ load_cpu l = record { place = CpuOf (own_cpu l); op = Load }
 
 -- from the noted word (`this_cpu_cmpxchg_double`)
 abbrev pub change_cpu : Local → CpuWord → Step
-change_cpu l to = record { place = CpuOf (own_cpu l); op = Exchange (cpu_bits l.cpu_word) (cpu_bits to) }
+change_cpu l to = record {
+  place = CpuOf (own_cpu l);
+  op = Exchange (cpu_bits l.cpu_word) (cpu_bits to);
+}
 
 -- ---- slab words
 
@@ -30,7 +33,8 @@ load_slab frame = record { place = SlabOf frame; op = Load }
 
 -- from the noted word (`__cmpxchg_double_slab`)
 abbrev pub change_slab : Local → ℕ → SlabWord → Step
-change_slab l frame to = record { place = SlabOf frame; op = Exchange (slab_bits l.slab_word) (slab_bits to) }
+change_slab l frame to =
+    record { place = SlabOf frame; op = Exchange (slab_bits l.slab_word) (slab_bits to) }
 
 abbrev pub store_slab : ℕ → SlabWord → Step
 store_slab frame to = record { place = SlabOf frame; op = Store (slab_bits to) }
@@ -39,12 +43,16 @@ store_slab frame to = record { place = SlabOf frame; op = Store (slab_bits to) }
 
 -- (`get_freepointer`)
 abbrev pub load_pointer : Setup → ℕ → ℕ → ℕ → Step
-load_pointer m cache frame index = record { place = MemoryOf (pointer_at m cache frame index); op = Load }
+load_pointer m cache frame index = record {
+  place = MemoryOf (pointer_at m cache frame index);
+  op = Load;
+}
 
 -- (`set_freepointer`)
 abbrev pub store_pointer : Setup → ℕ → ℕ → ℕ → ℕ → Step
 store_pointer m cache frame index to =
-    let p = pointer_at m cache frame index in record { place = MemoryOf p; op = Store (hardened cache p to) }
+    let p = pointer_at m cache frame index in
+    record { place = MemoryOf p; op = Store (hardened cache p to) }
 
 -- of the object of the call
 abbrev pub link_object : Setup → Local → ℕ → Step
@@ -52,10 +60,17 @@ link_object m l to = store_pointer m (here l).cache (here l).frame (here l).inde
 
 abbrev pub store_word : Setup → Local → ℕ → ℕ → Step
 store_word m l word value =
-    record { place = MemoryOf (word_at m (here l).cache (here l).frame (here l).index word); op = Store value }
+    record {
+      place = MemoryOf (word_at m (here l).cache (here l).frame (here l).index word);
+      op = Store value;
+    }
 
 abbrev pub load_word : Setup → Local → ℕ → Step
-load_word m l word = record { place = MemoryOf (word_at m (here l).cache (here l).frame (here l).index word); op = Load }
+load_word m l word = record {
+  place = MemoryOf
+      (word_at m (here l).cache (here l).frame (here l).index word);
+  op = Load;
+}
 
 -- ---- the partial list of the call's cache and CPU
 
@@ -67,7 +82,10 @@ take_list l = record { place = ListOf (own_cpu l); op = Swap 0 }
 
 -- from the noted word
 abbrev pub change_list : Local → ListWord → Step
-change_list l to = record { place = ListOf (own_cpu l); op = Exchange (list_bits l.list_word) (list_bits to) }
+change_list l to = record {
+  place = ListOf (own_cpu l);
+  op = Exchange (list_bits l.list_word) (list_bits to);
+}
 
 abbrev pub load_link : ℕ → Step
 load_link frame = record { place = LinkOf frame; op = Load }

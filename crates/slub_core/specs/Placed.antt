@@ -23,7 +23,8 @@ in_hands f i (h ∷ hs) (xs ∷ chains) = in_chain h.frame xs f i + in_hands f i
 abbrev pub owned : ℕ → ℕ → Worker → ℕ
 owned f i x = held f i x.local + in_hands f i x.local.hands x.chains
 
--- the places of an object: with a worker, held or in a chain in hand; on the board; on a CPU's freelist; on its slab's own freelist; free or set aside in a checked slab
+-- the places of an object: with a worker, held or in a chain in hand; on the board; on a CPU's
+-- freelist; on its slab's own freelist; free or set aside in a checked slab
 abbrev pub places : World → Chains → List Worker → ℕ → ℕ → ℕ
 places w y xs f i =
     sum_by (owned f i) xs
@@ -32,9 +33,11 @@ places w y xs f i =
     + times i (y.own f)
     + sum_below w.setup.locks (λ n. idle_in (w.value n) f i)
 
--- each object of a live slab is in exactly one place, and what is no object of a live slab is in none
+-- each object of a live slab is in exactly one place, and what is no object of a live slab is in
+-- none
 pub record IsPlaced (w : World) (y : Chains) (xs : List Worker) : Type 0 where
   pub once : (f i : ℕ) → places w y xs f i ≡ object_at w f i
   -- the freelists are chains
-  pub cpu_chain : (n : ℕ) → n < w.setup.cpu_words → IsChain (pointer w (n / 16) (w.cpu n).frame) (w.cpu n).head (y.cpu n)
+  pub cpu_chain : (n : ℕ) → n < w.setup.cpu_words
+      → IsChain (pointer w (n / 16) (w.cpu n).frame) (w.cpu n).head (y.cpu n)
   pub own_chain : (f : ℕ) → IsChain (pointer w (w.slab f).cache f) (w.slab f).head (y.own f)

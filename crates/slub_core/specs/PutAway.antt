@@ -50,11 +50,13 @@ unfrozen_word m value l =
 abbrev pub way_of_end : Hand → Away → Spot
 way_of_end hand away = if hand.head == 0 then InPutAway Unfreeze away else InPutAway LinkLast away
 
--- a slab with no free object is on no list and leaves the hand, an empty one that isn't needed is discarded, any other goes to the list
+-- a slab with no free object is on no list and leaves the hand, an empty one that isn't needed is
+-- discarded, any other goes to the list
 abbrev pub unfrozen : Setup → (ℕ → LockValue) → Local → Away → Local
 unfrozen m value l away =
     if head_away (hand_of l) l.slab_word == 0 then at (less_hand l) (InPutAway GiveAway away)
-    else at (set_hand l (bare_hand (hand_of l).frame)) (if is_to_discard m value l then InDiscard Unmake (FromAway away) else InPutAway PutNode away)
+    else at (set_hand l (bare_hand (hand_of l).frame)) (if is_to_discard m value l
+    then InDiscard Unmake (FromAway away) else InPutAway PutNode away)
 
 -- where a slab that was put away leads to
 abbrev pub way_of_put : Away → Spot
@@ -65,20 +67,24 @@ way_of_put (ForSweep sweep) = InOffline TakeCurrent sweep
 -- ---- spot by spot
 
 abbrev pub put_away_step : Setup → (ℕ → LockValue) → Local → PutAwaySpot → Step
-put_away_step m value l WalkChain = load_pointer m l.cache (hand_of l).frame (reached (hand_of l) - 1)
+put_away_step m value l WalkChain =
+    load_pointer m l.cache (hand_of l).frame (reached (hand_of l) - 1)
 put_away_step m value l LockAway = take_node l
 put_away_step m value l LoadAway = load_slab (hand_of l).frame
-put_away_step m value l LinkLast = store_pointer m l.cache (hand_of l).frame ((hand_of l).last - 1) l.slab_word.head
+put_away_step m value l LinkLast =
+    store_pointer m l.cache (hand_of l).frame ((hand_of l).last - 1) l.slab_word.head
 put_away_step m value l Unfreeze = change_slab l (hand_of l).frame (unfrozen_word m value l)
 put_away_step m value l PutNode = no_step
 put_away_step m value l GiveAway = give_node l
 
 abbrev pub put_away_advance : Setup → (ℕ → LockValue) → Local → PutAwaySpot → Away → Answer → Turn
 put_away_advance m value l WalkChain away (Word x) =
-    let hand = walked_on (hand_of l) (found_at m l.cache (hand_of l).frame (reached (hand_of l) - 1) x) in
+    let hand = walked_on (hand_of l)
+    (found_at m l.cache (hand_of l).frame (reached (hand_of l) - 1) x) in
     goes (at (set_hand l hand) (way_of_away hand away))
 put_away_advance m value l LockAway away Won = goes (at l (InPutAway LoadAway away))
-put_away_advance m value l LoadAway away (Word x) = goes (record l { slab_word = slab_in x; spot = way_of_end (hand_of l) away })
+put_away_advance m value l LoadAway away (Word x) =
+    goes (record l { slab_word = slab_in x; spot = way_of_end (hand_of l) away })
 put_away_advance m value l LinkLast away Done = goes (at l (InPutAway Unfreeze away))
 put_away_advance m value l Unfreeze away Won = goes (unfrozen m value l away)
 -- the last free pointer is set again, to the head that is loaded then
@@ -86,7 +92,8 @@ put_away_advance m value l Unfreeze away (Lost x) = goes (at l (InPutAway LoadAw
 put_away_advance m value l GiveAway away Done = goes (at l (way_of_put away))
 put_away_advance m value l s away a = goes l
 
--- to the head of the list, or to its tail where the slab's own freelist wasn't empty (`add_partial`)
+-- to the head of the list, or to its tail where the slab's own freelist wasn't empty
+-- (`add_partial`)
 abbrev pub put_on_node : SlabWord → ℕ → List ℕ → List ℕ
 put_on_node s frame frames = if s.head == 0 then frame ∷ frames else frames ++ frame ∷ []
 

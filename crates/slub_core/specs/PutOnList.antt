@@ -1,4 +1,5 @@
--- Putting a string of slabs before a CPU's partial list: `put_cpu_partial` of Linux 6.1, without a lock.
+-- Putting a string of slabs before a CPU's partial list: `put_cpu_partial` of Linux 6.1, without a
+-- lock.
 use Rattle.std.specs.Prelude.{ℕ, ◌+◌, ◌%◌, ◌^◌, Bool, false, ◌==◌, nat_lt, if◌then◌else◌, Option, Some, None}
 use Rattle.slub_cpu_partial.specs.declared.words.ListWord.{ListWord}
 use Rattle.slub_core.specs.declared.local.PartialString.{PartialString}
@@ -22,14 +23,18 @@ leads_to None front = false
 leads_to (Some link) front = link == front
 
 abbrev pub way_of_string : PartialString → PutOnList → Spot
-way_of_string string put = if nat_lt string.place string.count then InPutOnList WalkString put else InPutOnList LinkString put
+way_of_string string put = if nat_lt string.place string.count then InPutOnList WalkString put
+    else InPutOnList LinkString put
 
 -- nothing is stored where the string leads to the list's front already
 abbrev pub way_of_front : PartialString → ℕ → PutOnList → Spot
 way_of_front string front put = if leads_to string.link front then InPutOnList PushString put else way_of_string string put
 
 abbrev pub longer_list : Local → ListWord
-longer_list l = record { front = (string_of l).front; count = l.list_word.count + (string_of l).count }
+longer_list l = record {
+  front = (string_of l).front;
+  count = l.list_word.count + (string_of l).count;
+}
 
 -- where a string that was put on the list leads to
 abbrev pub way_of_pushed : PutOnList → Spot
@@ -55,12 +60,20 @@ put_on_list_step l PushString = change_list l (longer_list l)
 
 abbrev pub put_on_list_advance : Local → PutOnListSpot → PutOnList → Answer → Turn
 put_on_list_advance l LoadList put (Word x) =
-    goes (record l { list_word = list_in x; spot = way_of_front (string_of l) (list_in x).front put })
+    goes (record l {
+      list_word = list_in x;
+      spot = way_of_front (string_of l) (list_in x).front put;
+    })
 put_on_list_advance l WalkString put (Word x) =
-    let string = with_cursor (string_of l) (x % 2 ^ 16) in goes (record l { string = Some string; spot = way_of_string string put })
+    let string = with_cursor (string_of l) (x % 2 ^ 16) in
+    goes (record l { string = Some string; spot = way_of_string string put })
 put_on_list_advance l LinkString put Done =
-    goes (record l { string = Some (record (string_of l) { link = Some l.list_word.front }); spot = InPutOnList PushString put })
-put_on_list_advance l PushString put Won = goes (record l { string = None; put = l.put + puts put; spot = way_of_pushed put })
+    goes (record l {
+      string = Some (record (string_of l) { link = Some l.list_word.front });
+      spot = InPutOnList PushString put;
+    })
+put_on_list_advance l PushString put Won =
+    goes (record l { string = None; put = l.put + puts put; spot = way_of_pushed put })
 -- the last slab and what its link leads to stay known
 put_on_list_advance l PushString put (Lost x) = goes (at l (InPutOnList LoadList put))
 put_on_list_advance l s put a = goes l

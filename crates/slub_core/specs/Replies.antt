@@ -1,4 +1,5 @@
--- What the replies of a worker say: which objects it holds, where they stand, what it wrote; and what causes a reply has. No step stands here.
+-- What the replies of a worker say: which objects it holds, where they stand, what it wrote; and
+-- what causes a reply has. No step stands here.
 use Rattle.std.specs.Prelude.{◌≡◌, ◌≢◌, ℕ, ◌+◌, ◌*◌, ◌≤◌, Bool, true, false, ◌&&◌, ◌==◌, cond, List, [], ◌∷◌, Option, Some, None, ◌⊎◌}
 use Rattle.std.specs.Option.{option_map}
 use Rattle.slub_object_layout.specs.Layout.{address_of}
@@ -67,7 +68,9 @@ address_after _ x = x
 
 abbrev pub address_by : Setup → (ℕ → Option BoardWord) → List Answered → ℕ → Option ℕ
 address_by m before [] o = address_on m (before o)
-address_by m before (d ∷ ds) o = cond (d.call.object == o) (address_after d.reply (address_by m before ds o)) (address_by m before ds o)
+address_by m before (d ∷ ds) o =
+    cond (d.call.object == o) (address_after d.reply (address_by m before ds o))
+    (address_by m before ds o)
 
 -- its cache
 abbrev pub cache_after : Call → Reply → Option ℕ → Option ℕ
@@ -76,7 +79,9 @@ cache_after call _ x = x
 
 abbrev pub cache_by : (ℕ → Option BoardWord) → List Answered → ℕ → Option ℕ
 cache_by before [] o = option_map (λ (b : BoardWord). b.cache) (before o)
-cache_by before (d ∷ ds) o = cond (d.call.object == o) (cache_after d.call d.reply (cache_by before ds o)) (cache_by before ds o)
+cache_by before (d ∷ ds) o =
+    cond (d.call.object == o) (cache_after d.call d.reply (cache_by before ds o))
+    (cache_by before ds o)
 
 -- what the worker wrote last in a word of the object, since it came to hold it
 abbrev pub wrote_after : Call → Reply → ℕ → Option ℕ → Option ℕ
@@ -87,7 +92,8 @@ wrote_after call _ a x = x
 
 abbrev pub last_wrote : List Answered → ℕ → ℕ → Option ℕ
 last_wrote [] o a = None
-last_wrote (d ∷ ds) o a = cond (d.call.object == o) (wrote_after d.call d.reply a (last_wrote ds o a)) (last_wrote ds o a)
+last_wrote (d ∷ ds) o a =
+    cond (d.call.object == o) (wrote_after d.call d.reply a (last_wrote ds o a)) (last_wrote ds o a)
 
 -- ---- counts
 
@@ -116,7 +122,8 @@ least_order m (Some cache) = (m.layout cache).min_order
 -- how often no run of this least order was there
 abbrev pub dry_in : Setup → ℕ → List Answered → ℕ
 dry_in m order [] = 0
-dry_in m order (d ∷ ds) = one_if (is_dry d.reply && (least_order m d.call.cache == order)) + dry_in m order ds
+dry_in m order (d ∷ ds) =
+    one_if (is_dry d.reply && (least_order m d.call.cache == order)) + dry_in m order ds
 
 -- ---- causes
 
@@ -144,31 +151,42 @@ IsOfChecked m cache = (k : ℕ) × (cache ≡ Some k) × (m.checks k ≡ true)
 
 -- the call of a worker that was answered `ds` had cause for this reply
 abbrev pub Cause : Setup → (ℕ → Option BoardWord) → Public → List Answered → Call → Reply → Type 0
--- an object is given that the worker holds under no number, and that stood under no number on the board but one that was freed since
+-- an object is given that the worker holds under no number, and that stood under no number on the
+-- board but one that was freed since
 Cause m before p ds c (reply.Given a) =
-    (c.kind ≡ Alloc) × ((o : ℕ) → address_by m before ds o ≡ Some a → holding ds o ≡ false) × ((o : ℕ) → address_on m (before o) ≡ Some a → 1 ≤ p.freed o)
+    (c.kind ≡ Alloc) × ((o : ℕ) → address_by m before ds o ≡ Some a → holding ds o ≡ false)
+    × ((o : ℕ) → address_on m (before o) ≡ Some a → 1 ≤ p.freed o)
 Cause m before p ds c reply.NoFrames = (c.kind ≡ Alloc) × ((k : ℕ) × (c.cache ≡ Some k))
 Cause m before p ds c reply.NoSuchCache = ((c.kind ≡ Alloc) ⊎ (c.kind ≡ Trim)) × (c.cache ≡ None)
 Cause m before p ds c reply.NoMemory = (c.kind ≡ Alloc) × IsOfChecked m c.cache
 -- the CPU word had that transaction id, and has it or a later one since
-Cause m before p ds c (reply.IdsSpent t) = (c.kind ≡ Alloc) × IsSpent t m.step × ((k : ℕ) × (c.cache ≡ Some k) × (t ≤ p.tid (16 * k + c.cpu)))
+Cause m before p ds c (reply.IdsSpent t) = (c.kind ≡ Alloc) × IsSpent t m.step
+    × ((k : ℕ) × (c.cache ≡ Some k) × (t ≤ p.tid (16 * k + c.cpu)))
 -- what is freed was the worker's or on the board, and stood at this address
 Cause m before p ds c (reply.Freed a) =
-    (c.kind ≡ Free) × (address_by m before ds c.object ≡ Some a) × ((holding ds c.object ≡ true) ⊎ (address_on m (before c.object) ≡ Some a))
+    (c.kind ≡ Free) × (address_by m before ds c.object ≡ Some a)
+    × ((holding ds c.object ≡ true) ⊎ (address_on m (before c.object) ≡ Some a))
 -- the worker doesn't hold it, and where it is to be freed it isn't on the board
-Cause m before p ds c reply.NotHeld = (is_alloc c.kind ≡ false) × (holding ds c.object ≡ false) × (c.kind ≡ Free → p.boarded c.object ≡ 0)
+Cause m before p ds c reply.NotHeld = (is_alloc c.kind ≡ false) × (holding ds c.object ≡ false)
+    × (c.kind ≡ Free → p.boarded c.object ≡ 0)
 Cause m before p ds c (reply.Corrupt d) =
-    (c.kind ≡ Free) × (d.found ≢ d.wanted) × IsOfChecked m (cache_by before ds c.object) × ((holding ds c.object ≡ true) ⊎ ((a : ℕ) × (address_on m (before c.object) ≡ Some a)))
+    (c.kind ≡ Free) × (d.found ≢ d.wanted) × IsOfChecked m (cache_by before ds c.object)
+    × ((holding ds c.object ≡ true) ⊎ ((a : ℕ) × (address_on m (before c.object) ≡ Some a)))
 Cause m before p ds c reply.Wrote = (c.kind ≡ Write) × (holding ds c.object ≡ true)
 -- of an unchecked object the value is what the worker wrote last
 Cause m before p ds c (reply.Value v) =
-    (c.kind ≡ Read) × (holding ds c.object ≡ true) × (IsOfPlain m (cache_by before ds c.object) → last_wrote ds c.object c.word ≡ Some v)
+    (c.kind ≡ Read) × (holding ds c.object ≡ true)
+    × (IsOfPlain m (cache_by before ds c.object) → last_wrote ds c.object c.word ≡ Some v)
 Cause m before p ds c reply.OutOfObject =
-    ((c.kind ≡ Write) ⊎ (c.kind ≡ Read)) × (holding ds c.object ≡ true) × ((k : ℕ) × (cache_by before ds c.object ≡ Some k) × (is_outside (m.layout k) c ≡ true))
-Cause m before p ds c reply.Poked = (c.kind ≡ Poke) × (knows ds c.object ≡ true) × IsOfChecked m (cache_by before ds c.object)
+    ((c.kind ≡ Write) ⊎ (c.kind ≡ Read)) × (holding ds c.object ≡ true)
+    × ((k : ℕ) × (cache_by before ds c.object ≡ Some k) × (is_outside (m.layout k) c ≡ true))
+Cause m before p ds c reply.Poked = (c.kind ≡ Poke) × (knows ds c.object ≡ true)
+    × IsOfChecked m (cache_by before ds c.object)
 Cause m before p ds c reply.OutOfSlot =
-    (c.kind ≡ Poke) × (knows ds c.object ≡ true) × ((k : ℕ) × (cache_by before ds c.object ≡ Some k) × (is_offset (m.layout k) c.offset ≡ false))
-Cause m before p ds c reply.NotChecked = (c.kind ≡ Poke) × (knows ds c.object ≡ true) × IsOfPlain m (cache_by before ds c.object)
+    (c.kind ≡ Poke) × (knows ds c.object ≡ true) × ((k : ℕ) × (cache_by before ds c.object ≡ Some k)
+    × (is_offset (m.layout k) c.offset ≡ false))
+Cause m before p ds c reply.NotChecked = (c.kind ≡ Poke) × (knows ds c.object ≡ true)
+    × IsOfPlain m (cache_by before ds c.object)
 Cause m before p ds c (reply.Trimmed n) = (c.kind ≡ Trim) × IsOfPlain m c.cache
 Cause m before p ds c reply.Checked = (c.kind ≡ Trim) × IsOfChecked m c.cache
 Cause m before p ds c (reply.Flushed n) = c.kind ≡ Flush

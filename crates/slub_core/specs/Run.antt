@@ -28,7 +28,14 @@ idle = record {
   place = 0;
   fast = false;
   cpu_word = record { tid = 0; frame = 0; head = 0 };
-  slab_word = record { head = 0; inuse = 0; objects = 0; frozen = false; listed = false; cache = 0 };
+  slab_word = record {
+    head = 0;
+    inuse = 0;
+    objects = 0;
+    frozen = false;
+    listed = false;
+    cache = 0;
+  };
   list_word = record { front = 0; count = 0 };
   next = 0;
   known = [];
@@ -50,11 +57,16 @@ after_step m refused s worker l =
     let n = number_of m step.place in
     let x = slice_index_or s.words n 0 in
     let c = advance_of m refused s.value l (answer_of step.op x) in
-    record { words = slice_set s.words n (after_op step.op x); value = c.value; locals = slice_set s.locals worker c.local }
+    record {
+      words = slice_set s.words n (after_op step.op x);
+      value = c.value;
+      locals = slice_set s.locals worker c.local;
+    }
 
 -- a worker between two calls begins the next one with its step
 abbrev pub turn : Setup → System → Pick → System
-turn m s pick = after_step m pick.refused s pick.worker (begun m false (slice_index_or s.locals pick.worker idle))
+turn m s pick = after_step m pick.refused s pick.worker
+    (begun m false (slice_index_or s.locals pick.worker idle))
 
 abbrev pub run : Setup → System → List Pick → System
 run m s [] = s

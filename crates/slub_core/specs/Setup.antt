@@ -18,15 +18,18 @@ abbrev pub pool_after : FreeFrames → ℕ → Option ℕ → FreeFrames
 pool_after pool order None = pool
 pool_after pool order (Some frame) = record pool { free = less_run pool.free frame order }
 
--- the run that a take finds, what a checked cache gives, and the new order of a node list, as functions
+-- the run that a take finds, what a checked cache gives, and the new order of a node list, as
+-- functions
 pub record Means : Type 0 where
   pub take : FreeFrames → ℕ → Option ℕ
-  pub takes : (pool : FreeFrames) (order : ℕ) → IsPool pool → order ≤ 10 → Takes pool order (take pool order) (pool_after pool order (take pool order))
+  pub takes : (pool : FreeFrames) (order : ℕ) → IsPool pool → order ≤ 10
+      → Takes pool order (take pool order) (pool_after pool order (take pool order))
   pub gave : CheckedState → CheckedGive
   pub give : CheckedState → CheckedState
   pub gives : (s : CheckedState) → IsSound s → Gives s (gave s) (give s)
   pub promote : List ℕ → List ℕ → List ℕ
-  pub promotes : (frames counts : List ℕ) → length counts ≡ length frames → IsPromoted frames counts (promote frames counts)
+  pub promotes : (frames counts : List ℕ) → length counts ≡ length frames
+      → IsPromoted frames counts (promote frames counts)
 
 -- ---- the machine
 
@@ -40,7 +43,8 @@ pub record Setup : Type 0 where
   -- how many locks there are, how many CPU words, and as many list words
   pub locks : ℕ
   pub cpu_words : ℕ
-  -- the live caches that aren't checked, oldest first; of each live cache its layout, as last tuned, and whether it is checked
+  -- the live caches that aren't checked, oldest first; of each live cache its layout, as last
+  -- tuned, and whether it is checked
   pub plain : List ℕ
   pub lives : ℕ → Bool
   pub layout : ℕ → Layout
@@ -63,7 +67,8 @@ pub record IsSetup (m : Setup) : Type 0 where
   pub locks : m.locks ≡ 33
   pub cpu_words : m.cpu_words ≡ 512
   pub plain : All (IsPlain m) m.plain
-  pub layout : (cache : ℕ) → m.lives cache ≡ true → IsWithinBounds (record (m.layout cache) { min_partial = 5; cpu_partial_slabs = 0 })
+  pub layout : (cache : ℕ) → m.lives cache ≡ true
+      → IsWithinBounds (record (m.layout cache) { min_partial = 5; cpu_partial_slabs = 0 })
   pub live : (cache : ℕ) → m.lives cache ≡ true → cache < 32
   pub checked : (cache : ℕ) → m.checks cache ≡ true → m.lives cache ≡ true
 
@@ -83,12 +88,14 @@ pool_lock = 0
 
 -- the memory word of an object's free pointer, and one of its own words
 abbrev pub pointer_at : Setup → ℕ → ℕ → ℕ → ℕ
-pointer_at m cache frame index = (address_of frame index (m.layout cache) + (m.layout cache).offset) / 8
+pointer_at m cache frame index =
+    (address_of frame index (m.layout cache) + (m.layout cache).offset) / 8
 
 abbrev pub word_at : Setup → ℕ → ℕ → ℕ → ℕ → ℕ
 word_at m cache frame index word = address_of frame index (m.layout cache) / 8 + word
 
--- a free pointer as it is stored at a memory word, and what is stored there (`freelist_ptr`, hardened)
+-- a free pointer as it is stored at a memory word, and what is stored there (`freelist_ptr`,
+-- hardened)
 abbrev pub hardened : ℕ → ℕ → ℕ → ℕ
 hardened cache place pointer = freelist_ptr pointer (steps_from_one (cache + 1)) (8 * place)
 

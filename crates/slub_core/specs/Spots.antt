@@ -1,4 +1,5 @@
--- The table of spots: which locks a worker has at each, what it has in hand, what it has noted and may rely on.
+-- The table of spots: which locks a worker has at each, what it has in hand, what it has noted and
+-- may rely on.
 use Rattle.std.specs.Prelude.{ℕ, zero, suc, ◌-◌, Bool, true, false, List, [], ◌∷◌, Option, Some, None}
 use Rattle.slub_core.specs.declared.spot.Spot.{Spot}
 use Rattle.slub_core.specs.declared.spot.Spot.TheVariants.{Between, InAlloc, InPutAway, InDiscard, InPutOnList, InFree, InMoveSet, InOffline, InTrim, WriteWord, ReadWord, InChecked}
@@ -82,12 +83,14 @@ has_pool _ = false
 pub data Role : Type 0 where
   -- off a CPU whose freelist was empty: frozen, with no chain in hand
   Taken : Role
-  -- to be installed: frozen, with a chain in hand, of which the first object was not loaded yet, or was
+  -- to be installed: frozen, with a chain in hand, of which the first object was not loaded yet, or
+  -- was
   Ready : Role
   Loaded : Role
   -- to be put away: frozen, with a chain in hand, which may be empty
   Leaving : Role
-  -- the same before the end of its chain is stored, which is done again before each try: where it leads isn't relied on
+  -- the same before the end of its chain is stored, which is done again before each try: where it
+  -- leads isn't relied on
   Untied : Role
   -- off the node list: marked as listed still, with a free object
   Popped : Role
@@ -122,7 +125,8 @@ beside_put OfRest = Kept ∷ []
 beside_put OfNode = Ready ∷ []
 beside_put OfFree = []
 
--- the roles of the slabs in hand, the one that the worker works on first. Only while it asks the node list for slabs it may have one more or not: n is how many it has
+-- the roles of the slabs in hand, the one that the worker works on first. Only while it asks the
+-- node list for slabs it may have one more or not: n is how many it has
 abbrev pub roles : Spot → ℕ → List Role
 roles (InAlloc LoadTaken) n = Taken ∷ []
 roles (InAlloc TakeAll) n = Taken ∷ []
@@ -326,7 +330,8 @@ abbrev pub links_last : Spot → Bool
 links_last (InPutAway LinkLast away) = true
 links_last _ = false
 
--- the noted slab word is of the slab of the object that is freed, which is in use: without the node lock, or with it
+-- the noted slab word is of the slab of the object that is freed, which is in use: without the node
+-- lock, or with it
 abbrev pub frees_open : Spot → Bool
 frees_open (InFree LinkSlab) = true
 frees_open (InFree FreeSlab) = true
@@ -352,7 +357,8 @@ abbrev pub notes_scanned : Spot → Bool
 notes_scanned (InTrim DropScanned) = true
 notes_scanned _ = false
 
--- the noted list word is that which the string is put before; the walk along the string is to go on, has come to its end, or needn't
+-- the noted list word is that which the string is put before; the walk along the string is to go
+-- on, has come to its end, or needn't
 abbrev pub notes_list : Spot → Bool
 notes_list (InPutOnList WalkString put) = true
 notes_list (InPutOnList LinkString put) = true

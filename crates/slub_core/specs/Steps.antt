@@ -86,10 +86,12 @@ is_outside layout call = not (nat_le (8 * (call.word + 1)) layout.object_size)
 -- replies to writes and reads, and to pokes, that take no step
 abbrev pub told_of_use : Setup → Known → Call → Option Reply
 told_of_use m known call =
-    if not known.held then Some NotHeld else if is_outside (m.layout known.cache) call then Some OutOfObject else None
+    if not known.held then Some NotHeld else if is_outside (m.layout known.cache) call
+    then Some OutOfObject else None
 
 abbrev pub told_of_poke : Setup → Known → Option Reply
-told_of_poke m known = if known.frame == 0 then Some NotHeld else if not (m.checks known.cache) then Some NotChecked else None
+told_of_poke m known = if known.frame == 0 then Some NotHeld else if not (m.checks known.cache)
+    then Some NotChecked else None
 
 abbrev pub told_of_alloc : Option ℕ → Option Reply
 told_of_alloc None = Some NoSuchCache
@@ -117,7 +119,8 @@ or_step l more (Some reply) = more reply
 abbrev pub rested_with : Setup → List Call → Local → Local
 rested_with m [] l = l
 rested_with m (call ∷ calls) l =
-    or_step l (λ reply. rested_with m calls (answered l reply)) (told_at_once m (slice_index_or l.known call.place nobody) call call.kind)
+    or_step l (λ reply. rested_with m calls (answered l reply))
+    (told_at_once m (slice_index_or l.known call.place nobody) call call.kind)
 
 abbrev pub rested_at : Setup → Local → Spot → Local
 rested_at m l Between = rested_with m l.todo l
@@ -199,7 +202,8 @@ changed m refused c =
 abbrev pub settled : Setup → Bool → Change → Change
 settled m refused c = changed m refused (changed m refused c)
 
--- where an answer leads to: what is done at once belongs to the next step, and so do the replies that take no step
+-- where an answer leads to: what is done at once belongs to the next step, and so do the replies
+-- that take no step
 abbrev pub advance_of : Setup → Bool → (ℕ → LockValue) → Local → Answer → Change
 advance_of m refused value l a =
     let turn = advance_at m value l l.spot a in

@@ -16,7 +16,14 @@ use Rattle.slub_core.specs.Setup.{Setup}
 
 -- of a frame that is no first frame of an unchecked slab
 abbrev pub no_slab_word : SlabWord
-no_slab_word = record { head = 0; inuse = 0; objects = 0; frozen = false; listed = false; cache = 0 }
+no_slab_word = record {
+  head = 0;
+  inuse = 0;
+  objects = 0;
+  frozen = false;
+  listed = false;
+  cache = 0;
+}
 
 -- of a list without a slab
 abbrev pub no_list_word : ListWord
@@ -38,7 +45,12 @@ slab_in x = record {
 }
 
 unfoldable pub board_in : ℕ → Option BoardWord
-board_in x = if x == 0 then None else Some (record { frame = x / 2 ^ 16 % 2 ^ 16; index = x % 2 ^ 16 - 1; cache = x / 2 ^ 32 % 2 ^ 8 })
+board_in x = if x == 0 then None
+    else Some (record {
+      frame = x / 2 ^ 16 % 2 ^ 16;
+      index = x % 2 ^ 16 - 1;
+      cache = x / 2 ^ 32 % 2 ^ 8;
+    })
 
 unfoldable pub list_in : ℕ → ListWord
 list_in x = record { front = x % 2 ^ 16; count = x / 2 ^ 16 % 2 ^ 16 }
@@ -57,7 +69,8 @@ answer_of (Store v) x = Done
 answer_of (Swap v) x = Word x
 answer_of (Exchange from to) x = if x == from then Won else Lost x
 
--- ---- the numbers: locks, list words, CPU words, slab words, board words from number 1 on, memory words, links
+-- ---- the numbers: locks, list words, CPU words, slab words, board words from number 1 on, memory
+-- words, links
 
 abbrev pub list_base : ℕ
 list_base = 33

@@ -1,4 +1,5 @@
--- The state of the machine, as reads of its words, with the values of its locks; and what is counted in it.
+-- The state of the machine, as reads of its words, with the values of its locks; and what is
+-- counted in it.
 use Rattle.std.specs.Prelude.{◌≡◌, ℕ, zero, suc, ◌+◌, ◌-◌, ◌*◌, ◌^◌, Bool, ◌&&◌, ◌==◌, nat_lt, nat_le, cond, List, [], ◌∷◌, slice_index_or, Option, Some, None}
 use Rattle.slub_common.specs.Times.{times}
 use Rattle.slub_page_pool.specs.FreeFrames.{FreeFrames}
@@ -13,14 +14,16 @@ use Rattle.slub_core.specs.Words.{list_base, cpu_base, slab_base, board_base, me
 
 -- ---- the state
 
--- what a lock guards: a node list, head first, the slabs of a checked cache, the pool; nothing where its cache isn't live
+-- what a lock guards: a node list, head first, the slabs of a checked cache, the pool; nothing
+-- where its cache isn't live
 pub data LockValue : Type 0 where
   Nothing : LockValue
   Node : (frames : List ℕ) → LockValue
   Checked : (slabs : CheckedState) → LockValue
   Pool : (pool : FreeFrames) → LockValue
 
--- what the words say, and what the locks guard. A lock's value stays here while a worker has the lock: that worker alone changes it
+-- what the words say, and what the locks guard. A lock's value stays here while a worker has the
+-- lock: that worker alone changes it
 pub record World : Type 0 where
   pub setup : Setup
   -- by 16 * cache + CPU
@@ -67,9 +70,11 @@ set_value w n v = record w { value = update w.value n v }
 
 -- ---- what is read of it
 
--- the free pointer of an object, made plain again: an index plus one, 0 for none; more than 16 bits where no pointer was stored
+-- the free pointer of an object, made plain again: an index plus one, 0 for none; more than 16 bits
+-- where no pointer was stored
 abbrev pub pointer : World → ℕ → ℕ → ℕ → ℕ
-pointer w cache frame index = let p = pointer_at w.setup cache frame index in hardened cache p (w.memory p)
+pointer w cache frame index = let p = pointer_at w.setup cache frame index in
+    hardened cache p (w.memory p)
 
 -- a word of an object
 abbrev pub content : World → ℕ → ℕ → ℕ → ℕ → ℕ
@@ -115,29 +120,37 @@ idle_in (Pool pool) f i = 0
 
 -- ---- slabs, by their words or by the value of a checked cache's lock
 
--- of the last of the first n locks whose value has a slab at the frame: its objects, its cache and its order
+-- of the last of the first n locks whose value has a slab at the frame: its objects, its cache and
+-- its order
 abbrev pub objects_in_values : (ℕ → LockValue) → ℕ → ℕ → ℕ
 objects_in_values value zero f = 0
-objects_in_values value (suc n) f = cond (nat_lt 0 (size_in (value n) f)) (size_in (value n) f) (objects_in_values value n f)
+objects_in_values value (suc n) f =
+    cond (nat_lt 0 (size_in (value n) f)) (size_in (value n) f) (objects_in_values value n f)
 
 abbrev pub cache_in_values : (ℕ → LockValue) → ℕ → ℕ → ℕ
 cache_in_values value zero f = 0
-cache_in_values value (suc n) f = cond (nat_lt 0 (size_in (value n) f)) (n - 1) (cache_in_values value n f)
+cache_in_values value (suc n) f =
+    cond (nat_lt 0 (size_in (value n) f)) (n - 1) (cache_in_values value n f)
 
 abbrev pub order_in_values : (ℕ → LockValue) → ℕ → ℕ → ℕ
 order_in_values value zero f = 0
-order_in_values value (suc n) f = cond (nat_lt 0 (size_in (value n) f)) (order_in (value n) f) (order_in_values value n f)
+order_in_values value (suc n) f =
+    cond (nat_lt 0 (size_in (value n) f)) (order_in (value n) f) (order_in_values value n f)
 
 -- a slab at a frame: how many objects it has, 0 where none begins there, its cache and its order
 abbrev pub objects_at : World → ℕ → ℕ
-objects_at w f = cond (nat_lt 0 (w.slab f).objects) (w.slab f).objects (objects_in_values w.value w.setup.locks f)
+objects_at w f = cond (nat_lt 0 (w.slab f).objects) (w.slab f).objects
+    (objects_in_values w.value w.setup.locks f)
 
 abbrev pub cache_at : World → ℕ → ℕ
-cache_at w f = cond (nat_lt 0 (w.slab f).objects) (w.slab f).cache (cache_in_values w.value w.setup.locks f)
+cache_at w f = cond (nat_lt 0 (w.slab f).objects) (w.slab f).cache
+    (cache_in_values w.value w.setup.locks f)
 
 abbrev pub order_at : World → ℕ → ℕ
 order_at w f =
-    cond (nat_lt 0 (w.slab f).objects) (order_for (w.setup.layout (w.slab f).cache) (w.slab f).objects) (order_in_values w.value w.setup.locks f)
+    cond (nat_lt 0 (w.slab f).objects)
+    (order_for (w.setup.layout (w.slab f).cache) (w.slab f).objects)
+    (order_in_values w.value w.setup.locks f)
 
 -- ---- counting
 
@@ -186,7 +199,8 @@ covers w g f = cond (nat_lt 0 (objects_at w f)) (in_run g f (order_at w f)) 0
 
 -- ---- chains and strings
 
--- the objects from a head on, each leading to the next, up to an end: 0, or the head of another chain
+-- the objects from a head on, each leading to the next, up to an end: 0, or the head of another
+-- chain
 abbrev pub Leads : (ℕ → ℕ) → ℕ → List ℕ → ℕ → Type 0
 Leads next head [] end = head ≡ end
 Leads next head (x ∷ xs) end = (head ≡ suc x) × Leads next (next x) xs end
@@ -221,7 +235,8 @@ word_in words base room n = cond (nat_lt n room) (slice_index_or words (base + n
 unfoldable pub board_words : Setup → List ℕ → ℕ → ℕ
 board_words m words o = cond (o == 0) 0 (word_in words (board_base m) m.objects o)
 
-unfoldable pub world_from : Setup → (ℕ → LockValue) → (ℕ → ℕ) → (ℕ → ℕ) → (ℕ → ℕ) → (ℕ → ℕ) → (ℕ → ℕ) → (ℕ → ℕ) → (ℕ → ℕ) → World
+unfoldable pub world_from : Setup → (ℕ → LockValue) → (ℕ → ℕ) → (ℕ → ℕ) → (ℕ → ℕ) → (ℕ → ℕ)
+    → (ℕ → ℕ) → (ℕ → ℕ) → (ℕ → ℕ) → World
 world_from m values locks lists cpus slabs boards memory links = record {
   setup = m;
   cpu = λ n. cpu_in (cpus n);
@@ -236,5 +251,8 @@ world_from m values locks lists cpus slabs boards memory links = record {
 
 -- the state of a machine of these words and lock values
 unfoldable pub world_of : Setup → (ℕ → LockValue) → List ℕ → World
-world_of m values words = world_from m values (word_in words 0 m.locks) (word_in words list_base m.cpu_words) (word_in words cpu_base m.cpu_words)
-    (word_in words slab_base m.frames) (board_words m words) (word_in words (memory_base m) (512 * m.frames)) (word_in words (link_base m) m.frames)
+world_of m values words =
+    world_from m values (word_in words 0 m.locks) (word_in words list_base m.cpu_words)
+    (word_in words cpu_base m.cpu_words)
+    (word_in words slab_base m.frames) (board_words m words)
+    (word_in words (memory_base m) (512 * m.frames)) (word_in words (link_base m) m.frames)

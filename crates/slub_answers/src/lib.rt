@@ -3,6 +3,10 @@
 //! answers whether slabs remain, or `NoSuchCache` of `slub_common`.)
 //!
 //! `specs/Kinds.antt` says by what kind of reply the rest of the repository tells replies apart.
+//!
+//! # What it promises
+//!
+//! The types of replies, ledgers, answers and refusals, and the kinds of replies (`kind_of`).
 #![tactic(auto)]
 
 pub mod create;

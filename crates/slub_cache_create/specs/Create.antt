@@ -20,7 +20,8 @@ pub record IsLeastUnused (s : Table) (cache : ℕ) : Type 0 where
   pub unused : cache_of s cache ≡ None
   pub least : (other : ℕ) → other < cache → IsSome (cache_of s other)
 
--- one more live name, the newest, and the cache that it names is one more name richer and maybe larger
+-- one more live name, the newest, and the cache that it names is one more name richer and maybe
+-- larger
 abbrev pub with_alias : Table → List ℕ → Spec → ℕ → Table
 with_alias s name spec cache = record s {
   live = s.live ++ (name, cache) ∷ [];
@@ -31,12 +32,16 @@ with_alias s name spec cache = record s {
 abbrev pub with_cache : Table → List ℕ → Spec → Layout → ℕ → Table
 with_cache s name spec layout cache = record s {
   live = s.live ++ (name, cache) ∷ [];
-  caches = slice_set s.caches cache (Some (record { title = name; flags = spec.flags; layout = layout; names = 1 }));
+  caches = slice_set s.caches cache
+      (Some (record { title = name; flags = spec.flags; layout = layout; names = 1 }));
   ages = s.ages ++ cache ∷ [];
 }
 
--- a name becomes one of the oldest live cache that fits; where none fits, a cache is made under the least unused number
+-- a name becomes one of the oldest live cache that fits; where none fits, a cache is made under the
+-- least unused number
 abbrev pub Creates : Table → List ℕ → Spec → ℕ → Created → Table → Type 0
-Creates s name spec cpus (Merged cache) after = IsOldestFit s spec cache × (after ≡ with_alias s name spec cache)
+Creates s name spec cpus (Merged cache) after =
+    IsOldestFit s spec cache × (after ≡ with_alias s name spec cache)
 Creates s name spec cpus (New cache) after =
-    NoneFits s spec × IsLeastUnused s cache × (layout : Layout) × IsLayout spec cpus layout × (after ≡ with_cache s name spec layout cache)
+    NoneFits s spec × IsLeastUnused s cache × (layout : Layout) × IsLayout spec cpus layout
+    × (after ≡ with_cache s name spec layout cache)

@@ -32,7 +32,8 @@ without_cache s name cache = record s {
   ages = filter (λ other. not (other == cache)) s.ages;
 }
 
--- a name is dropped, from a cache that has others, or with the cache that it alone names; where it isn't live, nothing changes
+-- a name is dropped, from a cache that has others, or with the cache that it alone names; where it
+-- isn't live, nothing changes
 abbrev pub Drops : Table → List ℕ → Result Dropped NoSuchCache → Table → Type 0
 Drops s name (Ok (Alias cache)) after =
     (number_of s name ≡ Some cache) × (1 < names_of s cache) × (after ≡ without_alias s name cache)

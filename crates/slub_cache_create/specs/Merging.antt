@@ -1,4 +1,5 @@
--- Which live cache a new one is merged with, after `slab_unmergeable` and `find_mergeable` of Linux 6.1.
+-- Which live cache a new one is merged with, after `slab_unmergeable` and `find_mergeable` of Linux
+-- 6.1.
 use Rattle.std.specs.Prelude.{◌≡◌, ℕ, ◌+◌, ◌-◌, ◌%◌, ◌<◌, ◌≤◌, max, false, List, ◌∷◌, ◌++◌, MatchOption, All}
 use Rattle.slub_object_layout.specs.declared.layout.Spec.{Spec}
 use Rattle.slub_object_layout.specs.Layout.{align_up, alignment_of, is_checked}
@@ -9,7 +10,8 @@ use Rattle.slub_cache_create.specs.Table.{Table, cache_of}
 abbrev pub wanted_of : Spec → ℕ
 wanted_of spec = align_up (align_up spec.size 8) (alignment_of spec)
 
--- objects of a new cache can lie in the slots of this live one, and waste less than a word (F is a profile flag)
+-- objects of a new cache can lie in the slots of this live one, and waste less than a word (F is a
+-- profile flag)
 pub record Fits (live : Cache) (spec : Spec) : Type 0 where
   -- none of F, Z and P is set on either side
   pub unchecked : is_checked live.flags ≡ false
@@ -35,7 +37,8 @@ pub record IsOldestFit (s : Table) (spec : Spec) (cache : ℕ) : Type 0 where
 abbrev pub NoneFits : Table → Spec → Type 0
 NoneFits s spec = All (λ cache. ¬ FitsAt s spec cache) s.ages
 
--- a live cache that a new one was merged with: the greater sizes, and one more name (`__kmem_cache_alias`)
+-- a live cache that a new one was merged with: the greater sizes, and one more name
+-- (`__kmem_cache_alias`)
 abbrev pub merged_with : Spec → Cache → Cache
 merged_with spec live = record live {
   layout = record live.layout {

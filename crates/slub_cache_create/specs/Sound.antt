@@ -15,7 +15,8 @@ pub record IsLiveLayout (flags : Flags) (layout : Layout) : Type 0 where
   pub made : IsWithinBounds (record layout { min_partial = 5; cpu_partial_slabs = 0 })
   pub min_partial : layout.min_partial ≤ 4096
   pub cpu_partial_slabs : layout.cpu_partial_slabs ≤ 8192
-  -- a left red zone only where Z is set, and no slab on a CPU's partial list where the cache is checked
+  -- a left red zone only where Z is set, and no slab on a CPU's partial list where the cache is
+  -- checked
   pub unpadded : flags.zones ≡ false → layout.left_pad ≡ 0
   pub no_partial : is_checked flags ≡ true → layout.cpu_partial_slabs ≡ 0
 
@@ -40,4 +41,5 @@ pub record IsSound (s : Table) : Type 0 where
   pub aged : (cache : ℕ) → times cache s.ages ≡ (if is_some (cache_of s cache) then 1 else 0)
   pub live : (cache : ℕ) → IfSome (cache_of s cache) (IsLiveCache s cache)
   -- no two caches have the same title
-  pub titles : (name : List ℕ) (one other : ℕ) → HasTitle s one name → HasTitle s other name → one ≡ other
+  pub titles : (name : List ℕ) (one other : ℕ)
+      → HasTitle s one name → HasTitle s other name → one ≡ other

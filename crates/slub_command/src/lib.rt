@@ -9,6 +9,12 @@
 //! and `load` at their places; `specs/Arguments.antt` has what it is given. It never sees `--`, behind
 //! which it would take every word for a value. Numbers and flags are read here. What takes memory is
 //! `clap` alone.
+//!
+//! # What it promises
+//!
+//! `read` answers with the command that the words spell (`IsCommand`), BadWords only where they
+//! spell none, and want of memory only behind a command's name. `laws`: words spell one command
+//! only.
 #![tactic(auto)]
 
 pub mod command;

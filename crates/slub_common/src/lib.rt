@@ -3,6 +3,12 @@
 //!
 //! `proofs/` has the lemmas on lists of numbers, on sums, and on what holds of a list after one of
 //! its elements is written, which the proofs of the crates above cite.
+//!
+//! # What it promises
+//!
+//! `NoMemory` is the one type for an answer that is want of memory alone. `FrontList` and
+//! `Sequence` are lists that contracts see as lists of their elements; `times` is how often a
+//! number stands in a list; `limits` has the limits by name.
 #![tactic(auto)]
 
 pub mod front_list;

@@ -5,6 +5,11 @@
 //! steps of all workers (`IsCoherent`). The law (`specs/Law.antt`, the contracts of `laws`) is that each
 //! turn of any worker keeps all of it but the account (`IsAccounted`), whatever the other workers are
 //! doing. Nothing here runs: the crates above make the steps, and cite the law.
+//!
+//! # What it promises
+//!
+//! The step machine, as definitions, and `laws`: `turns_keep_all`, `runs_keep_all`.
+//! docs/CONCURRENCY.md tells what they say and what they leave out.
 #![tactic(auto)]
 
 pub mod call;

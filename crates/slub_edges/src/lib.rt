@@ -11,6 +11,15 @@
 //! holds (`specs/Adapters.antt`), what comes of reading to the end (`specs/Reading.antt`), and std's
 //! words on known bytes: `Appends`, `Consumes`, `IsAtEnd`, which claim nothing where an end tells
 //! nothing. `proofs/Told.antt` has the lemmas on them for the crates above.
+//!
+//! # What it promises
+//!
+//! `Source::read` and `Sink::write` say which bytes were read or taken, that a failure comes only
+//! where the count of faults rose (or stands at its greatest value), and that the count rises at
+//! failed calls alone; the ends in memory and the adapters over std's readers and writers meet
+//! that. `write_all` and `write_lines` take all of a text, or at a fault a front of it that isn't
+//! the whole; each line with its line feed is one piece. `read_all` reads to the end, or says why
+//! not. That the adapters carry bytes to and from the operating system is only tested.
 #![tactic(auto)]
 
 pub mod adapters;

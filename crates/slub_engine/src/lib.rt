@@ -5,6 +5,12 @@
 //! on the `Lists` that it is handed.
 //! `specs/Steps.antt` has the steps of a round and `specs/Sums.antt` the sums, for the clauses of
 //! private functions.
+//!
+//! # What it promises
+//!
+//! `item` does an item of a trace that is replayed today lawfully (`Does`), or finds no memory,
+//! only where it takes some, and leaves the machine as it was given; `total` sums the ledgers and
+//! the machine; `cache_counts` and `info_rows` count.
 #![tactic(auto)]
 
 pub mod counts;

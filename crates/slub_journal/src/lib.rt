@@ -7,6 +7,11 @@
 //! replayed today (`is_built` decides it), and where a machine stands before an item.
 //! `specs/Text.antt` says which text a journal has, and `text` makes it, an item at a time. Nothing here
 //! knows a machine's bodies: an answer is made into text whoever gave it.
+//!
+//! # What it promises
+//!
+//! Which journals are lawful (`IsLawful`), exactly which traces are replayed today (`is_built`),
+//! and the text of what was done, with or without the lines that `--replies` asks for.
 #![tactic(auto)]
 
 pub mod built;

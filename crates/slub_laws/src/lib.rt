@@ -3,6 +3,13 @@
 //! nothing, and speaks of states, traces and journals: it holds whoever did the work.
 //!
 //! `specs/Freed.antt` says how often the events of a run gave an object, and how often they freed it.
+//!
+//! # What it promises
+//!
+//! Of every lawful journal of a sound trace: no number is given or freed twice; given less freed is
+//! live; each round is lawful; each damage was poked. Of every coherent machine: live, free and
+//! set-aside objects make up a cache's objects; shrinking leaves the slabs in use, in the order of
+//! promotion; an unused cache that was trimmed last is empty.
 #![tactic(auto)]
 
 pub mod laws;

@@ -6,6 +6,13 @@
 //! have their steps.
 //!
 //! After `Lists::open` only checked caches take memory: at their creation, and for each new slab.
+//!
+//! # What it promises
+//!
+//! `Lists::alloc_named`, `free`, `write`, `read`, `poke`, `trim`, `flush`, `create`, `tune`,
+//! `shrink`, `destroy` and `end_round` are their definitions in `slub_lists`, and each keeps the
+//! machine coherent. After `open` only checked caches take memory: an allocation that finds none
+//! puts its run of frames back, and a creation that finds none changes nothing.
 #![tactic(auto)]
 
 pub mod alloc;

@@ -19,6 +19,16 @@
 //! (`Counting`); `at_some`, `was-checked` and `held-once` (`CheckedSlabs`); `the-value`, `layout-live` and
 //! `slab-sized` (`CheckedGiving`); `held-slab` and `going-unlisted` (`CheckedTaking`); `slots-fit` and
 //! `word-ends` (`ObjectWords`).
+//!
+//! # What it promises
+//!
+//! The definitions of the sequential semantics, and `IsCoherent`: each object of a live slab is in
+//! exactly one place, each frame is free or in one run, each slab is on one list at most, none with
+//! an object on its own freelist is lost, the counts are true, object number 0 names nothing.
+//! Shrinking (`ShrinksCache`) changes no slab of another cache; the frames of the slabs that go
+//! come free, and no others; an unused cache is left no slab. `laws`: objects share no byte, held
+//! or free, a write to one leaves the words of every other, slabs lie within their frames, checked
+//! slabs are on no list.
 #![tactic(auto)]
 
 pub mod laws;

@@ -9,6 +9,11 @@
 //! `specs/PartialList.antt` says what a removal leaves, and `IsPromoted` of `specs/Promotion.antt`
 //! the order in which shrinking leaves the list. `laws` has what follows: each of the two leaves one
 //! list, and no slab is added or lost.
+//!
+//! # What it promises
+//!
+//! Each call is the plain list operation; `promote` leaves the one order that `IsPromoted`
+//! describes. `laws`: a removal and a promotion leave one list, and lose no slab.
 #![tactic(auto)]
 
 ghost use Rattle.std.specs.Prelude.{◌≡◌, ◌<◌, ◌↔◌, [], ◌∷◌, ◌++◌, length, IfOk, MatchOption, IsTrue, IsFalse, Contains};

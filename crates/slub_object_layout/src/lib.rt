@@ -8,6 +8,14 @@
 //! follows: one layout for a spec, slots apart and within their frames, free pointers within
 //! their slots. `Name`, `Act`, `Event` and `Round` stand here so that every crate above can name
 //! them; what a name is says `specs/Name.antt`. No call takes memory.
+//!
+//! # What it promises
+//!
+//! `layout_of` answers exactly where there is a layout, with the solution of the equations of
+//! `calculate_sizes` and `calculate_order`; the order is that of the greatest number of objects
+//! that fits, by the first fraction, and least. `laws`: the layout is unique, slots are apart and
+//! lie in their slab, the free pointer lies in its slot and spares the object where the flags say
+//! so. `Name::read` takes exactly the names.
 #![tactic(auto)]
 
 pub mod event;

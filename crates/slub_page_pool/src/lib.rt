@@ -9,6 +9,13 @@
 //! `IsTaken`, `Takes`, `TakesOrNotes`, `CanPut` and `Puts`. `history::keeps_frames` states what
 //! holds over any number of calls, by `specs/History.antt`. Inside, `marks` has a mark for each
 //! frame, and `tree` over them finds a block in a few steps.
+//!
+//! # What it promises
+//!
+//! `Pool::take` gives the front of the lowest block of the least sufficient order, and None exactly
+//! where no such block exists; `take_or_note` counts each None; `put` gives a run back.
+//! `history::keeps_frames` and its neighbours: over every list of calls the frames out and the free
+//! frames are a partition of 1 to F - 1, and a pool that got everything back is as it was opened.
 #![tactic(auto)]
 
 ghost use Rattle.std.specs.Prelude.{◌≡◌, ◌+◌, ◌-◌, ◌^◌, ◌<◌, ◌≤◌, ◌↔◌, length, take, drop, IfOk, IfSome, IsTrue, Contains, slice_index};

@@ -21,6 +21,19 @@
 //! `checked`, `bytes` and `supply` the calls. Only `open`, `add_slab` and `give_new` take memory, and
 //! the last two take all of it before anything changes. Giving and taking back cost the bytes of one
 //! slot; where a slab is set aside, its free objects are marked one by one, once for good.
+//!
+//! # What it promises
+//!
+//! `CheckedSlabs::give` gives the first free object of the first listed slab whose examined bytes
+//! are whole, after each damaged one before it was reported and set aside with its slab's free
+//! objects (`Gives`); `give_new` adds a slab and gives its first object; `take_back` answers the
+//! first damaged byte and changes nothing, exactly where one is, and else sets the object up as
+//! free (`TakesBack`); the rest are their definitions (`specs/Steps.antt`). Between any two calls
+//! each object is free, used or set aside, and exactly the slabs with a free object are listed.
+//! `laws`: no damage exactly where every examined byte is the wanted one; setting up writes its
+//! parts and leaves every other byte; a new slab is whole; each report is of a byte as it stood,
+//! and only giving sets objects aside, with a report; giving, taking back, poking and writing write
+//! one object or place.
 #![tactic(auto)]
 
 mod bytes;

@@ -12,6 +12,15 @@
 //!
 //! Each line costs steps in its length alone: names, objects and written words are looked up by
 //! their hashes. `read_trace` alone takes memory from the caller's allocator.
+//!
+//! # What it promises
+//!
+//! `read_trace` answers with the trace that the bytes spell by the grammar (`IsTrace`), and no
+//! other trace is spelled by them; `BadLine` exactly where none is, with the first bad line and the
+//! first of the ten reasons that holds of it; `TooLong` only beyond the limit, `ReadFault` only
+//! where the source's count of faults rose. `IsSound`: numbers are in their ranges, and no object
+//! number is allocated twice. `laws`: reading as a function on bytes is the grammar, value and
+//! fault.
 #![tactic(auto)]
 
 mod check;

@@ -4,6 +4,11 @@
 //! freelist, with a tid that each change raises. `SlabWord` is a slab's own freelist and its marks. `BoardWord` is
 //! where a held object stands. `FreePtr` is the next of a free object, hardened as in `mm/slub.c`. The bits are
 //! those of `specs/Words.antt`.
+//!
+//! # What it promises
+//!
+//! Packing and unpacking undo each other, None comes exactly where the bits say so, and free
+//! pointers are hardened.
 #![tactic(auto)]
 
 pub mod board;

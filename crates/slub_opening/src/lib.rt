@@ -1,0 +1,2 @@
+//! Between the plain lists and the words of the step machine.
+#![tactic(auto)]

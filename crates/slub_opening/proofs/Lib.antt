@@ -1,3 +1,6 @@
 pub mod Sums
 pub mod Lay
 pub mod Cpus
+pub mod Rows
+pub mod Slabs
+pub mod Opened

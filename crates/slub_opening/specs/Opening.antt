@@ -1,5 +1,5 @@
 -- The words and lock values into which a coherent machine on plain lists opens.
-use Rattle.std.specs.Prelude.{◌≡◌, ℕ, zero, suc, ◌+◌, ◌-◌, ◌/◌, ◌%◌, ◌^◌, ◌<◌, ◌≤◌, Bool, not, nat_lt, cond, List, [], ◌∷◌, length, filter, slice_index_or, Option, Some, None, is_some, IsSome}
+use Rattle.std.specs.Prelude.{◌≡◌, ℕ, zero, suc, ◌+◌, ◌-◌, ◌/◌, ◌%◌, ◌^◌, ◌<◌, ◌≤◌, Bool, not, nat_lt, cond, List, [], ◌∷◌, length, filter, slice_index_or, Option, Some, None, is_some, IsSome, IfSome}
 use Rattle.std.specs.Option.{option_map}
 use Rattle.slub_common.specs.Times.{times}
 use Rattle.slub_red_zone.specs.State.{CheckedState}
@@ -191,7 +191,13 @@ chains_of s = record {
   list = λ n. (cpu_at s n).partial;
 }
 
--- ---- what is asked of what stands beside the lists
+-- ---- what is asked
+
+-- between rounds: every object that was given and not freed is on the board
+abbrev pub IsLaidDown : State → Type 0
+IsLaidDown s = (object : ℕ) → IfSome (held_under s object) (λ held. held.worker ≡ None)
+
+-- of what stands beside the lists
 
 pub record IsBeside (s : State) (b : Beside) : Type 0 where
   pub step : (s.cpus ≤ b.step) × (b.step ≤ 16)

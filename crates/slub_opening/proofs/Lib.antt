@@ -4,3 +4,4 @@ pub mod Cpus
 pub mod Rows
 pub mod Slabs
 pub mod Opened
+pub mod Names

@@ -5,3 +5,4 @@ pub mod Rows
 pub mod Slabs
 pub mod Opened
 pub mod Names
+pub mod Counts

@@ -6,3 +6,4 @@ pub mod Slabs
 pub mod Opened
 pub mod Names
 pub mod Counts
+pub mod Words

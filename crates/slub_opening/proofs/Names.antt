@@ -1,8 +1,8 @@
 -- What object numbers name, counted: on the board, and with workers.
-use Rattle.std.proofs.Common.{◌≡◌, ℕ, zero, suc, ◌+◌, ◌<◌, ◌≤◌, ◌&&◌, cond, eqb, Bool, true, false, List, [], ◌∷◌, Option, Some, None, refl, ap, sym, ◌∙◌, arith, inl, inr, sum_by}
+use Rattle.std.proofs.Common.{◌≡◌, ℕ, zero, suc, ◌+◌, ◌<◌, ◌≤◌, ◌&&◌, ◌⊎◌, cond, eqb, Bool, true, false, List, [], ◌∷◌, Option, Some, None, refl, ap, sym, ◌∙◌, arith, inl, inr, sum_by, Contains}
 use Rattle.std.specs.Prelude.{All, option_map, is_some}
 use Rattle.std.specs.Option.{option_or}
-use Rattle.std.proofs.lemmas.Bool.{cases_eq, eq-eqb, ne_eqb}
+use Rattle.std.proofs.lemmas.Bool.{cases_eq, cases_Bool, eq-eqb, ne_eqb, cond-true, cond-false}
 use Rattle.std.proofs.lemmas.List.Elements.{All-head, All-tail}
 use Rattle.std.proofs.lemmas.List.Sums.{sum_by-cons}
 use Rattle.slub_words.specs.declared.board.BoardWord.{BoardWord}
@@ -134,3 +134,60 @@ named-sum w m ls f i once are =
     sum_below_same m.objects (λ o. on_board (w.board o) f i + sum_by (held_by f i o) ls) (λ o. held_here f i (named w ls o)) (λ o _. named-here w ls f i o (once o))
     ∙ sum_below-add m.objects (λ o. on_board (w.board o) f i) (λ o. sum_by (held_by f i o) ls)
     ∙ ap (λ n. sum_below m.objects (λ o. on_board (w.board o) f i) + n) (workers-sum m f i ls are)
+
+-- ---- what a worker holds is what its number names
+
+none-in : {X : Type 0} (x : X) → Contains [] x → ⊥
+none-in x found = let short : found.0 < 0 = found.1 in omega arith
+
+here-or_later : {X : Type 0} (y : X) (xs : List X) (x : X) → Contains (y ∷ xs) x → (y ≡ x) ⊎ Contains xs x
+here-or_later y xs x (zero, short, is) = inl is
+here-or_later y xs x (suc k, short, is) = inr (k, omega arith, is)
+
+abbrev pub holds : ℕ → Known → ℕ
+holds o k = one_if (k.held && eqb k.object o)
+
+abbrev pub as_held : ℕ → Known → Held
+as_held worker k = record { frame = k.frame; index = k.index; cache = k.cache; worker = Some worker }
+
+holds-itself : (k : Known) → k.held ≡ true → k.held && eqb k.object k.object ≡ true
+holds-itself k h = ap (λ b. b && eqb k.object k.object) h ∙ eq-eqb k.object k.object refl
+
+in-knowns : (worker o : ℕ) (ks : List Known) (k : Known) → Contains ks k → k.held ≡ true → k.object ≡ o → sum_by (holds o) ks ≤ 1 → (held_in worker ks o ≡ Some (as_held worker k)) × (1 ≤ sum_by (holds o) ks)
+in-knowns worker o [] k is held at once = absurd (none-in k is)
+in-knowns worker o (x ∷ ks) k is held at once =
+    let c = sum_by-cons (holds o) x ks in
+    elim (here-or_later x ks k is) [
+      | inl e ↦
+          let here : x.held && eqb x.object o ≡ true = ap (λ (z : Known). z.held && eqb z.object o) e ∙ ap (λ n. k.held && eqb k.object n) (sym at) ∙ holds-itself k held in
+          (cond-true (x.held && eqb x.object o) (Some (as_held worker x)) (held_in worker ks o) here ∙ ap (λ z. Some (as_held worker z)) e, (let one : holds o x ≡ 1 = ap one_if here in omega arith))
+      | inr later ↦
+          let r = in-knowns worker o ks k later held at (omega arith) in
+          let none : x.held && eqb x.object o ≡ false = elim (cases_Bool (x.held && eqb x.object o)) [
+            | inl t ↦ absurd (let one : holds o x ≡ 1 = ap one_if t in omega (arith, c, one, r.1, once))
+            | inr f ↦ f
+          ] in
+          (cond-false (x.held && eqb x.object o) (Some (as_held worker x)) (held_in worker ks o) none ∙ r.0, omega (arith, c, r.1))
+    ]
+
+in-among : (o : ℕ) (ls : List Local) (l : Local) (k : Known) → Contains ls l → Contains l.known k → k.held ≡ true → k.object ≡ o → sum_by (held_under o) ls ≤ 1 → (held_among ls o ≡ Some (as_held l.worker k)) × (1 ≤ sum_by (held_under o) ls)
+in-among o [] l k is has held at once = absurd (none-in l is)
+in-among o (x ∷ ls) l k is has held at once =
+    let c = sum_by-cons (held_under o) x ls in
+    elim (here-or_later x ls l is) [
+      | inl e ↦
+          let same : held_under o x ≡ held_under o l = ap (held_under o) e in
+          let r = in-knowns l.worker o l.known k has held at (omega arith) in
+          let here : held_in x.worker x.known o ≡ Some (as_held l.worker k) = ap (λ (z : Local). held_in z.worker z.known o) e ∙ r.0 in
+          (ap (λ h. option_or h (held_among ls o)) here, omega (arith, c, same, r.1))
+      | inr later ↦
+          let r = in-among o ls l k later has held at (omega arith) in
+          let none = (knowns-counted x.worker 0 0 o x.known).none (omega (arith, c, r.1, once)) in
+          (ap (λ h. option_or h (held_among ls o)) none.0 ∙ r.0, omega (arith, c, r.1))
+    ]
+
+pub held-named : (w : World) (ls : List Local) (l : Local) (k : Known) → Contains ls l → Contains l.known k → k.held ≡ true → times_named w ls k.object ≤ 1 → named w ls k.object ≡ Some (as_held l.worker k)
+held-named w ls l k is has held once =
+    let r = in-among k.object ls l k is has held refl (omega arith) in
+    let none = (board-counted 0 0 (w.board k.object)).none (omega (arith, r.1, once)) in
+    ap (λ h. option_or h (held_among ls k.object)) none.0 ∙ r.0

@@ -7,3 +7,5 @@ pub mod Opened
 pub mod Names
 pub mod Counts
 pub mod Words
+pub mod Setups
+pub mod Workers

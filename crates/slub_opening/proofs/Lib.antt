@@ -9,3 +9,4 @@ pub mod Counts
 pub mod Words
 pub mod Setups
 pub mod Workers
+pub mod Standing

@@ -10,3 +10,4 @@ pub mod Words
 pub mod Setups
 pub mod Workers
 pub mod Standing
+pub mod Tables

@@ -11,3 +11,4 @@ pub mod Setups
 pub mod Workers
 pub mod Standing
 pub mod Tables
+pub mod Rooms

@@ -40,7 +40,7 @@ use Rattle.slub_opening.proofs.Slabs.{IsOpened, is_none, is_checked, is_plain, w
 
 -- ---- words of objects
 
-each-other : (rows : ℕ → Row) (n : ℕ) (m : ℕ → ℕ) (q : ℕ) → ((k x : ℕ) → 1 ≤ times x (rows k).items → q ≡ (rows k).place x → ⊥) → lay_each rows n m q ≡ m q
+pub each-other : (rows : ℕ → Row) (n : ℕ) (m : ℕ → ℕ) (q : ℕ) → ((k x : ℕ) → 1 ≤ times x (rows k).items → q ≡ (rows k).place x → ⊥) → lay_each rows n m q ≡ m q
 each-other rows zero m q away = refl
 each-other rows (suc n) m q away = lay-other (rows n).place (rows n).value (rows n).items (lay_each rows n m) q (λ x le. away n x le) ∙ each-other rows n m q away
 
@@ -146,7 +146,7 @@ module _ (s : State) (b : Beside) (ls : List Local) (beside : IsBeside s b) (coh
   own-head : (f : ℕ) → head_of (own_free s f) ≤ 512
   own-head f = small-head (own_free s f) (λ i some. let p = own-object s f i consistent some in omega (arith, p.2, objects-few s f p.0 consistent p.1))
 
-  string-frame : (n f : ℕ) → 1 ≤ times f (cpu_at s n).partial → (0 < f) × (f < s.frames) × (s.frames ≤ 4096)
+  pub string-frame : (n f : ℕ) → 1 ≤ times f (cpu_at s n).partial → (0 < f) × (f < s.frames) × (s.frames ≤ 4096)
   string-frame n f some =
       let x = listed-is s f consistent (omega (arith, partial-one s n f, some)) in
       let t = slab-inside s f x.0 consistent x.1 in

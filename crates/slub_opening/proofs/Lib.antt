@@ -12,3 +12,4 @@ pub mod Workers
 pub mod Standing
 pub mod Tables
 pub mod Rooms
+pub mod Systems

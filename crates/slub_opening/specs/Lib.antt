@@ -1,3 +1,4 @@
 pub mod Opening
 pub mod Rests
 pub mod Table
+pub mod Laws

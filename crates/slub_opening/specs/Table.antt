@@ -1,5 +1,5 @@
 -- The table of words of a machine, and a round before its first step.
-use Rattle.std.specs.Prelude.{ℕ, ◌-◌, ◌*◌, ◌++◌, List, map, Option, Some, None}
+use Rattle.std.specs.Prelude.{◌≡◌, ℕ, ◌-◌, ◌*◌, ◌++◌, List, length, map, Option, Some, None}
 use Rattle.std.specs.List.{range_with_len}
 use Rattle.slub_words.specs.Words.{cpu_bits, slab_bits, board_bits}
 use Rattle.slub_words.specs.declared.board.BoardWord.{BoardWord}
@@ -7,6 +7,7 @@ use Rattle.slub_cpu_partial.specs.Strings.{list_bits}
 use Rattle.slub_lists.specs.State.{State}
 use Rattle.slub_core.specs.Local.{Local}
 use Rattle.slub_core.specs.Run.{System}
+use Rattle.slub_core.specs.Words.{word_count}
 use Rattle.slub_core.specs.World.{World, world_of}
 use Rattle.slub_opening.specs.Opening.{Beside, setup_of, value_of, opened}
 use Rattle.slub_opening.specs.Rests.{Rests}
@@ -32,7 +33,7 @@ abbrev pub system_of : State → Beside → List Local → System
 system_of s b ls =
     record { words = words_of (opened s b); value = value_of s; locals = ls }
 
--- the words, lock values and workers rest in the lists
-abbrev pub RestsIn : State → Beside → System → Type 0
-RestsIn s b system =
-    Rests s b (world_of (setup_of s b) system.value system.words) system.locals
+-- the words, lock values and workers of a machine, and the lists that they rest in
+pub record RestsIn (s : State) (b : Beside) (system : System) : Type 0 where
+  pub count : length system.words ≡ word_count (setup_of s b)
+  pub rests : Rests s b (world_of (setup_of s b) system.value system.words) system.locals

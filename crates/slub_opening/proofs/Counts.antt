@@ -50,7 +50,7 @@ owned-held m f i (x ∷ xs) between =
 
 -- ---- lists of their lengths
 
-pub record HasLengths (s : State) : Type 0 where
+pub record HasCounts (s : State) : Type 0 where
   pub cpus : HasCpus s
   pub slabs : length s.slabs ≡ s.frames
   pub nodes : length s.nodes ≡ 32
@@ -76,7 +76,7 @@ at_most a b e = omega arith
 narrow : (n a : ℕ) → n < a → a ≡ 32 * 16 → n < 512
 narrow n a l e = omega arith
 
-module _ (s : State) (b : Beside) (w : World) (y : Chains) (xs : List Worker) (long : HasLengths s) (rests : Rests s b w (locals_of xs)) (leads : LeadsTo s y)
+module _ (s : State) (b : Beside) (w : World) (y : Chains) (xs : List Worker) (long : HasCounts s) (rests : Rests s b w (locals_of xs)) (leads : LeadsTo s y)
     (empty : (n : ℕ) → n < 512 → (cpu_at s n).current ≡ None → (cpu_at s n).free ≡ []) where
   cpu_words : w.setup.cpu_words ≡ 32 * 16
   cpu_words = ap (λ (m : Setup). m.cpu_words) rests.setup

@@ -237,8 +237,9 @@ module _ (s : State) (b : Beside) (ls : List Local) (beside : IsBeside s b) (coh
 
   -- ---- what CPUs have
 
-  cpu-opened : (n : ℕ) → n < 512 → IsCpuOf (opened s b) n (cpu_at s n)
+  cpu-opened : (n : ℕ) → n < 512 → IsCpuOf b (opened s b) n (cpu_at s n)
   cpu-opened n below = record {
+    tid = refl;
     current = by-current n (λ y. y ≡ current_in (frame_of y)) (λ e. refl) (λ f e. sym (cond-false (eqb f 0) None (Some f) (ne_eqb f 0 (λ z. absurd (let t = (current-frame n f e).0 in omega arith)))));
     free = cpu-chain s b n consistent;
     count = refl;

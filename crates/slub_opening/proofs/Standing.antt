@@ -35,15 +35,15 @@ use Rattle.slub_core.proofs.Pigeon.{sum_below-none}
 use Rattle.slub_opening.specs.Opening.{Beside, IsBeside, setup_of, cpu_at, value_of, node_value, chains_of}
 use Rattle.slub_opening.specs.Rests.{IsBetween, IsBare, Rests, held_on, held_among}
 use Rattle.slub_opening.proofs.Cpus.{cpu-at, cpu-bare, current-at, has-cpus, partial-one}
-use Rattle.slub_opening.proofs.Counts.{HasLengths, LeadsTo, IsSeen, locals_of, workers-none, slab-none, slab-some, object-same, places-same, currents-same, lists-same, nodes-same, covered}
+use Rattle.slub_opening.proofs.Counts.{HasCounts, LeadsTo, IsSeen, locals_of, workers-none, slab-none, slab-some, object-same, places-same, currents-same, lists-same, nodes-same, covered}
 use Rattle.slub_opening.proofs.Names.{held-named, as_held}
 use Rattle.slub_opening.proofs.Setups.{is-setup, guards}
 use Rattle.slub_opening.proofs.Slabs.{no-size, values_with, values-one}
 use Rattle.slub_opening.proofs.Words.{IsNoWord, IsPlainWord, IsWordAt, is_bare, is_plain, IsListedAt, chain-empty, word-at, plain-at, node-le, node-sum, listed-at}
 use Rattle.slub_opening.proofs.Workers.{no-home, no-run, no-mark, no-lock, at-work}
 
-pub has-lengths : (s : State) → IsConsistent s → HasLengths s
-has-lengths s consistent = record { cpus = has-cpus s consistent; slabs = consistent.shaped.slabs; nodes = consistent.shaped.nodes; checked = consistent.shaped.checked.numbers }
+pub has-counts : (s : State) → IsConsistent s → HasCounts s
+has-counts s consistent = record { cpus = has-cpus s consistent; slabs = consistent.shaped.slabs; nodes = consistent.shaped.nodes; checked = consistent.shaped.checked.numbers }
 
 no_worker : Worker
 no_worker = record { local = idle; chains = []; string = [] }
@@ -63,8 +63,8 @@ module _ (s : State) (b : Beside) (w : World) (xs : List Worker) (beside : IsBes
   consistent : IsConsistent s
   consistent = consistent-of s coherent
 
-  long : HasLengths s
-  long = has-lengths s consistent
+  long : HasCounts s
+  long = has-counts s consistent
 
   leads : LeadsTo s (chains_of s)
   leads = record { own = λ f. refl; cpu = λ n below. refl; list = λ n below. refl }

@@ -2,3 +2,4 @@ pub mod Opening
 pub mod Rests
 pub mod Table
 pub mod Laws
+pub mod Closing

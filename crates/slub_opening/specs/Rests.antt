@@ -17,7 +17,7 @@ use Rattle.slub_core.specs.Setup.{Setup, node_lock}
 use Rattle.slub_core.specs.World.{World, pointer, frames_in, objects_at, cache_at, order_at, one_if, IsChain, Links}
 use Rattle.slub_core.specs.Local.{Local, Worker}
 use Rattle.slub_core.specs.Fresh.{IsPacked, IsWorded}
-use Rattle.slub_opening.specs.Opening.{Beside, setup_of, cpu_at, value_of}
+use Rattle.slub_opening.specs.Opening.{Beside, setup_of, cpu_at, value_of, tid_of}
 
 -- ---- workers between two calls
 
@@ -93,8 +93,9 @@ pub record IsFreelistOf (w : World) (frame : ℕ) (free : List ℕ) : Type 0 whe
 abbrev pub current_in : ℕ → Option ℕ
 current_in frame = if frame == 0 then None else Some frame
 
--- a CPU word and a list word, and what the CPU has
-pub record IsCpuOf (w : World) (n : ℕ) (lists : CpuLists) : Type 0 where
+-- a CPU word and a list word, what the CPU has, and its transaction id
+pub record IsCpuOf (b : Beside) (w : World) (n : ℕ) (lists : CpuLists) : Type 0 where
+  pub tid : (w.cpu n).tid ≡ tid_of b n
   pub current : lists.current ≡ current_in (w.cpu n).frame
   pub free : IsChain (pointer w (n / 16) (w.cpu n).frame) (w.cpu n).head lists.free
   pub count : (w.list n).count ≡ length lists.partial
@@ -119,7 +120,7 @@ pub record Rests (s : State) (b : Beside) (w : World) (ls : List Local) : Type 0
   pub values : (n : ℕ) → n < 33 → w.value n ≡ value_of s n
   pub nodes : (cache : ℕ) → node_of s cache ≡ frames_in (value_of s (node_lock cache))
   -- what CPUs have
-  pub cpu : (n : ℕ) → n < 512 → IsCpuOf w n (cpu_at s n)
+  pub cpu : (n : ℕ) → n < 512 → IsCpuOf b w n (cpu_at s n)
   -- slabs; a slab of a checked cache has no word
   pub slab : (frame : ℕ) → slab_of s frame ≡ slab_at w frame
   pub plain : (frame : ℕ) → 1 ≤ (w.slab frame).objects → checked_of s (w.slab frame).cache ≡ None

@@ -13,3 +13,4 @@ pub mod Standing
 pub mod Tables
 pub mod Rooms
 pub mod Systems
+pub mod Closed

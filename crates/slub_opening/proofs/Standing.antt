@@ -45,15 +45,15 @@ use Rattle.slub_opening.proofs.Workers.{no-home, no-run, no-mark, no-lock, at-wo
 pub has-counts : (s : State) → IsConsistent s → HasCounts s
 has-counts s consistent = record { cpus = has-cpus s consistent; slabs = consistent.shaped.slabs; nodes = consistent.shaped.nodes; checked = consistent.shaped.checked.numbers }
 
-no_worker : Worker
+pub no_worker : Worker
 no_worker = record { local = idle; chains = []; string = [] }
 
-local-in : (xs : List Worker) (x : Worker) → Contains xs x → Contains (locals_of xs) x.local
+pub local-in : (xs : List Worker) (x : Worker) → Contains xs x → Contains (locals_of xs) x.local
 local-in [] x found = let short : found.0 < 0 = found.1 in absurd (omega arith)
 local-in (y ∷ xs) x (zero, short, is) = (0, omega arith, ap (λ (z : Worker). z.local) is)
 local-in (y ∷ xs) x (suc k, short, is) = let r = local-in xs x (k, omega arith, is) in (suc r.0, (let l = r.1 in omega arith), r.2)
 
-narrow : (n a : ℕ) → n < a → a ≡ 512 → n < 512
+pub narrow : (n a : ℕ) → n < a → a ≡ 512 → n < 512
 narrow n a l e = omega arith
 
 module _ (s : State) (b : Beside) (w : World) (xs : List Worker) (beside : IsBeside s b) (coherent : IsCoherent s) (rests : Rests s b w (locals_of xs)) (bare : All IsBare xs) where

@@ -14,3 +14,5 @@ pub mod Tables
 pub mod Rooms
 pub mod Systems
 pub mod Closed
+pub mod Holders
+pub mod Shaped

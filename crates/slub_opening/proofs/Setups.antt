@@ -26,7 +26,7 @@ use Rattle.slub_core.specs.Listed.{IsGuarded, IsCheckedOf}
 use Rattle.slub_core.proofs.Pigeon.{length-below}
 use Rattle.slub_opening.specs.Opening.{Beside, IsBeside, setup_of, plain_caches, value_of, node_value}
 
-some-of : {X : Type 0} (o : Option X) → is_some o ≡ true → (x : X) × (o ≡ Some x)
+pub some-of : {X : Type 0} (o : Option X) → is_some o ≡ true → (x : X) × (o ≡ Some x)
 some-of None e = absurd (false≢true e)
 some-of (Some x) e = (x, refl)
 

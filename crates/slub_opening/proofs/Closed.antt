@@ -33,7 +33,7 @@ use Rattle.slub_opening.proofs.Workers.{no-home, no-run}
 
 -- ---- a chain and a string are one list
 
-chain-same : (next : ℕ → ℕ) (head : ℕ) (xs ys : List ℕ) → IsChain next head xs → IsChain next head ys → xs ≡ ys
+pub chain-same : (next : ℕ → ℕ) (head : ℕ) (xs ys : List ℕ) → IsChain next head xs → IsChain next head ys → xs ≡ ys
 chain-same next head [] [] a c = refl
 chain-same next head [] (z ∷ ys) a c = absurd (omega (arith, a, c.0))
 chain-same next head (x ∷ xs) [] a c = absurd (omega (arith, a.0, c))
@@ -42,7 +42,7 @@ chain-same next head (x ∷ xs) (z ∷ ys) a c =
     let rest = chain-same next (next x) xs ys a.1 (subst (λ i. IsChain next (next i) ys) (sym e) c.1) in
     λ i. e i ∷ rest i
 
-string-same : (link : ℕ → ℕ) (front : ℕ) (xs ys : List ℕ) → length xs ≡ length ys → Links link front xs 0 → Links link front ys 0 → xs ≡ ys
+pub string-same : (link : ℕ → ℕ) (front : ℕ) (xs ys : List ℕ) → length xs ≡ length ys → Links link front xs 0 → Links link front ys 0 → xs ≡ ys
 string-same link front [] [] long a c = refl
 string-same link front [] (z ∷ ys) long a c = absurd (omega arith)
 string-same link front (x ∷ xs) [] long a c = absurd (omega arith)

@@ -16,3 +16,4 @@ pub mod Systems
 pub mod Closed
 pub mod Holders
 pub mod Shaped
+pub mod Telling

@@ -1,6 +1,6 @@
 //! What holds of machines that are opened and closed, for the crates that do it. None of these does anything.
 
-ghost use Rattle.slub_opening.specs.Laws.{CoherentListsStand, OpenedMachinesStand};
+ghost use Rattle.slub_opening.specs.Laws.{ClosedMachinesAreCoherent, CoherentListsStand, OpenedMachinesStand, WordsTellLists};
 
 /// A coherent machine whose objects are all on the board opens into words and lock values that say what
 /// its lists say, and in which all that the step machine keeps stands.
@@ -8,8 +8,20 @@ pub fn opened_machines_stand()
     ensures { OpenedMachinesStand }
 {}
 
-/// In whatever words a coherent machine rests, whatever its workers hold, all that the step machine keeps
-/// stands.
+/// In whatever words a coherent machine rests, and whatever its workers hold, all that the step machine
+/// keeps stands.
 pub fn coherent_lists_stand()
     ensures { CoherentListsStand }
+{}
+
+/// The lists that a machine closes into are coherent, and with its objects on the board it may be opened
+/// again.
+pub fn closed_machines_are_coherent()
+    ensures { ClosedMachinesAreCoherent }
+{}
+
+/// The words of a machine tell the lists in which it rests: slabs, freelists, partial lists, free frames,
+/// checked slabs, and what each object number names.
+pub fn words_tell_lists()
+    ensures { WordsTellLists }
 {}

@@ -61,8 +61,10 @@ bare-worker m w x between work = record {
   where
     Shape : List Hand → List (List ℕ) → Type 0
     Shape hs cs = length hs ≡ length cs
+
     Held : Option PartialString → Type 0
     Held o = IsStringOf o x.string
+
     shape : (rs : List Role) (hs : List Hand) (cs : List (List ℕ)) → AreHands rs hs cs → length hs ≡ length cs
     shape [] [] [] a = refl
     shape [] [] (c ∷ cs) a = absurd a
@@ -72,6 +74,7 @@ bare-worker m w x between work = record {
     shape (r ∷ rs) [] (c ∷ cs) a = absurd a
     shape (r ∷ rs) (h ∷ hs) [] a = absurd a
     shape (r ∷ rs) (h ∷ hs) (c ∷ cs) a = let e = shape rs hs cs a.5 in omega arith
+
     go : (cs : List (List ℕ)) → Shape [] cs → cs ≡ []
     go [] e = refl
     go (c ∷ cs) e = absurd (omega arith)
@@ -247,8 +250,10 @@ module _ (t : State) (b : Beside) (w : World) (xs : List Worker) (long : HasCoun
     where
       is : IsSeen w f x
       is = seen f x e
+
       some : f ≢ 0
       some z = absurd (let o = is.objects in let s = is.some in let n : objects_at w f ≡ 0 = ap (objects_at w) z ∙ stands.listed.shaped.no_slab in omega arith)
+
       to : x.frozen ≡ true → 0 < times_current t f
       to frozen =
           let mark : (w.slab f).frozen ≡ true = is.frozen ∙ frozen in
@@ -259,6 +264,7 @@ module _ (t : State) (b : Beside) (w : World) (xs : List Worker) (long : HasCoun
             | inl l ↦ absurd (let k = on-list f l in false≢true (sym k.1.unfrozen ∙ mark))
             | inr g ↦ omega (arith, in-roles f some, one, off, g)
           ]
+
       from : 0 < times_current t f → x.frozen ≡ true
       from there =
           let n = positive-term w.setup.cpu_words (λ n. one_if (eqb (w.cpu n).frame f)) (omega (arith, currents f some, there)) in
@@ -281,12 +287,12 @@ module _ (t : State) (b : Beside) (w : World) (xs : List Worker) (long : HasCoun
     ];
     stocked = λ f there. (let k = on-list f there in chain-length f k.1.head);
     of_current = λ k c f below. lists-number t k c long.cpus below (λ l. l.current ≡ Some f → IfSome (slab_of t f) (λ slab. slab.cache ≡ k)) (λ e. absurd (cc e))
-      (λ n small at e.
+        (λ n small at e.
         let g = is-frame n f small e in
         let c = stands.listed.shaped.current n (inside n small) (λ z. g.1 (sym g.0 ∙ z)) in
         word-some k f (has-frozen f (ap (λ g. (w.slab g).frozen) (sym g.0) ∙ c.1)) (ap (λ g. (w.slab g).cache) (sym g.0) ∙ c.0 ∙ at));
     of_partial = λ k c f below. lists-number t k c long.cpus below (λ l. 0 < times f l.partial → IfSome (slab_of t f) (λ slab. slab.cache ≡ k)) (λ e. absurd (omega arith))
-      (λ n small at e. (let s = in-string n f small e in word-some k f (has-head f s.head) (s.owner ∙ at)));
+        (λ n small at e. (let s = in-string n f small e in word-some k f (has-head f s.head) (s.owner ∙ at)));
     of_node = λ k f there. elim (cases_lt k 32) [
       | inl l ↦ (let s = in-node k f l there in word-some k f (has-head f s.head) s.owner)
       | inr g ↦ absurd (let z : times f (node_of t k) ≡ 0 = ap (times f) (get_or_past t.nodes k [] (omega (arith, g, long.nodes))) in omega arith)
@@ -296,6 +302,7 @@ module _ (t : State) (b : Beside) (w : World) (xs : List Worker) (long : HasCoun
     where
       none : (f : ℕ) → f ≡ 0 → 0 < times_current t f + times_partial t f → ⊥
       none f z there = let a = zero-current in let c = zero-listed in let d : times_current t f + times_partial t f ≡ times_current t 0 + times_partial t 0 = ap (λ g. times_current t g + times_partial t g) z in omega arith
+
       chain-length : (f : ℕ) → 1 ≤ (w.slab f).head → 0 < length (own_free t f)
       chain-length f some = elim (cases_eq (length (own_free t f)) 0) [
         | inl z ↦ absurd (headless _ (own_free t f) (rests.own f).chain z)
@@ -305,6 +312,7 @@ module _ (t : State) (b : Beside) (w : World) (xs : List Worker) (long : HasCoun
           headless : (next : ℕ → ℕ) (zs : List ℕ) → IsChain next (w.slab f).head zs → length zs ≡ 0 → ⊥
           headless next [] c z = omega arith
           headless next (x ∷ zs) c z = omega arith
+
       by : (f : ℕ) (o : Option Slab) → slab_of t f ≡ o → IfSome o (λ slab. IsTrue slab.frozen ↔ (0 < times_current t f))
       by f None e = tt
       by f (Some x) e = frozen-at f x e

@@ -125,6 +125,7 @@ module _ (s : State) (b : Beside) (w : World) (y : Chains) (xs : List Worker) (l
     where
       run : ℕ → ℕ
       run order = cond (nat_le f g && nat_lt g (f + 2 ^ order)) 1 0
+
       go : (x : Option Slab) → slab_of s f ≡ x → steps.covers w g f ≡ covers g f x
       go None e = cond-false (nat_lt 0 (objects_at w f)) (run (order_at w f)) 0 (le-ltb 0 (objects_at w f) (let z = slab-none f e in omega arith))
       go (Some x) e = let t = slab-some f x e in
@@ -187,9 +188,11 @@ module _ (s : State) (b : Beside) (w : World) (y : Chains) (xs : List Worker) (l
       list : (b : Bool) (fs : List ℕ) → idle_in (node_value b None fs) f i ≡ 0
       list true fs = refl
       list false fs = refl
+
       go : (k : ℕ) (o : Option CheckedState) → idle_in (node_value (is_some (cache_of s k)) o (node_of s k)) f i ≡ lists.idle_in f i o
       go k None = list (is_some (cache_of s k)) (node_of s k)
       go k (Some c) = refl
+
       same : (k : ℕ) → idle_in (value_of s (suc k)) f i ≡ lists.idle_in f i (get_or s.checked k None)
       same k = go k (checked_of s k)
 

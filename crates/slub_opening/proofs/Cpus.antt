@@ -37,10 +37,10 @@ cpu-sum s cpus F none has is =
     let G : ℕ → ℕ = λ p. F (get_or s.cpu_lists p no_lists) in
     ap (λ n. sum_below n (λ n. F (cpu_at s n))) is
     ∙ (blocks 32 16 refl (λ n. F (cpu_at s n)) G
-      (λ k c below. let b = number-block k c (under c s.cpus 16 below has.few.1) in
-        ap (λ z. F (cond (nat_lt z s.cpus) (lists_of s ((k * 16 + c) / 16) z) no_lists)) b.1 ∙ (ap (λ z. F (cond (nat_lt c s.cpus) (lists_of s z c) no_lists)) b.0 ∙ ap F (cond-true (nat_lt c s.cpus) (lists_of s k c) no_lists (lt-ltb c s.cpus below))))
-      (λ k c past below. let b = number-block k c below in
-        ap (λ z. F (cond (nat_lt z s.cpus) (lists_of s ((k * 16 + c) / 16) z) no_lists)) b.1 ∙ ap F (cond-false (nat_lt c s.cpus) (lists_of s ((k * 16 + c) / 16) c) no_lists (le-ltb c s.cpus past)) ∙ none)
+    (λ k c below. let b = number-block k c (under c s.cpus 16 below has.few.1) in
+    ap (λ z. F (cond (nat_lt z s.cpus) (lists_of s ((k * 16 + c) / 16) z) no_lists)) b.1 ∙ (ap (λ z. F (cond (nat_lt c s.cpus) (lists_of s z c) no_lists)) b.0 ∙ ap F (cond-true (nat_lt c s.cpus) (lists_of s k c) no_lists (lt-ltb c s.cpus below))))
+    (λ k c past below. let b = number-block k c below in
+    ap (λ z. F (cond (nat_lt z s.cpus) (lists_of s ((k * 16 + c) / 16) z) no_lists)) b.1 ∙ ap F (cond-false (nat_lt c s.cpus) (lists_of s ((k * 16 + c) / 16) c) no_lists (le-ltb c s.cpus past)) ∙ none)
     ∙ sym (sum_by-below F no_lists s.cpu_lists (32 * s.cpus) none (at_most (length s.cpu_lists) (32 * s.cpus) has.length)))
   where
     blocks : (K b : ℕ) → b ≡ 16 → (F G : ℕ → ℕ) → ((k c : ℕ) → c < s.cpus → F (k * b + c) ≡ G (k * s.cpus + c)) → ((k c : ℕ) → s.cpus ≤ c → c < b → F (k * b + c) ≡ 0) → sum_below (K * b) F ≡ sum_below (K * s.cpus) G
@@ -61,6 +61,7 @@ cpu-past s n has past =
   where
     mono : (a b c : ℕ) → a ≤ b → a * c ≤ b * c
     mono a b c le = let t : b * c ≡ (a + (b - a)) * c = ap (λ z. z * c) (let q : b ≡ a + (b - a) = omega arith in q) in omega arith
+
     get-past : (xs : List CpuLists) (i : ℕ) → length xs ≤ i → get_or xs i no_lists ≡ no_lists
     get-past [] i le = refl
     get-past (x ∷ xs) zero le = absurd (omega arith)

@@ -22,9 +22,11 @@ known-all P worker (k ∷ ks) o h all e = elim (cases_Bool (k.held && eqb k.obje
   where
     injected : {x y : Held} → Some x ≡ Some y → x ≡ y
     injected e = cc
+
     first : (b : Bool) → b && eqb k.object o ≡ true → b ≡ true
     first true t = refl
     first false t = t
+
     found : {x : Held} → x ≡ h → P x.cache x.frame → P h.cache h.frame
     found {x} e p = subst (λ (z : Held). P z.cache z.frame) e p
 
@@ -42,6 +44,7 @@ named-all P w ls o h board all e = go (w.board o) refl e
   where
     injected : {x y : Held} → Some x ≡ Some y → x ≡ y
     injected e = cc
+
     go : (d : Option BoardWord) → w.board o ≡ d → option_or (option_map held_on d) (held_among ls o) ≡ Some h → P h.cache h.frame
     go None is e = among-all P ls o h all e
     go (Some d) is e = subst (λ (z : Held). P z.cache z.frame) (injected e) (board d is)

@@ -50,14 +50,15 @@ laid-items place value (x ∷ xs) m once apart =
     let old = lay_items place value xs m in
     let one = once x in
     let here = times-cons x x xs in
-    let same = current-same x x 1 refl in
-    (update_at old (place x) (value x xs) (place x) refl,
-    laid-same place value xs old (update old (place x) (value x xs))
-      (λ y le. update_other old (place x) (value x xs) (place y) (λ e.
-        let q : y ≡ x = apart y x (let t = more-there y x xs in omega arith) (first-there x xs) e in
-        let t : times y xs ≡ times x xs = ap (λ z. times z xs) q in
-        omega arith))
-      (laid-items place value xs m (λ y. let a = once y in let t = more-there y x xs in omega arith) (λ a b la lb. apart a b (let t = more-there a x xs in omega arith) (let t = more-there b x xs in omega arith))))
+    let same = current-same x x 1 refl in (
+      update_at old (place x) (value x xs) (place x) refl,
+      laid-same place value xs old (update old (place x) (value x xs))
+          (λ y le. update_other old (place x) (value x xs) (place y) (λ e.
+          let q : y ≡ x = apart y x (let t = more-there y x xs in omega arith) (first-there x xs) e in
+          let t : times y xs ≡ times x xs = ap (λ z. times z xs) q in
+          omega arith))
+          (laid-items place value xs m (λ y. let a = once y in let t = more-there y x xs in omega arith) (λ a b la lb. apart a b (let t = more-there a x xs in omega arith) (let t = more-there b x xs in omega arith))),
+    )
 
 pub laid-here : (r : Row) (m : ℕ → ℕ) → IsDistinct r → IsLaid r (lay r m)
 laid-here r m distinct = laid-items r.place r.value r.items m distinct.once distinct.places

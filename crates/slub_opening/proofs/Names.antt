@@ -64,8 +64,8 @@ knowns-counted worker f i o (k ∷ ks) =
     let x : Held = record { frame = k.frame; index = k.index; cache = k.cache; worker = Some worker } in
     let c = k.held && eqb k.object o in
     counted-as (held_in worker (k ∷ ks) o) (option_or (cond c (Some x) None) (held_in worker ks o)) f i _ _ _ _
-      (first-or c x (held_in worker ks o)) (sum_by-cons (λ (k : Known). one_if (k.held && eqb k.object o)) k ks) (sum_by-cons (held_of f i o) k ks)
-      (or-counted (cond c (Some x) None) (held_in worker ks o) f i _ _ _ _ (known-counted worker f i o k) (knowns-counted worker f i o ks))
+    (first-or c x (held_in worker ks o)) (sum_by-cons (λ (k : Known). one_if (k.held && eqb k.object o)) k ks) (sum_by-cons (held_of f i o) k ks)
+    (or-counted (cond c (Some x) None) (held_in worker ks o) f i _ _ _ _ (known-counted worker f i o k) (knowns-counted worker f i o ks))
 
 abbrev pub held_by : ℕ → ℕ → ℕ → Local → ℕ
 held_by f i o l = sum_by (held_of f i o) l.known
@@ -74,8 +74,8 @@ among-counted : (f i o : ℕ) (ls : List Local) → IsCounted (held_among ls o) 
 among-counted f i o [] = record { none = λ z. (refl, refl); same = λ one. refl }
 among-counted f i o (l ∷ ls) =
     counted-as (held_among (l ∷ ls) o) (option_or (held_in l.worker l.known o) (held_among ls o)) f i _ _ _ _
-      refl (sum_by-cons (held_under o) l ls) (sum_by-cons (held_by f i o) l ls)
-      (or-counted (held_in l.worker l.known o) (held_among ls o) f i _ _ _ _ (knowns-counted l.worker f i o l.known) (among-counted f i o ls))
+    refl (sum_by-cons (held_under o) l ls) (sum_by-cons (held_by f i o) l ls)
+    (or-counted (held_in l.worker l.known o) (held_among ls o) f i _ _ _ _ (knowns-counted l.worker f i o l.known) (among-counted f i o ls))
 
 board-counted : (f i : ℕ) (b : Option BoardWord) → IsCounted (option_map held_on b) f i (one_if (is_some b)) (on_board b f i)
 board-counted f i None = record { none = λ z. (refl, refl); same = λ one. refl }

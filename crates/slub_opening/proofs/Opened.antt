@@ -50,18 +50,18 @@ held-word-kept s b object word held consistent is inside =
     let q = word_at (layout_at s held.cache) held word in
     let m : ℕ → ℕ = λ p. get_or s.memory p 0 in
     each-other (cpu_row s) 512 (lay_each (own_row s) s.frames m) q
-      (λ n x le same.
-        let p = cpu-pointer s n x consistent le in
-        let e = words-apart s object word held p.frame x p.at.slab consistent is inside p.at.is p.at.inside (same ∙ p.at.place) in
-        let c = cpu-alone s n p.frame x consistent p.current in
-        let t : sum_by (held_here p.frame x) s.board ≡ sum_by (held_here held.frame held.index) s.board = ap (λ g. sum_by (held_here g x) s.board) (sym e.0) ∙ ap (λ z. sum_by (held_here held.frame z) s.board) (sym e.1) in
-        omega (arith, le, c, t, held-once s object held is, one-object x (slab_of s p.frame)))
+    (λ n x le same.
+    let p = cpu-pointer s n x consistent le in
+    let e = words-apart s object word held p.frame x p.at.slab consistent is inside p.at.is p.at.inside (same ∙ p.at.place) in
+    let c = cpu-alone s n p.frame x consistent p.current in
+    let t : sum_by (held_here p.frame x) s.board ≡ sum_by (held_here held.frame held.index) s.board = ap (λ g. sum_by (held_here g x) s.board) (sym e.0) ∙ ap (λ z. sum_by (held_here held.frame z) s.board) (sym e.1) in
+    omega (arith, le, c, t, held-once s object held is, one-object x (slab_of s p.frame)))
     ∙ each-other (own_row s) s.frames m q
-      (λ f x le same.
-        let p = own-pointer s f x consistent le in
-        let e = words-apart s object word held f x p.slab consistent is inside p.is p.inside (same ∙ p.place) in
-        let t : times x (own_free s f) ≡ times held.index (own_free s held.frame) = ap (λ g. times x (own_free s g)) (sym e.0) ∙ ap (λ z. times z (own_free s held.frame)) (sym e.1) in
-        omega (arith, le, t, consistent.placed held.frame held.index, held-once s object held is, one-object held.index (slab_of s held.frame)))
+    (λ f x le same.
+    let p = own-pointer s f x consistent le in
+    let e = words-apart s object word held f x p.slab consistent is inside p.is p.inside (same ∙ p.place) in
+    let t : times x (own_free s f) ≡ times held.index (own_free s held.frame) = ap (λ g. times x (own_free s g)) (sym e.0) ∙ ap (λ z. times z (own_free s held.frame)) (sym e.1) in
+    omega (arith, le, t, consistent.placed held.frame held.index, held-once s object held is, one-object held.index (slab_of s held.frame)))
 
 -- ---- workers that hold nothing
 
@@ -165,6 +165,7 @@ module _ (s : State) (b : Beside) (ls : List Local) (beside : IsBeside s b) (coh
             let one : one_if (nat_lt f 4096) ≡ 1 = cond-true (nat_lt f 4096) 1 0 (lt-ltb f 4096 (omega arith)) in
             omega (arith, one, partial-one s n f, consistent.listed.once f)
       ]
+
       go : (fs : List ℕ) → ((f : ℕ) → 1 ≤ times f fs → (0 < f) × (f < s.frames) × (s.frames ≤ 4096)) → front_of fs < 2 ^ 16
       go [] in_machine = omega arith
       go (f ∷ fs) in_machine = let t = in_machine f (first-there f fs) in omega arith
@@ -183,6 +184,7 @@ module _ (s : State) (b : Beside) (ls : List Local) (beside : IsBeside s b) (coh
           front : (fs : List ℕ) → ((f : ℕ) → 1 ≤ times f fs → f < 4096) → front_of fs < 2 ^ 16
           front [] small = omega arith
           front (g ∷ gs) small = let t = small g (first-there g gs) in omega arith
+
       rows : (n : ℕ) (f : ℕ) → lay_each (λ n. string_row (cpu_at s n).partial) n (link_of b) f < 2 ^ 16
       rows zero f = beside.link f
       rows (suc n) f = row (cpu_at s n).partial (lay_each (λ n. string_row (cpu_at s n).partial) n (link_of b)) (λ g le. let t = string-frame n g le in omega arith) (rows n) f
@@ -194,7 +196,7 @@ module _ (s : State) (b : Beside) (ls : List Local) (beside : IsBeside s b) (coh
   words-opened = record {
     cpu = λ n. (beside.tid n, by-current n (λ y. frame_of y < 2 ^ 16) (λ e. omega arith) (λ f e. let t = (current-frame n f e).1 in omega arith), (let t = cpu-head n in omega arith));
     slab = λ f. by-word f (λ c. (c.head < 2 ^ 16) × (c.inuse < 2 ^ 16) × (c.objects < 2 ^ 16) × (c.cache < 2 ^ 8)) (λ _ _. (omega arith, omega arith, omega arith, omega arith))
-      (λ x e was.
+        (λ x e was.
         let h = own-head f in
         let few = objects-few s f x consistent e in
         let c = cache-small f x e in
@@ -231,6 +233,7 @@ module _ (s : State) (b : Beside) (ls : List Local) (beside : IsBeside s b) (coh
       by : (b : Bool) → is_some (cache_of s k) ≡ b → node_of s k ≡ frames_in (node_value b None (node_of s k))
       by true e = refl
       by false e = dead-node k e
+
       go : (o : Option CheckedState) → checked_of s k ≡ o → node_of s k ≡ frames_in (node_value (is_some (cache_of s k)) o (node_of s k))
       go None e = by (is_some (cache_of s k)) refl
       go (Some c) e = (was-checked s k c c e consistent.shaped.checked).off_node
@@ -251,8 +254,8 @@ module _ (s : State) (b : Beside) (ls : List Local) (beside : IsBeside s b) (coh
   own-opened : (f : ℕ) → IsFreelistOf (opened s b) f (own_free s f)
   own-opened f = record {
     chain = by-word f (λ c. IsChain (pointer (opened s b) c.cache f) c.head (own_free s f))
-      (λ e _. subst (λ xs. IsChain (pointer (opened s b) 0 f) 0 xs) (sym e) refl)
-      (λ x e was. subst (λ y. IsChain (pointer (opened s b) (cache_in y) f) (head_of (own_free s f)) (own_free s f)) e (own-chain s b f consistent));
+        (λ e _. subst (λ xs. IsChain (pointer (opened s b) 0 f) 0 xs) (sym e) refl)
+        (λ x e was. subst (λ y. IsChain (pointer (opened s b) (cache_in y) f) (head_of (own_free s f)) (own_free s f)) e (own-chain s b f consistent));
     in_use = by-word f (λ c. c.inuse + length (own_free s f) ≡ c.objects) (λ e _. let z = ap (length {A = ℕ}) e in omega arith) (λ x e was. let l = own-length s f x consistent e in omega arith);
   }
 

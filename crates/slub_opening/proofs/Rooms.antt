@@ -38,8 +38,10 @@ module _ (s : State) (b : Beside) (ls : List Local) (beside : IsBeside s b) (coh
           let live = the-value (cache_of s x.0.cache) (λ live. IsSlabOf live.layout x.0) (at_some (slab_of s h.frame) x.0 (λ slab. MatchOption (cache_of s slab.cache) ⊥ (λ live. IsSlabOf live.layout slab)) x.1 (consistent.shaped.slab h.frame)) in
           let c = inside-of s.table.caches x.0.cache live.0 live.1 in
           (omega (arith, x.3, few), omega (arith, f, consistent.shaped.frames.1), omega (arith, c, x.2, consistent.shaped.table.numbers))
+
       injected : {x y : BoardWord} → Some x ≡ Some y → x ≡ y
       injected e = cc
+
       go : (h : Option Held) → held_under s o ≡ h → option_map board_word h ≡ Some d → (d.index < 65535) × (d.frame < 2 ^ 16) × (d.cache < 2 ^ 8)
       go None e is = absurd (cc is)
       go (Some h) e is = subst (λ (d : BoardWord). (d.index < 65535) × (d.frame < 2 ^ 16) × (d.cache < 2 ^ 8)) (injected is) (fits h e)
@@ -62,9 +64,9 @@ module _ (s : State) (b : Beside) (ls : List Local) (beside : IsBeside s b) (coh
   memory-room p past =
       let m : ℕ → ℕ = λ p. get_or s.memory p 0 in
       each-other (cpu_row s) 512 (lay_each (own_row s) s.frames m) p
-        (λ n x le same. let q = cpu-pointer s n x consistent le in let i = pointer-inside s q.frame x q.at.slab consistent q.at.is q.at.inside in omega (arith, past, same, q.at.place, i, consistent.shaped.memory))
+      (λ n x le same. let q = cpu-pointer s n x consistent le in let i = pointer-inside s q.frame x q.at.slab consistent q.at.is q.at.inside in omega (arith, past, same, q.at.place, i, consistent.shaped.memory))
       ∙ each-other (own_row s) s.frames m p
-        (λ f x le same. let q = own-pointer s f x consistent le in let i = pointer-inside s f x q.slab consistent q.is q.inside in omega (arith, past, same, q.place, i, consistent.shaped.memory))
+      (λ f x le same. let q = own-pointer s f x consistent le in let i = pointer-inside s f x q.slab consistent q.is q.inside in omega (arith, past, same, q.place, i, consistent.shaped.memory))
       ∙ get_or_past s.memory p 0 (omega (arith, past, consistent.shaped.memory))
 
   link-room : (f : ℕ) → s.frames ≤ f → (opened s b).link f ≡ 0

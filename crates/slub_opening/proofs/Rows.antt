@@ -66,9 +66,9 @@ cpu-distinct s n consistent = record {
     | inr le ↦ let p = cpu-pointer s n x consistent le in omega (arith, cpu-alone s n p.frame x consistent p.current, one-object x (slab_of s p.frame))
   ];
   places = λ x y lx ly same.
-    let a = cpu-pointer s n x consistent lx in
-    let b = cpu-pointer s n y consistent ly in
-    (meet s (cpu_row s n) (cpu_row s n) a.frame x b.frame y consistent a.at b.at same).1;
+      let a = cpu-pointer s n x consistent lx in
+      let b = cpu-pointer s n y consistent ly in
+      (meet s (cpu_row s n) (cpu_row s n) a.frame x b.frame y consistent a.at b.at same).1;
 }
 
 cpus-apart : (s : State) (n m : ℕ) → IsConsistent s → (n ≡ m → ⊥) → AreApart (cpu_row s n) (cpu_row s m)
@@ -98,9 +98,6 @@ chain-laid s k f (x ∷ xs) m laid =
     let here : next x ≡ head_of xs = ap (hardened k p) laid.0 ∙ comes-back k p (head_of xs) in
     (refl, subst (λ h. IsChain next h xs) (sym here) (chain-laid s k f xs m laid.1))
 
-
-
-
 -- the slabs' own freelists and the CPUs' freelists stand in memory
 pub own-chain : (s : State) (b : Beside) (f : ℕ) → IsConsistent s → IsChain (pointer (opened s b) (cache_in (slab_of s f)) f) (head_of (own_free s f)) (own_free s f)
 own-chain s b f consistent = go (slab_of s f) refl
@@ -110,7 +107,7 @@ own-chain s b f consistent = go (slab_of s f) refl
     go (Some y) e =
         chain-laid s (cache_in (slab_of s f)) f (own_free s f) (opened s b).memory
         (each-kept (own_row s f) (cpu_row s) 512 (lay_each (own_row s) s.frames (λ p. get_or s.memory p 0)) (λ k below. own-cpu-apart s f k consistent)
-          (each-laid (own_row s) s.frames (λ p. get_or s.memory p 0) (λ k below. own-distinct s k consistent) (λ j k lj lk d. owns-apart s j k consistent d) f (slab-inside s f y consistent e).1))
+        (each-laid (own_row s) s.frames (λ p. get_or s.memory p 0) (λ k below. own-distinct s k consistent) (λ j k lj lk d. owns-apart s j k consistent d) f (slab-inside s f y consistent e).1))
 
 pub cpu-chain : (s : State) (b : Beside) (n : ℕ) → IsConsistent s → IsChain (pointer (opened s b) (n / 16) (frame_of (cpu_at s n).current)) (head_of (cpu_at s n).free) (cpu_at s n).free
 cpu-chain s b n consistent = go (cpu_at s n).current refl
@@ -130,8 +127,8 @@ string-laid (f ∷ fs) m laid = (refl, subst (λ h. Links m h fs 0) (sym laid.0)
 pub strings-stand : (s : State) (b : Beside) (n : ℕ) → IsConsistent s → n < 512 → Links (opened s b).link (front_of (cpu_at s n).partial) (cpu_at s n).partial 0
 strings-stand s b n consistent l =
     string-laid (cpu_at s n).partial (opened s b).link
-      (each-laid (λ n. string_row (cpu_at s n).partial) 512 (link_of b) (λ k below. record { once = λ x. omega (arith, partial-one s k x, consistent.listed.once x); places = λ x y lx ly same. same })
-        (λ j k lj lk d x y lx ly same. apart j k x y lj lk d lx ly same) n l)
+    (each-laid (λ n. string_row (cpu_at s n).partial) 512 (link_of b) (λ k below. record { once = λ x. omega (arith, partial-one s k x, consistent.listed.once x); places = λ x y lx ly same. same })
+    (λ j k lj lk d x y lx ly same. apart j k x y lj lk d lx ly same) n l)
   where
     apart : (j k x y : ℕ) → j < 512 → k < 512 → (j ≡ k → ⊥) → 1 ≤ times x (cpu_at s j).partial → 1 ≤ times y (cpu_at s k).partial → x ≡ y → ⊥
     apart j k x y lj lk d lx ly same =

@@ -103,6 +103,7 @@ module _ (s : State) (b : Beside) (beside : IsBeside s b) (consistent : IsConsis
     where
       le : (j : ℕ) → times j (node_of s k) ≤ times_partial s j
       le j = omega (arith, element-counted (times j) s.nodes k [] refl)
+
       inside : (j : ℕ) → 0 < times j (node_of s k) → (0 < j) × (j < s.frames)
       inside j some = let x = listed-is s j consistent (omega (arith, le j, some)) in slab-inside s j x.0 consistent x.1
 
@@ -112,9 +113,11 @@ module _ (s : State) (b : Beside) (beside : IsBeside s b) (consistent : IsConsis
     where
       number : suc k ≡ node_lock k
       number = omega arith
+
       by : (lives : Bool) → is_some (cache_of s k) ≡ lives → is_some (checked_of s k) ≡ false → IsGuarded (setup_of s b) (suc k) (node_value lives None (node_of s k))
       by true e plain = (k, number, e, plain, short-node k)
       by false e plain = (k, number, e)
+
       go : (o : Option CheckedState) → checked_of s k ≡ o → IsGuarded (setup_of s b) (suc k) (node_value (is_some (cache_of s k)) o (node_of s k))
       go None e = by (is_some (cache_of s k)) refl (ap is_some e)
       go (Some c) e = (k, number, checked-lives k (ap is_some e), ap is_some e, checked-value k c e)

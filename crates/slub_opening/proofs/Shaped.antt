@@ -160,9 +160,11 @@ module _ (s t : State) (b : Beside) (w : World) (xs : List Worker) (coherent : I
           where
             injected : {x y : Slab} → Some x ≡ Some y → x ≡ y
             injected e = cc
+
         absent : (o : Option Slab) → ((x : Slab) → o ≡ Some x → x.cache ≡ k → ⊥) → Agrees k o None
         absent None never = tt
         absent (Some x) never = never x refl
+
         go : (z : Option SlabState) → get_or c.slabs f None ≡ z → Agrees k (slab_of t f) (option_map shape_of z)
         go (Some z) e = let x = value-there f z e in there (slab_of t f) x.0 z x.1 x.2 x.3 x.4
         go None e = absent (slab_of t f) (λ x is own.
@@ -220,6 +222,7 @@ module _ (s t : State) (b : Beside) (w : World) (xs : List Worker) (coherent : I
           go : (o : Option CheckedState) → checked_of t k ≡ o → IfSome o (IsCheckedOf t k)
           go None e = tt
           go (Some c) e = checked-of k c (omega (arith, inside-of t.checked k c e, keeps.lengths.checked)) e
+
       all : (k : ℕ) → IfSome (cache_of t k) (λ live. is_checked live.flags ≡ is_some (checked_of t k))
       all k = subst (λ o. IfSome o (λ live. is_checked live.flags ≡ is_some (checked_of t k))) (sym (ap (λ n. live_cache n k) keeps.table))
           (subst (λ z. IfSome (cache_of s k) (λ live. is_checked live.flags ≡ z)) (sym (keeps.checks k)) (coherent.shaped.checked.all k))

@@ -33,9 +33,11 @@ no-size s f k consistent never = go (checked_of s k) refl
     at c None (Some w) e a = absurd a
     at c (Some x) None e a = refl
     at c (Some x) (Some w) e a = absurd (never x e a.0)
+
     list : (b : Bool) (fs : List ℕ) → size_in (node_value b None fs) f ≡ 0
     list true fs = refl
     list false fs = refl
+
     go : (o : Option CheckedState) → checked_of s k ≡ o → size_in (node_value (is_some (cache_of s k)) o (node_of s k)) f ≡ 0
     go None e = list (is_some (cache_of s k)) (node_of s k)
     go (Some c) e = at c (slab_of s f) (get_or c.slabs f None) refl ((was-checked s k c c e consistent.shaped.checked).agrees f)
@@ -87,6 +89,7 @@ word-cases s f = go (slab_of s f) refl
     by : (x : Slab) (k : Option CheckedState) → checked_of s x.cache ≡ k → slab_of s f ≡ Some x → IsOpened s f (slab_word s f (slab_of s f))
     by x None e is = is_plain x is e (ap (slab_word s f) is ∙ cond-false (is_some (checked_of s x.cache)) no_slab_word (plain_word s f x) (ap is_some e))
     by x (Some k) e is = is_checked x k is e (ap (slab_word s f) is ∙ cond-true (is_some (checked_of s x.cache)) no_slab_word (plain_word s f x) (ap is_some e))
+
     go : (y : Option Slab) → slab_of s f ≡ y → IsOpened s f (slab_word s f (slab_of s f))
     go None e = is_none e (ap (slab_word s f) e)
     go (Some x) e = by x (checked_of s x.cache) refl e
@@ -128,7 +131,7 @@ slab-opened s b f consistent = go (word-cases s f)
         let o : (opened s b).slab f ≡ plain_word s f x = c in
         let there : nat_lt 0 ((opened s b).slab f).objects ≡ true = ap (λ (c : SlabWord). nat_lt 0 c.objects) o ∙ lt-ltb 0 x.objects few in
         e ∙ sym (slab-some (opened s b) f x few
-          (cond-true (nat_lt 0 ((opened s b).slab f).objects) _ _ there ∙ ap (λ (c : SlabWord). c.objects) o)
-          (cond-true (nat_lt 0 ((opened s b).slab f).objects) _ _ there ∙ ap (λ (c : SlabWord). c.cache) o)
-          (cond-true (nat_lt 0 ((opened s b).slab f).objects) _ _ there ∙ ap (λ (c : SlabWord). order_for (layout_at s c.cache) c.objects) o ∙ sym (order-of-slab s f x consistent e))
-          (ap (λ (c : SlabWord). c.frozen) o))
+        (cond-true (nat_lt 0 ((opened s b).slab f).objects) _ _ there ∙ ap (λ (c : SlabWord). c.objects) o)
+        (cond-true (nat_lt 0 ((opened s b).slab f).objects) _ _ there ∙ ap (λ (c : SlabWord). c.cache) o)
+        (cond-true (nat_lt 0 ((opened s b).slab f).objects) _ _ there ∙ ap (λ (c : SlabWord). order_for (layout_at s c.cache) c.objects) o ∙ sym (order-of-slab s f x consistent e))
+        (ap (λ (c : SlabWord). c.frozen) o))

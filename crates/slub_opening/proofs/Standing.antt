@@ -121,8 +121,10 @@ module _ (s : State) (b : Beside) (w : World) (xs : List Worker) (beside : IsBes
     where
       one : live c ≡ 1
       one = ap one_if (lt-ltb 0 c.objects is.some)
+
       off : (z m : Bool) → c.frozen ≡ z → c.listed ≡ m → off_list c ≡ cond z 0 (cond m 0 (cond (eqb c.head 0) 1 0))
       off z m is_z is_m = ap (λ z. cond z 0 (cond c.listed 0 (cond (eqb c.head 0) (live c) 0))) is_z ∙ ap (λ m. cond z 0 (cond m 0 (cond (eqb c.head 0) (live c) 0))) is_m ∙ ap (λ n. cond z 0 (cond m 0 (cond (eqb c.head 0) n 0))) one
+
       go : (z m : Bool) → c.frozen ≡ z → c.listed ≡ m → times_current s f + times_partial s f + off_list c ≡ 1
       go true m is_z is_m =
           let some = (frozen-at f x e).0 (sym is.frozen ∙ is_z) in
@@ -260,6 +262,7 @@ module _ (s : State) (b : Beside) (w : World) (xs : List Worker) (beside : IsBes
         where
           nodes-sum : (k : ℕ) → times f (node_of s k) ≤ sum_by (times f) s.nodes
           nodes-sum k = element-counted (times f) s.nodes k [] refl
+
           strings-sum : times f (cpu_at s n).partial ≤ sum_by (λ lists. times f lists.partial) s.cpu_lists
           strings-sum = cpu-at s n (λ l. times f l.partial ≤ sum_by (λ lists. times f lists.partial) s.cpu_lists) (omega arith) (λ inside. element-counted (λ lists. times f lists.partial) s.cpu_lists (n / 16 * s.cpus + n % 16) no_lists refl)
 
@@ -311,11 +314,14 @@ module _ (s : State) (b : Beside) (w : World) (xs : List Worker) (beside : IsBes
     where
       injected : {x y : Slab} → Some x ≡ Some y → x ≡ y
       injected e = cc
+
       list : (z : Bool) (fs : List ℕ) → size_in (node_value z None fs) f ≡ 0
       list true fs = refl
       list false fs = refl
+
       none-at : (k : ℕ) → checked_of s k ≡ None → size_in (value_of s (suc k)) f ≡ 0
       none-at k e = ap (λ o. size_in (node_value (is_some (cache_of s k)) o (node_of s k)) f) e ∙ list (is_some (cache_of s k)) (node_of s k)
+
       values : (m : ℕ) → sum_below m (values_with s f) ≤ 1
       values m = at (slab_of s f) refl
         where
@@ -326,6 +332,7 @@ module _ (s : State) (b : Beside) (w : World) (xs : List Worker) (beside : IsBes
               zero-value zero none = refl
               zero-value (suc k) none = ap (λ n. one_if (nat_lt 0 n)) (none k)
           at (Some x) e = values-one s f m x consistent e
+
       go : IsWordAt s f (w.slab f) → live (w.slab f) + sum_below w.setup.locks (values_with s f) ≤ 1
       go (is_bare own away none never) = let z = (no-off (w.slab f) none).1 in omega (arith, z, values w.setup.locks)
       go (is_plain x e plain is) =
@@ -397,9 +404,9 @@ module _ (s : State) (b : Beside) (w : World) (xs : List Worker) (beside : IsBes
     setup = subst IsSetup (sym rests.setup) (is-setup s b beside consistent);
     worded = rests.words;
     workers = All-from_get_or (IsAtWork w) xs no_worker (λ i below.
-      let x = get_or xs i no_worker in
-      let is = All-contains_itself xs i no_worker below in
-      at-work w x (omega (arith, beside.objects.0, ap (λ (m : Setup). m.objects) rests.setup))
+        let x = get_or xs i no_worker in
+        let is = All-contains_itself xs i no_worker below in
+        at-work w x (omega (arith, beside.objects.0, ap (λ (m : Setup). m.objects) rests.setup))
         (All-contains (IsBetween w.setup) (locals_of xs) x.local rests.workers (local-in xs x is)) (All-contains IsBare xs x bare is) (knows x is));
   }
 

@@ -150,20 +150,23 @@ module _ (s t : State) (b d : Beside) (system : System) (may : MayOpen s b) (sta
   beside = closed-beside s t b d (world_of (setup_of t d) system.value system.words) (locals_of standing.workers) may.beside (consistent-of t coherent) closes.stays resting closes.tids closes.links closes.link
 
   pub closed : IsCoherent t × MayOpen (all_on_board t) d
-  closed = (coherent, record {
-    coherent = laid-coherent t coherent;
-    laid_down = laid-down t;
-    beside = record {
-      step = beside.step;
-      objects = subst (λ n. (1 ≤ n) × (n ≤ 1048577)) (sym (length-map t.board (option_map laid_down))) beside.objects;
-      tids = beside.tids;
-      links = beside.links;
-      tid = beside.tid;
-      room = beside.room;
-      remainder = beside.remainder;
-      link = beside.link;
-    };
-  })
+  closed = (
+    coherent,
+    record {
+      coherent = laid-coherent t coherent;
+      laid_down = laid-down t;
+      beside = record {
+        step = beside.step;
+        objects = subst (λ n. (1 ≤ n) × (n ≤ 1048577)) (sym (length-map t.board (option_map laid_down))) beside.objects;
+        tids = beside.tids;
+        links = beside.links;
+        tid = beside.tid;
+        room = beside.room;
+        remainder = beside.remainder;
+        link = beside.link;
+      };
+    },
+  )
 
 pub closed-are_coherent : ClosedMachinesAreCoherent
 closed-are_coherent s t b d system may standing closes = closed s t b d system may standing closes

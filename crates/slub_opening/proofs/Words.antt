@@ -50,6 +50,7 @@ value-checked s (suc k) f some = go (checked_of s k) refl some
     list : (b : Bool) (fs : List ℕ) → size_in (node_value b None fs) f ≡ 0
     list true fs = refl
     list false fs = refl
+
     go : (o : Option CheckedState) → checked_of s k ≡ o → 1 ≤ size_in (node_value (is_some (cache_of s k)) o (node_of s k)) f → (c : CheckedState) × (checked_of s (suc k - 1) ≡ Some c) × (1 ≤ suc k)
     go None e some = absurd (let z = list (is_some (cache_of s k)) (node_of s k) in omega arith)
     go (Some c) e some = (c, ap (checked_of s) (let q : suc k - 1 ≡ k = omega arith in q) ∙ e, omega arith)
@@ -118,6 +119,7 @@ module _ (s : State) (b : Beside) (w : World) (xs : List Worker) (consistent : I
       go none (Some x) e =
           let c = unworded-checked f x e none in
           ((checked-unfrozen s f x c.0 consistent e c.1).1, λ y at plain. (let d = unworded-checked f y at none in cc (d.1, plain)))
+
       by : (x : Option Slab) → slab_of s f ≡ x → 1 ≤ objects_at w f → 1 ≤ (w.slab f).objects → IsWordAt s f (w.slab f)
       by None e some l = absurd (let z = unseen f e in omega arith)
       by (Some x) e some l =
@@ -139,6 +141,7 @@ module _ (s : State) (b : Beside) (w : World) (xs : List Worker) (consistent : I
     where
       injected : {x y : Slab} → Some x ≡ Some y → x ≡ y
       injected e = cc
+
       go : IsWordAt s f (w.slab f) → IsPlainWord s f x (w.slab f)
       go (is_bare own away none never) = absurd (never x e plain)
       go (is_plain y at was word) = subst (λ z. IsPlainWord s f z (w.slab f)) (injected (sym at ∙ e)) word
@@ -177,13 +180,15 @@ module _ (s : State) (b : Beside) (w : World) (xs : List Worker) (consistent : I
   pub listed-at : (f : ℕ) → 0 < times_partial s f → (x : Slab) × IsListedAt f x
   listed-at f some =
       let x = listed-is s f consistent some in
-      let word = plain-at f x.0 x.1 x.2 in
-      (x.0, record {
-        there = x.1;
-        word = word;
-        head = word.stocked (consistent.listed.stocked f some);
-        unfrozen = word.frozen ∙ elim (cases_Bool x.0.frozen) [
-          | inl t ↦ absurd (let c = (frozen-at f x.0 x.1).0 t in omega (arith, c, some, consistent.listed.once f))
-          | inr e ↦ e
-        ];
-      })
+      let word = plain-at f x.0 x.1 x.2 in (
+        x.0,
+        record {
+          there = x.1;
+          word = word;
+          head = word.stocked (consistent.listed.stocked f some);
+          unfrozen = word.frozen ∙ elim (cases_Bool x.0.frozen) [
+            | inl t ↦ absurd (let c = (frozen-at f x.0 x.1).0 t in omega (arith, c, some, consistent.listed.once f))
+            | inr e ↦ e
+          ];
+        },
+      )

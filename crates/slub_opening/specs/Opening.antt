@@ -178,7 +178,7 @@ opened s b = record {
   link = lay_each (λ n. string_row (cpu_at s n).partial) 512 (link_of b);
   board = λ object. option_map board_word (held_under s object);
   memory = lay_each (cpu_row s) 512
-    (lay_each (own_row s) s.frames (λ word. slice_index_or s.memory word 0));
+      (lay_each (own_row s) s.frames (λ word. slice_index_or s.memory word 0));
   lock = λ n. 0;
   value = value_of s;
 }

@@ -1,14 +1,16 @@
 -- Machines of a table of words, lock values and workers.
 use Rattle.std.proofs.Common.{◌≡◌, ℕ, zero, suc, ◌+◌, ◌/◌, ◌%◌, ◌^◌, ◌<◌, ◌≤◌, eqb, List, [], ◌∷◌, length, get_or, map, Option, Some, None, IsSome, inl, inr, refl, ap, sym, ◌∙◌, subst, arith}
-use Rattle.std.specs.Prelude.{All, IfSome, is_some, option_map}
+use Rattle.std.specs.Prelude.{MatchOption, All, IfSome, is_some, option_map}
 use Rattle.std.proofs.lemmas.Bool.{cases_lt, cond-true, eq-eqb}
 use Rattle.std.proofs.lemmas.List.{get_or_past, length-map}
 use Rattle.std.proofs.lemmas.List.Elements.{All-nil, All-cons}
+use Rattle.slub_cache_create.specs.declared.caches.Cache.{Cache}
+use Rattle.slub_red_zone.specs.State.{CheckedState}
 use Rattle.slub_lists.specs.declared.lists.CpuLists.{CpuLists}
 use Rattle.slub_lists.specs.declared.lists.Held.{Held}
 use Rattle.slub_lists.specs.State.{State}
-use Rattle.slub_lists.specs.Alloc.{cache_of}
-use Rattle.slub_lists.specs.Coherent.{IsCoherent, IsConsistent, all_on_board, laid_down}
+use Rattle.slub_lists.specs.Alloc.{cache_of, checked_of}
+use Rattle.slub_lists.specs.Coherent.{IsCacheOf, IsCheckedOf, IsCoherent, IsConsistent, all_on_board, laid_down}
 use Rattle.slub_lists.proofs.Coherence.{all_on_board-consistent}
 use Rattle.slub_lists.proofs.Kept.{consistent-of}
 use Rattle.slub_core.specs.Setup.{Setup}
@@ -21,7 +23,7 @@ use Rattle.slub_opening.specs.Opening.{Beside, IsBeside, IsLaidDown, setup_of, o
 use Rattle.slub_opening.specs.Rests.{IsBare, Rests}
 use Rattle.slub_opening.specs.Table.{RestsIn, system_of}
 use Rattle.slub_opening.specs.Closing.{Closes}
-use Rattle.slub_opening.specs.Laws.{MayOpen, OpenedMachinesStand, CoherentListsStand, ClosedMachinesAreCoherent}
+use Rattle.slub_opening.specs.Laws.{MayOpen, OpenedMachinesStand, OpenedMachinesClose, CoherentListsStand, ClosedMachinesAreCoherent}
 use Rattle.slub_opening.proofs.Counts.{locals_of}
 use Rattle.slub_opening.proofs.Cpus.{cpu-past, has-cpus}
 use Rattle.slub_opening.proofs.Opened.{opened-rests}
@@ -67,6 +69,35 @@ opened-stand s b ls may new =
     (rests, lists-stand s b (system_of s b ls) may.coherent may.beside rests new.rested)
 
 -- ---- closing
+
+pub opened-close : OpenedMachinesClose
+opened-close s b ls may new = record {
+  stays = refl;
+  table = refl;
+  lengths = record {
+    slabs = may.coherent.shaped.slabs;
+    frees = may.coherent.shaped.frees;
+    cpu_lists = may.coherent.shaped.cpu_lists;
+    nodes = may.coherent.shaped.nodes;
+    checked = may.coherent.shaped.checked.numbers;
+    memory = may.coherent.shaped.memory;
+    gone = may.coherent.shaped.gone;
+    live = may.coherent.shaped.live;
+  };
+  rests = (opened-stand s b ls may new).0;
+  tids = may.beside.tids;
+  links = may.beside.links;
+  link = may.beside.link;
+  live = may.coherent.accounted;
+  flags = λ k. flags k (checked_of s k) (may.coherent.shaped.checked.those k);
+}
+  where
+    by : (c : CheckedState) (o : Option Cache) → MatchOption o ⊥ (λ live. IsCacheOf c live.layout live.flags) → IfSome o (λ live. live.flags ≡ c.flags)
+    by c None is = tt
+    by c (Some live) is = is.1
+    flags : (k : ℕ) (o : Option CheckedState) → IfSome o (IsCheckedOf s k) → IfSome o (λ slabs. IfSome (cache_of s k) (λ live. live.flags ≡ slabs.flags))
+    flags k None is = tt
+    flags k (Some c) is = by c (cache_of s k) is.live
 
 -- with all objects on the board the lists are as coherent
 laid-coherent : (t : State) → IsCoherent t → IsCoherent (all_on_board t)

@@ -18,8 +18,8 @@ pub record HasLengths (s : State) : Type 0 where
   pub gone : length s.gone ≡ length s.board
   pub live : length s.live ≡ 32
 
--- s and b were opened into the machine, t and d are what it closes into. Of each object that a worker
--- holds still, the lists say who does
+-- s and b were opened into the machine, t and d are what it closes into. Of an object that a
+-- worker holds still, the lists say which worker
 pub record Closes (s : State) (b : Beside) (system : System) (t : State) (d : Beside) : Type 0 where
   -- the sizes, the names and the caches are as they were
   pub stays : setup_of t d ≡ setup_of s b

@@ -29,6 +29,12 @@ OpenedMachinesStand =
     (s : State) (b : Beside) (ls : List Local) → MayOpen s b → AreNew (setup_of s b) ls
     → RestsIn s b (system_of s b ls) × IsStanding (setup_of s b) (system_of s b ls)
 
+-- it closes into what it was opened from
+abbrev pub OpenedMachinesClose : Type 0
+OpenedMachinesClose =
+    (s : State) (b : Beside) (ls : List Local) → MayOpen s b → AreNew (setup_of s b) ls
+    → Closes s b (system_of s b ls) s b
+
 -- in whatever words a coherent machine rests, all stands
 abbrev pub CoherentListsStand : Type 0
 CoherentListsStand =

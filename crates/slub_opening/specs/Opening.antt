@@ -163,12 +163,13 @@ node_value lives None frames = cond lives (Node frames) Nothing
 -- lock 0 guards the pool, lock k + 1 what is the node's of cache k
 abbrev pub value_of : State → ℕ → LockValue
 value_of s zero = Pool s.pool
-value_of s (suc cache) = node_value (is_some (cache_of s cache)) (checked_of s cache) (node_of s cache)
+value_of s (suc cache) =
+    node_value (is_some (cache_of s cache)) (checked_of s cache) (node_of s cache)
 
 -- ---- the machine in words
 
--- every freelist stands in its objects' free pointers, every partial list of a CPU in the links; all
--- other words of the frames are as they were, and every lock is free
+-- every freelist stands in its objects' free pointers, every partial list of a CPU in the links.
+-- All other words of the frames are as they were, and every lock is free
 abbrev pub opened : State → Beside → World
 opened s b = record {
   setup = setup_of s b;

@@ -1,11 +1,16 @@
 //! What holds of machines that are opened and closed, for the crates that do it. None of these does anything.
 
-ghost use Rattle.slub_opening.specs.Laws.{ClosedMachinesAreCoherent, CoherentListsStand, OpenedMachinesStand, WordsTellLists};
+ghost use Rattle.slub_opening.specs.Laws.{ClosedMachinesAreCoherent, CoherentListsStand, OpenedMachinesClose, OpenedMachinesStand, WordsTellLists};
 
 /// A coherent machine whose objects are all on the board opens into words and lock values that say what
 /// its lists say, and in which all that the step machine keeps stands.
 pub fn opened_machines_stand()
     ensures { OpenedMachinesStand }
+{}
+
+/// An opened machine closes into the lists that it was opened from.
+pub fn opened_machines_close()
+    ensures { OpenedMachinesClose }
 {}
 
 /// In whatever words a coherent machine rests, and whatever its workers hold, all that the step machine

@@ -18,6 +18,7 @@ pub mod TaleBegin
 pub mod TaleRest
 pub mod TaleChecked
 pub mod TaleDry
+pub mod Accounts
 pub mod Spots
 pub mod Homes
 pub mod Frames

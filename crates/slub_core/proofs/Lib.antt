@@ -19,6 +19,7 @@ pub mod TaleRest
 pub mod TaleChecked
 pub mod TaleDry
 pub mod Accounts
+pub mod TaleAtOnce
 pub mod Spots
 pub mod Homes
 pub mod Frames

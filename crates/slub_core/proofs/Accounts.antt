@@ -1,5 +1,5 @@
 -- What a step owes to the law of the account: the worker where the answer leads it, with its reply, and the others unchanged.
-use Rattle.std.proofs.Common.{◌≡◌, ℕ, Bool, List, ◌∷◌}
+use Rattle.std.proofs.Common.{◌≡◌, Bool, List, ◌∷◌}
 use Rattle.slub_core.specs.declared.spot.Spot.{Spot}
 use Rattle.slub_core.specs.World.{World}
 use Rattle.slub_core.specs.Local.{Local, Worker, Turn, Change, noted}

@@ -21,6 +21,7 @@ pub mod TaleDry
 pub mod Accounts
 pub mod TaleSteps
 pub mod TaleLinks
+pub mod TaleAtOnce
 pub mod Spots
 pub mod Homes
 pub mod Frames

@@ -20,6 +20,8 @@ pub mod TaleChecked
 pub mod TaleDry
 pub mod Accounts
 pub mod TaleAtOnce
+pub mod TalePokes
+pub mod TaleDoChecked
 pub mod Spots
 pub mod Homes
 pub mod Frames

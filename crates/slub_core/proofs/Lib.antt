@@ -19,6 +19,8 @@ pub mod TaleRest
 pub mod TaleChecked
 pub mod TaleDry
 pub mod Accounts
+pub mod TaleSteps
+pub mod TaleLinks
 pub mod TaleAtOnce
 pub mod TalePokes
 pub mod TaleDoChecked

@@ -22,6 +22,8 @@ pub mod Accounts
 pub mod TaleSteps
 pub mod TaleLinks
 pub mod TaleAtOnce
+pub mod TalePokes
+pub mod TaleDoChecked
 pub mod Spots
 pub mod Homes
 pub mod Frames

@@ -22,7 +22,8 @@ use Rattle.slub_core.specs.Listed.{marked_of, takes}
 use Rattle.slub_core.specs.Steps.{told_at_once, told_of_alloc, told_of_trim, is_outside, cache_for, first_spot, first_cpu, begun_at, begun_with, begun}
 use Rattle.slub_core.specs.Fresh.{IsAtWork}
 use Rattle.slub_core.specs.Coherent.{Stands}
-use Rattle.slub_core.specs.Law.{MayBegin, MayBeginFirst, TakesStep}
+use Rattle.slub_core.specs.Law.{TakesStep}
+use Rattle.slub_core.proofs.MayBegin.{MayBegin, MayBeginFirst}
 use Rattle.slub_core.proofs.Counts.{places-cons}
 use Rattle.slub_core.proofs.LocalStep.{local_step}
 use Rattle.slub_core.proofs.Locks.{ComesTo}

@@ -19,6 +19,7 @@ pub mod TaleRest
 pub mod TaleChecked
 pub mod TaleDry
 pub mod Accounts
+pub mod MayBegin
 pub mod TaleSteps
 pub mod TaleLinks
 pub mod TaleAtOnce

@@ -17,7 +17,14 @@ use Rattle.slub_core.specs.Run.{System, Pick, idle, after_step, turn}
 use Rattle.slub_core.specs.Spots.{uses_word}
 use Rattle.slub_core.specs.Fresh.{IsAtWork}
 use Rattle.slub_core.specs.Coherent.{Stands}
-use Rattle.slub_core.specs.Law.{TakesStep, IsRested, IsStanding, MayBeginFirst, MayTurn, TurnsKeepAll, RunsKeepAll}
+use Rattle.slub_core.specs.Accounted.{IsAccounted}
+use Rattle.slub_core.specs.Law.{TakesStep, IsRested, IsCoherentSystem, TurnsKeepAll, RunsKeepAll}
+use Rattle.slub_core.proofs.Accounts.{Comes}
+use Rattle.slub_core.proofs.MayBegin.{may_begin}
+use Rattle.slub_core.proofs.TaleOnces.{tells}
+use Rattle.slub_core.proofs.TaleBegin.{told_begin, accounted_to_front, accounted_from_front}
+use Rattle.slub_core.proofs.TaleRest.{told_at_rest}
+use Rattle.slub_core.proofs.TaleSpots.{accounted-as}
 use Rattle.slub_core.proofs.Among.{to_front, from_front}
 use Rattle.slub_core.proofs.Begin.{begin}
 use Rattle.slub_core.proofs.Dispatch.{leads}
@@ -48,29 +55,56 @@ noted-comes w others l (Some r) (inr away) c = answered-comes w others l r away 
 
 -- ---- what is done at once
 
-once-comes : (m : Setup) (value : ℕ → LockValue) (words : List ℕ) (refused : Bool) (others : List Worker) (l : Local) → ComesTo (world_of m value words) others l
-    → let c = at_once m refused value l l.spot in ComesTo (world_of m c.value words) others (noted c.local c.reply)
+-- the worker with its chains and strings in hand, and the account of it
+joined : (opening w : World) (others : List Worker) (l : Local) → Comes opening w others l → (z : Worker) × (z.local ≡ l) × Stands w (z ∷ others) × IsAccounted opening w (z ∷ others)
+joined opening w others l ((z, e, s), (y, d, ac)) = (z, e, s, accounted-as opening w y z others (e ∙ sym d) ac)
+
+once-comes : (opening : World) (m : Setup) (value : ℕ → LockValue) (words : List ℕ) (refused : Bool) (others : List Worker) (l : Local) → Comes opening (world_of m value words) others l
+    → let c = at_once m refused value l l.spot in Comes opening (world_of m c.value words) others (noted c.local c.reply)
 unfolding world_of world_from
-once-comes m value words refused others l (z, e, s) =
-    subst (λ l. let c = at_once m refused value l l.spot in ComesTo (world_of m c.value words) others (noted c.local c.reply)) e
-    (let c = at_once m refused value z.local z.local.spot in
-    noted-comes (world_of m c.value words) others c.local c.reply (change-quits m refused value z.local z.local.spot) (makes (world_of m value words) refused z others z.local.spot refl s))
+once-comes opening m value words refused others l come = by_worker (joined opening (world_of m value words) others l come)
+  where
+    by_worker : (z : Worker) × (z.local ≡ l) × Stands (world_of m value words) (z ∷ others) × IsAccounted opening (world_of m value words) (z ∷ others)
+        → let c = at_once m refused value l l.spot in Comes opening (world_of m c.value words) others (noted c.local c.reply)
+    by_worker (z, e, s, ac) =
+        let w = world_of m value words in
+        subst (λ l. let c = at_once m refused value l l.spot in Comes opening (world_of m c.value words) others (noted c.local c.reply)) e
+        (let c = at_once m refused value z.local z.local.spot in (
+          noted-comes (world_of m c.value words) others c.local c.reply (change-quits m refused value z.local z.local.spot) (makes w refused z others z.local.spot refl s),
+          tells z.local.spot opening w refused z others refl s ac,
+        ))
 
 -- ---- replies that take no step
 
-or-comes : (w : World) (others : List Worker) (l : Local) (more : Reply → Local) (r : Option Reply) → ComesTo w others l → ((reply : Reply) → ComesTo w others (more reply)) → ComesTo w others (or_step l more r)
-or-comes w others l more None c d = c
-or-comes w others l more (Some reply) c d = d reply
+or-comes : (opening w : World) (others : List Worker) (l : Local) (more : Reply → Local) (r : Option Reply) → Comes opening w others l → ((reply : Reply) → r ≡ Some reply → Comes opening w others (more reply)) → Comes opening w others (or_step l more r)
+or-comes opening w others l more None c d = c
+or-comes opening w others l more (Some reply) c d = d reply refl
 
-rests : (w : World) (others : List Worker) (m : Setup) (calls : List Call) (l : Local) → l.spot ≡ Between → ComesTo w others l → ComesTo w others (rested_with m calls l)
-rests w others m [] l is c = c
-rests w others m (call ∷ calls) l is c =
-    or-comes w others l (λ reply. rested_with m calls (answered l reply)) (told_at_once m (get_or l.known call.place nobody) call call.kind) c
-    (λ reply. rests w others m calls (answered l reply) is (answered-comes w others l reply (rw is refl) c))
+-- such a reply
+reply-comes : (opening w : World) (others : List Worker) (call : Call) (calls : List Call) (l : Local) (r : Reply) → l.spot ≡ Between → l.todo ≡ call ∷ calls → told_at_once w.setup (get_or l.known call.place nobody) call call.kind ≡ Some r → Comes opening w others l
+    → Comes opening w others (answered l r)
+reply-comes opening w others call calls l r is todo at_once_told come = by_worker (joined opening w others l come)
+  where
+    by_worker : (z : Worker) × (z.local ≡ l) × Stands w (z ∷ others) × IsAccounted opening w (z ∷ others) → Comes opening w others (answered l r)
+    by_worker (z, e, s, ac) = (
+      answered-comes w others l r (rw is refl) come.0,
+      (
+        record z { local = answered z.local r },
+        ap (λ l. answered l r) e,
+        told_at_rest opening w z others call calls r (ap (λ (l : Local). l.spot) e ∙ is) (ap (λ (l : Local). l.todo) e ∙ todo) s
+            (subst (λ l. told_at_once w.setup (get_or l.known call.place nobody) call call.kind ≡ Some r) (sym e) at_once_told) ac,
+      ),
+    )
 
-rests-at : (w : World) (others : List Worker) (m : Setup) (l : Local) (spot : Spot) → l.spot ≡ spot → ComesTo w others l → ComesTo w others (rested_at m l spot)
-rests-at w others m l Between is c = rests w others m l.todo l is c
-rests-at w others m l _ is c = c
+rests : (opening w : World) (others : List Worker) (calls : List Call) (l : Local) → l.spot ≡ Between → l.todo ≡ calls → Comes opening w others l → Comes opening w others (rested_with w.setup calls l)
+rests opening w others [] l is todo c = c
+rests opening w others (call ∷ calls) l is todo c =
+    or-comes opening w others l (λ reply. rested_with w.setup calls (answered l reply)) (told_at_once w.setup (get_or l.known call.place nobody) call call.kind) c
+    (λ reply given. rests opening w others calls (answered l reply) is (rw todo refl) (reply-comes opening w others call calls l reply is todo given c))
+
+rests-at : (opening w : World) (others : List Worker) (l : Local) (spot : Spot) → l.spot ≡ spot → Comes opening w others l → Comes opening w others (rested_at w.setup l spot)
+rests-at opening w others l Between is c = rests opening w others l.todo l is refl c
+rests-at opening w others l _ is c = c
 
 -- after them the next call takes a step
 or-takes : (m : Setup) (l : Local) (more : Reply → Local) (r : Option Reply) → (r ≡ None → TakesStep m l l.todo) → ((reply : Reply) → TakesStep m (more reply) (more reply).todo) → TakesStep m (or_step l more r) (or_step l more r).todo
@@ -89,25 +123,28 @@ is_rested m l _ e = λ between. absurd (let z = sym e ∙ between in cc)
 
 -- ---- a step
 
-pub steps : (m : Setup) (value : ℕ → LockValue) (words : List ℕ) (refused : Bool) (x : Worker) (others : List Worker) → length words ≡ word_count m → Stands (world_of m value words) (x ∷ others)
+pub steps : (opening : World) (m : Setup) (value : ℕ → LockValue) (words : List ℕ) (refused : Bool) (x : Worker) (others : List Worker) → length words ≡ word_count m → Stands (world_of m value words) (x ∷ others)
+    → IsAccounted opening (world_of m value words) (x ∷ others)
     → let step = step_of m value x.local in let n = number_of m step.place in let q = get_or words n 0 in let a = answer_of step.op q in
-    let c = advance_of m refused value x.local a in ComesTo (world_of m c.value (set words n (after_op step.op q))) others c.local
-steps m value words refused x others long s =
+    let c = advance_of m refused value x.local a in Comes opening (world_of m c.value (set words n (after_op step.op q))) others c.local
+unfolding world_of world_from
+steps opening m value words refused x others long s ac =
     let step = step_of m value x.local in
     let n = number_of m step.place in
     let q = get_or words n 0 in
     let a = answer_of step.op q in
     let after = set words n (after_op step.op q) in
     let turn = advance_at m value x.local x.local.spot a in
-    let led = leads x.local.spot m value words x others (table m value words x others long s) refl s in
+    let led = leads x.local.spot opening m value words x others (table m value words x others long s) refl s ac in
     let l0 = told turn in
     let c1 = at_once m refused value l0 l0.spot in
     let l1 = noted c1.local c1.reply in
     let c2 = at_once m refused c1.value l1 l1.spot in
     let l2 = noted c2.local c2.reply in
-    let first = once-comes m value after refused others l0 (noted-comes (world_of m value after) others turn.local turn.reply (turn-tells m value x.local x.local.spot a) led) in
-    let second = once-comes m c1.value after refused others l1 first in
-    rests-at (world_of m c2.value after) others m l2 l2.spot refl second
+    let zeroth = noted-comes (world_of m value after) others turn.local turn.reply (turn-tells m value x.local x.local.spot a) led.0 in
+    let first = once-comes opening m value after refused others l0 (zeroth, led.1) in
+    let second = once-comes opening m c1.value after refused others l1 first in
+    rests-at opening (world_of m c2.value after) others l2 l2.spot refl second
 
 -- ---- a worker among the others
 
@@ -139,44 +176,51 @@ length-mapped f (x ∷ xs) = ap suc (length-mapped f xs)
 locals-middle : (f : Worker → Local) (front back : List Worker) (x : Worker) (ls : List Local) (k : ℕ) → length front ≡ k → map f (front ++ x ∷ back) ≡ ls → (map f front ++ f x ∷ map f back ≡ ls) × (length (map f front) ≡ k)
 locals-middle f front back x ls k at is = (sym (map-append f front (x ∷ back)) ∙ is, length-mapped f front ∙ at)
 
-turn_below : (m : Setup) (s : System) (pick : Pick) → pick.worker < length s.locals → IsStanding m s → MayTurn m s pick → IsStanding m (turn m s pick)
+turn_below : (m : Setup) (opening : World) (s : System) (pick : Pick) → pick.worker < length s.locals → IsCoherentSystem m opening s → IsCoherentSystem m opening (turn m s pick)
 unfolding world_of world_from
-turn_below m s pick below stands may =
-    let r = split stands.workers pick.worker (let e = ap (λ ls. length ls) stands.locals in let g = length-mapped (λ (x : Worker). x.local) stands.workers in omega arith) in
-    by_split r.0 r.2 r.1 r.4 (sym (ap (map (λ (x : Worker). x.local)) r.3) ∙ stands.locals) (subst (Stands (world_of m s.value s.words)) r.3 stands.stands)
+turn_below m opening s pick below is =
+    let r = split is.workers pick.worker (let e = ap (λ ls. length ls) is.locals in let g = length-mapped (λ (x : Worker). x.local) is.workers in omega arith) in
+    let w = world_of m s.value s.words in
+    let all : Stands w is.workers = record { chains = is.chains; placed = is.coherent.placed; listed = is.coherent.listed; fresh = is.coherent.fresh } in
+    by_split r.0 r.2 r.1 r.4 (sym (ap (map (λ (x : Worker). x.local)) r.3) ∙ is.locals) (subst (Stands w) r.3 all) (subst (IsAccounted opening w) r.3 is.coherent.accounted)
   where
-    by_split : (front back : List Worker) (x : Worker) → length front ≡ pick.worker → map (λ (x : Worker). x.local) (front ++ x ∷ back) ≡ s.locals → Stands (world_of m s.value s.words) (front ++ x ∷ back) → IsStanding m (turn m s pick)
-    by_split front back x at is all =
+    by_split : (front back : List Worker) (x : Worker) → length front ≡ pick.worker → map (λ (x : Worker). x.local) (front ++ x ∷ back) ≡ s.locals → Stands (world_of m s.value s.words) (front ++ x ∷ back) → IsAccounted opening (world_of m s.value s.words) (front ++ x ∷ back)
+        → IsCoherentSystem m opening (turn m s pick)
+    by_split front back x at locals all ac =
         let w = world_of m s.value s.words in
         let k = pick.worker in
         let l = get_or s.locals k idle in
         let others = front ++ back in
-        let lay = locals-middle (λ (x : Worker). x.local) front back x s.locals k at is in
+        let lay = locals-middle (λ (x : Worker). x.local) front back x s.locals k at locals in
         let mine : x.local ≡ l = sym (subst (λ ls. get_or ls (length (map (λ (x : Worker). x.local) front)) idle ≡ x.local) lay.0 (get_or-middle (map (λ (x : Worker). x.local) front) (map (λ (x : Worker). x.local) back) x.local idle)) ∙ ap (λ n. get_or s.locals n idle) lay.1 in
-        let rest = stands.rested k idle below in
-        let began = subst (λ l. ComesTo w others (begun m false l)) mine
-        (begin w x others (to_front w front back x all) (subst (λ l. l.spot ≡ Between → MayBeginFirst m l l.todo) (sym mine) may) (subst (λ l. l.spot ≡ Between → TakesStep m l l.todo) (sym mine) rest)) in
-        let y = began.0 in
+        let rest = subst (λ l. l.spot ≡ Between → TakesStep m l l.todo) (sym mine) (is.rested k idle below) in
+        let stood = to_front w front back x all in
+        let agrees = accounted_to_front opening w front back x ac in
+        let began = subst (λ l. Comes opening w others (begun m false l)) mine (begin w x others stood (λ _. may_begin opening w x others agrees) rest, told_begin opening w x others rest agrees) in
+        let y = joined opening w others (begun m false l) began in
         let step = step_of m s.value (begun m false l) in
         let n = number_of m step.place in
         let q = get_or s.words n 0 in
         let c = advance_of m pick.refused s.value (begun m false l) (answer_of step.op q) in
-        let led : ComesTo (world_of m c.value (set s.words n (after_op step.op q))) others c.local
+        let v = world_of m c.value (set s.words n (after_op step.op q)) in
+        let led : Comes opening v others c.local
         = subst (λ b. let step = step_of m s.value b in let n = number_of m step.place in let q = get_or s.words n 0 in let a = answer_of step.op q in
-        let c = advance_of m pick.refused s.value b a in ComesTo (world_of m c.value (set s.words n (after_op step.op q))) others c.local) began.1
-        (steps m s.value s.words pick.refused y others stands.words began.2) in
-        let z = led.0 in
+        let c = advance_of m pick.refused s.value b a in Comes opening (world_of m c.value (set s.words n (after_op step.op q))) others c.local) y.1
+        (steps opening m s.value s.words pick.refused y.0 others is.words y.2 y.3) in
+        let z = joined opening v others c.local led in
         let turned = advance_at m s.value (begun m false l) (begun m false l).spot (answer_of step.op q) in
         let last = settled m pick.refused (record { value = s.value; local = turned.local; reply = turned.reply }) in
         let told_last = noted last.local last.reply in
+        let stands = from_front v front back z.0 z.2 in
         record {
-          words = length-set s.words n (after_op step.op q) ∙ stands.words;
-          workers = front ++ z ∷ back;
-          locals = map-append (λ (x : Worker). x.local) front (z ∷ back) ∙ sym (set-middle (map (λ (x : Worker). x.local) front) (map (λ (x : Worker). x.local) back) x.local z.local)
-              ∙ ap (λ v. set (map (λ (x : Worker). x.local) front ++ x.local ∷ map (λ (x : Worker). x.local) back) (length (map (λ (x : Worker). x.local) front)) v) led.1
+          words = length-set s.words n (after_op step.op q) ∙ is.words;
+          workers = front ++ z.0 ∷ back;
+          locals = map-append (λ (x : Worker). x.local) front (z.0 ∷ back) ∙ sym (set-middle (map (λ (x : Worker). x.local) front) (map (λ (x : Worker). x.local) back) x.local z.0.local)
+              ∙ ap (λ v. set (map (λ (x : Worker). x.local) front ++ x.local ∷ map (λ (x : Worker). x.local) back) (length (map (λ (x : Worker). x.local) front)) v) z.1
               ∙ ap (λ ls. set ls (length (map (λ (x : Worker). x.local) front)) c.local) lay.0 ∙ ap (λ n. set s.locals n c.local) lay.1;
-          stands = from_front (world_of m c.value (set s.words n (after_op step.op q))) front back z led.2;
-          rested = All-set (IsRested m) s.locals k c.local (is_rested m told_last told_last.spot refl) stands.rested;
+          chains = stands.chains;
+          coherent = record { placed = stands.placed; listed = stands.listed; fresh = stands.fresh; accounted = accounted_from_front opening v front back z.0 z.3 };
+          rested = All-set (IsRested m) s.locals k c.local (is_rested m told_last told_last.spot refl) is.rested;
         }
 
 -- a pick of no worker changes nothing
@@ -200,11 +244,11 @@ no-turn : (m : Setup) (s : System) (pick : Pick) → length s.locals ≤ pick.wo
 no-turn m s pick past = ap (λ l. after_step m pick.refused s pick.worker (begun m false l)) (get_or-beyond s.locals pick.worker idle past) ∙ idle-turn m s pick.refused pick.worker past
 
 pub turn_keeps : TurnsKeepAll
-turn_keeps m s pick stands may = elim (cases_lt pick.worker (length s.locals)) [
-  | inl below ↦ turn_below m s pick below stands may
-  | inr past ↦ subst (IsStanding m) (sym (no-turn m s pick past)) stands
+turn_keeps m opening s pick is = elim (cases_lt pick.worker (length s.locals)) [
+  | inl below ↦ turn_below m opening s pick below is
+  | inr past ↦ subst (IsCoherentSystem m opening) (sym (no-turn m s pick past)) is
 ]
 
 pub run_keeps : RunsKeepAll
-run_keeps m s [] stands may = stands
-run_keeps m s (pick ∷ picks) stands may = (stands, run_keeps m (turn m s pick) picks (turn_keeps m s pick stands may.0) may.1)
+run_keeps m opening s [] is = is
+run_keeps m opening s (pick ∷ picks) is = (is, run_keeps m opening (turn m s pick) picks (turn_keeps m opening s pick is))

@@ -2,13 +2,13 @@
 
 ghost use Rattle.slub_core.specs.Law.{TurnsKeepAll, RunsKeepAll};
 
-/// From a machine in which all stands the turn of any worker leads to one in which all stands,
-/// whatever the other workers are at.
+/// From a machine that is coherent since an opening the turn of any worker leads to one that is coherent since
+/// the same opening, whatever the other workers are at.
 pub fn turns_keep_all()
     ensures { TurnsKeepAll }
 {}
 
-/// All stands before each turn of a run and after the last one, in whatever order the workers make them.
+/// The machine is coherent before each turn of a run and after the last one, in whatever order the workers make them.
 pub fn runs_keep_all()
     ensures { RunsKeepAll }
 {}

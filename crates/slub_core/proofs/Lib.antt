@@ -25,6 +25,8 @@ pub mod TaleLinks
 pub mod TaleAtOnce
 pub mod TalePokes
 pub mod TaleDoChecked
+pub mod TaleAddSlab
+pub mod TaleOnces
 pub mod Spots
 pub mod Homes
 pub mod Frames
@@ -101,6 +103,7 @@ pub mod Begin
 pub mod Kind8
 pub mod Tells
 pub mod Turns
+pub mod TaleSettled
 pub mod Kind27
 pub mod Kind25
 pub mod Kind23

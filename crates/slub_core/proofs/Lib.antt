@@ -102,6 +102,7 @@ pub mod LostWords
 pub mod Begin
 pub mod Kind8
 pub mod Tells
+pub mod Noted
 pub mod Turns
 pub mod TaleSettled
 pub mod Kind27

@@ -8,7 +8,7 @@ use Rattle.slub_core.proofs.Locks.{ComesTo}
 use Rattle.slub_core.proofs.Accounts.{Comes}
 use Rattle.slub_core.proofs.Onces.{makes}
 use Rattle.slub_core.proofs.Tells.{change-quits}
-use Rattle.slub_core.proofs.Turns.{noted-comes}
+use Rattle.slub_core.proofs.Noted.{noted-comes}
 use Rattle.slub_core.proofs.TaleOnces.{tells_once}
 
 -- all stands after what is done at once

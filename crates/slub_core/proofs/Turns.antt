@@ -21,7 +21,8 @@ use Rattle.slub_core.specs.Accounted.{IsAccounted}
 use Rattle.slub_core.specs.Law.{TakesStep, IsRested, IsCoherentSystem, TurnsKeepAll, RunsKeepAll}
 use Rattle.slub_core.proofs.Accounts.{Comes}
 use Rattle.slub_core.proofs.MayBegin.{may_begin}
-use Rattle.slub_core.proofs.TaleOnces.{tells}
+use Rattle.slub_core.proofs.Noted.{answered-comes, noted-comes}
+use Rattle.slub_core.proofs.TaleSettled.{comes_settled}
 use Rattle.slub_core.proofs.TaleBegin.{told_begin, accounted_to_front, accounted_from_front}
 use Rattle.slub_core.proofs.TaleRest.{told_at_rest}
 use Rattle.slub_core.proofs.TaleSpots.{accounted-as}
@@ -34,47 +35,11 @@ use Rattle.slub_core.proofs.Locks.{ComesTo}
 use Rattle.slub_core.proofs.Onces.{makes}
 use Rattle.slub_core.proofs.Tells.{Quiet, turn-tells, change-quits}
 
--- ---- replies
-
--- the facts of the machine do not read what a worker was answered
-answered-work : (w : World) (x : Worker) (r : Reply) → uses_word x.local.spot ≡ false → IsAtWork w x → IsAtWork w (record x { local = answered x.local r })
-answered-work w x r away ok = grind arith
-
-answered-comes : (w : World) (others : List Worker) (l : Local) (r : Reply) → uses_word l.spot ≡ false → ComesTo w others l → ComesTo w others (answered l r)
-answered-comes w others l r away (z, e, s) = (
-  record z { local = answered z.local r },
-  ap (λ l. answered l r) e,
-  local_step w z _ others s (λ f i. refl) (record { home = λ f. refl; marked = λ f. refl; covered = λ g. refl; takes = λ n. refl })
-      (answered-work w z r (ap (λ l. uses_word l.spot) e ∙ away) (All-head (IsAtWork w) z others s.fresh.workers)),
-)
-
-pub noted-comes : (w : World) (others : List Worker) (l : Local) (r : Option Reply) → Quiet r l.spot → ComesTo w others l → ComesTo w others (noted l r)
-noted-comes w others l None quiet c = c
-noted-comes w others l (Some r) (inl none) c = absurd (none-some r (sym none))
-noted-comes w others l (Some r) (inr away) c = answered-comes w others l r away c
-
--- ---- what is done at once
+-- ---- replies that take no step
 
 -- the worker with its chains and strings in hand, and the account of it
 joined : (opening w : World) (others : List Worker) (l : Local) → Comes opening w others l → (z : Worker) × (z.local ≡ l) × Stands w (z ∷ others) × IsAccounted opening w (z ∷ others)
 joined opening w others l ((z, e, s), (y, d, ac)) = (z, e, s, accounted-as opening w y z others (e ∙ sym d) ac)
-
-once-comes : (opening : World) (m : Setup) (value : ℕ → LockValue) (words : List ℕ) (refused : Bool) (others : List Worker) (l : Local) → Comes opening (world_of m value words) others l
-    → let c = at_once m refused value l l.spot in Comes opening (world_of m c.value words) others (noted c.local c.reply)
-unfolding world_of world_from
-once-comes opening m value words refused others l come = by_worker (joined opening (world_of m value words) others l come)
-  where
-    by_worker : (z : Worker) × (z.local ≡ l) × Stands (world_of m value words) (z ∷ others) × IsAccounted opening (world_of m value words) (z ∷ others)
-        → let c = at_once m refused value l l.spot in Comes opening (world_of m c.value words) others (noted c.local c.reply)
-    by_worker (z, e, s, ac) =
-        let w = world_of m value words in
-        subst (λ l. let c = at_once m refused value l l.spot in Comes opening (world_of m c.value words) others (noted c.local c.reply)) e
-        (let c = at_once m refused value z.local z.local.spot in (
-          noted-comes (world_of m c.value words) others c.local c.reply (change-quits m refused value z.local z.local.spot) (makes w refused z others z.local.spot refl s),
-          tells z.local.spot opening w refused z others refl s ac,
-        ))
-
--- ---- replies that take no step
 
 or-comes : (opening w : World) (others : List Worker) (l : Local) (more : Reply → Local) (r : Option Reply) → Comes opening w others l → ((reply : Reply) → r ≡ Some reply → Comes opening w others (more reply)) → Comes opening w others (or_step l more r)
 or-comes opening w others l more None c d = c
@@ -136,15 +101,10 @@ steps opening m value words refused x others long s ac =
     let after = set words n (after_op step.op q) in
     let turn = advance_at m value x.local x.local.spot a in
     let led = leads x.local.spot opening m value words x others (table m value words x others long s) refl s ac in
-    let l0 = told turn in
-    let c1 = at_once m refused value l0 l0.spot in
-    let l1 = noted c1.local c1.reply in
-    let c2 = at_once m refused c1.value l1 l1.spot in
-    let l2 = noted c2.local c2.reply in
-    let zeroth = noted-comes (world_of m value after) others turn.local turn.reply (turn-tells m value x.local x.local.spot a) led.0 in
-    let first = once-comes opening m value after refused others l0 (zeroth, led.1) in
-    let second = once-comes opening m c1.value after refused others l1 first in
-    rests-at opening (world_of m c2.value after) others l2 l2.spot refl second
+    let stands = noted-comes (world_of m value after) others turn.local turn.reply (turn-tells m value x.local x.local.spot a) led.0 in
+    let c = settled m refused (record { value = value; local = turn.local; reply = turn.reply }) in
+    let l = noted c.local c.reply in
+    rests-at opening (world_of m c.value after) others l l.spot refl (comes_settled opening (world_of m value after) refused others turn.local turn.reply (stands, led.1))
 
 -- ---- a worker among the others
 

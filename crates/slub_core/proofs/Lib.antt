@@ -26,7 +26,7 @@ pub mod TaleAtOnce
 pub mod TalePokes
 pub mod TaleDoChecked
 pub mod TaleAddSlab
-pub mod TaleOnces
+pub mod OncesTold
 pub mod Spots
 pub mod Homes
 pub mod Frames

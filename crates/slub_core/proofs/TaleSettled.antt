@@ -9,7 +9,7 @@ use Rattle.slub_core.proofs.Accounts.{Comes}
 use Rattle.slub_core.proofs.Onces.{makes}
 use Rattle.slub_core.proofs.Tells.{change-quits}
 use Rattle.slub_core.proofs.Noted.{noted-comes}
-use Rattle.slub_core.proofs.TaleOnces.{tells_once}
+use Rattle.slub_core.proofs.OncesTold.{tells_once}
 
 -- all stands after what is done at once
 stands_once : (w : World) (refused : Bool) (others : List Worker) (l : Local) → ComesTo w others l → let c = at_once w.setup refused w.value l l.spot in ComesTo (record w { value = c.value }) others (noted c.local c.reply)

@@ -19,23 +19,23 @@ use Rattle.slub_core.proofs.TaleAtOnce.{tells_PopNode, tells_TakeRun, tells_PutN
 use Rattle.slub_core.proofs.TaleDoChecked.{tells_DoChecked}
 use Rattle.slub_core.proofs.TaleAddSlab.{tells_AddSlab}
 
-pub tells : (spot : Spot) → TellsAt spot
-tells (InAlloc PopNode) opening w refused x others is s ac = tells_PopNode opening w refused x others is s ac
-tells (InAlloc TakeRun) opening w refused x others is s ac = tells_TakeRun opening w refused x others is s ac
-tells (InPutAway PutNode away) opening w refused x others is s ac = tells_PutNode away opening w refused x others is s ac
-tells (InDiscard PutRun discard) opening w refused x others is s ac = tells_PutRun discard opening w refused x others is s ac
-tells (InFree TakeOff) opening w refused x others is s ac = tells_TakeOff opening w refused x others is s ac
-tells (InMoveSet ChooseFront move) opening w refused x others is s ac = tells_ChooseFront move opening w refused x others is s ac
-tells (InMoveSet PutTail move) opening w refused x others is s ac = tells_PutTail move opening w refused x others is s ac
-tells (InTrim ScanNode) opening w refused x others is s ac = tells_ScanNode opening w refused x others is s ac
-tells (InTrim DropScanned) opening w refused x others is s ac = tells_DropScanned opening w refused x others is s ac
-tells (InChecked DoChecked kind) opening w refused x others is s ac = tells_DoChecked kind opening w refused x others is s ac
-tells (InChecked MoveRun kind) opening w refused x others is s ac = tells_MoveRun kind opening w refused x others is s ac
-tells (InChecked AddSlab kind) opening w refused x others is s ac = tells_AddSlab kind opening w refused x others is s ac
-tells spot opening w refused x others is s ac = (x, refl, ac)
+pub makes_told : (spot : Spot) → TellsAt spot
+makes_told (InAlloc PopNode) opening w refused x others is s ac = tells_PopNode opening w refused x others is s ac
+makes_told (InAlloc TakeRun) opening w refused x others is s ac = tells_TakeRun opening w refused x others is s ac
+makes_told (InPutAway PutNode away) opening w refused x others is s ac = tells_PutNode away opening w refused x others is s ac
+makes_told (InDiscard PutRun discard) opening w refused x others is s ac = tells_PutRun discard opening w refused x others is s ac
+makes_told (InFree TakeOff) opening w refused x others is s ac = tells_TakeOff opening w refused x others is s ac
+makes_told (InMoveSet ChooseFront move) opening w refused x others is s ac = tells_ChooseFront move opening w refused x others is s ac
+makes_told (InMoveSet PutTail move) opening w refused x others is s ac = tells_PutTail move opening w refused x others is s ac
+makes_told (InTrim ScanNode) opening w refused x others is s ac = tells_ScanNode opening w refused x others is s ac
+makes_told (InTrim DropScanned) opening w refused x others is s ac = tells_DropScanned opening w refused x others is s ac
+makes_told (InChecked DoChecked kind) opening w refused x others is s ac = tells_DoChecked kind opening w refused x others is s ac
+makes_told (InChecked MoveRun kind) opening w refused x others is s ac = tells_MoveRun kind opening w refused x others is s ac
+makes_told (InChecked AddSlab kind) opening w refused x others is s ac = tells_AddSlab kind opening w refused x others is s ac
+makes_told spot opening w refused x others is s ac = (x, refl, ac)
 
 -- from where all stands with the worker at this local, and the account agrees
 pub tells_once : (opening w : World) (refused : Bool) (others : List Worker) (l : Local) → ComesTo w others l → Accounts opening w others l → Tells opening w others (at_once w.setup refused w.value l l.spot)
 tells_once opening w refused others l (z, e, s) (y, f, ac) =
     subst (λ l. Tells opening w others (at_once w.setup refused w.value l l.spot)) e
-    (tells z.local.spot opening w refused z others refl s (accounted-as opening w y z others (e ∙ sym f) ac))
+    (makes_told z.local.spot opening w refused z others refl s (accounted-as opening w y z others (e ∙ sym f) ac))

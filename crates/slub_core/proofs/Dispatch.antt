@@ -29,7 +29,6 @@ use Rattle.slub_core.specs.declared.spot.CheckedSpot.TheVariants.{LockChecked, L
 use Rattle.slub_core.specs.declared.step.Place.TheVariants.{LockOf}
 use Rattle.slub_core.specs.World.{world_from, world_of}
 use Rattle.slub_core.specs.Steps.{advance_at}
-use Rattle.slub_core.proofs.Locks.{ComesTo}
 use Rattle.slub_core.proofs.Leads.{AtSpot}
 use Rattle.slub_core.proofs.WordSteps.{load}
 use Rattle.slub_core.proofs.LeadsLocks.{leads_LockNode, leads_LockPool, leads_LockAway, leads_LockDiscard, leads_LockFree, leads_LockMove, leads_LockTrim, leads_LockChecked, leads_LockRun, leads_GiveNode, leads_GivePool, leads_GiveDry, leads_GiveAway, leads_GiveDiscard, leads_GoBack, leads_GiveFree, leads_GiveMove, leads_GiveTrim, leads_GiveRun, leads_GiveChecked}

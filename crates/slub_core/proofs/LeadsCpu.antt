@@ -11,7 +11,6 @@ use Rattle.slub_core.specs.Ops.{own_cpu}
 use Rattle.slub_core.specs.Alloc.{popped_word, detached_word, installed_word}
 use Rattle.slub_core.specs.Free.{pushed_word}
 use Rattle.slub_core.specs.Steps.{advance_at, told}
-use Rattle.slub_core.proofs.Locks.{ComesTo}
 use Rattle.slub_core.proofs.Leads.{AtSpot, at_work, cpu_below, cpu_fits}
 use Rattle.slub_core.proofs.WordSteps.{cpu_exchange}
 use Rattle.slub_core.proofs.Kind3.{at_Pop-won}

@@ -21,7 +21,6 @@ use Rattle.slub_core.specs.Listed.{home_of}
 use Rattle.slub_core.specs.Steps.{advance_at}
 use Rattle.slub_core.specs.Coherent.{Stands}
 use Rattle.slub_core.proofs.Hands.{first-hand}
-use Rattle.slub_core.proofs.Locks.{ComesTo}
 use Rattle.slub_core.proofs.Leads.{AtSpot, at_work, home_below}
 use Rattle.slub_core.proofs.Lists.{times-at}
 use Rattle.slub_core.proofs.UnderLock.{stocked-within}

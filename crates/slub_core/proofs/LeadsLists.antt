@@ -14,7 +14,6 @@ use Rattle.slub_core.specs.Local.{string_of}
 use Rattle.slub_core.specs.Ops.{own_cpu}
 use Rattle.slub_core.specs.PutOnList.{longer_list}
 use Rattle.slub_core.specs.Steps.{advance_at}
-use Rattle.slub_core.proofs.Locks.{ComesTo}
 use Rattle.slub_core.proofs.Leads.{AtSpot, at_work, cpu_below, list_fits}
 use Rattle.slub_core.proofs.LeadsStrings.{cursor_below}
 use Rattle.slub_core.proofs.Words.{list-read}

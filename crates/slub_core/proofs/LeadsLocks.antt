@@ -15,7 +15,6 @@ use Rattle.slub_core.specs.declared.spot.CheckedSpot.TheVariants.{LockChecked, L
 use Rattle.slub_core.specs.Setup.{node_lock, pool_lock}
 use Rattle.slub_core.specs.World.{world_from, world_of, set_lock}
 use Rattle.slub_core.specs.Steps.{advance_at, told}
-use Rattle.slub_core.proofs.Locks.{ComesTo}
 use Rattle.slub_core.proofs.Leads.{AtSpot, node_below, pool_below, plain_here, checked_here}
 use Rattle.slub_core.proofs.WordSteps.{lock_exchange, lock_store}
 use Rattle.slub_core.proofs.Kind13.{at_LockNode, at_LockPool, at_LockAway, at_LockDiscard, at_LockFree, at_LockMove, at_LockTrim, at_LockChecked, at_LockRun}

@@ -11,7 +11,6 @@ use Rattle.slub_core.specs.Local.{run_of, run_in}
 use Rattle.slub_core.specs.Alloc.{made_word}
 use Rattle.slub_core.specs.Fresh.{IsHeldRun}
 use Rattle.slub_core.specs.Steps.{advance_at}
-use Rattle.slub_core.proofs.Locks.{ComesTo}
 use Rattle.slub_core.proofs.Leads.{AtSpot, at_work, slab_fits}
 use Rattle.slub_core.proofs.RemakeStep.{pow-some}
 use Rattle.slub_core.proofs.WordSteps.{slab_store}

@@ -16,7 +16,6 @@ use Rattle.slub_core.specs.MoveSet.{listed_word}
 use Rattle.slub_core.specs.Free.{freed_word}
 use Rattle.slub_core.specs.Spots.{Taken, Kept, Popped, Ready, Leaving, beside_away, beside_move}
 use Rattle.slub_core.specs.Steps.{advance_at, told}
-use Rattle.slub_core.proofs.Locks.{ComesTo}
 use Rattle.slub_core.proofs.Leads.{AtSpot, at_work, slab_fits, held_below}
 use Rattle.slub_core.proofs.LeadsHands.{hand_below}
 use Rattle.slub_core.proofs.WordSteps.{slab_exchange}

@@ -19,7 +19,6 @@ use Rattle.slub_core.specs.Steps.{advance_at}
 use Rattle.slub_core.specs.Coherent.{Stands}
 use Rattle.slub_core.proofs.Exists.{times-self}
 use Rattle.slub_core.proofs.Lists.{times-at}
-use Rattle.slub_core.proofs.Locks.{ComesTo}
 use Rattle.slub_core.proofs.Leads.{AtSpot, at_work, cpu_below, home_below}
 use Rattle.slub_core.proofs.Words.{list-read, link-read}
 use Rattle.slub_core.proofs.WordSteps.{load}

@@ -82,11 +82,13 @@ unfolding world_of world_from
 leads_ReadWord opening m value words x others t is s ac =
     let w = world_of m value words in
     let place = (step_at m value x.local ReadWord).place in
-    load m value words place (λ v a. Reaches opening v others (advance_at m value x.local ReadWord a))
-    (
+    load m value words place (λ v a. Reaches opening v others (advance_at m value x.local ReadWord a)) (
       at_ReadWord w x others (get_or words (number_of m place) 0) is s,
-      (record x { local = told (advance_at m value x.local ReadWord (Word (get_or words (number_of m place) 0))) }, refl,
-          told_ReadWord opening w value x others (get_or words (number_of m place) 0) is (memory-read m value words (word_at m (here x.local).cache (here x.local).frame (here x.local).index (call_of x.local).word) (used-inside w x others s (rw is refl) (rw is refl) (rw is refl))) s ac),
+      (
+        record x { local = told (advance_at m value x.local ReadWord (Word (get_or words (number_of m place) 0))) },
+        refl,
+        told_ReadWord opening w value x others (get_or words (number_of m place) 0) is (memory-read m value words (word_at m (here x.local).cache (here x.local).frame (here x.local).index (call_of x.local).word) (used-inside w x others s (rw is refl) (rw is refl) (rw is refl))) s ac,
+      ),
     )
 
 -- ---- slab words
@@ -129,9 +131,11 @@ leads_TakeBoard opening m value words x others t is s ac =
     let ok = (at_work w x others s).spot in
     let some : 1 ≤ o = ok.board (rw is refl) in
     let below : o < m.objects = ok.number in
-    board_swap m value words o (λ v a. Reaches opening v others (advance_at m value x.local (InFree TakeBoard) a)) t some below
-    (
+    board_swap m value words o (λ v a. Reaches opening v others (advance_at m value x.local (InFree TakeBoard) a)) t some below (
       subst (λ b. ComesTo (set_board w o None) others (board_taken m x.local b).local) (board-read m value words o some below) (at_TakeBoard w x others is s),
-      (record x { local = told (advance_at m value x.local (InFree TakeBoard) (Word (get_or words (board_base m + o) 0))) }, refl,
-          subst (λ b. IsAccounted opening (set_board w o None) (record x { local = told (board_taken m x.local b) } ∷ others)) (board-read m value words o some below) (told_TakeBoard opening w x others is s ac)),
+      (
+        record x { local = told (advance_at m value x.local (InFree TakeBoard) (Word (get_or words (board_base m + o) 0))) },
+        refl,
+        subst (λ b. IsAccounted opening (set_board w o None) (record x { local = told (board_taken m x.local b) } ∷ others)) (board-read m value words o some below) (told_TakeBoard opening w x others is s ac),
+      ),
     )

@@ -1,18 +1,16 @@
 -- What the account says of a call that begins: it fits the machine, names the place of its object, and allocates nothing that its worker holds.
-use Rattle.std.proofs.Common.{◌≡◌, ℕ, ◌+◌, ◌<◌, ◌≤◌, true, false, List, [], ◌∷◌, length, get_or, eqb, ◌&&◌, refl, sym, ap, ◌∙◌, subst, arith, inl, inr}
-use Rattle.std.specs.Prelude.{All, IfSome, sum_by}
-use Rattle.std.proofs.lemmas.Bool.{cases_Bool, eq-eqb, false≢true}
+use Rattle.std.proofs.Common.{◌≡◌, ◌+◌, ◌<◌, ◌≤◌, true, false, List, [], ◌∷◌, length, get_or, eqb, ◌&&◌, refl, ap, ◌∙◌, subst, arith, inl, inr}
+use Rattle.std.specs.Prelude.{All, IfSome}
+use Rattle.std.proofs.lemmas.Bool.{cases_Bool, eq-eqb}
 use Rattle.std.proofs.lemmas.List.Sums.{sum_by-cons}
 use Rattle.std.proofs.lemmas.List.Elements.{All-head}
 use Rattle.slub_core.specs.declared.call.Call.{Call}
 use Rattle.slub_core.specs.declared.call.CallKind.TheVariants.{Alloc}
-use Rattle.slub_core.specs.declared.spot.Spot.TheVariants.{Between}
-use Rattle.slub_core.specs.declared.local.Known.{Known}
 use Rattle.slub_core.specs.Setup.{Setup}
 use Rattle.slub_core.specs.World.{World}
 use Rattle.slub_core.specs.Local.{Local, Worker, nobody}
-use Rattle.slub_core.specs.Replies.{one_if, given_in, asked_in, is_alloc}
-use Rattle.slub_core.specs.Accounted.{boarded, had, place_of, known_of, Fits, IsAccounted}
+use Rattle.slub_core.specs.Replies.{one_if, asked_in, is_alloc}
+use Rattle.slub_core.specs.Accounted.{had, known_of, Fits, IsAccounted}
 use Rattle.slub_core.proofs.TaleKnowns.{place_of-object}
 use Rattle.slub_core.proofs.TaleReplies.{told-of}
 

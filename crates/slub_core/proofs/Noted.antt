@@ -1,5 +1,5 @@
 -- A reply changes nothing of what stands: the facts of the machine do not read what a worker was answered.
-use Rattle.std.proofs.Common.{◌≡◌, false, Option, Some, None, List, ◌∷◌, refl, sym, ap, ◌∙◌, arith, inl, inr}
+use Rattle.std.proofs.Common.{◌≡◌, false, Option, Some, None, List, refl, sym, ap, ◌∙◌, arith, inl, inr}
 use Rattle.std.proofs.lemmas.List.Elements.{All-head}
 use Rattle.std.proofs.lemmas.Option.{none-some}
 use Rattle.slub_answers.specs.declared.reply.Reply.{Reply}

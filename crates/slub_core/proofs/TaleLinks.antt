@@ -1,5 +1,5 @@
 -- Free pointers that are stored, spot by spot: no word that a worker wrote changes by it.
-use Rattle.std.proofs.Common.{◌≡◌, ℕ, suc, ◌+◌, ◌-◌, ◌<◌, ◌≤◌, true, false, Option, Some, None, List, [], ◌∷◌, refl, sym, ap, subst, arith}
+use Rattle.std.proofs.Common.{◌≡◌, ℕ, ◌-◌, ◌<◌, ◌≤◌, true, false, Option, Some, None, List, ◌∷◌, refl, sym, ap, subst, arith}
 use Rattle.std.specs.Prelude.{IsSome}
 use Rattle.std.proofs.lemmas.Bool.{false≢true}
 use Rattle.std.proofs.lemmas.List.Elements.{All-head}
@@ -13,7 +13,7 @@ use Rattle.slub_core.specs.declared.spot.Away.{Away}
 use Rattle.slub_core.specs.declared.spot.PutAwaySpot.TheVariants.{LinkLast}
 use Rattle.slub_core.specs.declared.step.Answer.TheVariants.{Done}
 use Rattle.slub_core.specs.Setup.{pointer_at}
-use Rattle.slub_core.specs.World.{World, LockValue, pointer, exists_at, in_chain, set_memory}
+use Rattle.slub_core.specs.World.{World, LockValue, exists_at, set_memory}
 use Rattle.slub_core.specs.Local.{Worker, here, hand_of, run_of, run_in}
 use Rattle.slub_core.specs.Steps.{advance_at, told}
 use Rattle.slub_core.specs.Spots.{Untied, beside_away, frees, in_plain, takes_board}
@@ -67,8 +67,7 @@ tale_LinkLast opening w value x others v away is s ac =
         let most = All-head (λ (o : Worker). in_hands h.frame j o.local.hands o.chains ≤ exists_at w h.frame j) x others (hands-exist w s.chains (x ∷ others) h.frame j s.placed s.listed) in
         let live = (ok.spot.plain (rw is refl)).1 in
         let word = subst (λ c. IsWordOf (w.setup.layout c) h.frame j (pointer_at w.setup x.local.cache h.frame j)) (sym held.1) (pointer-word w.setup x.local.cache h.frame j s.fresh.setup live) in
-        subst (λ (g : Hand). Accounts opening (set_memory w (pointer_at w.setup x.local.cache g.frame (g.last - 1)) v) others (told (advance_at w.setup value x.local (InPutAway LinkLast away) Done))) (sym hand)
-        (
+        subst (λ (g : Hand). Accounts opening (set_memory w (pointer_at w.setup x.local.cache g.frame (g.last - 1)) v) others (told (advance_at w.setup value x.local (InPutAway LinkLast away) Done))) (sym hand) (
           record x { local = told (advance_at w.setup value x.local (InPutAway LinkLast away) Done) },
           refl,
           told_chain opening w x (record x { local = (advance_at w.setup value x.local (InPutAway LinkLast away) Done).local }) others h.frame j (pointer_at w.setup x.local.cache h.frame j) v ac s mine (omega arith) word
@@ -86,8 +85,7 @@ tale_LinkNew opening w value x others v i is s ac = by_run x.local.run refl
         let ok = at_work w x others s in
         let mine : run_of x.local ≡ run = ap run_in some in
         let room : i < run.objects = (let b : i < (run_of x.local).objects = rw is at (ok.spot.unstored (rw is refl)) in rw mine at b) in
-        subst (λ (g : FrameRun). Accounts opening (set_memory w (pointer_at w.setup x.local.cache g.frame i) v) others (told (advance_at w.setup value x.local (InAlloc (LinkNew i)) Done))) (sym mine)
-        (
+        subst (λ (g : FrameRun). Accounts opening (set_memory w (pointer_at w.setup x.local.cache g.frame i) v) others (told (advance_at w.setup value x.local (InAlloc (LinkNew i)) Done))) (sym mine) (
           record x { local = told (advance_at w.setup value x.local (InAlloc (LinkNew i)) Done) },
           refl,
           told_run opening w x (record x { local = (advance_at w.setup value x.local (InAlloc (LinkNew i)) Done).local }) others run i v ac s some room

@@ -1,8 +1,7 @@
 -- What a step does to the account, by what it answers: nothing without a reply, a spent transaction id, the end of a flush, a free pointer that is stored.
-use Rattle.std.proofs.Common.{◌≡◌, ℕ, ◌+◌, ◌-◌, ◌<◌, ◌≤◌, ◌==◌, Bool, true, false, not, ◌&&◌, ◌||◌, if◌then◌else◌, Some, None, List, [], ◌∷◌, length, get_or, refl, sym, ap, ◌∙◌, subst, arith, inl, inr}
+use Rattle.std.proofs.Common.{◌≡◌, ℕ, ◌+◌, ◌==◌, Bool, true, false, ◌||◌, if◌then◌else◌, Some, None, List, ◌∷◌, length, refl, inl, inr}
 use Rattle.std.specs.Prelude.{nat_lt}
 use Rattle.std.proofs.lemmas.Bool.{cases_Bool, ltb-true}
-use Rattle.slub_words.specs.declared.cpu.CpuWord.{CpuWord}
 use Rattle.slub_answers.specs.declared.reply.Reply.TheVariants as reply
 use Rattle.slub_core.specs.declared.call.CallKind.TheVariants.{Alloc, Flush}
 use Rattle.slub_core.specs.declared.step.Answer.{Answer}
@@ -37,12 +36,11 @@ use Rattle.slub_core.proofs.TaleSpots.{unseen-same}
 
 pub quietly : (opening w v : World) (value : ℕ → LockValue) (x : Worker) (others : List Worker) (spot : Spot) (a : Answer) → x.local.spot ≡ spot → IsAccounted opening w (x ∷ others) → Unseen w v
     → takes_board spot ≡ false → (advance_at w.setup value x.local spot a).reply ≡ None → Accounts opening v others (told (advance_at w.setup value x.local spot a))
-quietly opening w v value x others spot a is ac same away none =
-    (
-      record x { local = told (advance_at w.setup value x.local spot a) },
-      refl,
-      rw none (told_quiet opening w v x (record x { local = (advance_at w.setup value x.local spot a).local }) others ac same (quiet_turn w.setup value x.local spot a is away none)),
-    )
+quietly opening w v value x others spot a is ac same away none = (
+  record x { local = told (advance_at w.setup value x.local spot a) },
+  refl,
+  rw none (told_quiet opening w v x (record x { local = (advance_at w.setup value x.local spot a).local }) others ac same (quiet_turn w.setup value x.local spot a is away none)),
+)
 
 -- where an answer leads without a reply
 pub quiet_at : (w : World) (value : ℕ → LockValue) (x : Worker) (spot : Spot) (a : Answer) → x.local.spot ≡ spot → takes_board spot ≡ false → (advance_at w.setup value x.local spot a).reply ≡ None
@@ -63,16 +61,16 @@ tale_LoadCpu opening w value x others word is found ac = elim (cases_Bool (is_sp
   | inl spent ↦ elim (cases_Bool x.local.fast) [
     | inl try ↦ quietly opening w w value x others (InAlloc LoadCpu) (Word word) is ac (unseen-same w) refl (rw (spent, try) refl)
     | inr whole ↦ (
-        record x { local = told (advance_at w.setup value x.local (InAlloc LoadCpu) (Word word)) },
-        refl,
-        spent-end opening w x _ others word (InAlloc LoadCpu) is refl refl found spent ac (record {
-          known = rw (spent, whole) refl;
-          done = rw (spent, whole) refl;
-          todo = rw (spent, whole) refl;
-          freeing = rw (spent, whole) refl;
-          call = rw (spent, whole) refl;
-        }),
-      )
+      record x { local = told (advance_at w.setup value x.local (InAlloc LoadCpu) (Word word)) },
+      refl,
+      spent-end opening w x _ others word (InAlloc LoadCpu) is refl refl found spent ac (record {
+        known = rw (spent, whole) refl;
+        done = rw (spent, whole) refl;
+        todo = rw (spent, whole) refl;
+        freeing = rw (spent, whole) refl;
+        call = rw (spent, whole) refl;
+      }),
+    )
   ]
 ]
 
@@ -116,16 +114,16 @@ tale_TakeCurrent opening w v value x others sweep word is same ac = elim (cases_
     by_sweep Flushing is empty = elim (cases_Bool (nat_lt (x.local.turn + 1) (length w.setup.plain))) [
       | inl more ↦ quietly opening w v value x others (InOffline TakeCurrent Flushing) (Word word) is ac same refl (rw (empty, more) refl)
       | inr end ↦ (
-          record x { local = told (advance_at w.setup value x.local (InOffline TakeCurrent Flushing) (Word word)) },
-          refl,
-          flush-end opening w v x _ others x.local.count (InOffline TakeCurrent Flushing) is refl refl same ac (record {
-            known = rw (empty, end) refl;
-            done = rw (empty, end) refl;
-            todo = rw (empty, end) refl;
-            freeing = rw (empty, end) refl;
-            call = rw (empty, end) refl;
-          }),
-        )
+        record x { local = told (advance_at w.setup value x.local (InOffline TakeCurrent Flushing) (Word word)) },
+        refl,
+        flush-end opening w v x _ others x.local.count (InOffline TakeCurrent Flushing) is refl refl same ac (record {
+          known = rw (empty, end) refl;
+          done = rw (empty, end) refl;
+          todo = rw (empty, end) refl;
+          freeing = rw (empty, end) refl;
+          call = rw (empty, end) refl;
+        }),
+      )
     ]
 
 pub tale_GiveMove : (opening w v : World) (value : ℕ → LockValue) (x : Worker) (others : List Worker) (move : MoveSet) → x.local.spot ≡ InMoveSet GiveMove move → Unseen w v → IsAccounted opening w (x ∷ others)
@@ -135,14 +133,14 @@ tale_GiveMove opening w v value x others (ForOffline Trimming) is same ac = quie
 tale_GiveMove opening w v value x others (ForOffline Flushing) is same ac = elim (cases_Bool (nat_lt (x.local.turn + 1) (length w.setup.plain))) [
   | inl more ↦ quietly opening w v value x others (InMoveSet GiveMove (ForOffline Flushing)) Done is ac same refl (rw more refl)
   | inr end ↦ (
-      record x { local = told (advance_at w.setup value x.local (InMoveSet GiveMove (ForOffline Flushing)) Done) },
-      refl,
-      flush-end opening w v x _ others x.local.count (InMoveSet GiveMove (ForOffline Flushing)) is refl refl same ac (record {
-        known = rw end refl;
-        done = rw end refl;
-        todo = rw end refl;
-        freeing = rw end refl;
-        call = rw end refl;
-      }),
-    )
+    record x { local = told (advance_at w.setup value x.local (InMoveSet GiveMove (ForOffline Flushing)) Done) },
+    refl,
+    flush-end opening w v x _ others x.local.count (InMoveSet GiveMove (ForOffline Flushing)) is refl refl same ac (record {
+      known = rw end refl;
+      done = rw end refl;
+      todo = rw end refl;
+      freeing = rw end refl;
+      call = rw end refl;
+    }),
+  )
 ]

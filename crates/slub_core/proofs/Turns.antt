@@ -1,9 +1,8 @@
 -- A turn of any worker keeps all, and so does a run of turns.
 use Rattle.std.proofs.Common.{◌≡◌, ℕ, zero, suc, ◌<◌, ◌≤◌, Bool, false, Option, Some, None, List, [], ◌∷◌, ◌++◌, length, get_or, set, map, refl, sym, ap, ◌∙◌, subst, arith, inl, inr}
 use Rattle.std.proofs.lemmas.List.{length-set, set-get_or}
-use Rattle.std.proofs.lemmas.List.Elements.{All-head, All-set}
+use Rattle.std.proofs.lemmas.List.Elements.{All-set}
 use Rattle.std.proofs.lemmas.Bool.{cases_lt}
-use Rattle.std.proofs.lemmas.Option.{none-some}
 use Rattle.slub_answers.specs.declared.reply.Reply.{Reply}
 use Rattle.slub_core.specs.declared.call.Call.{Call}
 use Rattle.slub_core.specs.declared.spot.Spot.{Spot}
@@ -12,10 +11,8 @@ use Rattle.slub_core.specs.Setup.{Setup}
 use Rattle.slub_core.specs.Words.{word_count, number_of, after_op, answer_of}
 use Rattle.slub_core.specs.World.{World, LockValue, world_from, world_of}
 use Rattle.slub_core.specs.Local.{Local, Worker, nobody, answered, noted}
-use Rattle.slub_core.specs.Steps.{step_of, advance_at, advance_of, at_once, told, settled, told_at_once, or_step, rested_with, rested_at, begun}
+use Rattle.slub_core.specs.Steps.{step_of, advance_at, advance_of, settled, told_at_once, or_step, rested_with, rested_at, begun}
 use Rattle.slub_core.specs.Run.{System, Pick, idle, after_step, turn}
-use Rattle.slub_core.specs.Spots.{uses_word}
-use Rattle.slub_core.specs.Fresh.{IsAtWork}
 use Rattle.slub_core.specs.Coherent.{Stands}
 use Rattle.slub_core.specs.Accounted.{IsAccounted}
 use Rattle.slub_core.specs.Law.{TakesStep, IsRested, IsCoherentSystem, TurnsKeepAll, RunsKeepAll}
@@ -30,10 +27,7 @@ use Rattle.slub_core.proofs.Among.{to_front, from_front}
 use Rattle.slub_core.proofs.Begin.{begin}
 use Rattle.slub_core.proofs.Dispatch.{leads}
 use Rattle.slub_core.proofs.Leads.{table}
-use Rattle.slub_core.proofs.LocalStep.{local_step}
-use Rattle.slub_core.proofs.Locks.{ComesTo}
-use Rattle.slub_core.proofs.Onces.{makes}
-use Rattle.slub_core.proofs.Tells.{Quiet, turn-tells, change-quits}
+use Rattle.slub_core.proofs.Tells.{turn-tells}
 
 -- ---- replies that take no step
 

@@ -103,7 +103,9 @@ pub mod Begin
 pub mod Kind8
 pub mod Tells
 pub mod Noted
+pub mod Rests
 pub mod Turns
+pub mod Opens
 pub mod TaleSettled
 pub mod Kind27
 pub mod Kind25

@@ -9,6 +9,7 @@ use Rattle.slub_core.specs.Local.{Local, Worker, nobody}
 use Rattle.slub_core.specs.Steps.{told_at_once}
 use Rattle.slub_core.specs.Run.{System, Pick, turn}
 use Rattle.slub_core.specs.Coherent.{IsCoherent}
+use Rattle.slub_core.specs.Opening.{IsOpening, opened}
 
 -- ---- machines that are coherent
 
@@ -51,3 +52,9 @@ abbrev pub RunsKeepAll : Type 0
 RunsKeepAll =
     (m : Setup) (opening : World) (s : System) (picks : List Pick)
     → IsCoherentSystem m opening s → CoherentAlong m opening s picks
+
+-- and a round begins with such a machine
+abbrev pub RoundsKeepAll : Type 0
+RoundsKeepAll =
+    (m : Setup) (s : System) (picks : List Pick) → IsOpening m s
+    → CoherentAlong m (world_of m s.value s.words) (opened m s) picks

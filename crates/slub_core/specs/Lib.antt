@@ -20,4 +20,5 @@ pub mod Fresh
 pub mod Replies
 pub mod Accounted
 pub mod Coherent
+pub mod Opening
 pub mod Law

@@ -1,6 +1,6 @@
-//! The law of the step machine, for the crates that run it. Neither function does anything.
+//! The law of the step machine, for the crates that run it. None of the functions does anything.
 
-ghost use Rattle.slub_core.specs.Law.{TurnsKeepAll, RunsKeepAll};
+ghost use Rattle.slub_core.specs.Law.{TurnsKeepAll, RunsKeepAll, RoundsKeepAll};
 
 /// From a machine that is coherent since an opening the turn of any worker leads to one that is coherent since
 /// the same opening, whatever the other workers are at.
@@ -11,4 +11,10 @@ pub fn turns_keep_all()
 /// The machine is coherent before each turn of a run and after the last one, in whatever order the workers make them.
 pub fn runs_keep_all()
     ensures { RunsKeepAll }
+{}
+
+/// A round begins with such a machine: where the machine in words is at rest, and its workers hold nothing and have
+/// calls that fit it, it is coherent before each turn and after the last one.
+pub fn rounds_keep_all()
+    ensures { RoundsKeepAll }
 {}

@@ -8,7 +8,7 @@
 //!
 //! # What it promises
 //!
-//! The step machine, as definitions, and `laws`: `turns_keep_all`, `runs_keep_all`.
+//! The step machine, as definitions, and `laws`: `turns_keep_all`, `runs_keep_all`, `rounds_keep_all`.
 //! docs/CONCURRENCY.md tells what they say and what they leave out.
 #![tactic(auto)]
 

@@ -106,6 +106,9 @@ pub mod Noted
 pub mod Rests
 pub mod Turns
 pub mod Opens
+pub mod Scripts
+pub mod CallsStay
+pub mod RoundEnds
 pub mod TaleSettled
 pub mod Kind27
 pub mod Kind25

@@ -1,15 +1,17 @@
 -- The law: a turn of any worker leads from a machine that is coherent to such a machine.
 use Rattle.std.specs.Prelude.{◌≡◌, List, [], ◌∷◌, length, map, slice_index_or, All, None}
 use Rattle.slub_core.specs.declared.call.Call.{Call}
+use Rattle.slub_core.specs.declared.local.Answered.{Answered}
 use Rattle.slub_core.specs.declared.spot.Spot.TheVariants.{Between}
 use Rattle.slub_core.specs.Setup.{Setup}
 use Rattle.slub_core.specs.Words.{word_count}
 use Rattle.slub_core.specs.World.{World, Chains, world_of}
 use Rattle.slub_core.specs.Local.{Local, Worker, nobody}
 use Rattle.slub_core.specs.Steps.{told_at_once}
-use Rattle.slub_core.specs.Run.{System, Pick, turn}
+use Rattle.slub_core.specs.Run.{System, Pick, turn, run, IsFinished}
 use Rattle.slub_core.specs.Coherent.{IsCoherent}
 use Rattle.slub_core.specs.Opening.{IsOpening, opened}
+use Rattle.slub_core.specs.Round.{IsRound}
 
 -- ---- machines that are coherent
 
@@ -58,3 +60,18 @@ abbrev pub RoundsKeepAll : Type 0
 RoundsKeepAll =
     (m : Setup) (s : System) (picks : List Pick) → IsOpening m s
     → CoherentAlong m (world_of m s.value s.words) (opened m s) picks
+
+-- the calls that its workers began with, and what each was answered
+abbrev pub calls_to_come : System → List (List Call)
+calls_to_come s = map (λ (l : Local). l.todo) s.locals
+
+abbrev pub replies_of : System → List (List Answered)
+replies_of s = map (λ (l : Local). l.done) s.locals
+
+-- once every call has its reply, the replies and the board are those of a round
+abbrev pub RoundsEnd : Type 0
+RoundsEnd =
+    (m : Setup) (s : System) (picks : List Pick) → IsOpening m s
+    → let end = run m (opened m s) picks in All IsFinished end.locals
+    → IsRound m (world_of m s.value s.words) (world_of m end.value end.words) (calls_to_come s)
+    (replies_of end)

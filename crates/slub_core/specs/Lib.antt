@@ -21,4 +21,5 @@ pub mod Replies
 pub mod Accounted
 pub mod Coherent
 pub mod Opening
+pub mod Round
 pub mod Law

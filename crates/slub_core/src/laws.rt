@@ -1,6 +1,6 @@
 //! The law of the step machine, for the crates that run it. None of the functions does anything.
 
-ghost use Rattle.slub_core.specs.Law.{TurnsKeepAll, RunsKeepAll, RoundsKeepAll};
+ghost use Rattle.slub_core.specs.Law.{TurnsKeepAll, RunsKeepAll, RoundsKeepAll, RoundsEnd};
 
 /// From a machine that is coherent since an opening the turn of any worker leads to one that is coherent since
 /// the same opening, whatever the other workers are at.
@@ -17,4 +17,10 @@ pub fn runs_keep_all()
 /// calls that fit it, it is coherent before each turn and after the last one.
 pub fn rounds_keep_all()
     ensures { RoundsKeepAll }
+{}
+
+/// Once every call of such a round has its reply, each reply has its cause, and board and replies agree: what a
+/// reader understands without the steps (`IsRound`).
+pub fn rounds_end()
+    ensures { RoundsEnd }
 {}

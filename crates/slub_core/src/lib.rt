@@ -8,7 +8,8 @@
 //!
 //! # What it promises
 //!
-//! The step machine, as definitions, and `laws`: `turns_keep_all`, `runs_keep_all`, `rounds_keep_all`.
+//! The step machine, as definitions, and `laws`: `turns_keep_all`, `runs_keep_all`, `rounds_keep_all`,
+//! `rounds_end`.
 //! docs/CONCURRENCY.md tells what they say and what they leave out.
 #![tactic(auto)]
 

@@ -1,5 +1,5 @@
 -- Who holds what a number names.
-use Rattle.std.proofs.Common.{◌≡◌, ℕ, ◌<◌, ◌≤◌, ◌&&◌, eqb, Bool, true, false, List, [], ◌∷◌, Option, Some, None, inl, inr, refl, ap, sym, ◌∙◌, arith, subst}
+use Rattle.std.proofs.Common.{◌≡◌, ℕ, ◌≤◌, ◌&&◌, eqb, Bool, true, false, List, [], ◌∷◌, Option, Some, None, inl, inr, refl, ap, sym, ◌∙◌, arith, subst}
 use Rattle.std.specs.Prelude.{All, option_map}
 use Rattle.std.specs.Option.{option_or}
 use Rattle.std.proofs.lemmas.Bool.{cases_Bool, cond-true, cond-false, ne_eqb}
@@ -50,19 +50,19 @@ named-all P w ls o h board all e = go (w.board o) refl e
     go (Some d) is e = subst (λ (z : Held). P z.cache z.frame) (injected e) (board d is)
 
 -- nobody holds an object under number 0
-zero-in : (worker : ℕ) (m : Setup) (ks : List Known) → All (λ (k : Known). (1 ≤ k.object) × (k.object < m.objects)) ks → held_in worker ks 0 ≡ None
-zero-in worker m [] are = refl
-zero-in worker m (k ∷ ks) are =
-    let some = (All-head (λ (k : Known). (1 ≤ k.object) × (k.object < m.objects)) k ks are).0 in
-    cond-false {A = Option Held} (k.held && eqb k.object 0) _ (held_in worker ks 0) (other k.held some) ∙ zero-in worker m ks (All-tail (λ (k : Known). (1 ≤ k.object) × (k.object < m.objects)) k ks are)
+zero-in : (worker : ℕ) (ks : List Known) → All (λ (k : Known). k.held ≡ true → 1 ≤ k.object) ks → held_in worker ks 0 ≡ None
+zero-in worker [] are = refl
+zero-in worker (k ∷ ks) are =
+    let some = All-head (λ (k : Known). k.held ≡ true → 1 ≤ k.object) k ks are in
+    cond-false {A = Option Held} (k.held && eqb k.object 0) _ (held_in worker ks 0) (other k.held some) ∙ zero-in worker ks (All-tail (λ (k : Known). k.held ≡ true → 1 ≤ k.object) k ks are)
   where
-    other : (b : Bool) → 1 ≤ k.object → b && eqb k.object 0 ≡ false
-    other true some = ne_eqb k.object 0 (λ z. absurd (omega arith))
+    other : (b : Bool) → (b ≡ true → 1 ≤ k.object) → b && eqb k.object 0 ≡ false
+    other true some = ne_eqb k.object 0 (λ z. absurd (let n = some refl in omega arith))
     other false some = refl
 
 zero-among : (m : Setup) (ls : List Local) → All (IsBetween m) ls → held_among ls 0 ≡ None
 zero-among m [] are = refl
-zero-among m (l ∷ ls) are = ap (λ h. option_or h (held_among ls 0)) (zero-in l.worker m l.known (All-head (IsBetween m) l ls are).numbers) ∙ zero-among m ls (All-tail (IsBetween m) l ls are)
+zero-among m (l ∷ ls) are = ap (λ h. option_or h (held_among ls 0)) (zero-in l.worker l.known (All-head (IsBetween m) l ls are).some) ∙ zero-among m ls (All-tail (IsBetween m) l ls are)
 
 pub zero-named : (w : World) (m : Setup) (ls : List Local) → w.board 0 ≡ None → All (IsBetween m) ls → named w ls 0 ≡ None
 zero-named w m ls none are = ap (λ d. option_or (option_map held_on d) (held_among ls 0)) none ∙ zero-among m ls are

@@ -103,16 +103,16 @@ one-number (suc m) x n below =
     ]
 
 abbrev pub AreNumbers : ℕ → List Known → Type 0
-AreNumbers m ks = All (λ (k : Known). (1 ≤ k.object) × (k.object < m)) ks
+AreNumbers m ks = All (λ (k : Known). k.object < m) ks
 
 knowns-sum : (m f i : ℕ) (ks : List Known) → AreNumbers m ks → sum_below m (λ o. sum_by (held_of f i o) ks) ≡ sum_by (held_as f i) ks
 knowns-sum m f i [] are = sum_below-none m (λ o. 0) (λ o below. refl)
 knowns-sum m f i (k ∷ ks) are =
-    let here = All-head (λ (k : Known). (1 ≤ k.object) × (k.object < m)) k ks are in
-    let r = knowns-sum m f i ks (All-tail (λ (k : Known). (1 ≤ k.object) × (k.object < m)) k ks are) in
+    let here = All-head (λ (k : Known). k.object < m) k ks are in
+    let r = knowns-sum m f i ks (All-tail (λ (k : Known). k.object < m) k ks are) in
     let s = sum_below_same m (λ o. held_of f i o k + sum_by (held_of f i o) ks) (λ o. sum_by (held_of f i o) (k ∷ ks)) (λ o _. sum_by-cons (held_of f i o) k ks) in
     let a = sum_below-add m (λ o. held_of f i o k) (λ o. sum_by (held_of f i o) ks) in
-    let one = one-number m k.object (held_as f i k) here.1 in
+    let one = one-number m k.object (held_as f i k) here in
     let c = sum_by-cons (held_as f i) k ks in
     omega arith
 

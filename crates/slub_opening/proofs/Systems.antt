@@ -1,9 +1,9 @@
 -- Machines of a table of words, lock values and workers.
-use Rattle.std.proofs.Common.{◌≡◌, ℕ, zero, suc, ◌+◌, ◌/◌, ◌%◌, ◌^◌, ◌<◌, ◌≤◌, eqb, List, [], ◌∷◌, length, get_or, map, Option, Some, None, IsSome, inl, inr, refl, ap, sym, ◌∙◌, subst, arith}
-use Rattle.std.specs.Prelude.{MatchOption, All, IfSome, is_some, option_map}
-use Rattle.std.proofs.lemmas.Bool.{cases_lt, cond-true, eq-eqb}
+use Rattle.std.proofs.Common.{true, false, ◌≡◌, ℕ, zero, suc, ◌+◌, ◌/◌, ◌%◌, ◌^◌, ◌<◌, ◌≤◌, eqb, List, [], ◌∷◌, length, get_or, map, Option, Some, None, IsSome, inl, inr, refl, ap, sym, ◌∙◌, subst, arith}
+use Rattle.std.specs.Prelude.{slice_index, sum_by, MatchOption, All, IfSome, is_some, option_map}
+use Rattle.std.proofs.lemmas.Bool.{false≢true, cases_lt, cond-true, eq-eqb}
 use Rattle.std.proofs.lemmas.List.{get_or_past, length-map}
-use Rattle.std.proofs.lemmas.List.Elements.{All-nil, All-cons}
+use Rattle.std.proofs.lemmas.List.Elements.{All-nil, All-cons, All-weaker}
 use Rattle.slub_cache_create.specs.declared.caches.Cache.{Cache}
 use Rattle.slub_red_zone.specs.State.{CheckedState}
 use Rattle.slub_lists.specs.declared.lists.CpuLists.{CpuLists}
@@ -15,22 +15,27 @@ use Rattle.slub_lists.proofs.Coherence.{all_on_board-consistent}
 use Rattle.slub_lists.proofs.Kept.{consistent-of}
 use Rattle.slub_core.specs.Setup.{Setup}
 use Rattle.slub_core.specs.Local.{Local, Worker}
-use Rattle.slub_core.specs.Run.{System}
-use Rattle.slub_core.specs.World.{World, world_of}
+use Rattle.slub_core.specs.Run.{System, Pick, turn, run}
+use Rattle.slub_core.specs.declared.local.Known.{Known}
+use Rattle.slub_core.specs.Replies.{asked_in}
+use Rattle.slub_core.specs.Accounted.{boarded}
+use Rattle.slub_core.specs.Opening.{IsRoom, IsNew, IsOpening, opened as begun}
+use Rattle.slub_core.specs.World.{World, world_of, pool_of}
 use Rattle.slub_core.specs.Coherent.{Stands}
-use Rattle.slub_core.specs.Law.{IsStanding}
-use Rattle.slub_opening.specs.Opening.{Beside, IsBeside, IsLaidDown, setup_of, opened, tid_of, link_of, cpu_at}
-use Rattle.slub_opening.specs.Rests.{IsBare, Rests}
-use Rattle.slub_opening.specs.Table.{RestsIn, system_of}
+use Rattle.slub_core.specs.Law.{IsCoherentSystem, CoherentAlong}
+use Rattle.slub_core.proofs.Opens.{rounds_keep}
+use Rattle.slub_opening.specs.Opening.{Beside, IsBeside, IsLaidDown, setup_of, value_of, opened, tid_of, link_of, cpu_at}
+use Rattle.slub_opening.specs.Rests.{IsBetween, IsBare, HoldsNothing, Rests}
+use Rattle.slub_opening.specs.Table.{RestsIn, system_of, words_of}
 use Rattle.slub_opening.specs.Closing.{Closes}
-use Rattle.slub_opening.specs.Laws.{MayOpen, OpenedMachinesStand, OpenedMachinesClose, CoherentListsStand, ClosedMachinesAreCoherent}
+use Rattle.slub_opening.specs.Laws.{MayOpen, MayBegin, OpenedMachinesRest, OpenedMachinesClose, CoherentListsStand, ClosedMachinesAreCoherent, RoundsKeepLists}
 use Rattle.slub_opening.proofs.Counts.{locals_of}
 use Rattle.slub_opening.proofs.Cpus.{cpu-past, has-cpus}
 use Rattle.slub_opening.proofs.Opened.{opened-rests}
 use Rattle.slub_opening.proofs.Rooms.{has-room}
 use Rattle.slub_opening.proofs.Shaped.{Keeps, closed-coherent}
 use Rattle.slub_opening.proofs.Standing.{stands}
-use Rattle.slub_opening.proofs.Tables.{table-length, table-says}
+use Rattle.slub_opening.proofs.Tables.{HasRoom, table-length, table-says}
 
 -- a worker as the laws see it, with no chain and no string in hand
 bare_worker : Local → Worker
@@ -47,31 +52,76 @@ are-bare [] = All-nil IsBare
 are-bare (l ∷ ls) = All-cons IsBare (bare_worker l) (map bare_worker ls) (record { chains = refl; string = refl }) (are-bare ls)
 
 pub lists-stand : CoherentListsStand
-lists-stand s b system coherent beside rests rested =
+lists-stand s b system coherent beside rests =
     let w = world_of (setup_of s b) system.value system.words in
     let xs = map bare_worker system.locals in
     let same = bare-locals system.locals in
     record {
-      words = rests.count;
       workers = xs;
       locals = same;
       stands = stands s b w xs beside coherent (subst (λ ls. Rests s b w ls) (sym same) rests.rests) (are-bare system.locals);
-      rested = rested;
     }
 
-pub opened-stand : OpenedMachinesStand
-opened-stand s b ls may new =
-    let room = has-room s b ls may.beside may.coherent may.laid_down new.between new.nothing in
-    let rests : RestsIn s b (system_of s b ls) = record {
-      count = table-length (opened s b) room;
-      rests = subst (λ w. Rests s b w ls) (sym (table-says (opened s b) room)) (opened-rests s b ls may.beside may.coherent may.laid_down new.between new.nothing);
-    } in
-    (rests, lists-stand s b (system_of s b ls) may.coherent may.beside rests new.rested)
+-- ---- opening
+
+-- a worker before its first call is between two
+new-between : (m : Setup) (l : Local) → IsNew m l → IsBetween m l
+new-between m l new = record {
+  between = new.between;
+  hands = new.hands;
+  string = new.string;
+  run = new.run;
+  packed = new.packed;
+  cpu = new.cpu;
+  numbers = All-weaker (IsRoom m) (λ (k : Known). k.object < m.objects) (λ k is. is.0) l.known new.known;
+  some = All-weaker (IsRoom m) (λ (k : Known). k.held ≡ true → 1 ≤ k.object) (λ k is held. absurd (false≢true (sym is.2 ∙ held))) l.known new.known;
+}
+
+new-nothing : (m : Setup) (l : Local) → IsNew m l → HoldsNothing l
+new-nothing m l new = All-weaker (IsRoom m) (λ (k : Known). k.held ≡ false) (λ k is. is.2) l.known new.known
+
+module _ (s : State) (b : Beside) (ls : List Local) (may : MayOpen s b) (begin : MayBegin s b ls) where
+  between : All (IsBetween (setup_of s b)) ls
+  between = All-weaker (IsNew (setup_of s b)) (IsBetween (setup_of s b)) (new-between (setup_of s b)) ls begin.new
+
+  nothing : All HoldsNothing ls
+  nothing = All-weaker (IsNew (setup_of s b)) HoldsNothing (new-nothing (setup_of s b)) ls begin.new
+
+  table-room : HasRoom (opened s b)
+  table-room = has-room s b ls may.beside may.coherent may.laid_down between nothing
+
+  says : world_of (setup_of s b) (value_of s) (words_of (opened s b)) ≡ opened s b
+  says = table-says (opened s b) table-room
+
+  pub rests-in : RestsIn s b (system_of s b ls)
+  rests-in = record {
+    count = table-length (opened s b) table-room;
+    rests = subst (λ w. Rests s b w ls) (sym says) (opened-rests s b ls may.beside may.coherent may.laid_down between nothing);
+  }
+
+  at-rest : Stands (opened s b) []
+  at-rest =
+      let none = All-nil (IsBetween (setup_of s b)) in
+      stands s b (opened s b) [] may.beside may.coherent (opened-rests s b [] may.beside may.coherent may.laid_down none (All-nil HoldsNothing)) (All-nil IsBare)
+
+  pub is-opening : IsOpening (setup_of s b) (system_of s b ls)
+  is-opening = record {
+    words = table-length (opened s b) table-room;
+    rest = subst (λ w. Stands w []) (sym says) at-rest;
+    objects = may.beside.objects.0;
+    new = begin.new;
+    once = λ o. subst (λ w. boarded (w.board o) + sum_by (λ (l : Local). asked_in o l.todo) ls ≤ 1) (sym says) (begin.once o);
+    few = begin.few;
+    dry = λ order. subst (λ w. slice_index (pool_of w).dry order ≤ 2 ^ 62) (sym says) (begin.dry order);
+  }
+
+pub opened-rest : OpenedMachinesRest
+opened-rest s b ls may begin = (rests-in s b ls may begin, is-opening s b ls may begin)
 
 -- ---- closing
 
 pub opened-close : OpenedMachinesClose
-opened-close s b ls may new = record {
+opened-close s b ls may begin = record {
   stays = refl;
   table = refl;
   lengths = record {
@@ -84,7 +134,7 @@ opened-close s b ls may new = record {
     gone = may.coherent.shaped.gone;
     live = may.coherent.shaped.live;
   };
-  rests = (opened-stand s b ls may new).0;
+  rests = rests-in s b ls may begin;
   tids = may.beside.tids;
   links = may.beside.links;
   link = may.beside.link;
@@ -155,9 +205,9 @@ module _ (s t : State) (b d : Beside) (w : World) (ls : List Local) (beside : Is
     link = link;
   }
 
-module _ (s t : State) (b d : Beside) (system : System) (may : MayOpen s b) (standing : IsStanding (setup_of s b) system) (closes : Closes s b system t d) where
+module _ (s t : State) (b d : Beside) (opening : World) (system : System) (may : MayOpen s b) (standing : IsCoherentSystem (setup_of s b) opening system) (closes : Closes s b system t d) where
   there : Stands (world_of (setup_of t d) system.value system.words) standing.workers
-  there = subst (λ m. Stands (world_of m system.value system.words) standing.workers) (sym closes.stays) standing.stands
+  there = subst (λ m. Stands (world_of m system.value system.words) standing.workers) (sym closes.stays) (record { chains = standing.chains; placed = standing.coherent.placed; listed = standing.coherent.listed; fresh = standing.coherent.fresh })
 
   resting : Rests t d (world_of (setup_of t d) system.value system.words) (locals_of standing.workers)
   resting = subst (λ ls. Rests t d (world_of (setup_of t d) system.value system.words) ls) (sym standing.locals) closes.rests.rests
@@ -200,4 +250,18 @@ module _ (s t : State) (b d : Beside) (system : System) (may : MayOpen s b) (sta
   )
 
 pub closed-are_coherent : ClosedMachinesAreCoherent
-closed-are_coherent s t b d system may standing closes = closed s t b d system may standing closes
+closed-are_coherent s t b d opening system may standing closes = closed s t b d opening system may standing closes
+
+-- ---- whole rounds
+
+after-run : (m : Setup) (opening : World) (system : System) (picks : List Pick) → CoherentAlong m opening system picks → IsCoherentSystem m opening (run m system picks)
+after-run m opening system [] along = along
+after-run m opening system (pick ∷ picks) along = after-run m opening (turn m system pick) picks along.1
+
+pub rounds-keep : RoundsKeepLists
+rounds-keep s t b d ls picks may begin closes =
+    let m = setup_of s b in
+    let system = system_of s b ls in
+    let first = world_of (setup_of s b) (value_of s) (words_of (opened s b)) in
+    let along = rounds_keep m system picks (is-opening s b ls may begin) in
+    closed s t b d first (run m (begun m system) picks) may (after-run m first (begun m system) picks along) closes

@@ -15,7 +15,7 @@ use Rattle.slub_opening.specs.Rests.{IsBetween, IsBare}
 -- its numbers are the machine's, and where it knows nothing the number is 0
 pub here-number : (m : Setup) (l : Local) → 1 ≤ m.objects → IsBetween m l → (here l).object < m.objects
 here-number m l some between = elim (cases_lt l.place (length l.known)) [
-  | inl below ↦ (All-get_or (λ (k : Known). (1 ≤ k.object) × (k.object < m.objects)) l.known l.place nobody below between.numbers).1
+  | inl below ↦ All-get_or (λ (k : Known). k.object < m.objects) l.known l.place nobody below between.numbers
   | inr past ↦ subst (λ (k : Known). k.object < m.objects) (sym (get_or_past l.known l.place nobody past)) (omega arith)
 ]
 

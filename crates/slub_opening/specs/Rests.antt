@@ -30,14 +30,15 @@ pub record IsBetween (m : Setup) (l : Local) : Type 0 where
   -- what it noted are words, and its numbers are the machine's; it relies on none of its notes
   pub packed : IsPacked l
   pub cpu : l.cpu < m.cpus
-  pub numbers : All (λ (k : Known). (1 ≤ k.object) × (k.object < m.objects)) l.known
+  pub numbers : All (λ (k : Known). k.object < m.objects) l.known
+  pub some : All (λ (k : Known). k.held ≡ true → 1 ≤ k.object) l.known
 
 -- as the laws see it, it has no chain and no string either
 pub record IsBare (x : Worker) : Type 0 where
   pub chains : x.chains ≡ []
   pub string : x.string ≡ []
 
--- at the begin of a round it holds no object
+-- before its first call it holds no object
 abbrev pub HoldsNothing : Local → Type 0
 HoldsNothing l = All (λ (k : Known). k.held ≡ false) l.known
 

@@ -23,13 +23,13 @@ use Rattle.slub_core.specs.Coherent.{Stands}
 use Rattle.slub_core.proofs.Values.{word-objects, word-cache}
 use Rattle.slub_core.proofs.Pigeon.{sum_below-none}
 use Rattle.slub_opening.specs.Opening.{Beside, cpu_at}
-use Rattle.slub_opening.specs.Rests.{IsBetween, IsBare, Rests}
+use Rattle.slub_opening.specs.Rests.{IsBetween, Rests}
 use Rattle.slub_opening.proofs.Sums.{positive-term}
 use Rattle.slub_opening.proofs.Cpus.{HasCpus, cpu-sum, number-block}
 use Rattle.slub_opening.proofs.Counts.{HasCounts, LeadsTo, IsSeen, locals_of, workers-none, slab-none, slab-some, object-same, places-same, currents-same, lists-same, covered}
 use Rattle.slub_opening.proofs.Words.{chain-none, chain-some}
 use Rattle.slub_opening.proofs.Standing.{no_worker, local-in, narrow}
-use Rattle.slub_opening.proofs.Workers.{no-home, no-run}
+use Rattle.slub_opening.proofs.Workers.{IsBare, no-home, no-run}
 
 -- ---- a chain and a string are one list
 

@@ -10,7 +10,7 @@ use Rattle.slub_lists.specs.declared.lists.Slab.{Slab}
 use Rattle.slub_lists.specs.State.{State}
 use Rattle.slub_lists.specs.Alloc.{slab_of, own_free, cache_of, checked_of, node_of, held_here}
 use Rattle.slub_lists.specs.Coherent.{has_object, on_cpu, if_current, covers, covered_from, times_current, times_partial}
-use Rattle.slub_lists.specs.Coherent as lists
+use Rattle.slub_lists.specs.Coherent as plain
 use Rattle.slub_core.specs.Setup.{Setup}
 use Rattle.slub_core.specs.Local.{Local, Worker}
 use Rattle.slub_core.specs.World.{World, Chains, LockValue, Nothing, Node, Checked, Pool, frames_in, idle_in, objects_at, cache_at, order_at, object_at, one_if, sum_below, in_chain, on_board}
@@ -19,10 +19,11 @@ use Rattle.slub_core.specs.Placed.{held, owned, places, in_hands}
 use Rattle.slub_core.specs.Listed.{on_lists}
 use Rattle.slub_core.proofs.Update.{sum_below_same}
 use Rattle.slub_opening.specs.Opening.{Beside, cpu_at, value_of, node_value}
-use Rattle.slub_opening.specs.Rests.{IsBetween, IsBare, Rests, slab_at, named}
+use Rattle.slub_opening.specs.Rests.{IsBetween, Rests, slab_at, named}
 use Rattle.slub_opening.proofs.Sums.{sum_below-first, sum_by-below, covered-sum}
 use Rattle.slub_opening.proofs.Cpus.{HasCpus, cpu-sum}
 use Rattle.slub_opening.proofs.Names.{named-sum}
+use Rattle.slub_opening.proofs.Workers.{IsBare}
 
 -- ---- workers between two calls
 
@@ -182,21 +183,21 @@ module _ (s : State) (b : Beside) (w : World) (y : Chains) (xs : List Worker) (l
           let whole = sum_by-below G d ds n nothing (omega arith) in
           omega (arith, first, each, cut, rest, whole, none)
 
-  idle-places : (f i : ℕ) → sum_below w.setup.locks (λ n. idle_in (w.value n) f i) ≡ sum_by (lists.idle_in f i) s.checked
-  idle-places f i = by-cache (λ v. idle_in v f i) (lists.idle_in f i) None s.checked refl same refl long.checked
+  idle-places : (f i : ℕ) → sum_below w.setup.locks (λ n. idle_in (w.value n) f i) ≡ sum_by (plain.idle_in f i) s.checked
+  idle-places f i = by-cache (λ v. idle_in v f i) (plain.idle_in f i) None s.checked refl same refl long.checked
     where
       list : (b : Bool) (fs : List ℕ) → idle_in (node_value b None fs) f i ≡ 0
       list true fs = refl
       list false fs = refl
 
-      go : (k : ℕ) (o : Option CheckedState) → idle_in (node_value (is_some (cache_of s k)) o (node_of s k)) f i ≡ lists.idle_in f i o
+      go : (k : ℕ) (o : Option CheckedState) → idle_in (node_value (is_some (cache_of s k)) o (node_of s k)) f i ≡ plain.idle_in f i o
       go k None = list (is_some (cache_of s k)) (node_of s k)
       go k (Some c) = refl
 
-      same : (k : ℕ) → idle_in (value_of s (suc k)) f i ≡ lists.idle_in f i (get_or s.checked k None)
+      same : (k : ℕ) → idle_in (value_of s (suc k)) f i ≡ plain.idle_in f i (get_or s.checked k None)
       same k = go k (checked_of s k)
 
-  pub places-same : (f i : ℕ) → places w y xs f i ≡ lists.places s f i
+  pub places-same : (f i : ℕ) → places w y xs f i ≡ plain.places s f i
   places-same f i =
       let a = board-places f i in
       let c = cpu-places f i in

@@ -32,11 +32,12 @@ use Rattle.slub_core.specs.World.{World, IsChain, pointer, frames_in, one_if}
 use Rattle.slub_core.specs.Fresh.{IsWorded}
 use Rattle.slub_core.proofs.Update.{update_at, update_other}
 use Rattle.slub_opening.specs.Opening.{Beside, IsBeside, IsLaidDown, Row, lay_each, lay_items, head_of, front_of, string_row, cpu_at, frame_of, cache_in, own_row, cpu_row, link_of, plain_word, slab_word, board_word, node_value, value_of, opened, setup_of}
-use Rattle.slub_opening.specs.Rests.{IsBetween, HoldsNothing, IsCpuOf, IsFreelistOf, Rests, held_on, held_in, held_among, held_under as held_by, named, times_named, current_in}
+use Rattle.slub_opening.specs.Rests.{IsBetween, IsCpuOf, IsFreelistOf, Rests, held_on, held_in, held_among, held_under as held_by, named, times_named, current_in}
 use Rattle.slub_opening.proofs.Lay.{lay-other, first-there}
 use Rattle.slub_opening.proofs.Cpus.{cpu-alone, current-at, partial-one}
 use Rattle.slub_opening.proofs.Rows.{own-pointer, cpu-pointer, own-chain, cpu-chain, strings-stand}
 use Rattle.slub_opening.proofs.Slabs.{IsOpened, is_none, is_checked, is_plain, word-cases, slab-opened}
+use Rattle.slub_opening.proofs.Workers.{HoldsNothing}
 
 -- ---- words of objects
 
@@ -285,7 +286,7 @@ module _ (s : State) (b : Beside) (ls : List Local) (beside : IsBeside s b) (coh
     nodes = nodes-opened;
     cpu = cpu-opened;
     slab = λ f. slab-opened s b f consistent;
-    plain = λ f. by-word f (λ c. 1 ≤ c.objects → checked_of s c.cache ≡ None) (λ _ _ some. absurd (omega arith)) (λ x e was some. was);
+    unchecked = λ f. by-word f (λ c. 1 ≤ c.objects → checked_of s c.cache ≡ None) (λ _ _ some. absurd (omega arith)) (λ x e was some. was);
     unslabbed = λ f. by-word f (λ c. c.objects ≡ 0 → c.frozen ≡ false) (λ _ _ z. refl) (λ x e was z. absurd (omega (arith, (objects-few s f x consistent e).0, z)));
     own = own-opened;
     listed = λ f. by-word f (λ c. c.listed ≡ nat_lt 0 (times f (node_of s c.cache))) (λ e z. sym (le-ltb 0 (times f (node_of s 0)) (let t = node-le 0 f in omega arith))) (λ x e was. refl);

@@ -17,11 +17,12 @@ use Rattle.slub_lists.proofs.Places.{objects-few, slab-inside, pointer-inside}
 use Rattle.slub_core.specs.Local.{Local}
 use Rattle.slub_core.specs.Words.{cpu_in, list_in, slab_in}
 use Rattle.slub_opening.specs.Opening.{Beside, IsBeside, IsLaidDown, lay_each, string_row, cpu_at, cpu_word, list_word, own_row, cpu_row, link_of, slab_word, board_word, opened, setup_of}
-use Rattle.slub_opening.specs.Rests.{IsBetween, HoldsNothing}
+use Rattle.slub_opening.specs.Rests.{IsBetween}
 use Rattle.slub_opening.proofs.Cpus.{has-cpus, cpu-past}
 use Rattle.slub_opening.proofs.Rows.{own-pointer, cpu-pointer}
 use Rattle.slub_opening.proofs.Opened.{each-other, string-frame, words-opened}
 use Rattle.slub_opening.proofs.Tables.{HasRoom}
+use Rattle.slub_opening.proofs.Workers.{HoldsNothing}
 
 module _ (s : State) (b : Beside) (ls : List Local) (beside : IsBeside s b) (coherent : IsCoherent s) (down : IsLaidDown s) (between : All (IsBetween (setup_of s b)) ls) (nothing : All HoldsNothing ls) where
   consistent : IsConsistent s

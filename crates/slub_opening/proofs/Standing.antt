@@ -32,18 +32,26 @@ use Rattle.slub_core.specs.Fresh.{IsFresh, IsAtWork}
 use Rattle.slub_core.specs.Coherent.{Stands}
 use Rattle.slub_core.proofs.Update.{sum_below_same}
 use Rattle.slub_core.proofs.Pigeon.{sum_below-none}
-use Rattle.slub_opening.specs.Opening.{Beside, IsBeside, setup_of, cpu_at, value_of, node_value, chains_of}
-use Rattle.slub_opening.specs.Rests.{IsBetween, IsBare, Rests, held_on, held_among}
+use Rattle.slub_opening.specs.Opening.{Beside, IsBeside, setup_of, cpu_at, value_of, node_value}
+use Rattle.slub_opening.specs.Rests.{IsBetween, Rests, held_on, held_among}
 use Rattle.slub_opening.proofs.Cpus.{cpu-at, cpu-bare, current-at, has-cpus, partial-one}
 use Rattle.slub_opening.proofs.Counts.{HasCounts, LeadsTo, IsSeen, locals_of, workers-none, slab-none, slab-some, object-same, places-same, currents-same, lists-same, nodes-same, covered}
 use Rattle.slub_opening.proofs.Names.{held-named, as_held}
 use Rattle.slub_opening.proofs.Setups.{is-setup, guards}
 use Rattle.slub_opening.proofs.Slabs.{no-size, values_with, values-one}
 use Rattle.slub_opening.proofs.Words.{IsNoWord, IsPlainWord, IsWordAt, is_bare, is_plain, IsListedAt, chain-empty, word-at, plain-at, node-le, node-sum, listed-at}
-use Rattle.slub_opening.proofs.Workers.{no-home, no-run, no-mark, no-lock, at-work}
+use Rattle.slub_opening.proofs.Workers.{IsBare, no-home, no-run, no-mark, no-lock, at-work}
 
 pub has-counts : (s : State) → IsConsistent s → HasCounts s
 has-counts s consistent = record { cpus = has-cpus s consistent; slabs = consistent.shaped.slabs; nodes = consistent.shaped.nodes; checked = consistent.shaped.checked.numbers }
+
+-- what its words lead to: each freelist and each partial list
+abbrev pub chains_of : State → Chains
+chains_of s = record {
+  cpu = λ n. (cpu_at s n).free;
+  own = own_free s;
+  list = λ n. (cpu_at s n).partial;
+}
 
 pub no_worker : Worker
 no_worker = record { local = idle; chains = []; string = [] }

@@ -25,7 +25,7 @@ use Rattle.slub_core.specs.Coherent.{Stands}
 use Rattle.slub_core.specs.Law.{IsCoherentSystem, CoherentAlong}
 use Rattle.slub_core.proofs.Opens.{rounds_keep}
 use Rattle.slub_opening.specs.Opening.{Beside, IsBeside, IsLaidDown, setup_of, value_of, opened, tid_of, link_of, cpu_at}
-use Rattle.slub_opening.specs.Rests.{IsBetween, IsBare, HoldsNothing, Rests}
+use Rattle.slub_opening.specs.Rests.{IsBetween, Rests}
 use Rattle.slub_opening.specs.Table.{RestsIn, system_of, words_of}
 use Rattle.slub_opening.specs.Closing.{Closes}
 use Rattle.slub_opening.specs.Laws.{MayOpen, MayBegin, OpenedMachinesRest, OpenedMachinesClose, CoherentListsStand, ClosedMachinesAreCoherent, RoundsKeepLists}
@@ -36,6 +36,7 @@ use Rattle.slub_opening.proofs.Rooms.{has-room}
 use Rattle.slub_opening.proofs.Shaped.{Keeps, closed-coherent}
 use Rattle.slub_opening.proofs.Standing.{stands}
 use Rattle.slub_opening.proofs.Tables.{HasRoom, table-length, table-says}
+use Rattle.slub_opening.proofs.Workers.{IsBare, HoldsNothing}
 
 -- a worker as the laws see it, with no chain and no string in hand
 bare_worker : Local → Worker

@@ -126,7 +126,7 @@ module _ (s : State) (b : Beside) (w : World) (xs : List Worker) (consistent : I
           let t = seen f x e in
           let own = rests.own f in
           let c : (w.slab f).cache ≡ x.cache = sym (word-cache w f l) ∙ t.cache in
-          is_plain x e (ap (checked_of s) (sym c) ∙ rests.plain f l) (record {
+          is_plain x e (ap (checked_of s) (sym c) ∙ rests.unchecked f l) (record {
             some = l;
             objects = sym (word-objects w f l) ∙ t.objects;
             cache = c;

@@ -1,6 +1,6 @@
 -- A worker between two calls relies on nothing but what it holds.
 use Rattle.std.proofs.Common.{◌≡◌, ℕ, ◌<◌, ◌≤◌, true, length, inl, inr, ap, sym, subst, arith}
-use Rattle.std.specs.Prelude.{All}
+use Rattle.std.specs.Prelude.{All, false, []}
 use Rattle.std.proofs.lemmas.Bool.{cases_lt}
 use Rattle.std.proofs.lemmas.List.{get_or_past}
 use Rattle.std.proofs.lemmas.List.Elements.{All-get_or}
@@ -10,7 +10,16 @@ use Rattle.slub_core.specs.Local.{Local, Worker, nobody, here}
 use Rattle.slub_core.specs.World.{World, cache_at}
 use Rattle.slub_core.specs.Listed.{home_of, covered_by, marked_of, takes}
 use Rattle.slub_core.specs.Fresh.{IsAtSpot, IsSeen, IsAtWork}
-use Rattle.slub_opening.specs.Rests.{IsBetween, IsBare}
+use Rattle.slub_opening.specs.Rests.{IsBetween}
+
+-- as the laws see it, it has no chain and no string either
+pub record IsBare (x : Worker) : Type 0 where
+  pub chains : x.chains ≡ []
+  pub string : x.string ≡ []
+
+-- before its first call it holds no object
+abbrev pub HoldsNothing : Local → Type 0
+HoldsNothing l = All (λ (k : Known). k.held ≡ false) l.known
 
 -- its numbers are the machine's, and where it knows nothing the number is 0
 pub here-number : (m : Setup) (l : Local) → 1 ≤ m.objects → IsBetween m l → (here l).object < m.objects

@@ -2,7 +2,7 @@
 use Rattle.std.specs.Prelude.{◌≡◌, ℕ, ◌*◌, ◌^◌, ◌<◌, length, IfSome}
 use Rattle.slub_lists.specs.State.{State}
 use Rattle.slub_lists.specs.Alloc.{slab_of, own_free, cache_of, checked_of, node_of}
-use Rattle.slub_lists.specs.Coherent.{IsAccounted, held_under}
+use Rattle.slub_lists.specs.Coherent as plain
 use Rattle.slub_core.specs.Run.{System}
 use Rattle.slub_opening.specs.Opening.{Beside, setup_of, link_of, cpu_at}
 use Rattle.slub_opening.specs.Table.{RestsIn}
@@ -32,7 +32,7 @@ pub record Closes (s : State) (b : Beside) (system : System) (t : State) (d : Be
   pub links : length d.links ≡ t.frames
   pub link : (frame : ℕ) → link_of d frame < 2 ^ 16
   -- the counts of objects by cache, and the flags of the checked slabs
-  pub live : IsAccounted t
+  pub live : plain.IsAccounted t
   pub flags : (cache : ℕ) → IfSome (checked_of t cache)
       (λ slabs. IfSome (cache_of t cache) (λ live. live.flags ≡ slabs.flags))
 
@@ -45,4 +45,4 @@ pub record AreAlike (s t : State) : Type 0 where
   pub cpu : (n : ℕ) → n < 512 → cpu_at s n ≡ cpu_at t n
   pub node : (cache : ℕ) → cache < 32 → node_of s cache ≡ node_of t cache
   pub checked : (cache : ℕ) → cache < 32 → checked_of s cache ≡ checked_of t cache
-  pub board : (object : ℕ) → held_under s object ≡ held_under t object
+  pub board : (object : ℕ) → plain.held_under s object ≡ plain.held_under t object

@@ -2,7 +2,8 @@
 use Rattle.std.specs.Prelude.{◌≡◌, ℕ, ◌+◌, ◌^◌, ◌≤◌, List, length, map, sum_by, slice_index, All}
 use Rattle.std.specs.Option.{option_map}
 use Rattle.slub_lists.specs.State.{State}
-use Rattle.slub_lists.specs.Coherent.{IsCoherent, all_on_board, held_under}
+use Rattle.slub_lists.specs.Coherent.{all_on_board, held_under}
+use Rattle.slub_lists.specs.Coherent as plain
 use Rattle.slub_core.specs.Setup.{Setup}
 use Rattle.slub_core.specs.Local.{Local, Worker}
 use Rattle.slub_core.specs.World.{World, world_of}
@@ -18,7 +19,7 @@ use Rattle.slub_opening.specs.Closing.{Closes, AreAlike}
 
 -- between two rounds: a coherent machine whose objects are all on the board, and what is beside it
 pub record MayOpen (s : State) (b : Beside) : Type 0 where
-  pub coherent : IsCoherent s
+  pub coherent : plain.IsCoherent s
   pub laid_down : IsLaidDown s
   pub beside : IsBeside s b
 
@@ -58,7 +59,7 @@ pub record AllStands (m : Setup) (system : System) : Type 0 where
 abbrev pub CoherentListsStand : Type 0
 CoherentListsStand =
     (s : State) (b : Beside) (system : System)
-    → IsCoherent s → IsBeside s b → RestsIn s b system → AllStands (setup_of s b) system
+    → plain.IsCoherent s → IsBeside s b → RestsIn s b system → AllStands (setup_of s b) system
 
 -- a machine rests in no two lists
 abbrev pub WordsTellLists : Type 0
@@ -74,7 +75,7 @@ abbrev pub ClosedMachinesAreCoherent : Type 0
 ClosedMachinesAreCoherent =
     (s t : State) (b d : Beside) (opening : World) (system : System)
     → MayOpen s b → IsCoherentSystem (setup_of s b) opening system → Closes s b system t d
-    → IsCoherent t × MayOpen (all_on_board t) d
+    → plain.IsCoherent t × MayOpen (all_on_board t) d
 
 -- so it is after every round, in whatever order its workers made their turns
 abbrev pub RoundsKeepLists : Type 0
@@ -82,4 +83,4 @@ RoundsKeepLists =
     (s t : State) (b d : Beside) (ls : List Local) (picks : List Pick)
     → MayOpen s b → MayBegin s b ls
     → Closes s b (run (setup_of s b) (begun (setup_of s b) (system_of s b ls)) picks) t d
-    → IsCoherent t × MayOpen (all_on_board t) d
+    → plain.IsCoherent t × MayOpen (all_on_board t) d

@@ -16,7 +16,7 @@ use Rattle.slub_lists.specs.Coherent.{held_under}
 use Rattle.slub_lists.specs.Places.{layout_at, pointer_at}
 use Rattle.slub_core.specs.Setup.{Setup, Means, hardened}
 use Rattle.slub_core.specs.Words.{no_slab_word}
-use Rattle.slub_core.specs.World.{World, Chains, LockValue, Nothing, Node, Checked, Pool, update}
+use Rattle.slub_core.specs.World.{World, LockValue, Nothing, Node, Checked, Pool, update}
 
 -- ---- beside the lists
 
@@ -182,14 +182,6 @@ opened s b = record {
       (lay_each (own_row s) s.frames (λ word. slice_index_or s.memory word 0));
   lock = λ n. 0;
   value = value_of s;
-}
-
--- what its words lead to: each freelist and each partial list
-abbrev pub chains_of : State → Chains
-chains_of s = record {
-  cpu = λ n. (cpu_at s n).free;
-  own = own_free s;
-  list = λ n. (cpu_at s n).partial;
 }
 
 -- ---- what is asked

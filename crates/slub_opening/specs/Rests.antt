@@ -7,7 +7,7 @@ use Rattle.slub_lists.specs.declared.lists.CpuLists.{CpuLists}
 use Rattle.slub_lists.specs.declared.lists.Held.{Held}
 use Rattle.slub_lists.specs.State.{State}
 use Rattle.slub_lists.specs.Alloc.{slab_of, own_free, checked_of, node_of}
-use Rattle.slub_lists.specs.Coherent as lists
+use Rattle.slub_lists.specs.Coherent as plain
 use Rattle.slub_lists.specs.Places.{layout_at}
 use Rattle.slub_lists.specs.Words.{is_word, word_at}
 use Rattle.slub_words.specs.declared.board.BoardWord.{BoardWord}
@@ -15,7 +15,7 @@ use Rattle.slub_core.specs.declared.local.Known.{Known}
 use Rattle.slub_core.specs.declared.spot.Spot.TheVariants.{Between}
 use Rattle.slub_core.specs.Setup.{Setup, node_lock}
 use Rattle.slub_core.specs.World.{World, pointer, frames_in, objects_at, cache_at, order_at, one_if, IsChain, Links}
-use Rattle.slub_core.specs.Local.{Local, Worker}
+use Rattle.slub_core.specs.Local.{Local}
 use Rattle.slub_core.specs.Fresh.{IsPacked, IsWorded}
 use Rattle.slub_opening.specs.Opening.{Beside, setup_of, cpu_at, value_of, tid_of}
 
@@ -32,15 +32,6 @@ pub record IsBetween (m : Setup) (l : Local) : Type 0 where
   pub cpu : l.cpu < m.cpus
   pub numbers : All (λ (k : Known). k.object < m.objects) l.known
   pub some : All (λ (k : Known). k.held ≡ true → 1 ≤ k.object) l.known
-
--- as the laws see it, it has no chain and no string either
-pub record IsBare (x : Worker) : Type 0 where
-  pub chains : x.chains ≡ []
-  pub string : x.string ≡ []
-
--- before its first call it holds no object
-abbrev pub HoldsNothing : Local → Type 0
-HoldsNothing l = All (λ (k : Known). k.held ≡ false) l.known
 
 -- ---- what an object number names
 
@@ -124,14 +115,15 @@ pub record Rests (s : State) (b : Beside) (w : World) (ls : List Local) : Type 0
   pub cpu : (n : ℕ) → n < 512 → IsCpuOf b w n (cpu_at s n)
   -- slabs; a slab of a checked cache has no word
   pub slab : (frame : ℕ) → slab_of s frame ≡ slab_at w frame
-  pub plain : (frame : ℕ) → 1 ≤ (w.slab frame).objects → checked_of s (w.slab frame).cache ≡ None
+  pub unchecked : (frame : ℕ) → 1 ≤ (w.slab frame).objects
+      → checked_of s (w.slab frame).cache ≡ None
   pub unslabbed : (frame : ℕ) → (w.slab frame).objects ≡ 0 → (w.slab frame).frozen ≡ false
   pub own : (frame : ℕ) → IsFreelistOf w frame (own_free s frame)
   pub listed : (frame : ℕ) → (w.slab frame).listed
       ≡ nat_lt 0 (times frame (node_of s (w.slab frame).cache))
   -- objects
-  pub named : (object : ℕ) → lists.held_under s object ≡ named w ls object
+  pub named : (object : ℕ) → plain.held_under s object ≡ named w ls object
   pub once : (object : ℕ) → times_named w ls object ≤ 1
   pub no_zero : w.board 0 ≡ None
-  pub contents : (object word : ℕ) (held : Held) → lists.held_under s object ≡ Some held
+  pub contents : (object word : ℕ) (held : Held) → plain.held_under s object ≡ Some held
       → KeepsWord s w held word

@@ -146,6 +146,7 @@ opened-close s b ls may begin = record {
     by : (c : CheckedState) (o : Option Cache) → MatchOption o ⊥ (λ live. IsCacheOf c live.layout live.flags) → IfSome o (λ live. live.flags ≡ c.flags)
     by c None is = tt
     by c (Some live) is = is.1
+
     flags : (k : ℕ) (o : Option CheckedState) → IfSome o (IsCheckedOf s k) → IfSome o (λ slabs. IfSome (cache_of s k) (λ live. live.flags ≡ slabs.flags))
     flags k None is = tt
     flags k (Some c) is = by c (cache_of s k) is.live

@@ -69,8 +69,8 @@ WordsTellLists =
 
 -- ---- closing
 
--- the lists that a coherent machine closes into are coherent; and with all objects on the board they
--- may be opened again
+-- the lists that a coherent machine closes into are coherent; and with all objects on the board
+-- they may be opened again
 abbrev pub ClosedMachinesAreCoherent : Type 0
 ClosedMachinesAreCoherent =
     (s t : State) (b d : Beside) (opening : World) (system : System)

@@ -17,3 +17,6 @@ pub mod Closed
 pub mod Holders
 pub mod Shaped
 pub mod Telling
+pub mod Once
+pub mod Made
+pub mod Closes

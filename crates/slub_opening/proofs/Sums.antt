@@ -1,7 +1,7 @@
 -- Sums over lists and over numbers.
 use Rattle.std.proofs.Common.{◌≡◌, ℕ, zero, suc, ◌+◌, ◌-◌, ◌*◌, ◌<◌, ◌≤◌, List, [], ◌∷◌, length, get_or, None, Option, refl, ap, ◌∙◌, arith, inl, inr}
 use Rattle.std.specs.List.{sum_by}
-use Rattle.std.proofs.lemmas.Bool.{cases_lt, cases_eq}
+use Rattle.std.proofs.lemmas.Bool.{cases_order, cases_lt, cases_eq}
 use Rattle.std.proofs.lemmas.List.Sums.{sum_by-cons}
 use Rattle.slub_lists.specs.declared.lists.Slab.{Slab}
 use Rattle.slub_lists.specs.Coherent.{covers, covered_from}
@@ -66,3 +66,14 @@ covered-sum g k (x ∷ xs) =
     let b = sum_below_same (length xs) (λ f. covers g (k + suc f) (get_or xs f None)) (λ f. covers g (k + 1 + f) (get_or xs f None)) (λ f _. ap (λ n. covers g n (get_or xs f None)) (let e : k + 1 + f ≡ k + suc f = omega arith in e)) in
     let c : covers g (k + 0) x ≡ covers g k x = ap (λ n. covers g n x) (let e : k + 0 ≡ k = omega arith in e) in
     omega (arith, r, a, b, c)
+
+-- a place tells its row and its place in the row
+pub product_apart : (n k c j d : ℕ) → c < n → d < n → k * n + c ≡ j * n + d → (k ≡ j) × (c ≡ d)
+product_apart n k c j d lc ld e =
+    elim (cases_order k j) [
+      | inl s ↦ (s, let t : k * n ≡ j * n = ap (λ z. z * n) s in omega arith)
+      | inr o ↦ elim o [
+        | inl lt ↦ absurd (let t : j * n ≡ (k + 1 + (j - k - 1)) * n = ap (λ z. z * n) (let q : j ≡ k + 1 + (j - k - 1) = omega arith in q) in omega arith)
+        | inr gt ↦ absurd (let t : k * n ≡ (j + 1 + (k - j - 1)) * n = ap (λ z. z * n) (let q : k ≡ j + 1 + (k - j - 1) = omega arith in q) in omega arith)
+      ]
+    ]

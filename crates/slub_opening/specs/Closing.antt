@@ -1,10 +1,14 @@
 -- The lists into which a machine in words closes when no worker of it is in a call.
-use Rattle.std.specs.Prelude.{◌≡◌, ℕ, ◌*◌, ◌^◌, ◌<◌, length, IfSome}
+use Rattle.std.specs.Prelude.{◌≡◌, ℕ, ◌*◌, ◌%◌, ◌^◌, ◌<◌, ◌≤◌, length, Option, Some, None, IfSome, All}
 use Rattle.slub_lists.specs.State.{State}
 use Rattle.slub_lists.specs.Alloc.{slab_of, own_free, cache_of, checked_of, node_of}
 use Rattle.slub_lists.specs.Coherent as plain
+use Rattle.slub_red_zone.specs.State.{CheckedState}
+use Rattle.slub_core.specs.Setup.{node_lock}
+use Rattle.slub_core.specs.World.{LockValue, Nothing, Node, Checked, Pool, world_of}
 use Rattle.slub_core.specs.Run.{System}
 use Rattle.slub_opening.specs.Opening.{Beside, setup_of, link_of, cpu_at}
+use Rattle.slub_opening.specs.Rests.{IsBetween}
 use Rattle.slub_opening.specs.Table.{RestsIn}
 
 -- every list has its length
@@ -46,3 +50,22 @@ pub record AreAlike (s t : State) : Type 0 where
   pub node : (cache : ℕ) → cache < 32 → node_of s cache ≡ node_of t cache
   pub checked : (cache : ℕ) → cache < 32 → checked_of s cache ≡ checked_of t cache
   pub board : (object : ℕ) → plain.held_under s object ≡ plain.held_under t object
+
+-- ---- when it closes
+
+-- what a lock guards of a checked cache
+abbrev pub checked_in : LockValue → Option CheckedState
+checked_in Nothing = None
+checked_in (Node frames) = None
+checked_in (Checked slabs) = Some slabs
+checked_in (Pool pool) = None
+
+-- no worker is in a call, and what the machine is to have left alone is as it was: words of CPUs
+-- that it hasn't, and the flags of checked slabs
+pub record MayClose (s : State) (b : Beside) (system : System) : Type 0 where
+  pub between : All (IsBetween (setup_of s b)) system.locals
+  pub idle : (n : ℕ) → n < 512 → s.cpus ≤ n % 16
+      → let w = world_of (setup_of s b) system.value system.words in
+        ((w.cpu n).frame ≡ 0) × ((w.list n).count ≡ 0)
+  pub flags : (cache : ℕ) → IfSome (checked_in (system.value (node_lock cache)))
+      (λ slabs. IfSome (cache_of s cache) (λ live. live.flags ≡ slabs.flags))

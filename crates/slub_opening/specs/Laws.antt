@@ -15,7 +15,7 @@ use Rattle.slub_core.specs.Opening.{IsNew, IsOpening, opened as begun}
 use Rattle.slub_core.specs.Law.{IsCoherentSystem}
 use Rattle.slub_opening.specs.Opening.{Beside, IsBeside, IsLaidDown, setup_of, board_word}
 use Rattle.slub_opening.specs.Table.{RestsIn, system_of}
-use Rattle.slub_opening.specs.Closing.{Closes, AreAlike}
+use Rattle.slub_opening.specs.Closing.{Closes, AreAlike, MayClose}
 
 -- between two rounds: a coherent machine whose objects are all on the board, and what is beside it
 pub record MayOpen (s : State) (b : Beside) : Type 0 where
@@ -76,6 +76,13 @@ ClosedMachinesAreCoherent =
     (s t : State) (b d : Beside) (opening : World) (system : System)
     → MayOpen s b → IsCoherentSystem (setup_of s b) opening system → Closes s b system t d
     → plain.IsCoherent t × MayOpen (all_on_board t) d
+
+-- and there are such lists
+abbrev pub MachinesClose : Type 0
+MachinesClose =
+    (s : State) (b : Beside) (opening : World) (system : System)
+    → MayOpen s b → IsCoherentSystem (setup_of s b) opening system → MayClose s b system
+    → (t : State) × (d : Beside) × Closes s b system t d
 
 -- so it is after every round, in whatever order its workers made their turns
 abbrev pub RoundsKeepLists : Type 0

@@ -1,6 +1,6 @@
 //! What holds of machines that are opened and closed, for the crates that do it. None of these does anything.
 
-ghost use Rattle.slub_opening.specs.Laws.{ClosedMachinesAreCoherent, CoherentListsStand, OpenedMachinesClose, OpenedMachinesRest, RoundsKeepLists, WordsTellLists};
+ghost use Rattle.slub_opening.specs.Laws.{ClosedMachinesAreCoherent, CoherentListsStand, MachinesClose, OpenedMachinesClose, OpenedMachinesRest, RoundsKeepLists, WordsTellLists};
 
 /// A coherent machine whose objects are all on the board opens into words and lock values that say what its
 /// lists say, and with which a round may begin: all stands in them that the step machine keeps.
@@ -29,6 +29,11 @@ pub fn words_tell_lists()
 /// again.
 pub fn closed_machines_are_coherent()
     ensures { ClosedMachinesAreCoherent }
+{}
+
+/// There are such lists, where no worker is in a call and what the machine is to have left alone is as it was.
+pub fn machines_close()
+    ensures { MachinesClose }
 {}
 
 /// A round of several workers leads from coherent lists to coherent lists, in whatever order its workers make

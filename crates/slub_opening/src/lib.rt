@@ -10,10 +10,10 @@
 //! # What it promises
 //!
 //! `laws`: `opened_machines_rest`, `opened_machines_close`, `coherent_lists_stand`, `words_tell_lists`,
-//! `closed_machines_are_coherent`, `rounds_keep_lists`. So rounds follow one another: coherent lists open into
-//! words with which a round may begin, the steps keep those coherent (`slub_core`), and what is closed is
-//! coherent and may be opened again. Reports, free frames with their counts of refusals, the board and the words
-//! of objects come through unchanged.
+//! `closed_machines_are_coherent`, `machines_close`, `rounds_keep_lists`. So rounds follow one another: coherent
+//! lists open into words with which a round may begin, the steps keep those coherent (`slub_core`), and what is
+//! closed is coherent and may be opened again. Reports, free frames with their counts of refusals, the board and
+//! the words of objects come through unchanged.
 #![tactic(auto)]
 
 pub mod laws;

@@ -218,8 +218,10 @@ module _ (s : State) (b : Beside) (w : World) (xs : List Worker) (coherent : IsC
     where
       mono : (a c n : ℕ) → a ≤ c → a * n ≤ c * n
       mono a c n le = let t : c * n ≡ (a + (c - a)) * n = ap (λ z. z * n) (let q : c ≡ a + (c - a) = omega arith in q) in omega arith
+
       small : (k c cpus : ℕ) → c < cpus → k < 32 → k * cpus + c < 32 * cpus
       small k c cpus l m = let t : (k + 1) * cpus ≤ 32 * cpus = mono (k + 1) 32 cpus (omega arith) in omega arith
+
       place : (k c cpus n : ℕ) → c < cpus → k * 16 + c ≡ n → (k * cpus + c) / cpus * 16 + (k * cpus + c) % cpus ≡ n
       place k c cpus n l e =
           let p = k * cpus + c in
@@ -271,6 +273,7 @@ module _ (s : State) (b : Beside) (w : World) (xs : List Worker) (coherent : IsC
     where
       none : sum_by (marked_of f) xs ≡ 0
       none = workers-none (marked_of f) w.setup xs (no-mark f w.setup) between bare
+
       go : (z : Bool) → (w.slab f).listed ≡ z → z ≡ nat_lt 0 (times f (node_of t (w.slab f).cache))
       go true e =
           let m : one_if (w.slab f).listed ≡ 1 = ap one_if e in
@@ -368,6 +371,7 @@ module _ (s : State) (b : Beside) (w : World) (xs : List Worker) (coherent : IsC
             | inl yes_it ↦ (let e : cache_in_values value (suc (suc n)) f ≡ suc n - 1 = cond-true {A = ℕ} (nat_lt 0 (size_in (value (suc n)) f)) (suc n - 1) (cache_in_values value (suc n) f) yes_it in omega arith)
             | inr not_it ↦ (let e : cache_in_values value (suc (suc n)) f ≡ cache_in_values value (suc n) f = cond-false {A = ℕ} (nat_lt 0 (size_in (value (suc n)) f)) (suc n - 1) (cache_in_values value (suc n) f) not_it in omega arith)
           ]
+
       values-below : (l f : ℕ) → l ≡ 33 → cache_in_values w.value l f ≤ 31
       values-below l f e = subst (λ l. cache_in_values w.value l f ≤ 31) (let q : suc 32 ≡ l = omega arith in q) (least w.value 32 f)
 

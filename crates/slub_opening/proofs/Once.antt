@@ -20,6 +20,7 @@ away o (k ∷ ks) e = go (eqb k.object o) refl e (sum_by-cons (holds o) k ks) (a
     none : (b : Bool) → one_if (b && false) ≡ 0
     none true = refl
     none false = refl
+
     go : (b : Bool) → eqb k.object o ≡ b → cond b 0 (suc (place_of ks o)) ≡ suc (length ks) → sum_by (holds o) (k ∷ ks) ≡ holds o k + sum_by (holds o) ks → (place_of ks o ≡ length ks → sum_by (holds o) ks ≡ 0) → sum_by (holds o) (k ∷ ks) ≡ 0
     go true is e c more = absurd (omega arith)
     go false is e c more = let z : holds o k ≡ 0 = ap (λ b. one_if (k.held && b)) is ∙ none k.held in let r = more (omega arith) in omega arith
@@ -31,9 +32,11 @@ held-known o (k ∷ ks) distinct = go (eqb k.object o) refl (sum_by-cons (holds 
     same : (b : Bool) → one_if (b && true) ≡ one_if b
     same true = refl
     same false = refl
+
     none : (b : Bool) → one_if (b && false) ≡ 0
     none true = refl
     none false = refl
+
     go : (b : Bool) → eqb k.object o ≡ b → sum_by (holds o) (k ∷ ks) ≡ holds o k + sum_by (holds o) ks → sum_by (holds o) ks ≡ one_if (known_of ks o).held → sum_by (holds o) (k ∷ ks) ≡ one_if (known_of (k ∷ ks) o).held
     go true is c r =
         let at : k.object ≡ o = eqb-true k.object o is in

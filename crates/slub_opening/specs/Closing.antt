@@ -66,6 +66,6 @@ pub record MayClose (s : State) (b : Beside) (system : System) : Type 0 where
   pub between : All (IsBetween (setup_of s b)) system.locals
   pub idle : (n : ℕ) → n < 512 → s.cpus ≤ n % 16
       → let w = world_of (setup_of s b) system.value system.words in
-        ((w.cpu n).frame ≡ 0) × ((w.list n).count ≡ 0)
+      ((w.cpu n).frame ≡ 0) × ((w.list n).count ≡ 0)
   pub flags : (cache : ℕ) → IfSome (checked_in (system.value (node_lock cache)))
       (λ slabs. IfSome (cache_of s cache) (λ live. live.flags ≡ slabs.flags))

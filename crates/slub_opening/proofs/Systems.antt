@@ -182,7 +182,7 @@ module _ (s t : State) (b d : Beside) (w : World) (ls : List Local) (beside : Is
 
   room : (n : ℕ) → IsSome (cpu_at t n).current → tid_of d n + d.step < 2 ^ 32
   room n some = elim (cases_lt n 512) [
-    | inr g ↦ absurd (let none = ap (λ (l : CpuLists). l.current) (cpu-past t n (has-cpus t consistent) g) in cc (some, ap is_some none))
+    | inr g ↦ absurd (let none = ap (λ (l : CpuLists). is_some l.current) (cpu-past t n (has-cpus t consistent) g) in false≢true (sym none ∙ some))
     | inl l ↦ (
         let c = rests.cpu n l in
         let r = rests.words.room n (omega (arith, l, cpu_words)) (λ z. cc (some, ap is_some (c.current ∙ cond-true {A = Option ℕ} (eqb (w.cpu n).frame 0) None (Some (w.cpu n).frame) (eq-eqb (w.cpu n).frame 0 z)))) in

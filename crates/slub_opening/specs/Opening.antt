@@ -190,8 +190,7 @@ opened s b = record {
 abbrev pub IsLaidDown : State → Type 0
 IsLaidDown s = (object : ℕ) → IfSome (held_under s object) (λ held. held.worker ≡ None)
 
--- of what stands beside the lists
-
+-- what stands beside the lists fits them
 pub record IsBeside (s : State) (b : Beside) : Type 0 where
   pub step : (s.cpus ≤ b.step) × (b.step ≤ 16)
   pub objects : (1 ≤ length s.board) × (length s.board ≤ 1048577)

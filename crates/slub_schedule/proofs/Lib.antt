@@ -4,3 +4,4 @@ pub mod Places
 pub mod Finished
 pub mod Closed
 pub mod Closing
+pub mod Making

@@ -41,7 +41,7 @@ none-unfinished : (n : ℕ) (ls : List Local) → All IsFinished ls → places_f
 none-unfinished n [] all = refl
 none-unfinished n (l ∷ ls) all = rw (finished_test l (All-head IsFinished l ls all)) (none-unfinished (suc n) ls (All-tail IsFinished l ls all))
 
-all_finished : (n : ℕ) (ls : List Local) → length (places_from n (marks_of ls)) ≡ 0 → All IsFinished ls
+pub all_finished : (n : ℕ) (ls : List Local) → length (places_from n (marks_of ls)) ≡ 0 → All IsFinished ls
 all_finished n [] none = All-nil IsFinished
 all_finished n (l ∷ ls) none = elim (cases_Bool (is_finished l)) [
   | inl is_so ↦ All-cons IsFinished l ls (test_finished l is_so) (all_finished (suc n) ls (rw is_so at none))
@@ -131,10 +131,13 @@ get_or-marks [] k is = absurd (false≢true is)
 get_or-marks (l ∷ ls) zero is = (omega arith, elim (cases_Bool (is_finished l)) [ inl is_so ↦ absurd (false≢true (rw is_so at is)) | inr not_so ↦ not_so ])
 get_or-marks (l ∷ ls) (suc k) is = let r = get_or-marks ls k is in (omega (arith, r.0), r.1)
 
+pub chosen_unfinished : (s : System) (number : ℕ) → 1 ≤ length (unfinished s) → (chosen s number < length s.locals) × (is_finished (get_or s.locals (chosen s number) idle) ≡ false)
+chosen_unfinished s number some =
+    let u = unfinished s in
+    let r = places_marked 0 (marks_of s.locals) (number % length u) (mod-lt number some) in
+    let is : chosen s number ≡ r.0 = r.1 ∙ omega arith in
+    subst (λ (k : ℕ). (k < length s.locals) × (is_finished (get_or s.locals k idle) ≡ false)) (sym is) (get_or-marks s.locals r.0 r.3)
+
 pub picks_unfinished : PicksAreUnfinished
 picks_unfinished m s x pick picks drawn =
-    let u = unfinished s in
-    let at = number_from x % length u in
-    let r = places_marked 0 (marks_of s.locals) at (mod-lt (number_from x) drawn.0) in
-    let is : pick.worker ≡ r.0 = drawn.1 ∙ r.1 ∙ omega arith in
-    subst (λ (k : ℕ). (k < length s.locals) × (is_finished (get_or s.locals k idle) ≡ false)) (sym is) (get_or-marks s.locals r.0 r.3)
+    subst (λ (k : ℕ). (k < length s.locals) × (is_finished (get_or s.locals k idle) ≡ false)) (sym drawn.1) (chosen_unfinished s (number_from x) drawn.0)

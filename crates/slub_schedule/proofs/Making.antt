@@ -1,7 +1,6 @@
 -- A round by schedule turn by turn: the picks made so far, the number at which the generator stands, and the workers that are unfinished.
 use Rattle.std.specs.Prelude.{slice_index}
 use Rattle.std.proofs.Common.{◌≡◌, ℕ, zero, suc, ◌+◌, ◌%◌, ◌<◌, ◌≤◌, ◌==◌, Bool, true, false, not, List, [], ◌∷◌, ◌++◌, length, get_or, set, refl, sym, ap, ◌∙◌, subst, arith}
-use Rattle.std.proofs.Math.Nat.{mod-lt}
 use Rattle.std.proofs.lemmas.Bool.{eqb-true, false≢true}
 use Rattle.std.proofs.lemmas.List.{map-set, set-get_or, get_or-set_same, get_or-map, length_push}
 use Rattle.slub_core.specs.Setup.{Setup}
@@ -11,7 +10,7 @@ use Rattle.slub_schedule.specs.Draws.{next, number_from}
 use Rattle.slub_schedule.specs.Schedule.{is_finished, marks_of, places_of, unfinished, chosen, AreDrawn}
 use Rattle.slub_schedule.specs.Turns.{turns_of}
 use Rattle.slub_schedule.specs.Rounds.{Ends, IsSpent}
-use Rattle.slub_schedule.proofs.Picks.{chosen_unfinished, all_finished}
+use Rattle.slub_schedule.proofs.Picks.{all_finished}
 
 -- where the generator stands after these picks
 abbrev pub stands_at : ℕ → List Pick → ℕ

@@ -1,6 +1,6 @@
-use Rattle.std.proofs.Common.{◌≡◌, ℕ, ◌<◌, ◌≤◌, refl, sym, ap, ◌∙◌, subst, arith, length, get_or, false}
+use Rattle.std.proofs.Common.{◌≡◌, ◌<◌, ◌≤◌, refl, sym, ap, ◌∙◌, subst, arith, length, get_or, false}
 use Rattle.slub_core.specs.Run.{idle}
-use Rattle.slub_schedule.specs.Schedule.{is_finished, unfinished}
+use Rattle.slub_schedule.specs.Schedule.{is_finished}
 use Rattle.slub_schedule.proofs.Making.{IsMade, made_none, made_ended, some_left, none_left, chosen_worker, turn_made, turn_kept, turn_less}
 use Rattle.slub_schedule.proofs.Picks.{chosen_unfinished}
 use Rattle.slub_schedule.proofs.machine.scheduled.Goals as goal

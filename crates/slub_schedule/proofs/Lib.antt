@@ -1,0 +1,7 @@
+pub mod Marked
+pub mod Picks
+pub mod Places
+pub mod Finished
+pub mod Closed
+pub mod Closing
+pub mod Making

@@ -1,3 +1,7 @@
-mod Events
 mod Drawn
+mod Events
 mod Frees
+mod Long
+mod Made
+mod Numbered
+mod Sound

@@ -1,6 +1,6 @@
 //! What a worker holds.
 
-ghost use Rattle.std.specs.Prelude.{◌≡◌, ◌==◌, ◌<◌, ◌≤◌, ◌++◌, [], ◌∷◌, length, IfOk, MatchOption, slice_get};
+ghost use Rattle.std.specs.Prelude.{◌≡◌, ◌==◌, ◌<◌, ◌≤◌, ◌++◌, [], ◌∷◌, length, IfOk, MatchOption, slice_index};
 
 use std::alloc::{AllocError, Global};
 use std::collections::VecDeque;
@@ -55,10 +55,11 @@ impl Held {
     }
 
     /// The object at this place, the longest held at 0.
-    pub(crate) fn get(&self, place: usize) -> Option<u32>
-        ensures { result ≡ slice_get self.now place }
+    pub(crate) fn at(&self, place: usize) -> u32
+        requires { place < length self.now }
+        ensures { result ≡ slice_index self.now place }
     {
-        self.objects.get(place).copied()
+        self.objects[place]
     }
 
     /// Takes out the object that was held longest, if there is one.

@@ -194,9 +194,7 @@ fn free_all(events: &mut Vec<Event>, worker: u32, held: &Held)
     ensures room { vec_capacity events.new ≡ vec_capacity events.old }
 {
     for place in 0..held.len() {
-        if let Some(object) = held.get(place) {
-            events.push_reserved(free(worker, worker % CPUS, object));
-        }
+        events.push_reserved(free(worker, worker % CPUS, held.at(place)));
     }
 }
 

@@ -32,11 +32,18 @@ few_objects (e ∷ events) = omega (arith, one_or_none (allocated e.act) (object
 
 -- ---- who holds what
 
+-- a worker that has freed what it allocated but for these, in the order of allocation
+abbrev pub Holds : ℕ → List Event → List ℕ → Type 0
+Holds worker events held = objects_of (events_of worker events) ≡ freed_of (events_of worker events) ++ held
+
+-- holds these
+pub holds_held : (worker : ℕ) (events : List Event) (held : List ℕ) → Holds worker events held → held_by worker events ≡ held
+unfolding held_by
+holds_held worker events held is = ap (λ os. drop (length (freed_of (events_of worker events))) os) is ∙ drop-append_seam (freed_of (events_of worker events)) held
+
 -- what is kept is what the events say
 pub held_kept : (events : List Event) (held : List (List ℕ)) → AreHeld events held → (worker : ℕ) → held_by worker events ≡ get_or held worker []
-unfolding held_by
-held_kept events held are worker =
-    ap (λ os. drop (length (freed_of (events_of worker events))) os) (are worker) ∙ drop-append_seam (freed_of (events_of worker events)) (get_or held worker [])
+held_kept events held are worker = holds_held worker events (get_or held worker []) (are worker)
 
 -- an event of one worker, in front of nothing
 own_event : (worker : ℕ) (e : Event) → e.worker ≡ worker → events_of worker (e ∷ []) ≡ e ∷ []
@@ -48,33 +55,37 @@ others_event worker e other = ap (λ b. cond b (e ∷ []) []) other
 unlike : (m n : ℕ) → eqb m n ≡ false → m ≢ n
 unlike m n apart is = false≢true (sym apart ∙ eq-eqb m n is)
 
--- the same of the worker whose event it is
-held_own : (events : List Event) (held : List (List ℕ)) (e : Event) (worker : ℕ) (new : List ℕ) → AreHeld events held → worker < length held → e.worker ≡ worker
-    → get_or held worker [] ++ objects_of (e ∷ []) ≡ freed_of (e ∷ []) ++ new
-    → objects_of (events_of worker (events ++ e ∷ [])) ≡ freed_of (events_of worker (events ++ e ∷ [])) ++ get_or (set held worker new) worker []
-held_own events held e worker new are low own turned =
+-- one event more of the worker, that then holds something else
+pub holds_own : (worker : ℕ) (events : List Event) (e : Event) (held new : List ℕ) → Holds worker events held → e.worker ≡ worker
+    → held ++ objects_of (e ∷ []) ≡ freed_of (e ∷ []) ++ new → Holds worker (events ++ e ∷ []) new
+holds_own worker events e held new is own turned =
     let before = events_of worker events in
     let more : events_of worker (events ++ e ∷ []) ≡ before ++ e ∷ [] = events_append worker events (e ∷ []) ∙ ap (λ es. before ++ es) (own_event worker e own) in
-    ap objects_of more ∙ objects_append before (e ∷ []) ∙ ap (λ os. os ++ objects_of (e ∷ [])) (are worker)
-    ∙ append_assoc (freed_of before) (get_or held worker []) (objects_of (e ∷ [])) ∙ ap (λ os. freed_of before ++ os) turned
+    ap objects_of more ∙ objects_append before (e ∷ []) ∙ ap (λ os. os ++ objects_of (e ∷ [])) is
+    ∙ append_assoc (freed_of before) held (objects_of (e ∷ [])) ∙ ap (λ os. freed_of before ++ os) turned
     ∙ sym (append_assoc (freed_of before) (freed_of (e ∷ [])) new) ∙ ap (λ os. os ++ new) (sym (freed_append before (e ∷ [])))
-    ∙ ap (λ es. freed_of es ++ new) (sym more) ∙ ap (λ q. freed_of (events_of worker (events ++ e ∷ [])) ++ q) (sym (get_or-set_same held worker new [] low))
+    ∙ ap (λ es. freed_of es ++ new) (sym more)
 
--- one event more, of a worker that then holds something else
+-- one event more of another worker
+pub holds_other : (worker : ℕ) (events : List Event) (e : Event) (held : List ℕ) → Holds worker events held → eqb e.worker worker ≡ false → Holds worker (events ++ e ∷ []) held
+holds_other worker events e held is apart =
+    let more : events_of worker (events ++ e ∷ []) ≡ events_of worker events =
+    events_append worker events (e ∷ []) ∙ ap (λ es. events_of worker events ++ es) (others_event worker e apart) ∙ append-nil (events_of worker events) in
+    ap objects_of more ∙ is ∙ ap (λ es. freed_of es ++ held) (sym more)
+
+-- the same of all workers
 pub held_more : (events : List Event) (held : List (List ℕ)) (e : Event) (worker : ℕ) (new : List ℕ) → AreHeld events held → worker < length held → e.worker ≡ worker
     → get_or held worker [] ++ objects_of (e ∷ []) ≡ freed_of (e ∷ []) ++ new → AreHeld (events ++ e ∷ []) (set held worker new)
 held_more events held e worker new are low own turned = λ other. elim (cases_Bool (eqb e.worker other)) [
   | inl same ↦
-    (let is : e.worker ≡ other = eqb-true e.worker other same in
-    let here : worker ≡ other = sym own ∙ is in
-    subst (λ v. objects_of (events_of v (events ++ e ∷ [])) ≡ freed_of (events_of v (events ++ e ∷ [])) ++ get_or (set held worker new) v []) here
-    (held_own events held e worker new are low own turned))
+      (let is : e.worker ≡ other = eqb-true e.worker other same in
+      let here : worker ≡ other = sym own ∙ is in
+      let mine : Holds worker (events ++ e ∷ []) (get_or (set held worker new) worker []) =
+      subst (Holds worker (events ++ e ∷ [])) (sym (get_or-set_same held worker new [] low)) (holds_own worker events e (get_or held worker []) new (are worker) own turned) in
+      subst (λ v. Holds v (events ++ e ∷ []) (get_or (set held worker new) v [])) here mine)
   | inr apart ↦
-    (let more : events_of other (events ++ e ∷ []) ≡ events_of other events =
-      events_append other events (e ∷ []) ∙ ap (λ es. events_of other events ++ es) (others_event other e apart) ∙ append-nil (events_of other events) in
-    let ne : other ≢ worker = λ is. unlike e.worker other apart (own ∙ sym is) in
-    ap objects_of more ∙ are other ∙ ap (λ es. freed_of es ++ get_or held other []) (sym more)
-    ∙ ap (λ q. freed_of (events_of other (events ++ e ∷ [])) ++ q) (sym (get_or-set_other held worker other new [] ne)))
+      (let ne : other ≢ worker = λ is. unlike e.worker other apart (own ∙ sym is) in
+      subst (Holds other (events ++ e ∷ [])) (sym (get_or-set_other held worker other new [] ne)) (holds_other other events e (get_or held other []) (are other) apart))
 ]
 
 -- ---- the event of a worker

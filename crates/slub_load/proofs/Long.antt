@@ -24,8 +24,12 @@ few_passed p (x ∷ xs) =
 few_held : (worker : ℕ) (events : List Event) → length (held_by worker events) ≤ length events
 unfolding held_by
 few_held worker events =
-    omega (arith, length-drop (length (freed_of (events_of worker events))) (objects_of (events_of worker events)),
-    few_objects (events_of worker events), few_passed (λ (e : Event). eqb e.worker worker) events)
+    omega (
+      arith,
+      length-drop (length (freed_of (events_of worker events))) (objects_of (events_of worker events)),
+      few_objects (events_of worker events),
+      few_passed (λ (e : Event). eqb e.worker worker) events,
+    )
 
 few_last : (worker : ℕ) (events : List Event) → length (last_frees events worker) ≤ length events
 unfolding last_frees

@@ -60,7 +60,7 @@ last_none : (events : List Event) (worker : ℕ) → objects_of (last_frees even
 unfolding last_frees
 last_none events worker = frees_none worker (worker % 4) (held_by worker events)
 
-all_none : (events : List Event) (workers : List ℕ) → objects_of (flat_map (last_frees events) workers) ≡ []
+pub all_none : (events : List Event) (workers : List ℕ) → objects_of (flat_map (last_frees events) workers) ≡ []
 all_none events [] = refl
 all_none events (worker ∷ workers) =
     objects_append (last_frees events worker) (flat_map (last_frees events) workers)

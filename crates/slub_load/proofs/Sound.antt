@@ -85,12 +85,12 @@ held_numbers workers count worker es all =
 -- ---- drawn events
 
 -- who frees holds something
-free_held : (held : List ℕ) (eighth : ℕ) → is_free held eighth ≡ true → 0 < length held
+pub free_held : (held : List ℕ) (eighth : ℕ) → is_free held eighth ≡ true → 0 < length held
 free_held held eighth is = elim (cases_Bool (eqb (length held) 64)) [
   | inl full ↦ (let long : length held ≡ 64 = eqb-true (length held) 64 full in omega (arith, long))
   | inr not_full ↦
-    (let other : (ltb eighth 3 && ltb 0 (length held)) ≡ true = rw not_full at is in
-    ltb-true 0 (length held) (and_parts (ltb eighth 3) (ltb 0 (length held)) other).1)
+      (let other : (ltb eighth 3 && ltb 0 (length held)) ≡ true = rw not_full at is in
+      ltb-true 0 (length held) (and_parts (ltb eighth 3) (ltb 0 (length held)) other).1)
 ]
 
 IsGoodBehind : ℕ → ℕ → Event → Type 0
@@ -110,8 +110,8 @@ event_good workers worker eighth es low all =
     let held = held_by worker es in
     cond_both (is_free held eighth) (free_by worker ((worker + eighth) % 4) (get_or held 0 0)) (alloc_by worker (worker % 4) (eighth % 3) (count + 1)) (IsGoodBehind workers count)
     (λ is.
-      let first : IsNumber count (get_or held 0 0) = held_numbers workers count worker es all 0 0 (free_held held eighth is) in
-      record { worker = low; cpu = below_four (worker + eighth); act = (first.0, omega (arith, first.1)) })
+    let first : IsNumber count (get_or held 0 0) = held_numbers workers count worker es all 0 0 (free_held held eighth is) in
+    record { worker = low; cpu = below_four (worker + eighth); act = (first.0, omega (arith, first.1)) })
     (λ _. record { worker = low; cpu = below_four worker; act = (below_three eighth, (omega arith, omega arith)) })
 
 good_more : (workers : ℕ) (es : List Event) (e : Event) → All (IsGood workers (length (objects_of es))) es → IsGoodBehind workers (length (objects_of es)) e
@@ -193,8 +193,8 @@ are_names : (All IsName cache_names) × IsDistinct bytes_eq cache_names × (leng
 unfolding cache_names IsDistinct
 are_names = (
   All-cons IsName (codes "dentry") (codes "filp" ∷ codes "node" ∷ []) ((name_tells (codes "dentry")).0 refl)
-  (All-cons IsName (codes "filp") (codes "node" ∷ []) ((name_tells (codes "filp")).0 refl)
-  (All-cons IsName (codes "node") [] ((name_tells (codes "node")).0 refl) (All-nil IsName))),
+      (All-cons IsName (codes "filp") (codes "node" ∷ []) ((name_tells (codes "filp")).0 refl)
+      (All-cons IsName (codes "node") [] ((name_tells (codes "node")).0 refl) (All-nil IsName))),
   ((refl, (refl, tt)), ((refl, tt), (tt, tt))),
   refl,
 )
@@ -211,7 +211,7 @@ sound_items workers es many three all =
     let third_item : Item = Cache 2 (record { size = 128; align = 8; flags = plain }) in
     let shrinks : List Item = Shrink 0 ∷ Shrink 1 ∷ Shrink 2 ∷ [] in
     let last : All P shrinks =
-      All-cons P (Shrink 0) (Shrink 1 ∷ Shrink 2 ∷ []) zeroth (All-cons P (Shrink 1) (Shrink 2 ∷ []) first (All-cons P (Shrink 2) [] second (All-nil P))) in
+    All-cons P (Shrink 0) (Shrink 1 ∷ Shrink 2 ∷ []) zeroth (All-cons P (Shrink 1) (Shrink 2 ∷ []) first (All-cons P (Shrink 2) [] second (All-nil P))) in
     let rest : List Item = Round (record { workers = workers; events = es }) ∷ shrinks in
     All-cons P first_item (second_item ∷ third_item ∷ rest) zeroth (All-cons P second_item (third_item ∷ rest) first
     (All-cons P third_item rest second (All-cons P (Round (record { workers = workers; events = es })) shrinks round last)))

@@ -18,4 +18,7 @@
 
 mod generator;
 mod held;
+pub mod laws;
 pub mod load;
+#[cfg(test)]
+mod tests;

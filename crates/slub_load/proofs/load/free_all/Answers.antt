@@ -12,9 +12,9 @@ loop-place-preserved c =
     let object = get_or held c.loop-place.place 0 in
     let low : c.loop-place.place < length held = omega (arith, c.loop-place-test.true, c.len-place-end.ensures.value) in (
       c.push_reserved.ensures.items ∙ ap (λ (l : List Event). l ++ c.free.result ∷ []) c.loop-place.invariant.0
-      ∙ ap (λ e. (c.args.events.now.items ++ map f before) ++ e ∷ []) (c.free.ensures ∙ ap f c.at.ensures)
-      ∙ append_assoc c.args.events.now.items (map f before) (f object ∷ [])
-      ∙ ap (λ l. c.args.events.now.items ++ l) (sym (map-append f before (object ∷ [])) ∙ ap (map f) (sym (take_more held c.loop-place.place 0 low))),
+          ∙ ap (λ e. (c.args.events.now.items ++ map f before) ++ e ∷ []) (c.free.ensures ∙ ap f c.at.ensures)
+          ∙ append_assoc c.args.events.now.items (map f before) (f object ∷ [])
+          ∙ ap (λ l. c.args.events.now.items ++ l) (sym (map-append f before (object ∷ [])) ∙ ap (map f) (sym (take_more held c.loop-place.place 0 low))),
       omega (arith, c.push_reserved.ensures.len, c.loop-place.invariant.1),
       c.push_reserved.ensures.capacity ∙ c.loop-place.invariant.2,
     )

@@ -12,9 +12,9 @@ loop-worker-preserved c =
     let held = c.args.held.now in
     let worker = c.loop-worker.worker in
     let queue : held_by worker es ≡ c.index-held-worker.result =
-      held_kept es held c.requires.held worker ∙ get_or_default held worker [] c.index-held-worker.result c.loop-worker-test.true ∙ sym c.index-held-worker.is in (
+    held_kept es held c.requires.held worker ∙ get_or_default held worker [] c.index-held-worker.result c.loop-worker-test.true ∙ sym c.index-held-worker.is in (
       c.free_all.ensures.freed ∙ ap (λ l. c.loop-worker.events.items ++ l) (frees_are es worker c.index-held-worker.result queue)
-      ∙ ap (λ l. l ++ last_frees es worker) c.loop-worker.invariant.0 ∙ frees_more es es worker,
+          ∙ ap (λ l. l ++ last_frees es worker) c.loop-worker.invariant.0 ∙ frees_more es es worker,
       omega (arith, c.free_all.ensures.few, c.loop-worker.invariant.1),
       c.free_all.ensures.room ∙ c.loop-worker.invariant.2,
     )

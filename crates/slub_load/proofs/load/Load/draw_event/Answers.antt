@@ -38,7 +38,7 @@ returns-clause-held c =
     let queue : c.index_mut-held.result.now ≡ get_or s.held.items worker [] = c.index_mut-held.ensures.value ∙ get_or_default s.held.items worker _ [] low in
     let own : c.turn-event.result.worker ≡ worker = ap (λ (e : Event). e.worker) c.turn-event.ensures.event ∙ event_worker c.index_mut-held.result.now worker (c.draw-eighth.result % 8) (s.given + 1) in
     let turned : get_or s.held.items worker [] ++ objects_of (c.turn-event.result ∷ []) ≡ freed_of (c.turn-event.result ∷ []) ++ c.turn-event.new.held =
-      ap (λ l. l ++ objects_of (c.turn-event.result ∷ [])) (sym queue) ∙ c.turn-event.ensures.held in
+    ap (λ l. l ++ objects_of (c.turn-event.result ∷ [])) (sym queue) ∙ c.turn-event.ensures.held in
     subst (λ (l : List Event). AreHeld l (set s.held.items worker c.turn-event.new.held)) (sym c.push_reserved.ensures.items)
     (held_more es s.held.items c.turn-event.result worker c.turn-event.new.held c.requires.held low own turned)
 

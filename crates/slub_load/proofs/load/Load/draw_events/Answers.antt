@@ -29,10 +29,10 @@ loop-preserved c =
     let x = state_after seed (2 * before) in (
       c.draw_event.ensures.state ∙ ap (λ s. next (next s)) kept.0 ∙ sym (state_two seed before),
       c.draw_event.ensures.event
-      ∙ ap (λ s. es ++ event_behind es (drawn (next s) % vec_len c.loop.self.held) (drawn (next (next s)) % 8) ∷ []) kept.0
-      ∙ ap (λ n. es ++ event_behind es (drawn (next x) % n) (drawn (next (next x)) % 8) ∷ []) kept.4
-      ∙ ap (λ (l : List Event). l ++ event_behind l (drawn (next x) % workers) (drawn (next (next x)) % 8) ∷ []) kept.1
-      ∙ sym (drawn_more seed workers before),
+          ∙ ap (λ s. es ++ event_behind es (drawn (next s) % vec_len c.loop.self.held) (drawn (next (next s)) % 8) ∷ []) kept.0
+          ∙ ap (λ n. es ++ event_behind es (drawn (next x) % n) (drawn (next (next x)) % 8) ∷ []) kept.4
+          ∙ ap (λ (l : List Event). l ++ event_behind l (drawn (next x) % workers) (drawn (next (next x)) % 8) ∷ []) kept.1
+          ∙ sym (drawn_more seed workers before),
       c.draw_event.ensures.held,
       c.draw_event.ensures.given,
       c.draw_event.ensures.workers ∙ kept.4,

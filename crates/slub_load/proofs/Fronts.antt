@@ -40,13 +40,13 @@ take_drawn seed workers zero done low =
     take_all done (drawn_events seed workers 0) (omega (arith, ap length (drawn_none seed workers))) ∙ ap (drawn_events seed workers) (sym none)
 take_drawn seed workers (suc count) done low = elim (cases_order done (suc count)) [
   | inl whole ↦
-    (let long = drawn_long seed workers (suc count) in
-    take_all done (drawn_events seed workers (suc count)) (omega (arith, long, whole)) ∙ ap (drawn_events seed workers) (sym whole))
+      (let long = drawn_long seed workers (suc count) in
+      take_all done (drawn_events seed workers (suc count)) (omega (arith, long, whole)) ∙ ap (drawn_events seed workers) (sym whole))
   | inr apart ↦ elim apart [
     | inl under ↦
-      (let long = drawn_long seed workers count in
-      ap (take done) (drawn_next seed workers count) ∙ take-append-le done (drawn_events seed workers count) _ (omega (arith, long, under))
-      ∙ take_drawn seed workers count done (omega (arith, under)))
+        (let long = drawn_long seed workers count in
+        ap (take done) (drawn_next seed workers count) ∙ take-append-le done (drawn_events seed workers count) _ (omega (arith, long, under))
+        ∙ take_drawn seed workers count done (omega (arith, under)))
     | inr over ↦ absurd (let never : ⊥ = omega (arith, over, low) in never)
   ]
 ]
@@ -69,12 +69,13 @@ front_last worker events more rest left own none last =
     let later = freed_of (events_of worker rest) in
     let nothing : objects_of (events_of worker more) ≡ [] = none_own worker more (front_none (objects_of more) (objects_of rest) (sym (objects_append more rest) ∙ none)) in
     let held : own.0 ≡ free ++ (later ++ left) =
-      sym (holds_held worker events own.0 own.1) ∙ sym last ∙ ap (λ l. l ++ left) (freed_then more rest worker) ∙ append_assoc free later left in
-    (later ++ left,
-    ap objects_of (events_append worker events more) ∙ objects_append (events_of worker events) (events_of worker more)
-    ∙ ap (λ os. objects_of (events_of worker events) ++ os) nothing ∙ append-nil (objects_of (events_of worker events)) ∙ own.1
-    ∙ ap (λ os. freed_of (events_of worker events) ++ os) held ∙ sym (append_assoc (freed_of (events_of worker events)) free (later ++ left))
-    ∙ ap (λ l. l ++ (later ++ left)) (sym (freed_then events more worker)))
+    sym (holds_held worker events own.0 own.1) ∙ sym last ∙ ap (λ l. l ++ left) (freed_then more rest worker) ∙ append_assoc free later left in (
+      later ++ left,
+      ap objects_of (events_append worker events more) ∙ objects_append (events_of worker events) (events_of worker more)
+          ∙ ap (λ os. objects_of (events_of worker events) ++ os) nothing ∙ append-nil (objects_of (events_of worker events)) ∙ own.1
+          ∙ ap (λ os. freed_of (events_of worker events) ++ os) held ∙ sym (append_assoc (freed_of (events_of worker events)) free (later ++ left))
+          ∙ ap (λ l. l ++ (later ++ left)) (sym (freed_then events more worker)),
+    )
 
 pub front_own : (seed count workers worker done : ℕ) → FreesOwn worker (take done (load_events seed count workers))
 unfolding load_events emptied
@@ -83,19 +84,19 @@ front_own seed count workers worker done =
     let all = flat_map (last_frees events) (range_with_len 0 workers) in
     let long : length events ≡ count = drawn_long seed workers count in
     let early : done ≤ count → FreesOwn worker (take done (events ++ all)) = λ low.
-      subst (FreesOwn worker) (sym (take-append-le done events all (omega (arith, long, low)) ∙ take_drawn seed workers count done low)) (drawn_own seed workers done worker) in
+    subst (FreesOwn worker) (sym (take-append-le done events all (omega (arith, long, low)) ∙ take_drawn seed workers count done low)) (drawn_own seed workers done worker) in
     elim (cases_order done count) [
       | inl same ↦ early (omega (arith, same))
       | inr apart ↦ elim apart [
         | inl under ↦ early (omega (arith, under))
         | inr over ↦
-          (let after = done - count in
-          let parts = take-append-drop after all in
-          let last = held_last workers worker events in
-          let sum : done ≡ length events + after = omega (arith, long, over) in
-          subst (FreesOwn worker) (sym (ap (λ n. take n (events ++ all)) sum ∙ take-append-add events all after))
-          (front_last worker events (take after all) (drop after all) last.0 (drawn_own seed workers count worker)
-          (ap objects_of parts ∙ all_none events (range_with_len 0 workers)) (ap (λ l. freed_of (events_of worker l) ++ last.0) parts ∙ last.1)))
+            (let after = done - count in
+            let parts = take-append-drop after all in
+            let last = held_last workers worker events in
+            let sum : done ≡ length events + after = omega (arith, long, over) in
+            subst (FreesOwn worker) (sym (ap (λ n. take n (events ++ all)) sum ∙ take-append-add events all after))
+            (front_last worker events (take after all) (drop after all) last.0 (drawn_own seed workers count worker)
+            (ap objects_of parts ∙ all_none events (range_with_len 0 workers)) (ap (λ l. freed_of (events_of worker l) ++ last.0) parts ∙ last.1)))
       ]
     ]
 

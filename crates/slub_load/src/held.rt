@@ -64,7 +64,8 @@ impl Held {
 
     /// Takes out the object that was held longest, if there is one.
     pub(crate) fn take_longest(&mut self) -> Option<u32>
-        ensures { MatchOption result ((self.old ≡ []) × (self.new ≡ [])) (λ object. self.old ≡ object ∷ self.new) }
+        ensures { MatchOption result
+            ((self.old ≡ []) × (self.new ≡ [])) (λ object. self.old ≡ object ∷ self.new) }
     {
         self.objects.pop_front()
     }

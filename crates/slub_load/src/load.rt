@@ -100,7 +100,8 @@ impl Load {
         ensures event { let first = next self.old.generator.state in
             let worker = drawn first % vec_len self.old.held in
             let eighth = drawn (next first) % 8 in
-            self.new.events.items ≡ self.old.events.items ++ event_behind self.old.events.items worker eighth ∷ [] }
+            self.new.events.items
+            ≡ self.old.events.items ++ event_behind self.old.events.items worker eighth ∷ [] }
         ensures room { vec_capacity self.new.events ≡ vec_capacity self.old.events }
         ensures workers { vec_len self.new.held ≡ vec_len self.old.held }
         ensures held { AreHeld self.new.events.items self.new.held.items }
@@ -122,7 +123,8 @@ impl Load {
         requires none { self.old.events.items ≡ [] }
         requires held { AreHeld self.old.events.items self.old.held.items }
         requires given { self.old.given ≡ 0 }
-        ensures events { self.new.events.items ≡ drawn_events self.old.generator.state (vec_len self.old.held) count }
+        ensures events { self.new.events.items
+            ≡ drawn_events self.old.generator.state (vec_len self.old.held) count }
         ensures room { vec_capacity self.new.events ≡ vec_capacity self.old.events }
         ensures workers { vec_len self.new.held ≡ vec_len self.old.held }
         ensures held { AreHeld self.new.events.items self.new.held.items }
@@ -136,7 +138,9 @@ impl Load {
 
 /// Takes out the object that was held longest, where a worker frees one at this number below 8.
 fn take_freed(held: &mut Held, eighth: u32) -> Option<u32>
-    ensures freed { MatchOption result ((is_free held.old eighth ≡ false) × (held.new ≡ held.old)) (λ object. (is_free held.old eighth ≡ true) × (held.old ≡ object ∷ held.new)) }
+    ensures freed { MatchOption result
+        ((is_free held.old eighth ≡ false) × (held.new ≡ held.old))
+        (λ object. (is_free held.old eighth ≡ true) × (held.old ≡ object ∷ held.new)) }
     ensures room { IfNone result (length held.new < 64) }
 {
     if held.is_full() || eighth < 3 {
@@ -189,7 +193,8 @@ fn free(worker: u32, cpu: u32, object: u32) -> Event
 /// A worker frees what it holds, longest held first.
 fn free_all(events: &mut Vec<Event>, worker: u32, held: &Held)
     requires room { vec_len events.old + 64 ≤ vec_capacity events.old }
-    ensures freed { events.new.items ≡ events.old.items ++ map (free_by worker (worker % 4)) held.now }
+    ensures freed { events.new.items
+        ≡ events.old.items ++ map (free_by worker (worker % 4)) held.now }
     ensures few { vec_len events.new ≤ vec_len events.old + 64 }
     ensures room { vec_capacity events.new ≡ vec_capacity events.old }
 {

@@ -47,7 +47,8 @@ fn free(worker: u32, cpu: u32, object: u32) -> Event {
 
 #[test]
 fn numbers_make_events(rt: HostRuntime) -> Result<(), Fail> {
-    // drawn: 908834774 1093944153, 1392341196 822192870, 1708211034 1074839795, 1189567130 140486902
+    // drawn: 908834774 1093944153, 1392341196 822192870, 1708211034 1074839795,
+    // 1189567130 140486902
     let trace = load_trace(rt.alloc(), 1, 4, 2)?;
     let expected = [
         alloc(0, 0, 1, 1),
@@ -69,8 +70,8 @@ fn numbers_make_events(rt: HostRuntime) -> Result<(), Fail> {
 
 #[test]
 fn workers_free_what_they_hold(rt: HostRuntime) -> Result<(), Fail> {
-    // drawn: 243117059 697555963, 1577179715 743368138, 1329489204 815645603, 1081441375 1040024405,
-    // 1188828089 1507887609, 2084545363 1883099442
+    // drawn: 243117059 697555963, 1577179715 743368138, 1329489204 815645603,
+    // 1081441375 1040024405, 1188828089 1507887609, 2084545363 1883099442
     let trace = load_trace(rt.alloc(), 3, 6, 2)?;
     let expected = [
         alloc(1, 1, 0, 1),
@@ -217,6 +218,7 @@ fn is_same_item(one: &Item, other: &Item) -> bool {
 #[test]
 fn a_load_is_a_trace(rt: HostRuntime) -> Result<(), Fail> {
     let trace = load_trace(rt.alloc(), 4, 2000, 16)?;
+    assert_eq!(rt; trace.objects, 1258);
     let text = text_of(rt.alloc(), &trace)?;
     let mut source = MemSource::of(rt.alloc(), &text, &[])?;
     let read = read_trace(rt.alloc(), &mut source)?;

@@ -1,6 +1,5 @@
 -- One event more, and the numbers that it is drawn by.
-use Rattle.std.proofs.Common.{◌≡◌, ℕ, zero, suc, ◌+◌, ◌*◌, ◌%◌, List, [], ◌∷◌, ◌++◌, refl, sym, ap, ◌∙◌, arith}
-use Rattle.slub_object_layout.specs.declared.event.Event.{Event}
+use Rattle.std.proofs.Common.{◌≡◌, ℕ, suc, ◌+◌, ◌*◌, ◌%◌, [], ◌∷◌, ◌++◌, refl, ap, ◌∙◌, arith}
 use Rattle.slub_load.specs.Generator.{drawn, next, number, state_after}
 use Rattle.slub_load.specs.Load.{drawn_events, event_behind}
 

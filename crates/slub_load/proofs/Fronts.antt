@@ -1,18 +1,17 @@
 -- Who has freed what at any time.
-use Rattle.std.proofs.Common.{◌≡◌, ◌≢◌, ℕ, zero, suc, ◌+◌, ◌-◌, ◌*◌, ◌%◌, ◌<◌, ◌≤◌, Bool, true, false, cond, Option, None, Some, List, [], ◌∷◌, ◌++◌, length, drop, take, flat_map, refl, sym, ap, ◌∙◌, arith, subst, inl, inr, append_assoc, eqb}
+use Rattle.std.proofs.Common.{◌≡◌, ℕ, zero, suc, ◌+◌, ◌-◌, ◌<◌, ◌≤◌, Option, None, Some, List, [], ◌∷◌, ◌++◌, length, drop, take, flat_map, refl, sym, ap, ◌∙◌, arith, subst, inl, inr, append_assoc, eqb}
 use Rattle.std.specs.List.{cons_option, range_with_len}
 use Rattle.std.proofs.Math.Seq.{take-append-add}
 use Rattle.std.proofs.lemmas.Bool.{cond_both, cases_order}
 use Rattle.std.proofs.lemmas.List.{append-nil, take-append-drop, take-append-le, take_all}
 use Rattle.slub_object_layout.specs.declared.event.Event.{Event}
 use Rattle.slub_trace_reader.specs.Sound.{allocated, objects_of}
-use Rattle.slub_load.specs.Generator.{number}
-use Rattle.slub_load.specs.Load.{drawn_events, emptied, event_behind, events_of, freed_of, held_by, last_frees, load_events}
+use Rattle.slub_load.specs.Load.{drawn_events, emptied, events_of, freed_of, held_by, last_frees, load_events}
 use Rattle.slub_load.proofs.Drawn.{drawn_next, drawn_none}
 use Rattle.slub_load.proofs.Events.{events_append, holds_held, objects_append}
 use Rattle.slub_load.proofs.Long.{drawn_long}
 use Rattle.slub_load.proofs.Numbered.{all_none}
-use Rattle.slub_load.proofs.WhoFrees.{FreesOwn, all_above, all_below, all_from, drawn_own, freed_then}
+use Rattle.slub_load.proofs.WhoFrees.{FreesOwn, all_below, all_from, drawn_own, freed_then}
 
 -- ---- events that allocate nothing
 

@@ -1,5 +1,5 @@
 -- The objects of a load are numbered from 1 on.
-use Rattle.std.proofs.Common.{◌≡◌, ℕ, zero, suc, ◌+◌, ◌*◌, ◌-◌, ◌%◌, ◌≤◌, List, [], ◌∷◌, ◌++◌, length, map, fold, flat_map, max, refl, sym, ap, ◌∙◌, arith, length-append}
+use Rattle.std.proofs.Common.{◌≡◌, ℕ, zero, suc, ◌+◌, ◌*◌, ◌%◌, List, [], ◌∷◌, ◌++◌, length, map, fold, flat_map, max, refl, sym, ap, ◌∙◌, arith, length-append}
 use Rattle.std.specs.List.{range_with_len}
 use Rattle.std.proofs.lemmas.Bool.{cond_both}
 use Rattle.std.proofs.lemmas.List.{append-nil}
@@ -9,7 +9,6 @@ use Rattle.slub_common.proofs.Lists.{range_with_len-append}
 use Rattle.slub_trace_reader.proofs.Runs.{greatest_from, greatest_within}
 use Rattle.slub_load.specs.Generator.{number}
 use Rattle.slub_load.specs.Load.{alloc_by, drawn_events, emptied, event_behind, event_of, free_by, held_by, is_free, last_frees, load_events}
-use Rattle.slub_load.proofs.Drawn.{drawn_none, drawn_next}
 use Rattle.slub_load.proofs.Events.{objects_append}
 
 -- the numbers that events allocate are those from 1 on

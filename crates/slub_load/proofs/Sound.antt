@@ -1,5 +1,5 @@
 -- A load is sound.
-use Rattle.std.proofs.Common.{◌≡◌, ℕ, zero, suc, ◌+◌, ◌*◌, ◌-◌, ◌%◌, ◌^◌, ◌<◌, ◌≤◌, Bool, true, false, ◌&&◌, ◌||◌, Option, Some, None, List, [], ◌∷◌, ◌++◌, length, map, fold, flat_map, get_or, max, refl, sym, ap, ◌∙◌, arith, subst, inl, inr, length-append, lit≤, lit<, All, eqb, ltb, nat_eq}
+use Rattle.std.proofs.Common.{◌≡◌, ℕ, zero, suc, ◌+◌, ◌*◌, ◌%◌, ◌<◌, ◌≤◌, true, false, ◌&&◌, List, [], ◌∷◌, ◌++◌, length, fold, flat_map, get_or, max, refl, sym, ap, ◌∙◌, arith, subst, inl, inr, length-append, lit≤, lit<, All, eqb, ltb, nat_eq}
 use Rattle.std.specs.Prelude.{codes}
 use Rattle.std.specs.List.{IsDistinct, cons_option, list_any, range_with_len}
 use Rattle.std.specs.Str.{bytes_eq}
@@ -13,13 +13,11 @@ use Rattle.slub_object_layout.specs.declared.event.Event.{Event}
 use Rattle.slub_object_layout.specs.Name.{IsName}
 use Rattle.slub_trace_reader.specs.declared.trace.Item.{Item}
 use Rattle.slub_trace_reader.specs.declared.trace.Item.TheVariants.{Cache, Round, Shrink}
-use Rattle.slub_trace_reader.specs.Forms.{is_name}
 use Rattle.slub_trace_reader.specs.Sound.{IsSound, IsSoundAct, IsSoundEvent, IsSoundItem, IsSoundRound, allocated, events_in, objects_in, objects_of}
 use Rattle.slub_trace_reader.proofs.Fields.{name_tells}
 use Rattle.slub_trace_reader.proofs.Runs.{distinct_run, run_each}
 use Rattle.slub_load.specs.Generator.{number}
 use Rattle.slub_load.specs.Load.{alloc_by, cache_names, drawn_events, emptied, event_behind, event_of, events_of, free_by, freed_of, held_by, is_free, items_of, last_frees, load_events, load_of, plain, trace_of}
-use Rattle.slub_load.proofs.Drawn.{drawn_next}
 use Rattle.slub_load.proofs.Events.{few_objects, objects_append}
 use Rattle.slub_load.proofs.Long.{drawn_long, load_long}
 use Rattle.slub_load.proofs.Numbered.{load_greatest, load_objects}

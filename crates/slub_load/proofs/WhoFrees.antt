@@ -1,15 +1,13 @@
 -- Each worker frees what it allocated.
-use Rattle.std.proofs.Common.{◌≡◌, ◌≢◌, ℕ, zero, suc, ◌+◌, ◌*◌, ◌%◌, ◌<◌, ◌≤◌, Bool, true, false, cond, List, [], ◌∷◌, ◌++◌, length, map, drop, take, flat_map, get_or, refl, sym, ap, ◌∙◌, arith, subst, inl, inr, append_assoc, eqb, eq-eqb}
+use Rattle.std.proofs.Common.{◌≡◌, ◌≢◌, ℕ, zero, suc, ◌+◌, ◌*◌, ◌%◌, ◌<◌, ◌≤◌, true, false, cond, List, [], ◌∷◌, ◌++◌, length, map, flat_map, get_or, refl, sym, ap, ◌∙◌, arith, subst, inl, inr, eqb, eq-eqb}
 use Rattle.std.specs.List.{range_with_len}
-use Rattle.std.proofs.Math.Seq.{drop-append_seam}
 use Rattle.std.proofs.lemmas.Bool.{cases_Bool, cond_both, eqb-true, ne_eqb}
 use Rattle.std.proofs.lemmas.List.{append-nil}
 use Rattle.slub_object_layout.specs.declared.event.Event.{Event}
 use Rattle.slub_trace_reader.specs.Sound.{objects_of}
 use Rattle.slub_load.specs.Generator.{number}
-use Rattle.slub_load.specs.Load.{alloc_by, drawn_events, emptied, event_behind, event_of, events_of, free_by, freed_of, held_by, is_free, last_frees, load_events}
-use Rattle.slub_load.proofs.Events.{Holds, event_worker, events_append, freed_append, holds_held, holds_other, holds_own, objects_append}
-use Rattle.slub_load.proofs.Numbered.{objects_emptied}
+use Rattle.slub_load.specs.Load.{alloc_by, drawn_events, event_behind, event_of, events_of, free_by, freed_of, held_by, is_free, last_frees}
+use Rattle.slub_load.proofs.Events.{event_worker, events_append, freed_append, holds_held, holds_other, holds_own}
 use Rattle.slub_load.proofs.Sound.{free_held}
 
 -- ---- drawn events

@@ -1,7 +1,7 @@
-use Rattle.std.proofs.Common.{◌≡◌, ◌+◌, ◌*◌, ◌%◌, ◌≤◌, List, [], ◌++◌, length, get_or, map, flat_map, sym, ap, ◌∙◌, subst, arith}
+use Rattle.std.proofs.Common.{◌≡◌, [], ◌++◌, length, flat_map, sym, ap, ◌∙◌, arith}
 use Rattle.std.specs.List.{range_with_len}
 use Rattle.std.proofs.lemmas.List.{get_or_default}
-use Rattle.slub_load.specs.Load.{free_by, held_by, last_frees}
+use Rattle.slub_load.specs.Load.{held_by, last_frees}
 use Rattle.slub_load.proofs.Events.{held_kept}
 use Rattle.slub_load.proofs.Frees.{frees_are, frees_more, emptied_is}
 use Rattle.slub_load.proofs.load.free_rest.Goals as goal

@@ -1,0 +1,9 @@
+mod Drawn
+mod Events
+mod Frees
+mod Fronts
+mod Long
+mod Made
+mod Numbered
+mod Sound
+mod WhoFrees

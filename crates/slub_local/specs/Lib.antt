@@ -1,0 +1,4 @@
+pub mod Facts
+pub mod Hands
+pub mod Script
+pub mod Values

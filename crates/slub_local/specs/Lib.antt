@@ -1,4 +1,5 @@
 pub mod Facts
 pub mod Hands
 pub mod Script
+pub mod Taken
 pub mod Values

@@ -1,5 +1,6 @@
 -- What the locks guard, by the number of the lock.
-use Rattle.std.specs.Prelude.{ℕ, List, slice_index_or}
+use Rattle.std.specs.Prelude.{ℕ, ◌<◌, List, length, map, slice_index_or}
+use Rattle.slub_core.specs.Setup.{node_lock, pool_lock}
 use Rattle.slub_core.specs.World.{LockValue}
 use Rattle.slub_core.specs.World as value
 use Rattle.slub_local.specs.declared.guarded.Guarded.{Guarded}
@@ -21,3 +22,29 @@ room_in Nothing = 0
 room_in (Node list) = list.room
 room_in (Checked slabs) = 0
 room_in (Pool pool) = 0
+
+-- for how many slabs there is room in each node list
+abbrev pub rooms_of : List Guarded → List ℕ
+rooms_of guarded = map room_in guarded
+
+-- there is room for one slab more
+abbrev pub HasRoom : Guarded → Type 0
+HasRoom Nothing = ⊥
+HasRoom (Node list) = length list.frames < list.room
+HasRoom (Checked slabs) = ⊥
+HasRoom (Pool pool) = ⊥
+
+-- on the node list of a cache
+abbrev pub HasRoomAt : List Guarded → ℕ → Type 0
+HasRoomAt guarded cache = HasRoom (slice_index_or guarded (node_lock cache) Nothing)
+
+-- it is the pool
+abbrev pub IsPoolValue : Guarded → Type 0
+IsPoolValue Nothing = ⊥
+IsPoolValue (Node list) = ⊥
+IsPoolValue (Checked slabs) = ⊥
+IsPoolValue (Pool pool) = Unit {0}
+
+-- the pool stands behind its lock
+abbrev pub HasPool : List Guarded → Type 0
+HasPool guarded = IsPoolValue (slice_index_or guarded pool_lock Nothing)

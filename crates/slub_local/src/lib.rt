@@ -19,5 +19,7 @@ pub mod cache;
 pub mod guarded;
 pub mod hands;
 pub mod local;
+pub mod ops;
 pub mod setup;
+pub mod values;
 pub mod words;

@@ -34,6 +34,7 @@ fn bit(word: u64, at: u32) -> bool
 }
 
 /// What the word of a cache and a CPU says.
+#[tactic(auto, unfolding(slub_core::specs::Words::cpu_in))]
 pub fn cpu_in(word: u64) -> CpuWord
     ensures { result ≡ says.cpu_in word }
 {
@@ -45,6 +46,7 @@ pub fn cpu_in(word: u64) -> CpuWord
 }
 
 /// What the word of a slab says.
+#[tactic(auto, unfolding(slub_core::specs::Words::slab_in))]
 pub fn slab_in(word: u64) -> SlabWord
     ensures { result ≡ says.slab_in word }
 {
@@ -59,6 +61,7 @@ pub fn slab_in(word: u64) -> SlabWord
 }
 
 /// What the word of an object number says; None for the word 0.
+#[tactic(auto, unfolding(slub_core::specs::Words::board_in))]
 pub fn board_in(word: u64) -> Option<BoardWord>
     ensures { result ≡ says.board_in word }
 {
@@ -73,6 +76,7 @@ pub fn board_in(word: u64) -> Option<BoardWord>
 }
 
 /// What the word of a partial list says.
+#[tactic(auto, unfolding(slub_core::specs::Words::list_in))]
 pub fn list_in(word: u64) -> ListWord
     ensures { result ≡ says.list_in word }
 {

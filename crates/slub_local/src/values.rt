@@ -1,0 +1,114 @@
+//! What is done at once under a lock that the worker has.
+
+ghost use Rattle.std.specs.Prelude.{◌≡◌, ◌+◌, ◌^◌, ◌<◌, ◌≤◌, [], ◌∷◌, ◌++◌, length, drop, slice_index_or, IfSome, MatchOption};
+ghost use Rattle.slub_page_pool.specs.Block.{CanPut};
+ghost use Rattle.slub_core.specs.Setup.{Setup, node_lock, pool_lock};
+ghost use Rattle.slub_core.specs.World.{Node, update, frames_in, pool_in};
+ghost use Rattle.slub_core.specs.Alloc.{found_run, pool_with};
+ghost use Rattle.slub_core.specs.Discard.{with_put};
+ghost use Rattle.slub_local.specs.Facts.{IsSmall};
+ghost use Rattle.slub_local.specs.Taken.{pool_left};
+ghost use Rattle.slub_local.specs.Values.{values_of, rooms_of, HasRoomAt, HasPool};
+
+use crate::guarded::Guarded;
+use slub_core::local::FrameRun;
+use slub_object_layout::layout::Layout;
+use slub_page_pool::Pool;
+
+/// The slabs of a cache's node list, head first.
+pub fn node(values: &[Guarded], cache: u8) -> &[u16]
+    ensures { result.now ≡ frames_in (values_of values.now (node_lock cache)) }
+{
+    match values.get(usize::from(cache) + 1) {
+        Some(Guarded::Node(list)) => list.frames(),
+        _ => &[],
+    }
+}
+
+/// Takes the head of the node list (`get_partial_node`); None where it is empty.
+pub fn pop_node(values: &mut [Guarded], cache: u8) -> Option<u16>
+    ensures popped { let frames = frames_in (values_of values.old (node_lock cache)) in
+        MatchOption result ((frames ≡ []) × (values_of values.new ≡ values_of values.old))
+        (λ frame. (frames ≡ frame ∷ drop 1 frames)
+        × (values_of values.new ≡ update (values_of values.old) (node_lock cache) (Node (drop 1 frames)))) }
+    ensures rooms { rooms_of values.new ≡ rooms_of values.old }
+{
+    match values.get_mut(usize::from(cache) + 1) {
+        Some(Guarded::Node(list)) => list.pop(),
+        _ => None,
+    }
+}
+
+/// Puts a slab at the head of the node list (`add_partial`).
+pub fn push_head(values: &mut [Guarded], cache: u8, frame: u16)
+    requires { HasRoomAt values.old cache }
+    ensures after { values_of values.new ≡ update (values_of values.old) (node_lock cache) (Node (frame ∷ frames_in (values_of values.old (node_lock cache)))) }
+    ensures rooms { rooms_of values.new ≡ rooms_of values.old }
+{
+    if let Some(Guarded::Node(list)) = values.get_mut(usize::from(cache) + 1) {
+        list.push_head(frame);
+    }
+}
+
+/// Puts a slab at the tail of the node list (`add_partial`).
+pub fn push_tail(values: &mut [Guarded], cache: u8, frame: u16)
+    requires { HasRoomAt values.old cache }
+    ensures after { values_of values.new ≡ update (values_of values.old) (node_lock cache) (Node (frames_in (values_of values.old (node_lock cache)) ++ frame ∷ [])) }
+    ensures rooms { rooms_of values.new ≡ rooms_of values.old }
+{
+    if let Some(Guarded::Node(list)) = values.get_mut(usize::from(cache) + 1) {
+        list.push_tail(frame);
+    }
+}
+
+/// Takes a run for a new slab: of the layout's order, else of its least order (`allocate_slab`). None is counted.
+pub fn take_run(values: &mut [Guarded], layout: &Layout) -> Option<FrameRun>
+    requires small { IsSmall layout.now }
+    requires pool { HasPool values.old }
+    ensures found { (m : Setup) → result ≡ found_run m (pool_in (values_of values.old pool_lock)) layout.now }
+    ensures after { values_of values.new ≡ pool_with (values_of values.old) (pool_left (pool_in (values_of values.old pool_lock)) layout.now result) }
+    ensures rooms { rooms_of values.new ≡ rooms_of values.old }
+{
+    match values.get_mut(0) {
+        Some(Guarded::Pool(pool)) => take_from(pool, layout),
+        _ => None,
+    }
+}
+
+/// The same of the pool.
+fn take_from(pool: &mut Pool, layout: &Layout) -> Option<FrameRun>
+    requires { IsSmall layout.now }
+    ensures found { (m : Setup) → result ≡ found_run m pool.old layout.now }
+    ensures left { pool.new ≡ pool_left pool.old layout.now result }
+{
+    if let Some(frame) = pool.take(layout.order) {
+        return Some(FrameRun {
+            frame: frame as u16,
+            order: layout.order,
+            objects: layout.objects as u16,
+        });
+    }
+    let frame = pool.take_or_note(layout.min_order)?;
+    let objects = if layout.min_order == layout.order {
+        layout.objects
+    } else {
+        layout.min_objects_slab
+    };
+    Some(FrameRun {
+        frame: frame as u16,
+        order: layout.min_order,
+        objects: objects as u16,
+    })
+}
+
+/// Puts a run back into the pool (`__free_pages`).
+pub fn put_run(values: &mut [Guarded], run: FrameRun)
+    requires pool { HasPool values.old }
+    requires fits { CanPut (pool_in (values_of values.old pool_lock)) run.frame run.order }
+    ensures after { values_of values.new ≡ pool_with (values_of values.old) (with_put (pool_in (values_of values.old pool_lock)) run) }
+    ensures rooms { rooms_of values.new ≡ rooms_of values.old }
+{
+    if let Some(Guarded::Pool(pool)) = values.get_mut(0) {
+        pool.put(u32::from(run.frame), run.order);
+    }
+}

@@ -1,8 +1,9 @@
 -- What stays while a round runs, as plain data, and the `Setup` of the step machine that it is.
-use Rattle.std.specs.Prelude.{◌≡◌, ℕ, ◌+◌, ◌<◌, ◌≤◌, Bool, false, List, length, slice_index, slice_index_or, All}
+use Rattle.std.specs.Prelude.{◌≡◌, ℕ, ◌+◌, ◌/◌, ◌%◌, ◌^◌, ◌<◌, ◌≤◌, Bool, false, List, length, slice_index, slice_index_or, All}
 use Rattle.slub_object_layout.specs.declared.layout.Layout.{Layout}
+use Rattle.slub_object_layout.specs.Layout.{address_of}
 use Rattle.slub_words.specs.Words.{steps_from_one}
-use Rattle.slub_core.specs.Setup.{Setup, Means}
+use Rattle.slub_core.specs.Setup.{Setup, Means, hardened}
 use Rattle.slub_local.specs.declared.cache.CacheFacts.{CacheFacts}
 
 -- the sizes of the machine, the live caches that aren't checked, oldest first, and each cache by its
@@ -54,6 +55,21 @@ setup_of facts means = record {
   checks = λ cache. (cache_of facts cache).checks;
   means = means;
 }
+
+-- ---- where things stand, which is so whatever those are
+
+-- the memory word of an object's free pointer, and one of its own words
+abbrev pub pointer_in : Facts → ℕ → ℕ → ℕ → ℕ
+pointer_in facts cache frame index =
+    (address_of frame index (cache_of facts cache).layout + (cache_of facts cache).layout.offset) / 8
+
+abbrev pub word_in : Facts → ℕ → ℕ → ℕ → ℕ → ℕ
+word_in facts cache frame index word =
+    address_of frame index (cache_of facts cache).layout / 8 + word
+
+-- what was loaded of an object's free pointer
+abbrev pub found_in : Facts → ℕ → ℕ → ℕ → ℕ → ℕ
+found_in facts cache frame index x = hardened cache (pointer_in facts cache frame index) x % 2 ^ 16
 
 -- so small that the address of every object is one (profile)
 pub record IsSmall (layout : Layout) : Type 0 where

@@ -21,5 +21,6 @@ pub mod hands;
 pub mod local;
 pub mod ops;
 pub mod setup;
+mod taken;
 pub mod values;
 pub mod words;

@@ -1,9 +1,8 @@
 //! The steps that spots call for: an operation on one word.
 
 ghost use Rattle.std.specs.Prelude.{◌≡◌, ◌+◌, ◌*◌, ◌^◌, ◌<◌, ◌≤◌};
-ghost use Rattle.slub_core.specs.Setup.{Means, node_lock, pool_lock};
-ghost use Rattle.slub_core.specs.Ops as op;
-ghost use Rattle.slub_local.specs.Facts.{setup_of};
+ghost use Rattle.slub_core.specs.Ops as made;
+ghost use Rattle.slub_local.specs.Steps as placed;
 
 use crate::local::Local;
 use crate::setup::Setup;
@@ -14,7 +13,7 @@ use slub_words::slab::SlabWord;
 
 /// Of a spot that calls for no step.
 pub fn no_step() -> Step
-    ensures { result ≡ op.no_step }
+    ensures { result ≡ made.no_step }
 {
     Step {
         place: Place::LockOf(0),
@@ -24,14 +23,14 @@ pub fn no_step() -> Step
 
 /// The number of the CPU word and the list word of the call's cache and CPU.
 fn own_cpu(local: &Local) -> u32
-    ensures { result ≡ op.own_cpu local.now }
+    ensures { result ≡ made.own_cpu local.now }
 {
     16 * u32::from(local.cache()) + u32::from(local.cpu())
 }
 
 /// Loads the CPU word.
 pub fn load_cpu(local: &Local) -> Step
-    ensures { result ≡ op.load_cpu local.now }
+    ensures { result ≡ made.load_cpu local.now }
 {
     Step {
         place: Place::CpuOf(own_cpu(local)),
@@ -41,7 +40,7 @@ pub fn load_cpu(local: &Local) -> Step
 
 /// Changes the CPU word, from the noted one (`this_cpu_cmpxchg_double`).
 pub fn change_cpu(local: &Local, to: CpuWord) -> Step
-    ensures { result ≡ op.change_cpu local.now to }
+    ensures { result ≡ made.change_cpu local.now to }
 {
     Step {
         place: Place::CpuOf(own_cpu(local)),
@@ -54,7 +53,7 @@ pub fn change_cpu(local: &Local, to: CpuWord) -> Step
 
 /// Loads the word of a slab.
 pub fn load_slab(frame: u16) -> Step
-    ensures { result ≡ op.load_slab frame }
+    ensures { result ≡ made.load_slab frame }
 {
     Step {
         place: Place::SlabOf(u32::from(frame)),
@@ -64,7 +63,7 @@ pub fn load_slab(frame: u16) -> Step
 
 /// Changes the word of a slab, from the noted one (`__cmpxchg_double_slab`).
 pub fn change_slab(local: &Local, frame: u16, to: SlabWord) -> Step
-    ensures { result ≡ op.change_slab local.now frame to }
+    ensures { result ≡ made.change_slab local.now frame to }
 {
     Step {
         place: Place::SlabOf(u32::from(frame)),
@@ -77,7 +76,7 @@ pub fn change_slab(local: &Local, frame: u16, to: SlabWord) -> Step
 
 /// Stores the word of a slab.
 pub fn store_slab(frame: u16, to: SlabWord) -> Step
-    ensures { result ≡ op.store_slab frame to }
+    ensures { result ≡ made.store_slab frame to }
 {
     Step {
         place: Place::SlabOf(u32::from(frame)),
@@ -87,7 +86,7 @@ pub fn store_slab(frame: u16, to: SlabWord) -> Step
 
 /// Loads the free pointer of an object (`get_freepointer`).
 pub fn load_pointer(setup: &Setup, cache: u8, frame: u16, index: u16) -> Step
-    ensures { (means : Means) → result ≡ op.load_pointer (setup_of setup.now means) cache frame index }
+    ensures { result ≡ placed.load_pointer setup.now cache frame index }
 {
     Step {
         place: Place::MemoryOf(setup.pointer_at(cache, frame, index)),
@@ -97,7 +96,7 @@ pub fn load_pointer(setup: &Setup, cache: u8, frame: u16, index: u16) -> Step
 
 /// Stores the free pointer of an object, hardened (`set_freepointer`).
 pub fn store_pointer(setup: &Setup, cache: u8, frame: u16, index: u16, to: u16) -> Step
-    ensures { (means : Means) → result ≡ op.store_pointer (setup_of setup.now means) cache frame index to }
+    ensures { result ≡ placed.store_pointer setup.now cache frame index to }
 {
     let place = setup.pointer_at(cache, frame, index);
     Step {
@@ -108,7 +107,7 @@ pub fn store_pointer(setup: &Setup, cache: u8, frame: u16, index: u16, to: u16) 
 
 /// Stores the free pointer of the object of the call.
 pub fn link_object(setup: &Setup, local: &Local, to: u16) -> Step
-    ensures { (means : Means) → result ≡ op.link_object (setup_of setup.now means) local.now to }
+    ensures { result ≡ placed.link_object setup.now local.now to }
 {
     let here = local.here();
     store_pointer(setup, here.cache, here.frame, here.index, to)
@@ -117,7 +116,7 @@ pub fn link_object(setup: &Setup, local: &Local, to: u16) -> Step
 /// Stores one of the first 4096 words of the object of the call.
 pub fn store_word(setup: &Setup, local: &Local, word: u32, value: u64) -> Step
     requires { word ≤ 4095 }
-    ensures { (means : Means) → result ≡ op.store_word (setup_of setup.now means) local.now word value }
+    ensures { result ≡ placed.store_word setup.now local.now word value }
 {
     let here = local.here();
     Step {
@@ -129,7 +128,7 @@ pub fn store_word(setup: &Setup, local: &Local, word: u32, value: u64) -> Step
 /// Loads one of the first 4096 words of the object of the call.
 pub fn load_word(setup: &Setup, local: &Local, word: u32) -> Step
     requires { word ≤ 4095 }
-    ensures { (means : Means) → result ≡ op.load_word (setup_of setup.now means) local.now word }
+    ensures { result ≡ placed.load_word setup.now local.now word }
 {
     let here = local.here();
     Step {
@@ -140,7 +139,7 @@ pub fn load_word(setup: &Setup, local: &Local, word: u32) -> Step
 
 /// Loads the list word.
 pub fn load_list(local: &Local) -> Step
-    ensures { result ≡ op.load_list local.now }
+    ensures { result ≡ made.load_list local.now }
 {
     Step {
         place: Place::ListOf(own_cpu(local)),
@@ -150,7 +149,7 @@ pub fn load_list(local: &Local) -> Step
 
 /// Takes the whole partial list.
 pub fn take_list(local: &Local) -> Step
-    ensures { result ≡ op.take_list local.now }
+    ensures { result ≡ made.take_list local.now }
 {
     Step {
         place: Place::ListOf(own_cpu(local)),
@@ -160,7 +159,7 @@ pub fn take_list(local: &Local) -> Step
 
 /// Changes the list word to this front and this count, from the noted one.
 pub fn change_list(local: &Local, front: u16, count: u32) -> Step
-    ensures { result ≡ op.change_list local.now (record { front = front; count = count }) }
+    ensures { result ≡ made.change_list local.now (record { front = front; count = count }) }
 {
     let noted = local.list_word();
     Step {
@@ -174,7 +173,7 @@ pub fn change_list(local: &Local, front: u16, count: u32) -> Step
 
 /// Loads the link of a slab.
 pub fn load_link(frame: u16) -> Step
-    ensures { result ≡ op.load_link frame }
+    ensures { result ≡ made.load_link frame }
 {
     Step {
         place: Place::LinkOf(u32::from(frame)),
@@ -184,7 +183,7 @@ pub fn load_link(frame: u16) -> Step
 
 /// Stores the link of a slab.
 pub fn store_link(frame: u16, to: u16) -> Step
-    ensures { result ≡ op.store_link frame to }
+    ensures { result ≡ made.store_link frame to }
 {
     Step {
         place: Place::LinkOf(u32::from(frame)),
@@ -194,7 +193,7 @@ pub fn store_link(frame: u16, to: u16) -> Step
 
 /// Takes the object of the call from the board.
 pub fn take_board(local: &Local) -> Step
-    ensures { result ≡ op.take_board local.now }
+    ensures { result ≡ made.take_board local.now }
 {
     Step {
         place: Place::BoardOf(local.here().object),
@@ -204,7 +203,7 @@ pub fn take_board(local: &Local) -> Step
 
 /// Takes a lock, which is the worker's number plus one while it has it.
 fn take_lock(local: &Local, lock: u32) -> Step
-    ensures { result ≡ op.take_lock local.now lock }
+    ensures { result ≡ made.take_lock local.now lock }
 {
     Step {
         place: Place::LockOf(lock),
@@ -217,7 +216,7 @@ fn take_lock(local: &Local, lock: u32) -> Step
 
 /// Gives a lock back.
 fn give_lock(lock: u32) -> Step
-    ensures { result ≡ op.give_lock lock }
+    ensures { result ≡ made.give_lock lock }
 {
     Step {
         place: Place::LockOf(lock),
@@ -227,28 +226,28 @@ fn give_lock(lock: u32) -> Step
 
 /// Takes the node lock of the call's cache.
 pub fn take_node(local: &Local) -> Step
-    ensures { result ≡ op.take_node local.now }
+    ensures { result ≡ made.take_node local.now }
 {
     take_lock(local, u32::from(local.cache()) + 1)
 }
 
 /// Gives it back.
 pub fn give_node(local: &Local) -> Step
-    ensures { result ≡ op.give_node local.now }
+    ensures { result ≡ made.give_node local.now }
 {
     give_lock(u32::from(local.cache()) + 1)
 }
 
 /// Takes the pool's lock.
 pub fn take_pool(local: &Local) -> Step
-    ensures { result ≡ op.take_pool local.now }
+    ensures { result ≡ made.take_pool local.now }
 {
     take_lock(local, 0)
 }
 
 /// Gives it back.
 pub fn give_pool(local: &Local) -> Step
-    ensures { result ≡ op.give_pool local.now }
+    ensures { result ≡ made.give_pool local.now }
 {
     give_lock(0)
 }

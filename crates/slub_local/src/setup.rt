@@ -3,9 +3,8 @@
 ghost use Rattle.std.specs.Prelude.{◌≡◌, ℕ, ◌+◌, ◌*◌, ◌^◌, ◌<◌, ◌≤◌, ◌%◌, length, slice_index, slice_index_or, IfOk};
 ghost use Rattle.slub_object_layout.specs.Layout.{address_of};
 ghost use Rattle.slub_words.specs.Words.{steps_from_one};
-ghost use Rattle.slub_core.specs.Setup.{Means, pointer_at, word_at, hardened};
-ghost use Rattle.slub_core.specs.Alloc.{found_at};
-ghost use Rattle.slub_local.specs.Facts.{Facts, AreFacts, IsSmall, cache_of, setup_of};
+ghost use Rattle.slub_core.specs.Setup.{hardened};
+ghost use Rattle.slub_local.specs.Facts.{Facts, AreFacts, IsSmall, cache_of, pointer_in, word_in, found_in};
 
 use crate::cache::CacheFacts;
 use slub_common::no_memory::NoMemory;
@@ -152,7 +151,7 @@ impl Setup {
 
     /// The memory word of an object's free pointer.
     pub fn pointer_at(&self, cache: u8, frame: u16, index: u16) -> u32
-        ensures place { (means : Means) → result ≡ pointer_at (setup_of self.now means) cache frame index }
+        ensures place { result ≡ pointer_in self.now cache frame index }
         ensures below { result < 2 ^ 29 }
     {
         (self.address(cache, frame, index) + self.layout(cache).offset) / 8
@@ -161,7 +160,7 @@ impl Setup {
     /// One of an object's own words, of which the first is 0 and the last one 4095 at most (profile).
     pub fn word_at(&self, cache: u8, frame: u16, index: u16, word: u32) -> u32
         requires { word ≤ 4095 }
-        ensures place { (means : Means) → result ≡ word_at (setup_of self.now means) cache frame index word }
+        ensures { result ≡ word_in self.now cache frame index word }
     {
         self.address(cache, frame, index) / 8 + word
     }
@@ -176,7 +175,7 @@ impl Setup {
 
     /// What was loaded of an object's free pointer.
     pub fn found_at(&self, cache: u8, frame: u16, index: u16, word: u64) -> u16
-        ensures { (means : Means) → result ≡ found_at (setup_of self.now means) cache frame index word }
+        ensures { result ≡ found_in self.now cache frame index word }
     {
         let place = self.pointer_at(cache, frame, index);
         FreePtr::unpack(word, self.random(cache), 8 * place).next

@@ -13,15 +13,14 @@ ghost use Rattle.slub_local.specs.Values.{values_of, rooms_of, HasRoomAt, HasPoo
 use crate::guarded::Guarded;
 use slub_core::local::FrameRun;
 use slub_object_layout::layout::Layout;
-use slub_page_pool::Pool;
 
 /// The slabs of a cache's node list, head first.
 pub fn node(values: &[Guarded], cache: u8) -> &[u16]
     ensures { result.now ≡ frames_in (values_of values.now (node_lock cache)) }
 {
     match values.get(usize::from(cache) + 1) {
-        Some(Guarded::Node(list)) => list.frames(),
-        _ => &[],
+        Some(value) => value.node(),
+        None => &[],
     }
 }
 
@@ -33,10 +32,11 @@ pub fn pop_node(values: &mut [Guarded], cache: u8) -> Option<u16>
         × (values_of values.new ≡ update (values_of values.old) (node_lock cache) (Node (drop 1 frames)))) }
     ensures rooms { rooms_of values.new ≡ rooms_of values.old }
 {
-    match values.get_mut(usize::from(cache) + 1) {
-        Some(Guarded::Node(list)) => list.pop(),
-        _ => None,
+    let lock = usize::from(cache) + 1;
+    if lock < values.len() {
+        return values[lock].pop();
     }
+    None
 }
 
 /// Puts a slab at the head of the node list (`add_partial`).
@@ -45,9 +45,7 @@ pub fn push_head(values: &mut [Guarded], cache: u8, frame: u16)
     ensures after { values_of values.new ≡ update (values_of values.old) (node_lock cache) (Node (frame ∷ frames_in (values_of values.old (node_lock cache)))) }
     ensures rooms { rooms_of values.new ≡ rooms_of values.old }
 {
-    if let Some(Guarded::Node(list)) = values.get_mut(usize::from(cache) + 1) {
-        list.push_head(frame);
-    }
+    values[usize::from(cache) + 1].push_head(frame);
 }
 
 /// Puts a slab at the tail of the node list (`add_partial`).
@@ -56,9 +54,7 @@ pub fn push_tail(values: &mut [Guarded], cache: u8, frame: u16)
     ensures after { values_of values.new ≡ update (values_of values.old) (node_lock cache) (Node (frames_in (values_of values.old (node_lock cache)) ++ frame ∷ [])) }
     ensures rooms { rooms_of values.new ≡ rooms_of values.old }
 {
-    if let Some(Guarded::Node(list)) = values.get_mut(usize::from(cache) + 1) {
-        list.push_tail(frame);
-    }
+    values[usize::from(cache) + 1].push_tail(frame);
 }
 
 /// Takes a run for a new slab: of the layout's order, else of its least order (`allocate_slab`). None is counted.
@@ -69,36 +65,7 @@ pub fn take_run(values: &mut [Guarded], layout: &Layout) -> Option<FrameRun>
     ensures after { values_of values.new ≡ pool_with (values_of values.old) (pool_left (pool_in (values_of values.old pool_lock)) layout.now result) }
     ensures rooms { rooms_of values.new ≡ rooms_of values.old }
 {
-    match values.get_mut(0) {
-        Some(Guarded::Pool(pool)) => take_from(pool, layout),
-        _ => None,
-    }
-}
-
-/// The same of the pool.
-fn take_from(pool: &mut Pool, layout: &Layout) -> Option<FrameRun>
-    requires { IsSmall layout.now }
-    ensures found { (m : Setup) → result ≡ found_run m pool.old layout.now }
-    ensures left { pool.new ≡ pool_left pool.old layout.now result }
-{
-    if let Some(frame) = pool.take(layout.order) {
-        return Some(FrameRun {
-            frame: frame as u16,
-            order: layout.order,
-            objects: layout.objects as u16,
-        });
-    }
-    let frame = pool.take_or_note(layout.min_order)?;
-    let objects = if layout.min_order == layout.order {
-        layout.objects
-    } else {
-        layout.min_objects_slab
-    };
-    Some(FrameRun {
-        frame: frame as u16,
-        order: layout.min_order,
-        objects: objects as u16,
-    })
+    values[0].take_run(layout)
 }
 
 /// Puts a run back into the pool (`__free_pages`).
@@ -108,7 +75,5 @@ pub fn put_run(values: &mut [Guarded], run: FrameRun)
     ensures after { values_of values.new ≡ pool_with (values_of values.old) (with_put (pool_in (values_of values.old pool_lock)) run) }
     ensures rooms { rooms_of values.new ≡ rooms_of values.old }
 {
-    if let Some(Guarded::Pool(pool)) = values.get_mut(0) {
-        pool.put(u32::from(run.frame), run.order);
-    }
+    values[0].put_run(run);
 }

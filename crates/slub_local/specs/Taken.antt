@@ -1,5 +1,5 @@
 -- What a take of a run for a new slab leaves of the pool.
-use Rattle.std.specs.Prelude.{ℕ, Option, Some, None}
+use Rattle.std.specs.Prelude.{Option, Some, None}
 use Rattle.slub_object_layout.specs.declared.layout.Layout.{Layout}
 use Rattle.slub_page_pool.specs.FreeFrames.{FreeFrames}
 use Rattle.slub_core.specs.declared.local.FrameRun.{FrameRun}

@@ -16,6 +16,7 @@ pub fn run_from(pool: &mut Pool, layout: &Layout) -> Option<FrameRun>
     ensures found { (m : Setup) → result ≡ found_run m pool.old layout.now }
     ensures left { pool.new ≡ pool_left pool.old layout.now result }
 {
+    let _frames = pool.frames();
     if let Some(frame) = pool.take(layout.order) {
         return Some(FrameRun {
             frame: frame as u16,

@@ -4,3 +4,4 @@ pub mod Script
 pub mod Steps
 pub mod Taken
 pub mod Values
+pub mod Ways

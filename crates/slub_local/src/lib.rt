@@ -23,4 +23,5 @@ pub mod ops;
 pub mod setup;
 mod taken;
 pub mod values;
+pub mod ways;
 pub mod words;

@@ -1,8 +1,10 @@
 -- What the paths look at and leave, without the machine.
-use Rattle.std.specs.Prelude.{ℕ, ◌+◌, ◌-◌, ◌*◌, ◌^◌, ◌<◌, Bool, nat_lt, Option}
+use Rattle.std.specs.Prelude.{ℕ, ◌+◌, ◌-◌, ◌*◌, ◌^◌, ◌<◌, Bool, nat_lt, List, Option}
 use Rattle.slub_words.specs.declared.cpu.CpuWord.{CpuWord}
 use Rattle.slub_answers.specs.declared.reply.Reply.{Reply}
-use Rattle.slub_core.specs.Local.{Local, Turn}
+use Rattle.slub_core.specs.Local.{Local, Turn, Change}
+use Rattle.slub_local.specs.declared.guarded.Guarded.{Guarded}
+use Rattle.slub_local.specs.Values.{values_of}
 
 -- a worker after a step, and the reply that its call has by it
 abbrev pub turned : Local → Option Reply → Turn
@@ -20,3 +22,7 @@ raised_word step l frame head =
 -- the transaction id of the noted word has room for a step
 abbrev pub HasTid : ℕ → Local → Type 0
 HasTid step l = l.cpu_word.tid + step < 2 ^ 32
+
+-- the values of the locks and a worker after what is done at once, and the reply
+abbrev pub changed : List Guarded → Local → Option Reply → Change
+changed guarded l reply = record { value = values_of guarded; local = l; reply = reply }

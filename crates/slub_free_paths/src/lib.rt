@@ -17,7 +17,7 @@
 
 pub mod discard;
 pub mod free;
-mod lists;
+pub mod lists;
 pub mod move_set;
 pub mod put_away;
 pub mod put_on_list;

@@ -11,7 +11,7 @@ ghost use Rattle.slub_local.specs.Values.{value_in, values_of, room_in, rooms_of
 use slub_local::guarded::Guarded;
 
 /// Takes a slab off the node list of a cache (`remove_partial`), where it stands once.
-pub(crate) fn take_off(values: &mut [Guarded], cache: u8, frame: u16)
+pub fn take_off(values: &mut [Guarded], cache: u8, frame: u16)
     requires { times frame (frames_in (values_of values.old (node_lock cache))) ≡ 1 }
     ensures after { values_of values.new ≡ update (values_of values.old) (node_lock cache) (value.Node (without (frames_in (values_of values.old (node_lock cache))) frame)) }
     ensures rooms { rooms_of values.new ≡ rooms_of values.old }

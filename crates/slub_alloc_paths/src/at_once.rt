@@ -1,8 +1,7 @@
 //! What an allocation does at once, under a lock that the worker has.
 
-ghost use Rattle.std.specs.Prelude.{◌≡◌, ◌+◌, ◌<◌, length};
-ghost use Rattle.slub_core.specs.Setup.{Means, pool_lock};
-ghost use Rattle.slub_core.specs.World.{pool_in};
+ghost use Rattle.std.specs.Prelude.{◌≡◌};
+ghost use Rattle.slub_core.specs.Setup.{Means};
 ghost use Rattle.slub_core.specs.Alloc.{alloc_at_once, asks_for_another};
 ghost use Rattle.slub_local.specs.Facts.{setup_of};
 ghost use Rattle.slub_local.specs.Values.{values_of, rooms_of, HasPool};

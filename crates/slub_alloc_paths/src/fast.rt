@@ -1,12 +1,10 @@
 //! The fast path (`slab_alloc_node`).
 
-ghost use Rattle.std.specs.Prelude.{◌≡◌, ◌+◌, ◌-◌, ◌^◌, ◌<◌, ◌==◌, length};
+ghost use Rattle.std.specs.Prelude.{◌≡◌};
 ghost use Rattle.slub_core.specs.Setup.{Means};
-ghost use Rattle.slub_core.specs.Local.{hand_of};
 ghost use Rattle.slub_core.specs.Alloc.{alloc_advance};
 ghost use Rattle.slub_local.specs.Facts.{setup_of};
 ghost use Rattle.slub_local.specs.Ways.{turned};
-ghost use Rattle.slub_alloc_paths.specs.Fits.{HasHand};
 
 use crate::words::{told_of_word, way_of_word};
 use slub_answers::reply::Reply;

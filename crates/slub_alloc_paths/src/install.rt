@@ -1,6 +1,6 @@
 //! The slab in hand becomes current (`load_freelist`, `retry_load_slab`).
 
-ghost use Rattle.std.specs.Prelude.{◌≡◌, ◌+◌, ◌-◌, ◌^◌, ◌<◌, ◌==◌, length};
+ghost use Rattle.std.specs.Prelude.{◌≡◌, ◌+◌, ◌^◌, ◌<◌};
 ghost use Rattle.slub_core.specs.Setup.{Means};
 ghost use Rattle.slub_core.specs.Local.{hand_of};
 ghost use Rattle.slub_core.specs.Alloc.{alloc_advance};

@@ -1,8 +1,7 @@
 //! The CPU's partial list (`slub_percpu_partial` of `___slab_alloc`).
 
-ghost use Rattle.std.specs.Prelude.{◌≡◌, ◌+◌, ◌-◌, ◌^◌, ◌<◌, ◌==◌, length};
+ghost use Rattle.std.specs.Prelude.{◌≡◌};
 ghost use Rattle.slub_core.specs.Setup.{Setup};
-ghost use Rattle.slub_core.specs.Local.{hand_of};
 ghost use Rattle.slub_core.specs.Alloc.{alloc_advance};
 ghost use Rattle.slub_local.specs.Ways.{turned};
 ghost use Rattle.slub_alloc_paths.specs.Fits.{HasHand};

@@ -1,11 +1,9 @@
 //! The node list (`get_partial_node`).
 
-ghost use Rattle.std.specs.Prelude.{◌≡◌, ◌+◌, ◌-◌, ◌^◌, ◌<◌, ◌==◌, length};
+ghost use Rattle.std.specs.Prelude.{◌≡◌};
 ghost use Rattle.slub_core.specs.Setup.{Setup};
-ghost use Rattle.slub_core.specs.Local.{hand_of};
 ghost use Rattle.slub_core.specs.Alloc.{alloc_advance};
 ghost use Rattle.slub_local.specs.Ways.{turned};
-ghost use Rattle.slub_alloc_paths.specs.Fits.{HasHand};
 
 use crate::own::take_chain;
 use slub_answers::reply::Reply;

@@ -1,6 +1,6 @@
 //! The current slab's own freelist (`get_freelist`).
 
-ghost use Rattle.std.specs.Prelude.{◌≡◌, ◌+◌, ◌-◌, ◌^◌, ◌<◌, ◌==◌, length};
+ghost use Rattle.std.specs.Prelude.{◌≡◌};
 ghost use Rattle.slub_core.specs.Setup.{Setup};
 ghost use Rattle.slub_core.specs.Local.{hand_of, hand_from, set_hand};
 ghost use Rattle.slub_core.specs.Alloc.{alloc_advance};

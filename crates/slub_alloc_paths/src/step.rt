@@ -1,12 +1,9 @@
 //! The step that a spot of an allocation calls for.
 
-ghost use Rattle.std.specs.Prelude.{◌≡◌, ◌+◌};
+ghost use Rattle.std.specs.Prelude.{◌≡◌};
 ghost use Rattle.slub_core.specs.Setup.{Means};
-ghost use Rattle.slub_core.specs.Local.{hand_of};
-ghost use Rattle.slub_core.specs.Alloc.{alloc_step, made_word, second_of};
-ghost use Rattle.slub_core.specs.Alloc as words;
+ghost use Rattle.slub_core.specs.Alloc.{alloc_step, made_word};
 ghost use Rattle.slub_local.specs.Facts.{setup_of};
-ghost use Rattle.slub_local.specs.Steps as placed;
 ghost use Rattle.slub_alloc_paths.specs.Fits.{AllocFits};
 
 use crate::words::{emptied_word, frozen_word, second_of, thawed_word, unlisted_word};

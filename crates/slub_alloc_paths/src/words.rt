@@ -1,10 +1,9 @@
 //! The words that an allocation leaves, and the ways that it goes by words.
 
-ghost use Rattle.std.specs.Prelude.{◌≡◌, ◌+◌, ◌<◌, length};
+ghost use Rattle.std.specs.Prelude.{◌≡◌};
 ghost use Rattle.slub_core.specs.Setup.{Means};
 ghost use Rattle.slub_core.specs.Alloc as alloc;
 ghost use Rattle.slub_local.specs.Facts.{setup_of};
-ghost use Rattle.slub_local.specs.Hands.{hands_of};
 
 use slub_answers::reply::Reply;
 use slub_core::local::{FrameRun, Hand, PartialString};

@@ -1,6 +1,6 @@
 //! What a lock of the machine guards, and what is done to it at once.
 
-ghost use Rattle.std.specs.Prelude.{◌≡◌, ◌+◌, ◌^◌, ◌<◌, ◌≤◌, [], ◌∷◌, ◌++◌, drop, MatchOption, IfSome};
+ghost use Rattle.std.specs.Prelude.{◌≡◌, ◌+◌, [], ◌∷◌, ◌++◌, drop, MatchOption, IfSome};
 
 use crate::taken::run_from;
 use slub_core::local::FrameRun;

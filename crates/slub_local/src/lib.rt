@@ -22,6 +22,8 @@ pub mod local;
 pub mod ops;
 pub mod setup;
 mod taken;
+#[cfg(test)]
+mod tests;
 pub mod values;
 pub mod ways;
 pub mod words;

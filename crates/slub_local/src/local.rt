@@ -1,6 +1,6 @@
 //! A worker: where it stands, what it has noted, what it knows and what it has in hand.
 
-ghost use Rattle.std.specs.Prelude.{◌≡◌, ◌+◌, ◌^◌, ◌<◌, ◌≤◌, ◌++◌, ◌∷◌, [], None, nat_lt, reverse, length, slice_index_or, IfOk, IfSome, map};
+ghost use Rattle.std.specs.Prelude.{◌≡◌, ◌+◌, ◌<◌, ◌≤◌, ◌++◌, ◌∷◌, [], nat_lt, reverse, length, slice_index_or, IfOk, IfSome, map};
 ghost use Rattle.slub_core.specs.Local as local;
 ghost use Rattle.slub_core.specs.Run.{idle};
 

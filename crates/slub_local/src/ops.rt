@@ -1,6 +1,6 @@
 //! The steps that spots call for: an operation on one word.
 
-ghost use Rattle.std.specs.Prelude.{◌≡◌, ◌+◌, ◌*◌, ◌^◌, ◌<◌, ◌≤◌};
+ghost use Rattle.std.specs.Prelude.{◌≡◌, ◌≤◌};
 ghost use Rattle.slub_core.specs.Ops as made;
 ghost use Rattle.slub_local.specs.Steps as placed;
 

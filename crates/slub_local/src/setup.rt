@@ -1,6 +1,6 @@
 //! What stays while a round runs.
 
-ghost use Rattle.std.specs.Prelude.{◌≡◌, ℕ, ◌+◌, ◌*◌, ◌^◌, ◌<◌, ◌≤◌, ◌%◌, length, slice_index, slice_index_or, IfOk};
+ghost use Rattle.std.specs.Prelude.{◌≡◌, ◌+◌, ◌^◌, ◌<◌, ◌≤◌, IfOk};
 ghost use Rattle.slub_object_layout.specs.Layout.{address_of};
 ghost use Rattle.slub_words.specs.Words.{steps_from_one};
 ghost use Rattle.slub_core.specs.Setup.{hardened};

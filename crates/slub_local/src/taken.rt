@@ -1,6 +1,6 @@
 //! A run of the pool for a new slab.
 
-ghost use Rattle.std.specs.Prelude.{◌≡◌, ◌+◌, ◌^◌, ◌<◌, ◌≤◌, ◌==◌, if◌then◌else◌};
+ghost use Rattle.std.specs.Prelude.{◌≡◌, ◌==◌, if◌then◌else◌};
 ghost use Rattle.slub_core.specs.Setup.{Setup};
 ghost use Rattle.slub_core.specs.Alloc.{found_run};
 ghost use Rattle.slub_local.specs.Facts.{IsSmall};

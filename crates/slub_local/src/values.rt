@@ -1,6 +1,6 @@
 //! What is done at once under a lock that the worker has.
 
-ghost use Rattle.std.specs.Prelude.{◌≡◌, ◌+◌, ◌^◌, ◌<◌, ◌≤◌, [], ◌∷◌, ◌++◌, length, drop, slice_index_or, IfSome, MatchOption};
+ghost use Rattle.std.specs.Prelude.{◌≡◌, ◌+◌, [], ◌∷◌, ◌++◌, drop, MatchOption};
 ghost use Rattle.slub_page_pool.specs.Block.{CanPut};
 ghost use Rattle.slub_core.specs.Setup.{Setup, node_lock, pool_lock};
 ghost use Rattle.slub_core.specs.World.{Node, update, frames_in, pool_in};

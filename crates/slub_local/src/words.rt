@@ -2,7 +2,6 @@
 
 ghost use Rattle.std.specs.Prelude.{◌≡◌, ◌+◌, ◌*◌, ◌/◌, ◌%◌, ◌^◌, ◌<◌, ◌≤◌, ◌==◌};
 ghost use Rattle.slub_core.specs.Words as says;
-ghost use Rattle.slub_cpu_partial.specs.Strings.{list_bits};
 
 use slub_cpu_partial::words::ListWord;
 use slub_words::board::BoardWord;

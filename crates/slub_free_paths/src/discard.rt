@@ -1,6 +1,6 @@
 //! Discarding an empty slab in hand, under the node lock (`discard_slab`).
 
-ghost use Rattle.std.specs.Prelude.{◌≡◌, ◌+◌, ◌<◌, ◌^◌, if◌then◌else◌, ◌==◌};
+ghost use Rattle.std.specs.Prelude.{◌≡◌, ◌+◌, ◌<◌, ◌^◌, if◌then◌else◌, ◌==◌, None};
 ghost use Rattle.slub_page_pool.specs.Block.{CanPut};
 ghost use Rattle.slub_core.specs.Setup.{Means, order_for, pool_lock};
 ghost use Rattle.slub_core.specs.World.{pool_in};
@@ -8,9 +8,9 @@ ghost use Rattle.slub_core.specs.Discard as core;
 ghost use Rattle.slub_core.specs.Offline.{if_trimming};
 ghost use Rattle.slub_core.specs.Local.{goes, hand_of, run_of};
 ghost use Rattle.slub_local.specs.Facts.{setup_of, cache_of};
-ghost use Rattle.slub_local.specs.Values.{values_of, HasPool};
+ghost use Rattle.slub_local.specs.Values.{values_of, rooms_of};
+ghost use Rattle.slub_local.specs.Ways.{changed};
 ghost use Rattle.slub_free_paths.specs.Fits.{DiscardFits, PutsRun};
-ghost use Rattle.slub_free_paths.specs.Changed.{changed};
 
 use slub_core::local::FrameRun;
 use slub_core::spot::{
@@ -140,7 +140,8 @@ pub fn discard_at_once(
     discard: Discard,
 )
     requires { PutsRun values.old local.old spot }
-    ensures { changed values.new local.new ≡ core.discard_at_once (values_of values.old) local.old spot discard }
+    ensures change { changed values.new local.new None ≡ core.discard_at_once (values_of values.old) local.old spot discard }
+    ensures rooms { rooms_of values.new ≡ rooms_of values.old }
 {
     if let DiscardSpot::PutRun = spot {
         values::put_run(values, local.run_or_none());

@@ -1,15 +1,14 @@
 //! The free of an object of an unchecked cache (`do_slab_free`, `__slab_free`).
 
-ghost use Rattle.std.specs.Prelude.{◌≡◌, ◌+◌, ◌<◌, ◌^◌, ◌==◌, ◌&&◌, not, nat_lt, nat_le, length, if◌then◌else◌};
+ghost use Rattle.std.specs.Prelude.{◌≡◌, ◌+◌, ◌<◌, ◌^◌, ◌==◌, ◌&&◌, not, nat_lt, nat_le, length, if◌then◌else◌, None};
 ghost use Rattle.slub_object_layout.specs.Layout.{address_of};
 ghost use Rattle.slub_core.specs.Setup.{Means};
 ghost use Rattle.slub_core.specs.Free as free;
 ghost use Rattle.slub_core.specs.Local.{here, at, goes, loses};
 ghost use Rattle.slub_local.specs.Facts.{setup_of, cache_of};
-ghost use Rattle.slub_local.specs.Values.{values_of};
+ghost use Rattle.slub_local.specs.Values.{values_of, rooms_of};
 ghost use Rattle.slub_free_paths.specs.Fits.{FreeFits, TakesOff};
-ghost use Rattle.slub_free_paths.specs.Changed.{changed};
-ghost use Rattle.slub_local.specs.Ways.{turned, is_spent_by};
+ghost use Rattle.slub_local.specs.Ways.{turned, is_spent_by, changed};
 
 use crate::lists::take_off;
 use slub_answers::reply::Reply;
@@ -274,7 +273,8 @@ fn set_taken(local: &mut Local, list: ListWord) -> Option<Reply>
 pub fn free_at_once(setup: &Setup, values: &mut [Guarded], local: &mut Local, spot: FreeSpot)
     requires hands { length local.old.hands < 2 }
     requires once { TakesOff values.old local.old spot }
-    ensures { (means : Means) → changed values.new local.new ≡ free.free_at_once (setup_of setup.now means) (values_of values.old) local.old spot }
+    ensures change { (means : Means) → changed values.new local.new None ≡ free.free_at_once (setup_of setup.now means) (values_of values.old) local.old spot }
+    ensures rooms { rooms_of values.new ≡ rooms_of values.old }
 {
     if let FreeSpot::TakeOff = spot {
         let frame = local.here().frame;

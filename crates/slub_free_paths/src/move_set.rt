@@ -1,15 +1,14 @@
 //! Moving a string of slabs to the node list, its empty slabs to the pool (`__unfreeze_partials`).
 
-ghost use Rattle.std.specs.Prelude.{◌≡◌, ◌+◌, ◌<◌, ◌^◌, ◌%◌, ◌-◌, ◌==◌, ◌&&◌, nat_le, length, if◌then◌else◌, Some};
+ghost use Rattle.std.specs.Prelude.{◌≡◌, ◌+◌, ◌<◌, ◌^◌, ◌%◌, ◌-◌, ◌==◌, ◌&&◌, nat_le, length, if◌then◌else◌, Some, None};
 ghost use Rattle.slub_core.specs.Setup.{Means};
 ghost use Rattle.slub_core.specs.MoveSet as core;
 ghost use Rattle.slub_core.specs.Alloc as alloc;
 ghost use Rattle.slub_core.specs.Local.{at, goes, with_hand, bare_hand, string_of};
 ghost use Rattle.slub_local.specs.Facts.{setup_of, cache_of};
-ghost use Rattle.slub_local.specs.Values.{values_of};
-ghost use Rattle.slub_local.specs.Ways.{turned};
+ghost use Rattle.slub_local.specs.Values.{values_of, rooms_of};
+ghost use Rattle.slub_local.specs.Ways.{turned, changed};
 ghost use Rattle.slub_free_paths.specs.Fits.{MoveSetFits, PutsTail};
-ghost use Rattle.slub_free_paths.specs.Changed.{changed};
 
 use crate::free::alone;
 use crate::sweep::next_swept;
@@ -134,7 +133,8 @@ fn after_move(setup: &Setup, local: &mut Local, set: MoveSet) -> Option<Reply>
 pub fn move_set_at_once(values: &mut [Guarded], local: &mut Local, spot: MoveSetSpot, set: MoveSet)
     requires fits { MoveSetFits local.old spot }
     requires room { PutsTail values.old local.old spot }
-    ensures { changed values.new local.new ≡ core.move_set_at_once (values_of values.old) local.old spot set }
+    ensures change { changed values.new local.new None ≡ core.move_set_at_once (values_of values.old) local.old spot set }
+    ensures rooms { rooms_of values.new ≡ rooms_of values.old }
 {
     match spot {
         MoveSetSpot::ChooseFront => front_taken(local, set),

@@ -1,14 +1,14 @@
 //! Putting away a slab in hand with its chain (`deactivate_slab`).
 
-ghost use Rattle.std.specs.Prelude.{◌≡◌, ℕ, ◌+◌, ◌-◌, ◌<◌, ◌^◌, ◌==◌, ◌&&◌, ◌||◌, not, if◌then◌else◌, false};
+ghost use Rattle.std.specs.Prelude.{◌≡◌, ℕ, ◌+◌, ◌-◌, ◌<◌, ◌^◌, ◌==◌, ◌&&◌, ◌||◌, not, if◌then◌else◌, false, None};
 ghost use Rattle.slub_core.specs.Setup.{Means};
 ghost use Rattle.slub_core.specs.PutAway as core;
 ghost use Rattle.slub_core.specs.World.{LockValue};
 ghost use Rattle.slub_core.specs.Local.{goes, hand_of};
 ghost use Rattle.slub_local.specs.Facts.{setup_of};
-ghost use Rattle.slub_local.specs.Values.{values_of};
+ghost use Rattle.slub_local.specs.Values.{values_of, rooms_of};
+ghost use Rattle.slub_local.specs.Ways.{changed};
 ghost use Rattle.slub_free_paths.specs.Fits.{PutAwayFits, PutsAway};
-ghost use Rattle.slub_free_paths.specs.Changed.{changed};
 
 use slub_core::local::Hand;
 use slub_core::spot::{AllocSpot, Away, Discard, DiscardSpot, OfflineSpot, PutAwaySpot, Spot};
@@ -188,7 +188,8 @@ fn way_of_put(away: Away) -> Spot
 /// empty (`add_partial`).
 pub fn put_away_at_once(values: &mut [Guarded], local: &mut Local, spot: PutAwaySpot, away: Away)
     requires { PutsAway values.old local.old spot }
-    ensures { changed values.new local.new ≡ core.put_away_at_once (values_of values.old) local.old spot away }
+    ensures change { changed values.new local.new None ≡ core.put_away_at_once (values_of values.old) local.old spot away }
+    ensures rooms { rooms_of values.new ≡ rooms_of values.old }
 {
     if let PutAwaySpot::PutNode = spot {
         let frame = local.hand().frame;

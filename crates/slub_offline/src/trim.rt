@@ -1,12 +1,11 @@
 //! The end of a trim, under the node lock (`__kmem_cache_do_shrink`).
 
-ghost use Rattle.std.specs.Prelude.{◌≡◌, ◌<◌, slice_index, length};
+ghost use Rattle.std.specs.Prelude.{◌≡◌, ◌<◌, slice_index, length, None};
 ghost use Rattle.slub_core.specs.Setup.{Means};
 ghost use Rattle.slub_core.specs.Offline as core;
 ghost use Rattle.slub_local.specs.Facts.{setup_of};
-ghost use Rattle.slub_local.specs.Values.{values_of};
-ghost use Rattle.slub_local.specs.Ways.{turned};
-ghost use Rattle.slub_free_paths.specs.Changed.{changed};
+ghost use Rattle.slub_local.specs.Values.{values_of, rooms_of};
+ghost use Rattle.slub_local.specs.Ways.{turned, changed};
 ghost use Rattle.slub_offline.specs.Fits.{TrimFits, MayScan};
 
 use crate::lists::promote;
@@ -86,7 +85,8 @@ fn slab_scanned(local: &mut Local, word: SlabWord)
 /// and is in hand, to be discarded.
 pub fn trim_at_once(setup: &Setup, values: &mut [Guarded], local: &mut Local, spot: TrimSpot)
     requires { MayScan (values_of values.old) local.old spot }
-    ensures { (means : Means) → changed values.new local.new ≡ core.trim_at_once (setup_of setup.now means) (values_of values.old) local.old spot }
+    ensures change { (means : Means) → changed values.new local.new None ≡ core.trim_at_once (setup_of setup.now means) (values_of values.old) local.old spot }
+    ensures rooms { rooms_of values.new ≡ rooms_of values.old }
 {
     match spot {
         TrimSpot::ScanNode => node_scanned(setup, values, local),
@@ -98,7 +98,8 @@ pub fn trim_at_once(setup: &Setup, values: &mut [Guarded], local: &mut Local, sp
 /// The scan goes on where a slab is left; else those with few free objects come first.
 fn node_scanned(setup: &Setup, values: &mut [Guarded], local: &mut Local)
     requires { MayScan (values_of values.old) local.old TrimSpot.ScanNode }
-    ensures { (means : Means) → changed values.new local.new ≡ core.trim_at_once (setup_of setup.now means) (values_of values.old) local.old TrimSpot.ScanNode }
+    ensures change { (means : Means) → changed values.new local.new None ≡ core.trim_at_once (setup_of setup.now means) (values_of values.old) local.old TrimSpot.ScanNode }
+    ensures rooms { rooms_of values.new ≡ rooms_of values.old }
 {
     if local.scanned().len() < values::node(values, local.cache()).len() {
         local.at(Spot::InTrim(TrimSpot::LoadScanned));
@@ -111,7 +112,8 @@ fn node_scanned(setup: &Setup, values: &mut [Guarded], local: &mut Local)
 /// The empty slab is off the list and in hand.
 fn slab_dropped(setup: &Setup, values: &mut [Guarded], local: &mut Local)
     requires { MayScan (values_of values.old) local.old TrimSpot.DropScanned }
-    ensures { (means : Means) → changed values.new local.new ≡ core.trim_at_once (setup_of setup.now means) (values_of values.old) local.old TrimSpot.DropScanned }
+    ensures change { (means : Means) → changed values.new local.new None ≡ core.trim_at_once (setup_of setup.now means) (values_of values.old) local.old TrimSpot.DropScanned }
+    ensures rooms { rooms_of values.new ≡ rooms_of values.old }
 {
     let frame = scanned_slab(values, local);
     take_off(values, local.cache(), frame);

@@ -8,8 +8,8 @@ use Rattle.slub_local.specs.Values.{values_of}
 use Rattle.slub_offline.proofs.Scans.{scanned-all}
 use Rattle.slub_offline.proofs.trim.node_scanned.Goals as goal
 
-pub returns-else-scanned-node : goal.returns-else-scanned-node
-returns-else-scanned-node c = λ means.
+pub returns-else-scanned-node-clause-change : goal.returns-else-scanned-node-clause-change
+returns-else-scanned-node-clause-change c = λ means.
     let counts = ap (λ (xs : List ℕ). length xs) c.scanned.ensures in
     let frames = ap (λ (xs : List ℕ). length xs) (c.node.ensures ∙ ap (λ (k : ℕ). frames_in (values_of c.args.values.now (node_lock k))) c.cache.ensures) in
     let as_many : length c.args.local.now.scanned ≡ length (node_of (values_of c.args.values.now) c.args.local.now) = omega (arith, counts, frames, c.if-scanned-node.false, c.requires.1) in

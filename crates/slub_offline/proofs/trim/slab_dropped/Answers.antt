@@ -10,7 +10,7 @@ use Rattle.slub_local.specs.Values.{values_of}
 use Rattle.slub_offline.proofs.Scans.{dropped}
 use Rattle.slub_offline.proofs.trim.slab_dropped.Goals as goal
 
-pub returns : goal.returns
-returns c = λ means.
+pub returns-clause-change : goal.returns-clause-change
+returns-clause-change c = λ means.
     let hands = c.at.ensures ∙ ap (λ (l : Local). at l (InDiscard Unmake FromTrim)) (c.with_hand.ensures ∙ ap (λ (h : Hand). with_hand c.args.local.now h) c.bare_hand.ensures) in
     dropped (setup_of c.args.setup.now means) (values_of c.args.values.now) (values_of c.take_off.new.values) c.args.local.now c.at.new.self c.cache.result c.scanned_slab-frame.result c.cache.ensures c.scanned_slab-frame.ensures c.requires.0 c.requires.1 c.take_off.ensures.after hands

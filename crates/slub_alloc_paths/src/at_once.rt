@@ -1,0 +1,85 @@
+//! What an allocation does at once, under a lock that the worker has.
+
+ghost use Rattle.std.specs.Prelude.{◌≡◌};
+ghost use Rattle.slub_core.specs.Setup.{Means};
+ghost use Rattle.slub_core.specs.Alloc.{alloc_at_once, asks_for_another};
+ghost use Rattle.slub_local.specs.Facts.{setup_of};
+ghost use Rattle.slub_local.specs.Values.{values_of, rooms_of, HasPool};
+ghost use Rattle.slub_local.specs.Ways.{changed};
+ghost use Rattle.slub_alloc_paths.specs.Fits.{AtOnceFits, HasHand};
+
+use crate::words::way_of_run;
+use slub_answers::reply::Reply;
+use slub_core::spot::{AllocSpot, Spot};
+use slub_local::guarded::Guarded;
+use slub_local::local::Local;
+use slub_local::setup::Setup;
+use slub_local::values;
+use slub_local::ways::bare_hand;
+
+/// Changes the node list or the pool at a spot that calls for no step, and leads the worker on; at any other spot
+/// nothing changes.
+pub fn alloc_at_once(
+    setup: &Setup,
+    values: &mut [Guarded],
+    local: &mut Local,
+    spot: AllocSpot,
+) -> Option<Reply>
+    requires { AtOnceFits values.old local.old spot }
+    ensures change { (means : Means) → changed values.new local.new result ≡ alloc_at_once (setup_of setup.now means) (values_of values.old) local.old spot }
+    ensures rooms { rooms_of values.new ≡ rooms_of values.old }
+{
+    match spot {
+        AllocSpot::PopNode => pop_node(setup, values, local),
+        AllocSpot::TakeRun => take_run(setup, values, local),
+        _ => None,
+    }
+}
+
+/// Pops the head of the node list, where another slab is asked for (`get_partial_node`).
+fn pop_node(setup: &Setup, values: &mut [Guarded], local: &mut Local) -> Option<Reply>
+    requires { HasHand local.old }
+    ensures change { (means : Means) → changed values.new local.new result ≡ alloc_at_once (setup_of setup.now means) (values_of values.old) local.old AllocSpot.PopNode }
+    ensures rooms { rooms_of values.new ≡ rooms_of values.old }
+{
+    if !asks_for_another(setup, local) {
+        local.at(Spot::InAlloc(AllocSpot::GiveNode));
+        return None;
+    }
+    match values::pop_node(values, local.cache()) {
+        Some(frame) => {
+            local.with_hand(bare_hand(frame));
+            local.at(Spot::InAlloc(AllocSpot::LoadPopped));
+            None
+        }
+        None => {
+            local.at(Spot::InAlloc(AllocSpot::GiveNode));
+            None
+        }
+    }
+}
+
+/// One slab is taken, and then up to half of what the CPU's list is to hold, and one (`get_partial_node`).
+fn asks_for_another(setup: &Setup, local: &Local) -> bool
+    ensures { (means : Means) → result ≡ asks_for_another (setup_of setup.now means) local.now }
+{
+    local.hand_count() == 0 || local.put() <= setup.layout(local.cache()).cpu_partial_slabs / 2
+}
+
+/// Takes a run of frames for a new slab (`allocate_slab`).
+fn take_run(setup: &Setup, values: &mut [Guarded], local: &mut Local) -> Option<Reply>
+    requires { HasPool values.old }
+    ensures change { (means : Means) → changed values.new local.new result ≡ alloc_at_once (setup_of setup.now means) (values_of values.old) local.old AllocSpot.TakeRun }
+    ensures rooms { rooms_of values.new ≡ rooms_of values.old }
+{
+    let layout = setup.layout(local.cache());
+    let found = values::take_run(values, &layout);
+    local.at(way_of_run(found));
+    match found {
+        Some(_) => {
+            local.set_run(found);
+            None
+        }
+        None => Some(Reply::NoFrames),
+    }
+}

@@ -1,0 +1,59 @@
+//! Writing and reading a word of an object of an unchecked cache (profile).
+
+ghost use Rattle.std.specs.Prelude.{◌≡◌, ℕ, ◌≤◌};
+ghost use Rattle.slub_core.specs.Setup.{Means};
+ghost use Rattle.slub_core.specs.World.{LockValue};
+ghost use Rattle.slub_core.specs.Steps as core;
+ghost use Rattle.slub_core.specs.Local.{call_of};
+ghost use Rattle.slub_local.specs.Facts.{setup_of};
+ghost use Rattle.slub_local.specs.Ways.{turned};
+
+use slub_answers::reply::Reply;
+use slub_core::spot::Spot;
+use slub_core::step::{Answer, Step};
+use slub_local::local::Local;
+use slub_local::ops;
+use slub_local::setup::Setup;
+
+/// The step of a write.
+pub fn write_step(setup: &Setup, local: &Local) -> Step
+    requires { (call_of local.now).word ≤ 4095 }
+    ensures { (means : Means) → (value : ℕ → LockValue) → result ≡ core.step_at (setup_of setup.now means) value local.now Spot.WriteWord }
+{
+    let call = local.call();
+    ops::store_word(setup, local, call.word, call.value)
+}
+
+/// The step of a read.
+pub fn read_step(setup: &Setup, local: &Local) -> Step
+    requires { (call_of local.now).word ≤ 4095 }
+    ensures { (means : Means) → (value : ℕ → LockValue) → result ≡ core.step_at (setup_of setup.now means) value local.now Spot.ReadWord }
+{
+    ops::load_word(setup, local, local.call().word)
+}
+
+/// Where the answer to a write's step leads, and the reply that the call has by it.
+pub fn write_advance(setup: &Setup, local: &mut Local, answer: Answer) -> Option<Reply>
+    ensures { (means : Means) → (value : ℕ → LockValue) → turned local.new result ≡ core.advance_at (setup_of setup.now means) value local.old Spot.WriteWord answer }
+{
+    match answer {
+        Answer::Done => {
+            local.at(Spot::Between);
+            Some(Reply::Wrote)
+        }
+        _ => None,
+    }
+}
+
+/// Where the answer to a read's step leads, and the reply that the call has by it.
+pub fn read_advance(setup: &Setup, local: &mut Local, answer: Answer) -> Option<Reply>
+    ensures { (means : Means) → (value : ℕ → LockValue) → turned local.new result ≡ core.advance_at (setup_of setup.now means) value local.old Spot.ReadWord answer }
+{
+    match answer {
+        Answer::Word(x) => {
+            local.at(Spot::Between);
+            Some(Reply::Value(x))
+        }
+        _ => None,
+    }
+}

@@ -6,7 +6,7 @@ ghost use Rattle.slub_trace_reader.specs.Above.{workers_in, is_spot};
 ghost use Rattle.slub_trace_reader.specs.Faults.{IsFirstReason, Finished};
 ghost use Rattle.slub_trace_reader.specs.Grammar.{InRange, ClientInRange, HasRoom, HasCache, HasSource, IsFresh, IsKnown, IsWritten, IsLine, IsObject, AreObjects, IsAskedSize, IsOffset, IsTid, step_of};
 ghost use Rattle.slub_trace_reader.specs.Lines.{IsPassed};
-ghost use Rattle.slub_trace_reader.specs.State.{above, IsModest, Lacks};
+ghost use Rattle.slub_trace_reader.specs.State.{above, IsMarked, IsModest, Lacks};
 
 use crate::client::ClientLine;
 use crate::line::{Line, is_skipped, say};
@@ -217,7 +217,8 @@ impl State {
     }
 
     fn is_fresh(&self, line: &Line) -> bool
-        requires { InRange (above self.now) line.now }
+        requires marked { IsMarked self.now.objects }
+        requires range { InRange (above self.now) line.now }
         ensures { IsTrue result ↔ IsFresh (above self.now) line.now }
     {
         match line {
@@ -229,7 +230,8 @@ impl State {
 
     /// Whether no line above may allocate what a client's line may.
     fn is_client_fresh(&self, line: &ClientLine) -> bool
-        requires { ClientInRange (above self.now) line.now }
+        requires marked { IsMarked self.now.objects }
+        requires range { ClientInRange (above self.now) line.now }
         ensures { IsTrue result ↔ IsFresh (above self.now) (Line.Client line.now) }
     {
         match line {
@@ -248,7 +250,8 @@ impl State {
     }
 
     fn is_known(&self, line: &Line) -> bool
-        requires { InRange (above self.now) line.now }
+        requires marked { IsMarked self.now.objects }
+        requires range { InRange (above self.now) line.now }
         ensures { IsTrue result ↔ IsKnown (above self.now) line.now }
     {
         match line {
@@ -263,7 +266,8 @@ impl State {
 
     /// Whether lines above may allocate what a client's line needs.
     fn is_client_known(&self, line: &ClientLine) -> bool
-        requires { ClientInRange (above self.now) line.now }
+        requires marked { IsMarked self.now.objects }
+        requires range { ClientInRange (above self.now) line.now }
         ensures { IsTrue result ↔ IsKnown (above self.now) (Line.Client line.now) }
     {
         match line {
@@ -302,6 +306,7 @@ impl State {
 
     /// The first reason that a line of some form is bad for.
     fn lacks(&self, line: &Line) -> Option<Why>
+        requires { IsMarked self.now.objects }
         ensures { Lacks (above self.now) line.now result }
     {
         if !self.place.takes(line, self.version) {
@@ -337,7 +342,8 @@ impl State {
 
     /// The line that a text says, or the first reason that it is bad for.
     pub(crate) fn judge(&self, text: &[u8]) -> Result<Line, Why>
-        requires { IsModest (above self.now) }
+        requires marked { IsMarked self.now.objects }
+        requires modest { IsModest (above self.now) }
         ensures good { IfOk result (IsLine (above self.now) text.now) }
         ensures bad { IfErr result (IsFirstReason (above self.now) (Finished text.now)) }
     {

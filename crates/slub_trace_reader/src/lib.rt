@@ -29,6 +29,7 @@ pub mod client;
 pub mod laws;
 pub mod line;
 mod numbers;
+mod objects;
 pub mod place;
 pub mod reading;
 mod state;

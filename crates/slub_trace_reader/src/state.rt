@@ -11,6 +11,7 @@ ghost use Rattle.slub_trace_reader.specs.State.{above, Keeps, IsFit, IsHead, IsI
 
 use crate::line::{Knob, Line};
 use crate::numbers::allocate;
+use crate::objects::Objects;
 use crate::place::Place;
 use crate::trace::{Item, Trace};
 use indexmap::IndexSet;
@@ -36,7 +37,7 @@ pub(crate) struct State {
     pub(crate) pools: IndexSet<Name>,
     /// Whether a `kmalloc` line is among them.
     pub(crate) kmalloc: bool,
-    pub(crate) objects: IndexSet<u32>,
+    pub(crate) objects: Objects,
     /// The greatest of the objects, or 0.
     pub(crate) greatest: u32,
     /// The rounds, each client's line counted as two.
@@ -64,7 +65,7 @@ impl State {
             names: IndexSet::new(alloc),
             pools: IndexSet::new(alloc),
             kmalloc: false,
-            objects: IndexSet::new(alloc),
+            objects: Objects::new(alloc),
             greatest: 0,
             rounds: 0,
             written: IndexSet::new(alloc),

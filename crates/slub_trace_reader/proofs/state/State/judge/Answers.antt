@@ -10,9 +10,9 @@ returns-in_default-clause-bad c =
     (λ line says _. none_said c.args.text.now line c.in_default.ensures says)
 
 pub returns-in-None-clause-good : goal.returns-in-None-clause-good
-returns-in-None-clause-good c = fit_line (above c.args.self.now) c.args.text.now c.in-Some.line c.requires (sym c.in-Some.ensures) c.in-None.ensures
+returns-in-None-clause-good c = fit_line (above c.args.self.now) c.args.text.now c.in-Some.line c.requires.modest (sym c.in-Some.ensures) c.in-None.ensures
 
 pub returns-in-Some-lacks-clause-bad : goal.returns-in-Some-lacks-clause-bad
 returns-in-Some-lacks-clause-bad c =
-    first_reason (above c.args.self.now) c.args.text.now c.in-Some.line c.in-Some-lacks.why c.requires (λ off. false≢true (c.if-is_after_end.ensures.1 off))
+    first_reason (above c.args.self.now) c.args.text.now c.in-Some.line c.in-Some-lacks.why c.requires.modest (λ off. false≢true (c.if-is_after_end.ensures.1 off))
     (sym c.in-Some.ensures) c.in-Some-lacks.ensures

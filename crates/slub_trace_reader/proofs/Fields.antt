@@ -1,6 +1,6 @@
 -- Words taken off the front, and what stands there.
-use Rattle.std.proofs.Common.{◌≡◌, ◌≢◌, ℕ, ◌<◌, ◌≤◌, ◌^◌, true, false, not, ◌&&◌, min, Result, Ok, Err, Option, Some, None, Bor, List, [], ◌∷◌, ◌++◌, length, get_or, refl, ap, arith, eq-eqb, eqb, leb, inl, inr, subst, All, ◌⊎◌}
-use Rattle.std.specs.Prelude.{IsSome, IfSome, IfNone, MatchOption, MatchResult, SomeIff, IsUtf8}
+use Rattle.std.proofs.Common.{◌≡◌, ◌≢◌, ℕ, true, false, ◌&&◌, Option, Some, None, Bor, List, [], ◌∷◌, ◌++◌, length, refl, ap, arith, eq-eqb, eqb, leb, inl, inr, subst, All, ◌⊎◌}
+use Rattle.std.specs.Prelude.{IsSome, IfSome, IfNone, MatchOption, SomeIff}
 use Rattle.std.specs.List.{list_all}
 use Rattle.std.proofs.lemmas.Bool.{false≢true, cases_Bool, eqb-true, eqb-false, ne_eqb, and_parts, and_from, leb-true, le-leb, false_from_ne_true}
 use Rattle.std.proofs.lemmas.List.Elements.{All-cons, All-nil, All-tail}

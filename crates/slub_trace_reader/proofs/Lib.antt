@@ -1,6 +1,7 @@
 pub mod ClassNames
 pub mod ClientTexts
 pub mod Fields
+mod Fronts
 pub mod LineTexts
 pub mod LinesBelow
 pub mod Runs

@@ -9,10 +9,10 @@ ghost use Rattle.slub_trace_reader.specs.Lines.{IsPassed};
 ghost use Rattle.slub_trace_reader.specs.Forms.{slubtrace_line, machine_end, machine_line, cache_line, shrink_line, destroy_line, tune_line, round_line, alloc_line, free_line, write_line, read_line, poke_line, trim_line, flush_line, plain_line, event_line, item_line, line_of, is_passed};
 
 use crate::client::{ClientLine, client};
+use crate::digits::{number, number_field};
 use crate::words::{
-    after, byte, field_of, flags, knob_field, name, name_field, number_field, offset_field, version,
+    after, byte, field_of, flags, knob_field, name, name_field, offset_field, version,
 };
-use slub_numbers::numbers::number;
 use slub_object_layout::layout::Flags;
 use slub_object_layout::name::Name;
 

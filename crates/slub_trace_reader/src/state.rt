@@ -22,7 +22,7 @@ use slub_object_layout::name::Name;
 use std::alloc::{AllocError, Global};
 use std::mem;
 
-/// What the lines above say. Names, objects and written words are looked up by their hashes.
+/// What the lines above say. Names and written words are looked up by their hashes.
 #[derive(Drop)]
 pub(crate) struct State {
     /// How many lines there are.

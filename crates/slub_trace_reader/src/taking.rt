@@ -131,11 +131,7 @@ fn put_names(
 }
 
 /// Puts the numbers that a client's line may allocate, and answers the greatest of all.
-fn put_objects(
-    line: &ClientLine,
-    objects: &mut Objects,
-    greatest: u32,
-) -> Result<u32, AllocError>
+fn put_objects(line: &ClientLine, objects: &mut Objects, greatest: u32) -> Result<u32, AllocError>
     requires range { AreSmall line.now }
     requires marked { IsMarked objects.old }
     requires fresh { All (λ object. list_any (nat_eq object) objects.old.keys ≡ false) (client_allocates line.now) }

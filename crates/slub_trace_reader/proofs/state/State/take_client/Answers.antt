@@ -1,5 +1,4 @@
-use Rattle.std.proofs.Common.{◌≡◌, ap, arith, length}
-use Rattle.slub_trace_reader.specs.Above.{names_below}
+use Rattle.std.proofs.Common.{ap, arith, length}
 use Rattle.slub_trace_reader.proofs.ClassNames.{few_names}
 use Rattle.slub_trace_reader.proofs.state.State.take_client.Goals as goal
 

@@ -2,6 +2,7 @@ pub mod ClassNames
 pub mod ClientTexts
 pub mod Fields
 mod Fronts
+mod FirstBytes
 pub mod LineTexts
 pub mod LinesBelow
 pub mod Runs

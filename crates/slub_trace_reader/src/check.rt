@@ -4,12 +4,13 @@ ghost use Rattle.std.specs.Prelude.{◌≡◌, ◌<◌, ◌^◌, ◌↔◌, IsTr
 ghost use Rattle.std.specs.List.{list_any};
 ghost use Rattle.slub_trace_reader.specs.Above.{workers_in, is_spot};
 ghost use Rattle.slub_trace_reader.specs.Faults.{IsFirstReason, Finished};
+ghost use Rattle.slub_trace_reader.specs.Forms.{line_of};
 ghost use Rattle.slub_trace_reader.specs.Grammar.{InRange, ClientInRange, HasRoom, HasCache, HasSource, IsFresh, IsKnown, IsWritten, IsLine, IsObject, AreObjects, IsAskedSize, IsOffset, IsTid, step_of};
 ghost use Rattle.slub_trace_reader.specs.Lines.{IsPassed};
 ghost use Rattle.slub_trace_reader.specs.State.{above, IsMarked, IsModest, Lacks};
 
 use crate::client::ClientLine;
-use crate::line::{Line, is_skipped, say};
+use crate::line::{Line, is_skipped};
 use crate::numbers::{has_all, has_none};
 use crate::place::Place;
 use crate::reading::Why;
@@ -341,19 +342,20 @@ impl State {
     }
 
     /// The line that a text says, or the first reason that it is bad for.
-    pub(crate) fn judge(&self, text: &[u8]) -> Result<Line, Why>
+    pub(crate) fn judge<'a>(&self, text: &[u8], said: &'a Option<Line>) -> Result<&'a Line, Why>
         requires marked { IsMarked self.now.objects }
         requires modest { IsModest (above self.now) }
-        ensures good { IfOk result (IsLine (above self.now) text.now) }
+        requires said { said.now ≡ line_of text.now }
+        ensures good { IfOk result (λ line. IsLine (above self.now) text.now line.now) }
         ensures bad { IfErr result (IsFirstReason (above self.now) (Finished text.now)) }
     {
         if self.is_after_end(text) {
             return Err(Why::AfterEnd);
         }
-        let Some(line) = say(text) else {
+        let Some(line) = said else {
             return Err(Why::Form);
         };
-        match self.lacks(&line) {
+        match self.lacks(line) {
             None => Ok(line),
             Some(why) => Err(why),
         }

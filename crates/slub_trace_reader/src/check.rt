@@ -15,13 +15,18 @@ use crate::numbers::{has_all, has_none};
 use crate::place::Place;
 use crate::reading::Why;
 use crate::state::State;
-use slub_common::limits::ROUNDS_MAX;
+use slub_common::limits::{CPUS_MAX, FRAMES_MAX, OBJECTS_MAX, ROUNDS_MAX, WORD_MAX, WORKERS_MAX};
 
-/// The most numbers of a `bulk` or `bulkfree` line.
+/// The most numbers of a `bulk` or `bulkfree` line (*profile*: `kmem_cache_alloc_bulk` and
+/// `kmem_cache_free_bulk` set no limit).
 const COUNT_MAX: u128 = 1024;
 
-/// The most numbers of a `mempool` line.
+/// The most objects that a reserve keeps (*profile*: `mempool_create_slab_pool` sets no limit).
 const MIN_MAX: u128 = 64;
+
+/// The greatest number of a `tune` line (*profile*: `min_partial_store` and `cpu_partial_store`
+/// set no such limit).
+const TUNE_MAX: u128 = 4096;
 
 /// The least power of two that is not below 1 to 16 CPUs.
 fn step(cpus: u128) -> u128
@@ -52,7 +57,7 @@ fn is_tid(cpus: u128, tid: Option<u128>) -> bool
 fn is_object(object: u128) -> bool
     ensures { IsTrue result ↔ IsObject object }
 {
-    1 <= object && object <= 1048576
+    1 <= object && object <= u128::from(OBJECTS_MAX)
 }
 
 fn is_offset(negative: bool, size: u128) -> bool
@@ -70,7 +75,7 @@ fn are_objects(most: u128, first: u128, count: u128) -> bool
     requires { most < 2 ^ 32 }
     ensures { IsTrue result ↔ AreObjects most first count }
 {
-    is_object(first) && 1 <= count && count <= most && first + count - 1 <= 1048576
+    is_object(first) && 1 <= count && count <= most && first + count - 1 <= u128::from(OBJECTS_MAX)
 }
 
 fn is_asked_size(size: u128) -> bool
@@ -98,10 +103,14 @@ impl State {
     {
         match line {
             Line::Machine { frames, cpus, tid } => {
-                2 <= *frames && *frames <= 4096 && 1 <= *cpus && *cpus <= 16 && is_tid(*cpus, *tid)
+                2 <= *frames
+                    && *frames <= u128::from(FRAMES_MAX)
+                    && 1 <= *cpus
+                    && *cpus <= u128::from(CPUS_MAX)
+                    && is_tid(*cpus, *tid)
             }
             Line::Cache { size, align, .. } => *size <= 4294967295 && *align <= 4294967295,
-            Line::Round { workers } => 1 <= *workers && *workers <= 16,
+            Line::Round { workers } => 1 <= *workers && *workers <= u128::from(WORKERS_MAX),
             Line::Alloc {
                 worker,
                 cpu,
@@ -121,14 +130,14 @@ impl State {
             } => {
                 self.is_worker(*worker)
                     && is_object(*object)
-                    && *word <= 4095
+                    && *word <= u128::from(WORD_MAX)
                     && *value <= 18446744073709551615
             }
             Line::Read {
                 worker,
                 object,
                 word,
-            } => self.is_worker(*worker) && is_object(*object) && *word <= 4095,
+            } => self.is_worker(*worker) && is_object(*object) && *word <= u128::from(WORD_MAX),
             Line::Poke {
                 worker,
                 object,
@@ -136,7 +145,7 @@ impl State {
                 offset,
                 ..
             } => self.is_worker(*worker) && is_object(*object) && is_offset(*negative, *offset),
-            Line::Tune { number, .. } => *number <= 4096,
+            Line::Tune { number, .. } => *number <= TUNE_MAX,
             Line::Client(line) => self.is_client_in_range(line),
             Line::Trim { worker, .. } => self.is_worker(*worker),
             Line::Flush { worker, cpu } => self.is_worker(*worker) && self.is_cpu(*cpu),

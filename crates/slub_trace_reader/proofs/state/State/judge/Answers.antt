@@ -1,4 +1,4 @@
-use Rattle.std.proofs.Common.{Some, sym, ◌∙◌}
+use Rattle.std.proofs.Common.{sym, ◌∙◌}
 use Rattle.std.proofs.lemmas.Bool.{false≢true}
 use Rattle.slub_trace_reader.specs.State.{above}
 use Rattle.slub_trace_reader.proofs.Reasons.{first_form, first_reason, fit_line, none_said}

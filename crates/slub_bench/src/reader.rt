@@ -42,7 +42,7 @@ fn out_of_memory() -> io::Error {
 
 /// The nanoseconds that one way of going over the text takes.
 #[derive(Clone, Copy, Debug)]
-struct Times {
+struct Spent {
     /// Counting its lines and words.
     counting: u64,
     /// Taking its bytes from a source.
@@ -52,7 +52,7 @@ struct Times {
 }
 
 /// Goes over the text once each way.
-fn times(rt: &(impl Clock + AllocGlobal), text: &[u8]) -> io::Result<Times> {
+fn spend(rt: &(impl Clock + AllocGlobal), text: &[u8]) -> io::Result<Spent> {
     let start = Instant::now(rt)?;
     let (lines, words) = lines_and_words(text);
     let counting = nanos_since(rt, &start)?;
@@ -71,7 +71,7 @@ fn times(rt: &(impl Clock + AllocGlobal), text: &[u8]) -> io::Result<Times> {
     if lines > words || taken.is_err() || read.is_err() {
         return Err(io::Error::from(io::ErrorKind::InvalidData));
     }
-    Ok(Times {
+    Ok(Spent {
         counting,
         taking,
         reading,
@@ -81,9 +81,9 @@ fn times(rt: &(impl Clock + AllocGlobal), text: &[u8]) -> io::Result<Times> {
 /// Reads the trace and counts its lines and words, five times, and prints the least times.
 pub(crate) fn measure(rt: &(impl Clock + AllocGlobal + Print)) -> io::Result<()> {
     let text = long_trace(rt.alloc())?;
-    let mut best = times(rt, &text)?;
+    let mut best = spend(rt, &text)?;
     for _ in 0..4 {
-        let next = times(rt, &text)?;
+        let next = spend(rt, &text)?;
         best.counting = best.counting.min(next.counting);
         best.taking = best.taking.min(next.taking);
         best.reading = best.reading.min(next.reading);

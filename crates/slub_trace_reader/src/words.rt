@@ -15,7 +15,19 @@ use slub_object_layout::name::Name;
 pub(crate) fn after<'a>(bytes: &'a [u8], text: &[u8]) -> Option<&'a [u8]>
     ensures { Gives (λ rest. rest.now) result (strip text.now bytes.now) }
 {
-    bytes.strip_prefix(text)
+    let mut rest = bytes;
+    let mut ahead = text;
+    while let Some((t, more)) = ahead.split_first() {
+        let Some((b, behind)) = rest.split_first() else {
+            return None;
+        };
+        if *b != *t {
+            return None;
+        }
+        ahead = more;
+        rest = behind;
+    }
+    Some(rest)
 }
 
 /// The word up to the first space, and what follows that.

@@ -6,6 +6,7 @@ mod FirstBytes
 pub mod LineTexts
 pub mod LinesBelow
 pub mod Runs
+pub mod Places
 pub mod ReadingLaws
 pub mod Readings
 pub mod Reasons

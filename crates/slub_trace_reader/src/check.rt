@@ -11,6 +11,7 @@ ghost use Rattle.slub_trace_reader.specs.State.{above, IsMarked, IsModest, Lacks
 
 use crate::client::ClientLine;
 use crate::line::{Line, is_skipped};
+use crate::names::has_name;
 use crate::numbers::{has_all, has_none};
 use crate::place::Place;
 use crate::reading::Why;
@@ -204,7 +205,7 @@ impl State {
             | Line::Destroy { name }
             | Line::Tune { name, .. }
             | Line::Alloc { name, .. }
-            | Line::Trim { name, .. } => self.names.contains(name),
+            | Line::Trim { name, .. } => has_name(&self.names, name),
             Line::Client(line) => self.has_source(line),
             _ => true,
         }
@@ -218,10 +219,10 @@ impl State {
             ClientLine::Kmalloc | ClientLine::Bulkfree { .. } => true,
             ClientLine::Kget { .. } | ClientLine::Krealloc { .. } => self.kmalloc,
             ClientLine::Bulk { name, .. } | ClientLine::Mempool { name, .. } => {
-                self.names.contains(name)
+                has_name(&self.names, name)
             }
             ClientLine::Mget { pool, .. } | ClientLine::Mput { pool, .. } => {
-                self.pools.contains(pool)
+                has_name(&self.pools, pool)
             }
         }
     }

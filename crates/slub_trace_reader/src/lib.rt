@@ -30,6 +30,7 @@ pub mod client;
 mod digits;
 pub mod laws;
 pub mod line;
+mod names;
 mod numbers;
 mod objects;
 pub mod place;

@@ -10,6 +10,7 @@ ghost use Rattle.slub_trace_reader.specs.Grammar.{InRange};
 ghost use Rattle.slub_trace_reader.specs.State.{above, Keeps, IsFit, IsHead, IsItem, IsEvent};
 
 use crate::line::{Knob, Line};
+use crate::names::place_among;
 use crate::numbers::allocate;
 use crate::objects::Objects;
 use crate::place::Place;
@@ -110,7 +111,7 @@ impl State {
         requires known { list_any (bytes_eq name.now) self.now.names.keys ≡ true }
         ensures { result ≡ place_of name.now self.now.names.keys }
     {
-        self.names.get_index_of(name).unwrap() as u32
+        place_among(&self.names, name)
     }
 
     /// The number of a worker of this round.

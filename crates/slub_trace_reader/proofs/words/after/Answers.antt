@@ -1,4 +1,4 @@
-use Rattle.std.proofs.Common.{refl, sym, ◌∙◌}
+use Rattle.std.proofs.Common.{◌∙◌}
 use Rattle.slub_trace_reader.proofs.Fields.{strip_more, strip_apart, strip_short, strip_all}
 use Rattle.slub_trace_reader.proofs.words.after.Goals as goal
 

@@ -11,7 +11,8 @@
 //! not share, and `Reading` that of all bytes; `laws` says that it is the grammar, both ways.
 //!
 //! Each line costs steps in its length alone, and takes no memory but for what it adds: names and
-//! written words are looked up by their hashes, objects by marks, and numbers are read in place.
+//! written words are looked up by their hashes (few names one by one), objects by marks, and
+//! numbers are read in place.
 //! `read_trace` alone takes memory from the caller's allocator.
 //!
 //! # What it promises

@@ -97,6 +97,10 @@ pub(crate) fn measure(rt: &(impl Clock + AllocGlobal + Print)) -> io::Result<()>
     let taking = best.taking / 1000;
     let parsing = best.reading.saturating_sub(best.taking) / 1000;
     println!(rt; "{bytes} bytes, {lines} lines, {words} words")?;
-    println!(rt; "reading: {each} ns a line, {whole}.{tenth} times as long as counting lines and words")?;
-    println!(rt; "parts: counting {counting} us; reading: bytes from the source {taking} us, lines of the bytes {parsing} us")
+    println!(rt;
+        "reading: {each} ns a line, {whole}.{tenth} times as long as counting lines and words"
+    )?;
+    println!(rt;
+        "parts: counting {counting} us; reading: bytes from the source {taking} us, lines of the bytes {parsing} us"
+    )
 }

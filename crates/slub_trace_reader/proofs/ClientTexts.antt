@@ -1,12 +1,12 @@
 -- Texts and clients' lines: a text that says one is read as that line with its numbers cut at 2 ^ 64, and what is read is said.
-use Rattle.std.proofs.Common.{◌≡◌, ℕ, Bool, true, false, cond, Option, Some, None, List, [], ◌∷◌, ◌++◌, refl, sym, ap, ◌∙◌, nat_eq, inl, inr}
+use Rattle.std.proofs.Common.{◌≡◌, ℕ, Some, None, List, [], ◌∷◌, ◌++◌, refl, sym, ap, ◌∙◌, nat_eq, inl, inr}
 use Rattle.std.specs.Prelude.{codes}
 use Rattle.std.specs.Cmp.Lexicographic.{pointwise, bytes_decides}
 use Rattle.slub_numbers.specs.Numbers.{cut_number}
 use Rattle.slub_numbers.proofs.Digits.{number_found, number_some}
 use Rattle.slub_trace_reader.specs.declared.client.ClientLine.{ClientLine}
 use Rattle.slub_trace_reader.specs.declared.client.ClientLine.TheVariants.{Kmalloc, Kget, Krealloc, Bulk, Bulkfree, Mempool, Mget, Mput}
-use Rattle.slub_trace_reader.specs.Forms.{strip, kmalloc_line, kget_line, krealloc_line, bulk_line, bulkfree_line, mempool_line, mget_line, mput_line, client_line, ◌or_else◌}
+use Rattle.slub_trace_reader.specs.Forms.{strip, kmalloc_line, kget_line, krealloc_line, bulk_line, bulkfree_line, mempool_line, mget_line, mput_line, client_line}
 use Rattle.slub_trace_reader.specs.Lines.{SaysClient, parted}
 use Rattle.slub_trace_reader.specs.Cut.{cut_client}
 use Rattle.slub_trace_reader.proofs.Fields.{strip_found, strip_some}

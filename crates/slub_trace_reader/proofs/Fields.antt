@@ -1,6 +1,6 @@
 -- Words taken off the front, and what stands there.
-use Rattle.std.proofs.Common.{◌≡◌, ◌≢◌, ℕ, ◌<◌, ◌≤◌, ◌^◌, true, false, not, ◌&&◌, min, Result, Ok, Err, Option, Some, None, Bor, List, [], ◌∷◌, ◌++◌, length, get_or, refl, ap, arith, eq-eqb, eqb, leb, inl, inr, subst, All, ◌⊎◌}
-use Rattle.std.specs.Prelude.{IsSome, IfSome, IfNone, MatchOption, MatchResult, SomeIff, IsUtf8}
+use Rattle.std.proofs.Common.{◌≡◌, ◌≢◌, ℕ, true, false, ◌&&◌, Option, Some, None, Bor, List, [], ◌∷◌, ◌++◌, length, refl, sym, ap, arith, eq-eqb, eqb, leb, inl, inr, subst, All, ◌⊎◌}
+use Rattle.std.specs.Prelude.{IsSome, IfSome, IfNone, MatchOption, SomeIff}
 use Rattle.std.specs.List.{list_all}
 use Rattle.std.proofs.lemmas.Bool.{false≢true, cases_Bool, eqb-true, eqb-false, ne_eqb, and_parts, and_from, leb-true, le-leb, false_from_ne_true}
 use Rattle.std.proofs.lemmas.List.Elements.{All-cons, All-nil, All-tail}
@@ -45,6 +45,29 @@ strip_none t bytes none = elim (cases_Option (strip t bytes)) [
 pub strips : (t bytes : List ℕ) (r : Option (Bor (List ℕ))) → MatchOption r ((rest : List ℕ) → bytes ≢ t ++ rest) (λ x. bytes ≡ t ++ x.now) → Gives (λ rest. rest.now) r (strip t bytes)
 strips t bytes None none = strip_none t bytes none
 strips t bytes (Some x) is = rw is (strip_found t x.now)
+
+-- byte by byte: the same byte in front of both, a byte apart, and none
+pub strip_more : (text ts bytes bs : List ℕ) (t b : ℕ) → text ≡ t ∷ ts → bytes ≡ b ∷ bs → b ≡ t → strip text bytes ≡ strip ts bs
+unfolding strip
+strip_more text ts bytes bs t b front here same =
+    let is : eqb t b ≡ true = eq-eqb t b (sym same) in
+    rw (front, here, is) refl
+
+pub strip_apart : (text ts bytes bs : List ℕ) (t b : ℕ) → text ≡ t ∷ ts → bytes ≡ b ∷ bs → b ≢ t → strip text bytes ≡ None
+unfolding strip
+strip_apart text ts bytes bs t b front here apart =
+    let is : eqb t b ≡ false = ne_eqb t b (λ same. apart (sym same)) in
+    rw (front, here, is) refl
+
+pub strip_short : (text ts bytes : List ℕ) (t : ℕ) → text ≡ t ∷ ts → length bytes ≡ 0 → strip text bytes ≡ None
+unfolding strip
+strip_short text ts [] t front none = rw front refl
+strip_short text ts (b ∷ bs) t front none = absurd (let never : ⊥ = omega arith in never)
+
+pub strip_all : (text bytes : List ℕ) → length text ≡ 0 → strip text bytes ≡ Some bytes
+unfolding strip
+strip_all [] bytes none = refl
+strip_all (t ∷ ts) bytes none = absurd (let never : ⊥ = omega arith in never)
 
 -- ---- a word and a space in front
 

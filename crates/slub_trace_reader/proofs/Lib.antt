@@ -1,9 +1,12 @@
 pub mod ClassNames
 pub mod ClientTexts
 pub mod Fields
+mod Fronts
+mod FirstBytes
 pub mod LineTexts
 pub mod LinesBelow
 pub mod Runs
+pub mod Places
 pub mod ReadingLaws
 pub mod Readings
 pub mod Reasons

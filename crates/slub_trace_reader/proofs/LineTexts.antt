@@ -1,13 +1,13 @@
 -- The line of a text: what is said is read with its numbers cut at 2 ^ 64, and what is read is said.
-use Rattle.std.proofs.Common.{◌≡◌, ℕ, ◌+◌, Option, Some, None, List, [], ◌∷◌, ◌++◌, refl, sym, ap, ◌∙◌, inl, inr}
+use Rattle.std.proofs.Common.{◌≡◌, ℕ, ◌+◌, Some, None, List, [], ◌∷◌, ◌++◌, refl, sym, ap, ◌∙◌, inl, inr}
 use Rattle.std.specs.Prelude.{option_map, codes}
 use Rattle.slub_trace_reader.specs.declared.client.ClientLine.{ClientLine}
 use Rattle.slub_trace_reader.specs.declared.client.ClientLine.TheVariants.{Kmalloc, Kget, Krealloc, Bulk, Bulkfree, Mempool, Mget, Mput}
 use Rattle.slub_trace_reader.specs.declared.line.Line.{Line}
 use Rattle.slub_trace_reader.specs.declared.line.Line.TheVariants.{Passed, Slubtrace, Machine, Cache, Shrink, Destroy, Tune, Slabinfo, Client, Round, Alloc, Free, Write, Read, Poke, Trim, Flush, Done, End}
-use Rattle.slub_trace_reader.specs.Forms.{strip, slubtrace_line, machine_line, cache_line, shrink_line, destroy_line, tune_line, round_line, alloc_line, free_line, write_line, read_line, poke_line, trim_line, flush_line, plain_line, event_line, item_line, client_line, line_of, ◌or_else◌}
+use Rattle.slub_trace_reader.specs.Forms.{strip, slubtrace_line, machine_line, cache_line, shrink_line, destroy_line, tune_line, round_line, alloc_line, free_line, write_line, read_line, poke_line, trim_line, flush_line, plain_line, event_line, item_line, client_line, line_of}
 use Rattle.slub_trace_reader.specs.Lines.{Says, SaysClient, IsPassed, knob_word, parted}
-use Rattle.slub_trace_reader.specs.Cut.{cut_client, cut_line}
+use Rattle.slub_trace_reader.specs.Cut.{cut_line}
 use Rattle.slub_trace_reader.proofs.ClientTexts.{client_again, client_said}
 use Rattle.slub_trace_reader.proofs.Texts.{IsCutOf, passed_test, plain_said, alloc_again, alloc_said, free_again, free_said, write_again, write_said, read_again, read_said, poke_again, poke_said, trim_again, trim_said, flush_again, flush_said, round_again, round_said, shrink_again, shrink_said, destroy_again, destroy_said, cache_again, cache_said, tune_again, tune_said, machine_again, machine_said, slubtrace_again, slubtrace_said}
 use Rattle.slub_trace_reader.proofs.WordTexts.{map_some, or_none, or_found, or_some}

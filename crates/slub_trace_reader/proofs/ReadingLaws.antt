@@ -1,7 +1,6 @@
 -- The reading as a function is the grammar: what it reads is a trace, and a fault is the first bad line.
 use Rattle.std.proofs.Common.{◌≡◌, ◌≢◌, ℕ, ◌+◌, ◌<◌, ◌≤◌, Bool, true, false, not, ◌&&◌, Result, Ok, Err, Option, Some, None, List, [], ◌∷◌, ◌++◌, length, refl, sym, ap, ◌∙◌, arith, subst, inl, inr, All, eqb, leb, ltb}
 use Rattle.std.specs.List.{list_all, list_any}
-use Rattle.std.specs.Str.{bytes_eq}
 use Rattle.std.proofs.Common.{nat_eq}
 use Rattle.std.proofs.lemmas.Bool.{false≢true, true≢false, cases_Bool, and_parts, and_from, eqb-true, eqb-false, not-true, not_from_false, false_from_ne_true, leb-true, le-leb}
 use Rattle.std.proofs.lemmas.Bool.Decides.{nat_tests}
@@ -15,7 +14,7 @@ use Rattle.slub_trace_reader.specs.declared.place.Place.TheVariants.{First, Seco
 use Rattle.slub_trace_reader.specs.declared.reading.Why.{Why}
 use Rattle.slub_trace_reader.specs.declared.reading.Why.TheVariants.{Unfinished, AfterEnd, Form, Range, TooManyRounds, UnknownCache, ObjectTwice, UnknownObject, ReadBeforeWrite, NoEnd}
 use Rattle.slub_trace_reader.specs.declared.trace.Trace.{Trace}
-use Rattle.slub_trace_reader.specs.Above.{Above, start, after, workers_in, is_spot}
+use Rattle.slub_trace_reader.specs.Above.{Above, start, after, workers_in}
 use Rattle.slub_trace_reader.specs.Faults.{Finished, IsBad, IsFirstReason, IsFirstBad, rank}
 use Rattle.slub_trace_reader.specs.Forms.{is_passed, line_of}
 use Rattle.slub_trace_reader.specs.Grammar.{MayStand, InRange, ClientInRange, IsTid, IsObject, AreObjects, IsOffset, IsInRound, HasRoom, HasCache, HasSource, IsFresh, IsKnown, IsWritten, IsLine, IsOneLine, IsTrace}

@@ -1,5 +1,5 @@
 -- Runs of numbers.
-use Rattle.std.proofs.Common.{◌≡◌, ℕ, zero, suc, ◌+◌, ◌-◌, ◌<◌, ◌≤◌, Bool, true, false, List, [], ◌∷◌, ◌++◌, length, fold, get_or, max, refl, sym, ap, ◌∙◌, append_assoc, arith, eqb, inl, inr, subst, All, nat_eq}
+use Rattle.std.proofs.Common.{◌≡◌, ℕ, zero, suc, ◌+◌, ◌-◌, ◌<◌, ◌≤◌, true, false, List, [], ◌∷◌, ◌++◌, fold, get_or, max, refl, sym, ap, ◌∙◌, append_assoc, arith, eqb, inl, inr, subst, All, nat_eq}
 use Rattle.std.specs.Cmp.{nat_eq_equiv}
 use Rattle.std.specs.List.{IsDistinct, list_any, range_with_len}
 use Rattle.std.proofs.lemmas.Bool.{cases_Bool, cases_order, eqb-true, false≢true, ne_eqb}

@@ -1,11 +1,10 @@
 -- A trace that is read is sound: what the lines so far say is, line by line.
-use Rattle.std.proofs.Common.{◌≡◌, ℕ, zero, suc, ◌+◌, ◌-◌, ◌*◌, ◌%◌, ◌<◌, ◌≤◌, Bool, true, false, cond, max, pos, neg_ℤ, ◌≤ℤ◌, Option, Some, None, List, [], ◌∷◌, ◌++◌, length, fold, get_or, refl, sym, ap, ◌∙◌, arith, subst, All, inl, inr, append_assoc, length-append, eqb, leb, nat_eq, unwrap_or, flat_map}
+use Rattle.std.proofs.Common.{◌≡◌, ℕ, ◌+◌, ◌-◌, ◌*◌, ◌%◌, ◌<◌, ◌≤◌, Bool, true, false, cond, max, pos, neg_ℤ, ◌≤ℤ◌, Option, Some, None, List, [], ◌∷◌, ◌++◌, length, fold, get_or, refl, sym, ap, ◌∙◌, arith, subst, All, inl, inr, append_assoc, length-append, leb, nat_eq, unwrap_or, flat_map}
 use Rattle.std.specs.Prelude.{IfOk, Result, Ok, Err}
 use Rattle.std.specs.List.{list_any, position_or_len, IsDistinct, cons_option, range_with_len}
 use Rattle.std.specs.Str.{bytes_eq}
-use Rattle.std.specs.Cmp.{nat_eq_equiv}
 use Rattle.std.specs.Cmp.Lexicographic.{nat_list_eq_equiv}
-use Rattle.std.proofs.lemmas.Bool.{false≢true, cases_Bool, eqb-true, cond_both, or_parts}
+use Rattle.std.proofs.lemmas.Bool.{false≢true, cases_Bool, cond_both, or_parts}
 use Rattle.std.proofs.lemmas.Int.{ints}
 use Rattle.std.proofs.lemmas.List.{append-nil}
 use Rattle.std.proofs.lemmas.List.Sums.{fold-append}
@@ -30,7 +29,7 @@ use Rattle.slub_trace_reader.specs.declared.trace.Item.TheVariants as item
 use Rattle.slub_trace_reader.specs.declared.trace.Trace.{Trace}
 use Rattle.slub_trace_reader.specs.Above.{Above, start, after, after_all, trace_of, workers_in, place_of, with_one, with_name, with_names, asked_of, names_below, setting_of, offset_of}
 use Rattle.slub_trace_reader.specs.Classes.{class_names}
-use Rattle.slub_trace_reader.specs.Grammar.{IsLine, AreLines, IsTrace, IsTid, IsInRound, IsOffset, AreObjects, ClientInRange, HasSource, IsFresh, IsKnown}
+use Rattle.slub_trace_reader.specs.Grammar.{IsLine, AreLines, IsTrace, IsTid, IsInRound, IsOffset, ClientInRange, HasSource}
 use Rattle.slub_trace_reader.specs.Lines.{SaysClient}
 use Rattle.slub_trace_reader.specs.Numbers.{client_allocates, client_needs}
 use Rattle.slub_trace_reader.specs.Sound.{allocated, asked_objects, objects_of, objects_in, events_in, IsSoundAct, IsSoundEvent, IsSoundClient, IsSoundSetting, IsSoundObject, AreSoundObjects, IsSoundItem, IsSound}

@@ -1,10 +1,10 @@
 -- Texts and lines: a text that says a line is read as that line with its numbers cut at 2 ^ 64, and what is read is said.
-use Rattle.std.proofs.Common.{◌≡◌, ℕ, ◌+◌, Bool, true, false, cond, Option, Some, None, List, [], ◌∷◌, ◌++◌, refl, sym, ap, ◌∙◌, eqb, nat_eq, inl, inr}
+use Rattle.std.proofs.Common.{◌≡◌, ℕ, ◌+◌, Bool, true, cond, Option, Some, None, List, [], ◌∷◌, ◌++◌, refl, sym, ap, ◌∙◌, nat_eq, inl, inr}
 use Rattle.std.specs.Prelude.{option_map, codes}
 use Rattle.std.specs.Cmp.Lexicographic.{pointwise, bytes_decides}
 use Rattle.std.proofs.lemmas.Bool.{eqb-true, eq-eqb}
 use Rattle.slub_object_layout.specs.declared.layout.Flags.{Flags}
-use Rattle.slub_numbers.specs.Numbers.{Writes, cut_number, number_of}
+use Rattle.slub_numbers.specs.Numbers.{Writes, cut_number}
 use Rattle.slub_numbers.proofs.Digits.{number_found, number_some}
 use Rattle.slub_trace_reader.specs.declared.line.Knob.{Knob}
 use Rattle.slub_trace_reader.specs.declared.line.Line.{Line}

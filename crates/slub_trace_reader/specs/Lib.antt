@@ -1,6 +1,7 @@
 pub mod Above
 pub mod Classes
 pub mod Cut
+pub mod Digits
 pub mod Faults
 pub mod Forms
 pub mod Grammar

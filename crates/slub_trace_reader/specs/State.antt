@@ -1,9 +1,11 @@
 -- For proofs and private clauses: what the reader keeps of the lines above.
-use Rattle.std.specs.Prelude.{◌≡◌, ◌+◌, ◌*◌, ◌<◌, ◌≤◌, ◌^◌, length, fold, max, Option, Some, None, ⊤}
+use Rattle.std.specs.Prelude.{◌≡◌, ℕ, ◌+◌, ◌*◌, ◌<◌, ◌≤◌, ◌^◌, false, length, fold, get_or, max, nat_eq, Option, Some, None, ⊤}
+use Rattle.std.specs.List.{list_any}
 use Rattle.slub_trace_reader.specs.declared.client.ClientLine.{ClientLine}
 use Rattle.slub_trace_reader.specs.declared.client.ClientLine.TheVariants.{Kmalloc, Kget, Krealloc, Bulk, Bulkfree, Mempool, Mget, Mput}
 use Rattle.slub_trace_reader.specs.declared.line.Line.{Line}
 use Rattle.slub_trace_reader.specs.declared.line.Line.TheVariants.{Slubtrace, Machine, Alloc, Free, Write, Read, Poke, Trim, Flush}
+use Rattle.slub_trace_reader.specs.declared.objects.Objects.{Objects}
 use Rattle.slub_trace_reader.specs.declared.reading.Why.{Why}
 use Rattle.slub_trace_reader.specs.declared.reading.Why.TheVariants.{Unfinished, AfterEnd, Form, Range, TooManyRounds, UnknownCache, ObjectTwice, UnknownObject, ReadBeforeWrite, NoEnd}
 use Rattle.slub_trace_reader.specs.declared.state.State.{State}
@@ -29,10 +31,15 @@ above s = record {
   events = s.events;
 }
 
+-- the marks say which numbers are among them
+abbrev pub IsMarked : Objects → Type 0
+IsMarked objects = (n : ℕ) → get_or objects.marks.items n false ≡ list_any (nat_eq n) objects.keys
+
 -- the greatest object is kept beside them, and a line brings thirteen names at most
 pub record Keeps (s : State) : Type 0 where
   pub greatest : s.greatest ≡ fold max 0 s.objects.keys
   pub names : length s.names.keys ≤ 13 * s.count
+  pub marked : IsMarked s.objects
 
 -- the numbers that a client's line may allocate have 32 bits
 abbrev pub AreSmall : ClientLine → Type 0

@@ -4,23 +4,30 @@ ghost use Rattle.std.specs.Prelude.{◌≡◌, ◌<◌, ◌^◌, ◌↔◌, IsTr
 ghost use Rattle.std.specs.List.{list_any};
 ghost use Rattle.slub_trace_reader.specs.Above.{workers_in, is_spot};
 ghost use Rattle.slub_trace_reader.specs.Faults.{IsFirstReason, Finished};
+ghost use Rattle.slub_trace_reader.specs.Forms.{line_of};
 ghost use Rattle.slub_trace_reader.specs.Grammar.{InRange, ClientInRange, HasRoom, HasCache, HasSource, IsFresh, IsKnown, IsWritten, IsLine, IsObject, AreObjects, IsAskedSize, IsOffset, IsTid, step_of};
 ghost use Rattle.slub_trace_reader.specs.Lines.{IsPassed};
-ghost use Rattle.slub_trace_reader.specs.State.{above, IsModest, Lacks};
+ghost use Rattle.slub_trace_reader.specs.State.{above, IsMarked, IsModest, Lacks};
 
 use crate::client::ClientLine;
-use crate::line::{Line, is_skipped, say};
+use crate::line::{Line, is_skipped};
+use crate::names::has_name;
 use crate::numbers::{has_all, has_none};
 use crate::place::Place;
 use crate::reading::Why;
 use crate::state::State;
-use slub_common::limits::ROUNDS_MAX;
+use slub_common::limits::{CPUS_MAX, FRAMES_MAX, OBJECTS_MAX, ROUNDS_MAX, WORD_MAX, WORKERS_MAX};
 
-/// The most numbers of a `bulk` or `bulkfree` line.
+/// The most numbers of a `bulk` or `bulkfree` line (*profile*: `kmem_cache_alloc_bulk` and
+/// `kmem_cache_free_bulk` set no limit).
 const COUNT_MAX: u128 = 1024;
 
-/// The most numbers of a `mempool` line.
+/// The most objects that a reserve keeps (*profile*: `mempool_create_slab_pool` sets no limit).
 const MIN_MAX: u128 = 64;
+
+/// The greatest number of a `tune` line (*profile*: `min_partial_store` and `cpu_partial_store`
+/// set no such limit).
+const TUNE_MAX: u128 = 4096;
 
 /// The least power of two that is not below 1 to 16 CPUs.
 fn step(cpus: u128) -> u128
@@ -51,7 +58,7 @@ fn is_tid(cpus: u128, tid: Option<u128>) -> bool
 fn is_object(object: u128) -> bool
     ensures { IsTrue result ↔ IsObject object }
 {
-    1 <= object && object <= 1048576
+    1 <= object && object <= u128::from(OBJECTS_MAX)
 }
 
 fn is_offset(negative: bool, size: u128) -> bool
@@ -69,7 +76,7 @@ fn are_objects(most: u128, first: u128, count: u128) -> bool
     requires { most < 2 ^ 32 }
     ensures { IsTrue result ↔ AreObjects most first count }
 {
-    is_object(first) && 1 <= count && count <= most && first + count - 1 <= 1048576
+    is_object(first) && 1 <= count && count <= most && first + count - 1 <= u128::from(OBJECTS_MAX)
 }
 
 fn is_asked_size(size: u128) -> bool
@@ -97,10 +104,14 @@ impl State {
     {
         match line {
             Line::Machine { frames, cpus, tid } => {
-                2 <= *frames && *frames <= 4096 && 1 <= *cpus && *cpus <= 16 && is_tid(*cpus, *tid)
+                2 <= *frames
+                    && *frames <= u128::from(FRAMES_MAX)
+                    && 1 <= *cpus
+                    && *cpus <= u128::from(CPUS_MAX)
+                    && is_tid(*cpus, *tid)
             }
             Line::Cache { size, align, .. } => *size <= 4294967295 && *align <= 4294967295,
-            Line::Round { workers } => 1 <= *workers && *workers <= 16,
+            Line::Round { workers } => 1 <= *workers && *workers <= u128::from(WORKERS_MAX),
             Line::Alloc {
                 worker,
                 cpu,
@@ -120,14 +131,14 @@ impl State {
             } => {
                 self.is_worker(*worker)
                     && is_object(*object)
-                    && *word <= 4095
+                    && *word <= u128::from(WORD_MAX)
                     && *value <= 18446744073709551615
             }
             Line::Read {
                 worker,
                 object,
                 word,
-            } => self.is_worker(*worker) && is_object(*object) && *word <= 4095,
+            } => self.is_worker(*worker) && is_object(*object) && *word <= u128::from(WORD_MAX),
             Line::Poke {
                 worker,
                 object,
@@ -135,7 +146,7 @@ impl State {
                 offset,
                 ..
             } => self.is_worker(*worker) && is_object(*object) && is_offset(*negative, *offset),
-            Line::Tune { number, .. } => *number <= 4096,
+            Line::Tune { number, .. } => *number <= TUNE_MAX,
             Line::Client(line) => self.is_client_in_range(line),
             Line::Trim { worker, .. } => self.is_worker(*worker),
             Line::Flush { worker, cpu } => self.is_worker(*worker) && self.is_cpu(*cpu),
@@ -194,7 +205,7 @@ impl State {
             | Line::Destroy { name }
             | Line::Tune { name, .. }
             | Line::Alloc { name, .. }
-            | Line::Trim { name, .. } => self.names.contains(name),
+            | Line::Trim { name, .. } => has_name(&self.names, name),
             Line::Client(line) => self.has_source(line),
             _ => true,
         }
@@ -208,16 +219,17 @@ impl State {
             ClientLine::Kmalloc | ClientLine::Bulkfree { .. } => true,
             ClientLine::Kget { .. } | ClientLine::Krealloc { .. } => self.kmalloc,
             ClientLine::Bulk { name, .. } | ClientLine::Mempool { name, .. } => {
-                self.names.contains(name)
+                has_name(&self.names, name)
             }
             ClientLine::Mget { pool, .. } | ClientLine::Mput { pool, .. } => {
-                self.pools.contains(pool)
+                has_name(&self.pools, pool)
             }
         }
     }
 
     fn is_fresh(&self, line: &Line) -> bool
-        requires { InRange (above self.now) line.now }
+        requires marked { IsMarked self.now.objects }
+        requires range { InRange (above self.now) line.now }
         ensures { IsTrue result ↔ IsFresh (above self.now) line.now }
     {
         match line {
@@ -229,7 +241,8 @@ impl State {
 
     /// Whether no line above may allocate what a client's line may.
     fn is_client_fresh(&self, line: &ClientLine) -> bool
-        requires { ClientInRange (above self.now) line.now }
+        requires marked { IsMarked self.now.objects }
+        requires range { ClientInRange (above self.now) line.now }
         ensures { IsTrue result ↔ IsFresh (above self.now) (Line.Client line.now) }
     {
         match line {
@@ -248,7 +261,8 @@ impl State {
     }
 
     fn is_known(&self, line: &Line) -> bool
-        requires { InRange (above self.now) line.now }
+        requires marked { IsMarked self.now.objects }
+        requires range { InRange (above self.now) line.now }
         ensures { IsTrue result ↔ IsKnown (above self.now) line.now }
     {
         match line {
@@ -263,7 +277,8 @@ impl State {
 
     /// Whether lines above may allocate what a client's line needs.
     fn is_client_known(&self, line: &ClientLine) -> bool
-        requires { ClientInRange (above self.now) line.now }
+        requires marked { IsMarked self.now.objects }
+        requires range { ClientInRange (above self.now) line.now }
         ensures { IsTrue result ↔ IsKnown (above self.now) (Line.Client line.now) }
     {
         match line {
@@ -302,6 +317,7 @@ impl State {
 
     /// The first reason that a line of some form is bad for.
     fn lacks(&self, line: &Line) -> Option<Why>
+        requires { IsMarked self.now.objects }
         ensures { Lacks (above self.now) line.now result }
     {
         if !self.place.takes(line, self.version) {
@@ -336,18 +352,20 @@ impl State {
     }
 
     /// The line that a text says, or the first reason that it is bad for.
-    pub(crate) fn judge(&self, text: &[u8]) -> Result<Line, Why>
-        requires { IsModest (above self.now) }
-        ensures good { IfOk result (IsLine (above self.now) text.now) }
+    pub(crate) fn judge<'a>(&self, text: &[u8], said: &'a Option<Line>) -> Result<&'a Line, Why>
+        requires marked { IsMarked self.now.objects }
+        requires modest { IsModest (above self.now) }
+        requires said { said.now ≡ line_of text.now }
+        ensures good { IfOk result (λ line. IsLine (above self.now) text.now line.now) }
         ensures bad { IfErr result (IsFirstReason (above self.now) (Finished text.now)) }
     {
         if self.is_after_end(text) {
             return Err(Why::AfterEnd);
         }
-        let Some(line) = say(text) else {
+        let Some(line) = said else {
             return Err(Why::Form);
         };
-        match self.lacks(&line) {
+        match self.lacks(line) {
             None => Ok(line),
             Some(why) => Err(why),
         }

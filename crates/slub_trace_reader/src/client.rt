@@ -3,8 +3,8 @@
 ghost use Rattle.std.specs.Prelude.{◌≡◌};
 ghost use Rattle.slub_trace_reader.specs.Forms.{kmalloc_line, kget_line, krealloc_line, bulk_line, bulkfree_line, mempool_line, mget_line, mput_line, client_line};
 
-use crate::words::{after, name, name_field, number_field};
-use slub_numbers::numbers::number;
+use crate::digits::{number, number_field};
+use crate::words::{after, name, name_field};
 use slub_object_layout::name::Name;
 
 /// A client's line by its form. A number of it may be any, as long as its digits are.

@@ -10,8 +10,10 @@
 //! read. `Forms` is the reading of one line as a function, which the code computes and `Lines` does
 //! not share, and `Reading` that of all bytes; `laws` says that it is the grammar, both ways.
 //!
-//! Each line costs steps in its length alone: names, objects and written words are looked up by
-//! their hashes. `read_trace` alone takes memory from the caller's allocator.
+//! Each line costs steps in its length alone, and takes no memory but for what it adds: names and
+//! written words are looked up by their hashes (few names one by one), objects by marks, and
+//! numbers are read in place.
+//! `read_trace` alone takes memory from the caller's allocator.
 //!
 //! # What it promises
 //!
@@ -26,9 +28,12 @@
 mod check;
 pub mod classes;
 pub mod client;
+mod digits;
 pub mod laws;
 pub mod line;
+mod names;
 mod numbers;
+mod objects;
 pub mod place;
 pub mod reading;
 mod state;

@@ -13,6 +13,7 @@ ghost use Rattle.slub_trace_reader.specs.State.{above, IsModest, Keeps};
 ghost use Rattle.slub_trace_reader.specs.Reads.{Reads};
 ghost use Rattle.slub_trace_reader.specs.Sound.{IsSound};
 
+use crate::line::say;
 use crate::state::State;
 use crate::trace::Trace;
 use crate::words::cut;
@@ -130,9 +131,10 @@ fn take_line(alloc: Global, state: &mut State, text: &[u8]) -> Result<(), TraceF
     ensures keeps { OnOk result (Keeps state.new) }
     ensures refused { IfErr result (StopsAt (above state.old) (Finished text.now)) }
 {
-    match state.judge(text) {
+    let said = say(text);
+    match state.judge(text, &said) {
         Ok(line) => {
-            state.take(alloc, &line)?;
+            state.take(alloc, line)?;
             Ok(())
         }
         Err(why) => {

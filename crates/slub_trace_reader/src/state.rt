@@ -10,7 +10,9 @@ ghost use Rattle.slub_trace_reader.specs.Grammar.{InRange};
 ghost use Rattle.slub_trace_reader.specs.State.{above, Keeps, IsFit, IsHead, IsItem, IsEvent};
 
 use crate::line::{Knob, Line};
+use crate::names::place_among;
 use crate::numbers::allocate;
+use crate::objects::Objects;
 use crate::place::Place;
 use crate::trace::{Item, Trace};
 use indexmap::IndexSet;
@@ -21,7 +23,7 @@ use slub_object_layout::name::Name;
 use std::alloc::{AllocError, Global};
 use std::mem;
 
-/// What the lines above say. Names, objects and written words are looked up by their hashes.
+/// What the lines above say. Names and written words are looked up by their hashes.
 #[derive(Drop)]
 pub(crate) struct State {
     /// How many lines there are.
@@ -36,7 +38,7 @@ pub(crate) struct State {
     pub(crate) pools: IndexSet<Name>,
     /// Whether a `kmalloc` line is among them.
     pub(crate) kmalloc: bool,
-    pub(crate) objects: IndexSet<u32>,
+    pub(crate) objects: Objects,
     /// The greatest of the objects, or 0.
     pub(crate) greatest: u32,
     /// The rounds, each client's line counted as two.
@@ -64,7 +66,7 @@ impl State {
             names: IndexSet::new(alloc),
             pools: IndexSet::new(alloc),
             kmalloc: false,
-            objects: IndexSet::new(alloc),
+            objects: Objects::new(alloc),
             greatest: 0,
             rounds: 0,
             written: IndexSet::new(alloc),
@@ -109,7 +111,7 @@ impl State {
         requires known { list_any (bytes_eq name.now) self.now.names.keys ≡ true }
         ensures { result ≡ place_of name.now self.now.names.keys }
     {
-        self.names.get_index_of(name).unwrap() as u32
+        place_among(&self.names, name)
     }
 
     /// The number of a worker of this round.

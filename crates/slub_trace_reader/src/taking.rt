@@ -5,12 +5,13 @@ ghost use Rattle.std.specs.List.{list_any};
 ghost use Rattle.slub_trace_reader.specs.Above.{after, asked_of, names_below, pools_below, is_kmalloc};
 ghost use Rattle.slub_trace_reader.specs.Grammar.{ClientInRange, HasSource};
 ghost use Rattle.slub_trace_reader.specs.Numbers.{client_allocates};
-ghost use Rattle.slub_trace_reader.specs.State.{above, AreSmall, Keeps, IsFit};
+ghost use Rattle.slub_trace_reader.specs.State.{above, AreSmall, IsMarked, Keeps, IsFit};
 
 use crate::classes::put_classes;
 use crate::client::ClientLine;
 use crate::line::Line;
 use crate::numbers::allocate;
+use crate::objects::Objects;
 use crate::state::State;
 use crate::trace::{Client, Item};
 use indexmap::IndexSet;
@@ -130,15 +131,13 @@ fn put_names(
 }
 
 /// Puts the numbers that a client's line may allocate, and answers the greatest of all.
-fn put_objects(
-    line: &ClientLine,
-    objects: &mut IndexSet<u32>,
-    greatest: u32,
-) -> Result<u32, AllocError>
+fn put_objects(line: &ClientLine, objects: &mut Objects, greatest: u32) -> Result<u32, AllocError>
     requires range { AreSmall line.now }
+    requires marked { IsMarked objects.old }
     requires fresh { All (λ object. list_any (nat_eq object) objects.old.keys ≡ false) (client_allocates line.now) }
     requires greatest { greatest ≡ fold max 0 objects.old.keys }
     ensures put { OnOk result (objects.new.keys ≡ objects.old.keys ++ client_allocates line.now) }
+    ensures marked { OnOk result (IsMarked objects.new) }
     ensures greatest { IfOk result (λ greatest. greatest ≡ fold max 0 objects.new.keys) }
 {
     match line {

@@ -2,11 +2,12 @@
 
 ghost use Rattle.std.specs.Prelude.{◌≡◌, ◌≢◌, ◌∷◌, ◌++◌, All, IfSome, IfNone, true};
 ghost use Rattle.std.specs.List.{list_all};
-ghost use Rattle.slub_trace_reader.specs.Forms.{Gives, strip, field, offset_of, name_of, flags_of, byte_of, knob_of, version_of, number_at, name_at, offset_at, knob_at};
+ghost use Rattle.slub_trace_reader.specs.Forms.{Gives, strip, field, offset_of, name_of, flags_of, byte_of, knob_of, version_of, name_at, offset_at, knob_at};
 ghost use Rattle.slub_trace_reader.specs.Words.{is_letter, stands_in, are_distinct, are_flags, flags_in, is_hex, hex_value};
 
+use crate::digits::number;
 use crate::line::Knob;
-use slub_numbers::numbers::{is_decimal, number};
+use slub_numbers::numbers::is_decimal;
 use slub_object_layout::layout::Flags;
 use slub_object_layout::name::Name;
 
@@ -14,7 +15,19 @@ use slub_object_layout::name::Name;
 pub(crate) fn after<'a>(bytes: &'a [u8], text: &[u8]) -> Option<&'a [u8]>
     ensures { Gives (λ rest. rest.now) result (strip text.now bytes.now) }
 {
-    bytes.strip_prefix(text)
+    let mut rest = bytes;
+    let mut ahead = text;
+    while let Some((t, more)) = ahead.split_first() {
+        let Some((b, behind)) = rest.split_first() else {
+            return None;
+        };
+        if *b != *t {
+            return None;
+        }
+        ahead = more;
+        rest = behind;
+    }
+    Some(rest)
 }
 
 /// The word up to the first space, and what follows that.
@@ -156,16 +169,6 @@ pub(crate) fn version(word: &[u8]) -> Option<u32>
         [digit] if b'1' <= *digit && *digit <= b'4' => Some(u32::from(*digit - b'0')),
         _ => None,
     }
-}
-
-/// The number in front, with a space behind it, and what follows.
-#[tactic(auto, unfolding(crate::specs::Forms::number_at))]
-pub(crate) fn number_field(bytes: &[u8]) -> Option<(u128, &[u8])>
-    ensures { Gives (λ x. (x.0, x.1.now)) result (number_at bytes.now) }
-{
-    let (word, rest) = field_of(bytes)?;
-    let n = number(word)?;
-    Some((n, rest))
 }
 
 /// The name in front, with a space behind it, and what follows.

@@ -1,4 +1,4 @@
-use Rattle.std.proofs.Common.{ℕ, ◌≡◌, true, false, nat_eq, refl, sym, subst, ◌∙◌, arith, inl, inr}
+use Rattle.std.proofs.Common.{◌≡◌, true, false, nat_eq, refl, sym, ◌∙◌, arith}
 use Rattle.std.specs.List.{list_any}
 use Rattle.std.proofs.lemmas.Bool.{false≢true}
 use Rattle.slub_trace_reader.proofs.Runs.{each_run, run_each, up_to}
@@ -7,16 +7,16 @@ use Rattle.slub_trace_reader.proofs.numbers.has_none.Goals as goal
 pub loop-object-init : goal.loop-object-init
 loop-object-init c = record { low = omega arith; each = λ n low high. absurd (let never : ⊥ = omega arith in never) }
 
-pub returns-then-contains : goal.returns-then-contains
-returns-then-contains c =
-    let found : list_any (nat_eq c.loop-object.object-counter) c.args.objects.now.keys ≡ true = sym c.contains.ensures ∙ c.if-contains.true in
-    (λ is. absurd (false≢true is), λ all. absurd (false≢true (sym (each_run (λ m. list_any (nat_eq m) c.args.objects.now.keys ≡ false) c.args.first c.args.count c.loop-object.object-counter all c.loop-object.invariant.low c.loop-object-test.true) ∙ found)))
+pub returns-then-has : goal.returns-then-has
+returns-then-has c =
+    let found : list_any (nat_eq c.loop-object.object) c.args.objects.now.keys ≡ true = sym c.has.ensures ∙ c.if-has.true in
+    (λ is. absurd (false≢true is), λ all. absurd (false≢true (sym (each_run (λ m. list_any (nat_eq m) c.args.objects.now.keys ≡ false) c.args.first c.args.count c.loop-object.object all c.loop-object.invariant.low c.loop-object-test.true) ∙ found)))
 
 pub loop-object-preserved : goal.loop-object-preserved
 loop-object-preserved c =
     let was = c.loop-object.invariant in
-    let here : list_any (nat_eq c.loop-object.object-counter) c.args.objects.now.keys ≡ false = sym c.contains.ensures ∙ c.if-contains.false in
-    record { low = omega (arith, was.low); each = up_to (λ m. list_any (nat_eq m) c.args.objects.now.keys ≡ false) c.args.first c.loop-object.object-counter was.each here }
+    let here : list_any (nat_eq c.loop-object.object) c.args.objects.now.keys ≡ false = sym c.has.ensures ∙ c.if-has.false in
+    record { low = omega (arith, was.low); each = up_to (λ m. list_any (nat_eq m) c.args.objects.now.keys ≡ false) c.args.first c.loop-object.object was.each here }
 
 pub returns : goal.returns
 returns c = (

@@ -4,6 +4,6 @@ use Rattle.slub_trace_reader.proofs.numbers.has_none.Given as goal
 
 abbrev pub invariant-loop-object : goal.invariant-loop-object
 invariant-loop-object l = record {
-  low : l.fn.first ≤ l.object-counter;
-  each : (n : ℕ) → l.fn.first ≤ n → n < l.object-counter → list_any (nat_eq n) l.fn.objects.keys ≡ false;
+  low : l.fn.first ≤ l.object;
+  each : (n : ℕ) → l.fn.first ≤ n → n < l.object → list_any (nat_eq n) l.fn.objects.keys ≡ false;
 }

@@ -54,7 +54,7 @@ nothing_gone [] object = refl
 nothing_gone (freed ∷ gone) zero = refl
 nothing_gone (freed ∷ gone) (suc object) = nothing_gone gone object
 
-rest_on_board : (s after : State) → after ≡ all_on_board s → IsAtRest after
+pub rest_on_board : (s after : State) → after ≡ all_on_board s → IsAtRest after
 rest_on_board s after is = rw is (record { laid_down = laid_held s.board; forgotten = nothing_gone s.gone })
 
 -- with the same board, and the same that was freed, it stays so

@@ -59,7 +59,7 @@ pub fn item(
 }
 
 /// Creates a cache, or gives a live one that it fits one more name (`kmem_cache_create`).
-fn create(
+pub fn create(
     lists: &mut Lists,
     name: &Name,
     spec: &Spec,
@@ -89,7 +89,7 @@ fn create(
 ///
 /// All memory is taken before the first event: each event makes at most one more slab that may be
 /// reported.
-fn serial(alloc: Global, lists: &mut Lists, round: &Round) -> Result<RoundResult, NoMemory>
+pub fn serial(alloc: Global, lists: &mut Lists, round: &Round) -> Result<RoundResult, NoMemory>
     requires coherent { IsCoherent lists.old }
     requires known { All (IsKnown lists.old round.now.workers) round.now.events }
     requires unheld { All (IsUnheld lists.old) (objects_of round.now.events) }

@@ -1,3 +1,8 @@
+pub mod Asked
+pub mod Bulk
+pub mod Classes
+pub mod ClientText
 pub mod Journal
+pub mod Kmalloc
 pub mod Lawful
 pub mod Text

@@ -8,13 +8,20 @@
 //! `specs/Text.antt` says which text a journal has, and `text` makes it, an item at a time. Nothing here
 //! knows a machine's bodies: an answer is made into text whoever gave it.
 //!
+//! `client` has what the lines of clients are answered, and `client_text` their text; no journal has them
+//! yet. `specs/Asked.antt` says which rounds they make, `specs/Classes.antt` and `specs/Kmalloc.antt` what
+//! `kmalloc`, `kget` and `krealloc` do, and `specs/Bulk.antt` in which order a bulk free frees.
+//!
 //! # What it promises
 //!
 //! Which journals are lawful (`IsLawful`), exactly which traces are replayed today (`is_built`),
-//! and the text of what was done, with or without the lines that `--replies` asks for.
+//! and the text of what was done, with or without the lines that `--replies` asks for; so too of a
+//! client's line (`client_text`).
 #![tactic(auto)]
 
 pub mod built;
+pub mod client;
+pub mod client_text;
 pub mod journal;
 pub mod names;
 #[cfg(test)]

@@ -88,7 +88,7 @@ pub fn text_of_item(
 }
 
 /// What the line of a creation says.
-fn created_answer(creation: &Result<Created, CreateRefusal>) -> ItemAnswer
+pub(crate) fn created_answer(creation: &Result<Created, CreateRefusal>) -> ItemAnswer
     ensures { result ≡ created_answer creation.now }
 {
     match creation {
@@ -137,7 +137,7 @@ fn tuned_answer(tune: &Result<(), TuneRefusal>) -> ItemAnswer
 }
 
 /// The line of an item's answer, if it is to be written.
-fn line_of(
+pub(crate) fn line_of(
     alloc: Global,
     word: ItemWord,
     name: &Name,
@@ -217,7 +217,7 @@ fn event_text(
 }
 
 /// The lines of what was found damaged.
-fn damages_text(alloc: Global, damages: &[Found]) -> Result<Vec<u8>, NoMemory>
+pub(crate) fn damages_text(alloc: Global, damages: &[Found]) -> Result<Vec<u8>, NoMemory>
     ensures { IfOk result (λ text. text.items ≡ flat_map found_text damages.now) }
 {
     let mut text = Vec::new(alloc);

@@ -1,0 +1,6 @@
+-- Where objects stand, as pairs of a number and a frame.
+use Rattle.std.specs.Prelude.{ℕ, List, map}
+use Rattle.slub_bulk.specs.declared.order.Place.{Place}
+
+abbrev pub places_of : List Place → List (ℕ × ℕ)
+places_of places = map (λ place. (place.object, place.frame)) places

@@ -1,5 +1,5 @@
 -- What an event does to a byte of a word of a checked object.
-use Rattle.std.proofs.Common.{◌≡◌, ◌≢◌, ℕ, ◌+◌, ◌-◌, ◌*◌, ◌<◌, ◌≤◌, ◌&&◌, Bool, true, false, cond, eqb, List, [], ◌∷◌, ◌++◌, length, take, drop, get_or, set, refl, sym, ◌∙◌, ap, subst, arith, Option, Some, None, inl, inr, ◌⊎◌, ℤ, get_or-set_other, get_or-set_same, length-set}
+use Rattle.std.proofs.Common.{◌≡◌, ◌≢◌, ℕ, ◌+◌, ◌-◌, ◌*◌, ◌<◌, ◌≤◌, ◌&&◌, Bool, true, false, cond, eqb, List, ◌++◌, length, take, drop, get_or, set, refl, sym, ◌∙◌, ap, subst, arith, Option, Some, None, inl, inr, ◌⊎◌, ℤ, get_or-set_other, get_or-set_same}
 use Rattle.std.specs.Prelude.{pos, ◌+ℤ◌, nat_abs}
 use Rattle.std.specs.Int.{to_le_bytes, w64}
 use Rattle.std.specs.Option.{option_and_then, option_map_or, option_or}
@@ -300,18 +300,18 @@ module _ (s : State) (one : Answered) (after : State) (coherent : IsCoherent s) 
           (used-word s mine owner.layout (record { object = other; here = mine-there }) (rw holds.cache refl) coherent at fits slabs (had ∙ ap Some old_is)).1 in (
             ap (λ (c : CheckedState). c.layout) rest_is,
             elim (cases_eq at word) [
-                | inl hit ↦
-                    puts (get_or (to_le_bytes w64 value) place 0)
-                    (ap (λ (h : Held). h.worker) (sym one_held) ∙ own-worker one.0.worker (held_under s other) mine holds.here)
-                    (ap (λ (c : CheckedState). byte-in slabs.layout c held word place) rest_is
-                    ∙ ap (λ w. byte-in slabs.layout (slab_word slabs (slot_of_held held) at value) held w place) (sym hit)
-                    ∙ own-word slabs held at value place sound used.0 at_ends below)
-                    (λ last. put-is last ∙ ap (λ b. cond (b && eqb at word) (Some (get_or (to_le_bytes w64 value) place 0)) last) (eq-eqb other object same)
-                    ∙ ap (λ b. cond b (Some (get_or (to_le_bytes w64 value) place 0)) last) (eq-eqb at word hit))
-                | inr missed ↦
-                    still (ap (λ (c : CheckedState). byte-in slabs.layout c held word place) rest_is ∙ next-word slabs held at value place sound used.0 at_ends below word missed)
-                    (λ last. put-is last ∙ ap (λ b. cond (eqb other object && b) (Some (get_or (to_le_bytes w64 value) place 0)) last) (ne_eqb at word missed) ∙ no (eqb other object) last)
-              ],
+              | inl hit ↦
+                  puts (get_or (to_le_bytes w64 value) place 0)
+                  (ap (λ (h : Held). h.worker) (sym one_held) ∙ own-worker one.0.worker (held_under s other) mine holds.here)
+                  (ap (λ (c : CheckedState). byte-in slabs.layout c held word place) rest_is
+                  ∙ ap (λ w. byte-in slabs.layout (slab_word slabs (slot_of_held held) at value) held w place) (sym hit)
+                  ∙ own-word slabs held at value place sound used.0 at_ends below)
+                  (λ last. put-is last ∙ ap (λ b. cond (b && eqb at word) (Some (get_or (to_le_bytes w64 value) place 0)) last) (eq-eqb other object same)
+                  ∙ ap (λ b. cond b (Some (get_or (to_le_bytes w64 value) place 0)) last) (eq-eqb at word hit))
+              | inr missed ↦
+                  still (ap (λ (c : CheckedState). byte-in slabs.layout c held word place) rest_is ∙ next-word slabs held at value place sound used.0 at_ends below word missed)
+                  (λ last. put-is last ∙ ap (λ b. cond (eqb other object && b) (Some (get_or (to_le_bytes w64 value) place 0)) last) (ne_eqb at word missed) ∙ no (eqb other object) last)
+            ],
           )
       | inr differ ↦ elim (cases_eq held.cache mine.cache) [
         | inr away ↦ not-here mine.cache old (slab_word old (slot_of_held mine) at value) had set_now away (put-other differ)

@@ -1,11 +1,8 @@
 -- Through a round: each examined byte that isn't the wanted one was poked, and so is each that is told of.
-use Rattle.std.proofs.Common.{append_assoc, Contains, zero, suc, All, T, nat_lt, ◌≡◌, ◌≢◌, ℕ, ◌+◌, ◌*◌, ◌<◌, ◌≤◌, Bool, true, false, List, [], ◌∷◌, ◌++◌, length, get_or, replicate, refl, sym, ◌∙◌, ap, subst, arith, Option, Some, None, inl, inr, ◌⊎◌, ℤ, get_or-set_other, get_or-set_same, length-set}
-use Rattle.std.specs.Prelude.{pos, ◌+ℤ◌, nat_abs, slice_get, ◌<ℤ◌, ⊤}
+use Rattle.std.proofs.Common.{append_assoc, Contains, zero, suc, All, ◌≡◌, ◌≢◌, ℕ, ◌+◌, ◌*◌, ◌<◌, ◌≤◌, true, List, [], ◌∷◌, ◌++◌, length, get_or, replicate, refl, sym, ◌∙◌, ap, subst, arith, Option, Some, None, inl, inr, ◌⊎◌, ℤ, get_or-set_other, get_or-set_same, length-set}
+use Rattle.std.specs.Prelude.{pos, ◌+ℤ◌, nat_abs, slice_get, ⊤}
 use Rattle.std.specs.Option.{option_and_then, option_or}
-use Rattle.std.specs.Int.Signed.{pos-nat_abs, yes_non_neg}
-use Rattle.std.proofs.Math.IntN.{+ℤ_assoc, pos-+ℤ-pos}
 use Rattle.std.proofs.lemmas.Bool.{cases_eq}
-use Rattle.std.proofs.lemmas.Bool.Decides.{nat_tests}
 use Rattle.std.proofs.lemmas.List.{append-nil}
 use Rattle.std.proofs.lemmas.List.Elements.{Contains-append_left, Contains-append_right}
 use Rattle.std.proofs.lemmas.List.Elements.{All-append}

@@ -1,11 +1,10 @@
 -- A byte of a word of a checked object is the one that its worker put there last, or was poked there under another number.
-use Rattle.std.proofs.Common.{◌≡◌, ◌≢◌, ℕ, ◌+◌, ◌*◌, ◌<◌, ◌&&◌, Bool, true, false, cond, List, [], ◌∷◌, ◌++◌, refl, sym, ◌∙◌, ap, subst, arith, Option, Some, None, inl, inr, ◌⊎◌, ℤ, is_some}
+use Rattle.std.proofs.Common.{◌≡◌, ℕ, ◌+◌, ◌*◌, ◌<◌, ◌&&◌, Bool, true, false, cond, List, [], ◌∷◌, ◌++◌, refl, sym, ◌∙◌, ap, subst, arith, Option, Some, None, inl, inr, ◌⊎◌, ℤ, is_some}
 use Rattle.std.specs.Prelude.{pos, ◌+ℤ◌}
 use Rattle.std.specs.Option.{option_map}
 use Rattle.std.proofs.lemmas.Bool.{eq-eqb}
 use Rattle.std.proofs.lemmas.List.{append_assoc}
 use Rattle.std.proofs.lemmas.List.Elements.{filter-append}
-use Rattle.slub_object_layout.specs.declared.event.Act.TheVariants.{Poke}
 use Rattle.slub_object_layout.specs.declared.layout.Layout.{Layout}
 use Rattle.slub_object_layout.specs.Layout.{address_of}
 use Rattle.slub_cache_create.specs.Table.{Table, cache_of as live_cache}
@@ -18,17 +17,17 @@ use Rattle.slub_lists.specs.State.{State}
 use Rattle.slub_lists.specs.Alloc.{cache_of, checked_of}
 use Rattle.slub_lists.specs.Coherent.{IsCoherent, IsSetFrom, held_under}
 use Rattle.slub_lists.specs.Free.{is_freeable}
-use Rattle.slub_lists.specs.Words.{held_by, is_word, known_to}
+use Rattle.slub_lists.specs.Words.{held_by, is_word}
 use Rattle.slub_lists.proofs.CheckedTaking.{checked-set}
 use Rattle.slub_lists.proofs.ObjectWords.{own-is}
 use Rattle.slub_journal.specs.Lawful.{Answers, is_by}
-use Rattle.slub_round_law.specs.Answered.{Answered, IsAfter, did_free, found_bad, gave, is_corrupt, is_free_of, last_put, of_worker, put_after, times_freed, times_given}
-use Rattle.slub_round_law.specs.Round.{IsPokedUnder, Spot, spot_after, spot_by, spot_of, spot_under}
+use Rattle.slub_round_law.specs.Answered.{Answered, IsAfter, did_free, gave, is_corrupt, is_free_of, last_put, of_worker, put_after, times_freed, times_given}
+use Rattle.slub_round_law.specs.Round.{IsPokedUnder, spot_after, spot_by, spot_of, spot_under}
 use Rattle.slub_round_law.proofs.ByteTurns.{ByteTurn, Kind, asks_one, byte-in, byte-turn, frees_one, given-put, is_put, kind-of, known-is, poked-other, puts, puts_byte, puts_none, puts_word, same-put, still, under, wrote-other}
 use Rattle.slub_round_law.proofs.Reports.{slabs-sound}
 use Rattle.slub_round_law.proofs.Runs.{Turn, comes, count-more, fold-own, goes, gone_under, on_board, own-more, rests, stays}
-use Rattle.slub_round_law.proofs.Steps.{Step, event-step}
-use Rattle.slub_round_law.proofs.Tale.{Spots, injected, same-spot, same-worker, spot-kept}
+use Rattle.slub_round_law.proofs.Steps.{event-step}
+use Rattle.slub_round_law.proofs.Tale.{Spots, injected, same-spot, same-worker}
 use Rattle.slub_round_law.proofs.Times.{one_where}
 use Rattle.slub_round_law.proofs.Values.{checked-kept, own-worker}
 

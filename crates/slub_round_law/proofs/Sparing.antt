@@ -1,5 +1,5 @@
 -- An event leaves the words of the objects that it isn't of.
-use Rattle.std.proofs.Common.{◌≡◌, ◌≢◌, ℕ, zero, suc, ◌+◌, ◌-◌, ◌*◌, ◌<◌, ◌≤◌, Bool, true, false, cond, List, [], ◌∷◌, ◌++◌, length, take, drop, get_or, set, map, refl, sym, ◌∙◌, ap, subst, arith, Option, Some, None, unwrap_or, inl, inr, ◌⊎◌, ℤ, Ok, sum_by, get_or-set_other, get_or-set_same, length-set, MatchOption, pow_pos, zero-add, ◌^◌}
+use Rattle.std.proofs.Common.{◌≡◌, ◌≢◌, ℕ, zero, suc, ◌+◌, ◌*◌, ◌<◌, ◌≤◌, true, false, List, [], ◌∷◌, length, drop, get_or, set, map, refl, sym, ◌∙◌, ap, subst, arith, Option, Some, None, unwrap_or, inl, inr, ℤ, get_or-set_other, get_or-set_same, length-set, MatchOption, pow_pos, zero-add, ◌^◌}
 use Rattle.std.specs.Prelude.{slice_get, slice_range, nat_abs}
 use Rattle.std.specs.Int.{from_le_bytes, w64}
 use Rattle.std.specs.Option.{option_map_or}
@@ -17,10 +17,9 @@ use Rattle.slub_red_zone.specs.declared.checked.CheckedGive.{CheckedGive}
 use Rattle.slub_red_zone.specs.declared.checked.CheckedGive.TheVariants as give
 use Rattle.slub_red_zone.specs.declared.checked.Run.{Run as SlabRun}
 use Rattle.slub_red_zone.specs.declared.checked.Slot.{Slot}
-use Rattle.slub_red_zone.specs.declared.zones.Damage.{Damage}
 use Rattle.slub_red_zone.specs.Sound.{IsLayoutFor, IsSound}
 use Rattle.slub_red_zone.specs.State.{CheckedState, IsUsed, SlabState, is_free, no_slab, objects_in, slab_of as checked_slab, slot_of, state_of, with_slot}
-use Rattle.slub_red_zone.specs.Steps.{Gives, IsNext, IsOffset, TakesEmpty, next_is_damaged, next_is_whole, nothing_listed, place_of, set_aside, slab_set_aside, slab_with_given, slab_with_taken, with_byte, with_damaged, with_given, with_new_slab, with_taken, without_slab, word_of as slab_word_of, word_place}
+use Rattle.slub_red_zone.specs.Steps.{Gives, TakesEmpty, next_is_damaged, next_is_whole, nothing_listed, place_of, set_aside, slab_set_aside, slab_with_given, slab_with_taken, with_damaged, with_given, with_new_slab, with_taken, without_slab, word_of as slab_word_of, word_place}
 use Rattle.slub_red_zone.specs.Zones.{red_active, red_inactive, set_up}
 use Rattle.slub_red_zone.proofs.Given.{damaged-sound, next-inside}
 use Rattle.slub_red_zone.proofs.Counting.{count-set, got, one_if}
@@ -40,8 +39,8 @@ use Rattle.slub_lists.specs.declared.lists.Slab.{Slab}
 use Rattle.slub_lists.specs.State.{State}
 use Rattle.slub_lists.specs.Alloc.{checked_of, slab_of}
 use Rattle.slub_lists.specs.Checked.{slot_of_held}
-use Rattle.slub_lists.specs.Coherent.{IsCoherent, IsConsistent, covered_from, covers, held_under}
-use Rattle.slub_lists.specs.Laws.{KeepsWords, Names}
+use Rattle.slub_lists.specs.Coherent.{IsCoherent, IsConsistent, covered_from, covers}
+use Rattle.slub_lists.specs.Laws.{Names}
 use Rattle.slub_lists.specs.Words.{is_word, word_at, word_of}
 use Rattle.slub_lists.proofs.Apart.{one-number}
 use Rattle.slub_lists.proofs.CheckedTaking.{held-slab, held-used}

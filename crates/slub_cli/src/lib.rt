@@ -31,3 +31,5 @@ pub mod stop;
 mod tests;
 #[cfg(test)]
 mod tests_commands;
+#[cfg(test)]
+mod tests_pieces;

@@ -8,7 +8,7 @@ pub(crate) const HEADER: &str =
     "slabinfo - version: 2.1\n# name            <active_objs> <num_objs> <objsize> <objperslab> <pagesperslab> : tunables <limit> <batchcount> <sharedfactor> : slabdata <active_slabs> <num_slabs> <sharedavail>\n";
 
 /// One live object: the first allocation.
-const FIRST: &str =
+pub(crate) const FIRST: &str =
     "slubtrace 1\nmachine 16 2\ncache dentry 192 8 -\nround 1\nalloc 0 0 dentry 1\ndone\nslabinfo\nend\n";
 
 /// What the first allocation prints, but for the two header lines of slabinfo.

@@ -68,7 +68,7 @@ fn layouts_that_are_refused(rt: HostRuntime) -> Result<(), Fail> {
 }
 
 /// An overrun of a red zone that is found, and mended.
-const OVERRUN: &str =
+pub(crate) const OVERRUN: &str =
     "slubtrace 1\nmachine 16 2\ncache node 24 8 FZP\nround 1\nalloc 0 0 node 1\npoke 0 1 24 00\nfree 0 0 1\npoke 0 1 24 cc\nfree 0 0 1\ndone\nslabinfo\nend\n";
 
 #[test]
@@ -100,7 +100,7 @@ fn refusals_alone_without_replies(rt: HostRuntime) -> Result<(), Fail> {
 }
 
 /// A use after free.
-const STALE: &str =
+pub(crate) const STALE: &str =
     "slubtrace 1\nmachine 16 2\ncache node 24 8 FZP\nround 1\nalloc 0 0 node 1\nfree 0 0 1\npoke 0 1 0 41\nalloc 0 0 node 2\ndone\nend\n";
 
 #[test]

@@ -1,17 +1,20 @@
 -- What the steps on the slabs of a checked cache do to single bytes of slots.
-use Rattle.std.proofs.Common.{◌≡◌, ◌≢◌, ℕ, zero, suc, ◌+◌, ◌-◌, ◌*◌, ◌<◌, ◌≤◌, ◌/◌, ◌&&◌, ◌||◌, Bool, true, false, List, [], ◌∷◌, ◌++◌, length, take, drop, get_or, refl, sym, ◌∙◌, ap, subst, arith, All, inl, inr, ◌⊎◌, fold}
+use Rattle.std.proofs.Common.{◌≡◌, ◌≢◌, ℕ, zero, suc, ◌+◌, ◌-◌, ◌*◌, ◌<◌, ◌≤◌, ◌/◌, ◌&&◌, ◌||◌, Bool, true, false, List, [], ◌∷◌, ◌++◌, length, take, drop, get_or, refl, sym, ◌∙◌, ap, subst, arith, All, inl, inr, ◌⊎◌, fold, ℤ, T}
 use Rattle.std.specs.List.{Contains}
 use Rattle.std.proofs.lemmas.Bool.Decides.{nat_tests}
 use Rattle.std.proofs.lemmas.List.Elements.{All-head, All-tail, Contains-append_cases, Contains-append_left, Contains-append_right}
-use Rattle.std.specs.Prelude.{if◌then◌else◌, nat_lt}
+use Rattle.std.specs.Prelude.{if◌then◌else◌, nat_lt, pos, ◌+ℤ◌, ◌<ℤ◌, nat_abs}
+use Rattle.std.specs.Int.Signed.{pos-nat_abs, yes_non_neg}
+use Rattle.std.proofs.Math.IntN.{+ℤ_assoc, pos-+ℤ-pos}
 use Rattle.std.proofs.lemmas.Bool.{cases_lt}
 use Rattle.std.proofs.lemmas.Grind.{common_steps}
 use Rattle.std.proofs.lemmas.Nat.{row_fits}
 use Rattle.slub_red_zone.specs.declared.zones.Part.{Part}
 use Rattle.slub_object_layout.specs.declared.layout.Flags.{Flags}
 use Rattle.slub_object_layout.specs.declared.layout.Layout.{Layout}
-use Rattle.slub_object_layout.specs.Layout.{align_down, inuse_of, offset_of}
+use Rattle.slub_object_layout.specs.Layout.{address_of, align_down, inuse_of, offset_of}
 use Rattle.slub_red_zone.specs.Sound.{IsLayoutFor}
+use Rattle.slub_red_zone.specs.Steps.{IsOffset, place_of}
 use Rattle.slub_red_zone.specs.Zones.{examined_free, examined_used, left_zone, padding, padding_byte, padding_part, poison, poison_but_end, poison_byte, poison_end, poison_last, red_active, red_inactive, red_zones, right_zone, set_up, with_part, written}
 
 -- ---- a piece of a list is another
@@ -266,3 +269,25 @@ module _ (layout : Layout) (flags : Flags) (good : IsLayoutFor flags layout) (by
   set-up-at part p (pad poisoned is) has =
       let from : layout.left_pad + layout.inuse ≤ p = omega (arith, has.0, ap (λ (q : Part). q.from) is, pointer-behind layout flags good poisoned) in
       inr (rw (poisoned, is) (0, omega arith, refl), padding-at p from)
+
+-- ---- a byte at an offset
+
+less-of : (a b : ℕ) → pos a <ℤ pos b → a < b
+less-of a b below = by (nat_lt a b) refl below.lt
+  where
+    by : (c : Bool) → nat_lt a b ≡ c → T c → a < b
+    by true is yes_true = grind (arith, nat_tests, is)
+    by false is never = absurd never
+
+-- a byte inside a slot has its place
+pub offset-place : (layout : Layout) (offset : ℤ) → IsOffset layout offset → (nat_abs (place_of layout offset) < layout.size) × (pos (nat_abs (place_of layout offset)) ≡ place_of layout offset)
+offset-place layout offset inside =
+    let is : pos (nat_abs (place_of layout offset)) ≡ place_of layout offset = pos-nat_abs (place_of layout offset) (yes_non_neg inside.0) in
+    (let below : pos (nat_abs (place_of layout offset)) <ℤ pos layout.size = subst (λ z. z <ℤ pos layout.size) (sym is) inside.1 in less-of (nat_abs (place_of layout offset)) layout.size below, is)
+
+-- and its address
+pub poke-address : (layout : Layout) (frame index : ℕ) (offset : ℤ) → IsOffset layout offset → pos (address_of frame index layout) +ℤ offset ≡ pos (frame * 4096 + index * layout.size + nat_abs (place_of layout offset))
+poke-address layout frame index offset inside = by (frame * 4096 + index * layout.size) layout.left_pad (nat_abs (place_of layout offset)) (offset-place layout offset inside).1
+  where
+    by : (b l q : ℕ) → pos q ≡ pos l +ℤ offset → pos (b + l) +ℤ offset ≡ pos (b + q)
+    by b l q is = ap (λ z. z +ℤ offset) (sym (pos-+ℤ-pos b l)) ∙ +ℤ_assoc (pos b) (pos l) offset ∙ ap (λ z. pos b +ℤ z) (sym is) ∙ pos-+ℤ-pos b q

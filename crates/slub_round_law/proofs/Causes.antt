@@ -1,29 +1,40 @@
 -- Each reply has its cause.
-use Rattle.std.proofs.Common.{◌≡◌, ◌≢◌, ℕ, ◌<◌, ◌≤◌, ◌||◌, Bool, true, false, cond, List, [], ◌∷◌, ◌++◌, get_or, set, get_or-set_other, get_or-set_same, refl, sym, ◌∙◌, ap, subst, arith, Option, Some, None, IsSome, IfSome, MatchOption, inl, inr, ◌⊎◌, is_some}
+use Rattle.std.proofs.Common.{◌≡◌, ◌≢◌, ℕ, ◌+◌, ◌*◌, ◌<◌, ◌≤◌, ◌||◌, Bool, true, false, cond, List, [], ◌∷◌, ◌++◌, length, get_or, set, get_or-set_other, get_or-set_same, refl, sym, ◌∙◌, ap, subst, arith, Option, Some, None, IsSome, IfSome, MatchOption, inl, inr, ◌⊎◌, is_some}
+use Rattle.std.specs.Prelude.{pos, slice_range}
 use Rattle.std.specs.Option.{option_and_then, option_map, option_map_or}
 use Rattle.std.proofs.lemmas.Bool.{cases_eq, eq-eqb}
+use Rattle.std.proofs.lemmas.Grind.{common_steps}
 use Rattle.std.proofs.lemmas.List.Sums.{sum_by-cons}
 use Rattle.slub_object_layout.specs.declared.event.Act.{Act}
+use Rattle.slub_object_layout.specs.declared.layout.Layout.{Layout}
 use Rattle.slub_object_layout.specs.Layout.{address_of}
 use Rattle.slub_cache_create.specs.Table.{Table, cache_of as live_cache, name_at, number_of}
 use Rattle.slub_cache_create.specs.declared.caches.Cache.{Cache}
-use Rattle.slub_red_zone.specs.State.{CheckedState}
+use Rattle.slub_red_zone.specs.Sound.{IsSound}
+use Rattle.slub_red_zone.specs.State.{CheckedState, slab_of as checked_slab}
+use Rattle.slub_red_zone.specs.Steps.{word_place}
+use Rattle.slub_red_zone.proofs.Taken.{used-inside}
 use Rattle.slub_lists.specs.declared.lists.Held.{Held}
 use Rattle.slub_answers.specs.declared.reply.Reply.{Reply}
 use Rattle.slub_lists.specs.State.{State}
 use Rattle.slub_lists.specs.Alloc.{cache_of, checked_of, named}
-use Rattle.slub_lists.specs.Coherent.{IsCoherent, held_under, laid_down}
+use Rattle.slub_lists.specs.Checked.{slot_of_held}
+use Rattle.slub_lists.specs.Coherent.{IsCoherent, IsSetFrom, held_under, laid_down}
 use Rattle.slub_lists.specs.Free.{is_freeable}
 use Rattle.slub_lists.specs.Laws.{HasByte}
 use Rattle.slub_lists.specs.Alloc.{HasLayout, IsLive}
 use Rattle.slub_lists.specs.Words.{held_by, is_word, is_worker, own, word_of}
 use Rattle.slub_lists.proofs.Apart.{held-apart}
 use Rattle.slub_lists.proofs.CheckedGiving.{layout-live}
-use Rattle.slub_lists.proofs.ObjectWords.{memory-read, own-is}
+use Rattle.slub_lists.proofs.CheckedTaking.{checked-set}
+use Rattle.slub_lists.proofs.ObjectWords.{memory-read, own-is, slab-read, used-word}
 use Rattle.slub_lists.proofs.Trimming.{place-live}
-use Rattle.slub_round_law.specs.Answered.{Answered, did_free, found_bad, gave, holding, last_written, of_worker, times_freed, times_taken}
-use Rattle.slub_round_law.specs.Round.{Cause, IsFreeable, IsOwnValue, IsSpare, Spot, has_word, layout_of, spot_by, spot_of, spot_under}
+use Rattle.slub_round_law.specs.Answered.{Answered, did_free, found_bad, gave, holding, last_put, last_written, of_worker, times_freed, times_taken}
+use Rattle.slub_round_law.specs.Round.{Cause, IsFreeable, IsOfChecked, IsOwnBytes, IsOwnValue, IsPokedUnder, IsSpare, Spot, has_word, layout_of, spot_by, spot_of, spot_under}
+use Rattle.slub_round_law.proofs.ByteTurns.{byte-in}
 use Rattle.slub_round_law.proofs.Damages.{damage-differs, damage-taken}
+use Rattle.slub_round_law.proofs.Puts.{under-more}
+use Rattle.slub_round_law.proofs.Reports.{slabs-sound}
 use Rattle.slub_round_law.proofs.Rounds.{Moves, Tale, new-unheld, step-of}
 use Rattle.slub_round_law.proofs.Runs.{on_board}
 use Rattle.slub_round_law.proofs.Steps.{Holds, Step, flushes, frees, gives, keeps, lacks, nameless, pokes, pokes_not, reads, reads_none, reads_not, refuses, trims, trims_checked, trims_none, wants, writes, writes_none, writes_not}
@@ -212,20 +223,79 @@ module _ (before : State) (past : List Answered) (s : State) (one : Answered) (a
         ap (λ (x : Option Spot). option_map_or (λ layout. is_word layout word) (option_and_then (layout_of before) x) false) its-spot
         ∙ ap (λ (x : Option Cache). option_map_or (λ layout. is_word layout word) (option_map (λ (live : Cache). live.layout) x) false) (live-before held.cache live holds.cache)
 
-    -- a value is the one that the worker wrote last, but of a checked object
-    its-value : IsCoherent before → (word : ℕ) → is_word live.layout word ≡ true → IsOwnValue before mine object word (word_of s live.layout held word)
+    there : held_under s object ≡ Some held
+    there = own-is one.0.worker (held_under s object) held holds.here
+
+    owner : held.worker ≡ Some one.0.worker
+    owner = own-worker one.0.worker (held_under s object) held holds.here
+
+    -- the object's cache is checked before the round as it is now
+    checked-before : IsCoherent before → is_some (checked_of before held.cache) ≡ is_some (checked_of s held.cache)
+    checked-before coherent = checked-kept before s held.cache live coherent tale.coherent tale.caches.table (live-before held.cache live holds.cache)
+
+    of-checked : IsOfChecked before object mine ≡ IsSome (checked_of before held.cache)
+    of-checked = ap (λ (x : Option Spot). MatchOption x ⊥ (λ spot. IsSome (checked_of before spot.cache))) its-spot
+
+    -- the bytes of a checked object's word
+    its-bytes : (word : ℕ) → is_word live.layout word ≡ true → (slabs : CheckedState) → checked_of s held.cache ≡ Some slabs → IsOwnBytes before answers mine object word (word_of s live.layout held word)
+    its-bytes word within slabs was = record {
+      bytes = slice_range (checked_slab slabs held.frame).bytes from (from + 8);
+      eight = long (checked_slab slabs held.frame).bytes fits;
+      spelled = sym (slab-read s live.layout held word slabs was);
+      each = λ place below. if-some (last_put object word place mine) _ (λ put last.
+          let is : get_or (slice_range (checked_slab slabs held.frame).bytes from (from + 8)) place 0 ≡ byte-in slabs.layout slabs held word place =
+          read (checked_slab slabs held.frame).bytes place below ∙ ap (λ n. get_or (checked_slab slabs held.frame).bytes n 0) (let e : from + place ≡ held.index * slabs.layout.size + (slabs.layout.left_pad + (8 * word + place)) = omega arith in e) in
+          elim (tale.puts.bytes one.0.worker object word place put held live slabs there owner holds.cache was within below last) [
+            | inl same ↦ inl (is ∙ same)
+            | inr poked ↦ inr (
+              pos (address_of held.frame held.index slabs.layout + (8 * word + place)),
+              subst (λ (x : Option Spot). MatchOption x ⊥ (λ spot. pos (spot.address + (8 * word + place)) ≡ pos (address_of held.frame held.index slabs.layout + (8 * word + place)))) (sym its-spot)
+                  (ap (λ (l : Layout). pos (address_of held.frame held.index l + (8 * word + place))) set_from),
+              subst (λ b. IsPokedUnder before answers object (pos (address_of held.frame held.index slabs.layout + (8 * word + place))) b) (sym is) (under-more before past (one ∷ rest) object _ _ poked),
+            )
+          ]);
+    }
+      where
+        from : ℕ
+        from = word_place slabs.layout held.index word
+
+        sound : IsSound slabs
+        sound = (slabs-sound s held.cache slabs tale.coherent was).sound
+
+        set_from : IsSetFrom slabs.layout live.layout
+        set_from = checked-set s held.cache live.layout slabs (rw holds.cache refl) (slabs-sound s held.cache slabs tale.coherent was)
+
+        fits : from + 8 ≤ length (checked_slab slabs held.frame).bytes
+        fits =
+            let its = used-word s held live.layout (record { object = object; here = there }) (rw holds.cache refl) tale.coherent word within slabs was in
+            omega (arith, its.1, used-inside slabs (slot_of_held held) sound its.0, sound.layout.bounds.inuse.0, sound.layout.bounds.inuse.1, sound.layout.bounds.left_pad)
+
+        long : (xs : List ℕ) → from + 8 ≤ length xs → length (slice_range xs from (from + 8)) ≡ 8
+        long xs inside = eight xs from inside
+          where
+            eight : (xs : List ℕ) (a : ℕ) → a + 8 ≤ length xs → length (slice_range xs a (a + 8)) ≡ 8
+            eight xs a inside = grind (arith, common_steps)
+
+        read : (xs : List ℕ) (i : ℕ) → i < 8 → get_or (slice_range xs from (from + 8)) i 0 ≡ get_or xs (from + i) 0
+        read xs i below = at xs from i below
+          where
+            at : (xs : List ℕ) (a i : ℕ) → i < 8 → get_or (slice_range xs a (a + 8)) i 0 ≡ get_or xs (a + i) 0
+            at xs a i below = grind (arith, common_steps)
+
+    -- a value is the one that the worker wrote last; of a checked object its bytes are those that were put last
+    its-value : IsCoherent before → (word : ℕ) → is_word live.layout word ≡ true → IsOwnValue before answers mine object word (word_of s live.layout held word)
     its-value coherent word within = by (checked_of s held.cache) refl
       where
-        there : held_under s object ≡ Some held
-        there = own-is one.0.worker (held_under s object) held holds.here
-
-        by : (x : Option CheckedState) → checked_of s held.cache ≡ x → IsOwnValue before mine object word (word_of s live.layout held word)
-        by None e = inr (if-some (last_written object word mine) _ (λ written last.
-            sym (memory-read s live.layout held word e)
-            ∙ tale.values one.0.worker object word written held live there (own-worker one.0.worker (held_under s object) held holds.here) e holds.cache within last))
-        by (Some slabs) e =
-            let before_too : IsSome (checked_of before held.cache) = checked-kept before s held.cache live coherent tale.coherent tale.caches.table (live-before held.cache live holds.cache) ∙ ap is_some e in
-            inl (subst (λ (x : Option Spot). MatchOption x ⊥ (λ spot. IsSome (checked_of before spot.cache))) (sym its-spot) before_too)
+        by : (x : Option CheckedState) → checked_of s held.cache ≡ x → IsOwnValue before answers mine object word (word_of s live.layout held word)
+        by None e = record {
+          unchecked = λ other. if-some (last_written object word mine) _ (λ written last.
+              sym (memory-read s live.layout held word e) ∙ tale.values one.0.worker object word written held live there owner e holds.cache within last);
+          checked = λ is. absurd (let never : true ≡ false = sym (subst (λ A. A) of-checked is) ∙ checked-before coherent ∙ ap is_some e in cc);
+        }
+        by (Some slabs) e = record {
+          unchecked = λ other. absurd (other (subst (λ A. A) (sym of-checked) (checked-before coherent ∙ ap is_some e)));
+          checked = λ is. its-bytes word within slabs e;
+        }
 
   -- ---- the event
 

@@ -1,11 +1,8 @@
 -- Through a round: each examined byte that isn't the wanted one was poked, and so is each that is told of.
-use Rattle.std.proofs.Common.{append_assoc, Contains, zero, suc, All, T, nat_lt, ◌≡◌, ◌≢◌, ℕ, ◌+◌, ◌*◌, ◌<◌, ◌≤◌, Bool, true, false, List, [], ◌∷◌, ◌++◌, length, get_or, replicate, refl, sym, ◌∙◌, ap, subst, arith, Option, Some, None, inl, inr, ◌⊎◌, ℤ, get_or-set_other, get_or-set_same, length-set}
-use Rattle.std.specs.Prelude.{pos, ◌+ℤ◌, nat_abs, slice_get, ◌<ℤ◌, ⊤}
+use Rattle.std.proofs.Common.{append_assoc, Contains, zero, suc, All, ◌≡◌, ◌≢◌, ℕ, ◌+◌, ◌*◌, ◌<◌, ◌≤◌, true, List, [], ◌∷◌, ◌++◌, length, get_or, replicate, refl, sym, ◌∙◌, ap, subst, arith, Option, Some, None, inl, inr, ◌⊎◌, ℤ, get_or-set_other, get_or-set_same, length-set}
+use Rattle.std.specs.Prelude.{pos, ◌+ℤ◌, nat_abs, slice_get, ⊤}
 use Rattle.std.specs.Option.{option_and_then, option_or}
-use Rattle.std.specs.Int.Signed.{pos-nat_abs, yes_non_neg}
-use Rattle.std.proofs.Math.IntN.{+ℤ_assoc, pos-+ℤ-pos}
 use Rattle.std.proofs.lemmas.Bool.{cases_eq}
-use Rattle.std.proofs.lemmas.Bool.Decides.{nat_tests}
 use Rattle.std.proofs.lemmas.List.{append-nil}
 use Rattle.std.proofs.lemmas.List.Elements.{Contains-append_left, Contains-append_right}
 use Rattle.std.proofs.lemmas.List.Elements.{All-append}
@@ -45,6 +42,7 @@ use Rattle.slub_lists.proofs.ObjectWords.{own-is, used-word}
 use Rattle.slub_round_law.specs.Answered.{Answered, is_alloc_of}
 use Rattle.slub_round_law.specs.Pokes.{IsPoked, IsPokedFree, WasGiven, WasPoked}
 use Rattle.slub_round_law.specs.Round.{spot_of}
+use Rattle.slub_round_law.proofs.Bytes.{offset-place, poke-address}
 use Rattle.slub_round_law.proofs.Causes.{live-spot}
 use Rattle.slub_round_law.proofs.Clean.{CleanSlab, given-clean, new-bytes, poked-clean, written-clean}
 use Rattle.slub_round_law.proofs.Cleaning.{Clean, back-told, ToldPoked, back-clean, by_place, clean-with, coming-clean, empty-clean, gives-clean}
@@ -81,25 +79,6 @@ module _ (told more : List Answered) where
   ]
 
 -- ---- a byte and a word
-
-less-of : (a b : ℕ) → pos a <ℤ pos b → a < b
-less-of a b below = by (nat_lt a b) refl below.lt
-  where
-    by : (c : Bool) → nat_lt a b ≡ c → T c → a < b
-    by true is yes_true = grind (arith, nat_tests, is)
-    by false is never = absurd never
-
--- a byte inside a slot has its place
-pub offset-place : (layout : Layout) (offset : ℤ) → IsOffset layout offset → (nat_abs (place_of layout offset) < layout.size) × (pos (nat_abs (place_of layout offset)) ≡ place_of layout offset)
-offset-place layout offset inside =
-    let is : pos (nat_abs (place_of layout offset)) ≡ place_of layout offset = pos-nat_abs (place_of layout offset) (yes_non_neg inside.0) in
-    (let below : pos (nat_abs (place_of layout offset)) <ℤ pos layout.size = subst (λ z. z <ℤ pos layout.size) (sym is) inside.1 in less-of (nat_abs (place_of layout offset)) layout.size below, is)
-
-poke-address : (layout : Layout) (frame index : ℕ) (offset : ℤ) → IsOffset layout offset → pos (address_of frame index layout) +ℤ offset ≡ pos (frame * 4096 + index * layout.size + nat_abs (place_of layout offset))
-poke-address layout frame index offset inside = by (frame * 4096 + index * layout.size) layout.left_pad (nat_abs (place_of layout offset)) (offset-place layout offset inside).1
-  where
-    by : (b l q : ℕ) → pos q ≡ pos l +ℤ offset → pos (b + l) +ℤ offset ≡ pos (b + q)
-    by b l q is = ap (λ z. z +ℤ offset) (sym (pos-+ℤ-pos b l)) ∙ +ℤ_assoc (pos b) (pos l) offset ∙ ap (λ z. pos b +ℤ z) (sym is) ∙ pos-+ℤ-pos b q
 
 module _ (told : List Answered) where
   byte-clean : (s : CheckedState) (slot : Slot) (offset : ℤ) (byte : ℕ) → IsSound s → IsOffset s.layout offset → WasPoked told (pos (address_of slot.frame slot.index s.layout) +ℤ offset) byte → Clean (WasPoked told) s → Clean (WasPoked told) (with_byte s slot offset byte)

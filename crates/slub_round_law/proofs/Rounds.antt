@@ -16,6 +16,7 @@ use Rattle.slub_answers.specs.Kinds.{is_given}
 use Rattle.slub_journal.specs.Lawful.{Answers, RunsEvents}
 use Rattle.slub_round_law.specs.Answered.{Answered, is_alloc_of, gave, times_freed, times_given}
 use Rattle.slub_round_law.proofs.Dry.{Dry, dry-step}
+use Rattle.slub_round_law.proofs.Puts.{Gones, Puts, gones-step, puts-step}
 use Rattle.slub_round_law.proofs.Reports.{Reports, event-told, reports-more}
 use Rattle.slub_round_law.proofs.Runs.{Turn, on_board, turn}
 use Rattle.slub_round_law.proofs.Slabs.{event-slabs}
@@ -42,6 +43,8 @@ pub record Tale (before : State) (past : List Answered) (s : State) : Type 0 whe
   pub boards : Boards before past s
   pub takens : Takens before past s
   pub values : Values past s
+  pub gones : Gones before past s
+  pub puts : Puts before past s
   pub dry : Dry before past s
   pub reports : Reports before s
 
@@ -117,6 +120,8 @@ module _ (before : State) (past : List Answered) (s : State) (one : Answered) (a
         boards = boards-step before past s one after tale.caches.table moves.new turns-of tale.boards;
         takens = takens-step before past s one after moves.new tale.takens turns-of;
         values = values-step past s one after tale.coherent moves.coherent caches.table tale.values step-of turns-of;
+        gones = gones-step before past s one after tale.count moves.new tale.spots tale.gones turns-of;
+        puts = puts-step before past s one after tale.coherent moves.coherent tale.caches.table caches.table moves.answers turns-of tale.spots tale.gones tale.puts;
         dry = dry-step before past s one after tale.coherent tale.caches.table tale.dry step-of;
         reports = reports-more before s after tale.reports (event-told s one after tale.coherent (event-slabs s one.0 one.1 after moves.answers));
       }

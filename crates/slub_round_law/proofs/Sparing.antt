@@ -1,5 +1,5 @@
 -- An event leaves the words of the objects that it isn't of.
-use Rattle.std.proofs.Common.{◌≡◌, ◌≢◌, ℕ, zero, suc, ◌+◌, ◌-◌, ◌*◌, ◌<◌, ◌≤◌, Bool, true, false, cond, List, [], ◌∷◌, ◌++◌, length, take, drop, get_or, set, map, refl, sym, ◌∙◌, ap, subst, arith, Option, Some, None, unwrap_or, inl, inr, ◌⊎◌, ℤ, Ok, sum_by, get_or-set_other, get_or-set_same, length-set, MatchOption, pow_pos, zero-add, ◌^◌}
+use Rattle.std.proofs.Common.{◌≡◌, ◌≢◌, ℕ, zero, suc, ◌+◌, ◌*◌, ◌<◌, ◌≤◌, true, false, List, [], ◌∷◌, length, drop, get_or, set, map, refl, sym, ◌∙◌, ap, subst, arith, Option, Some, None, unwrap_or, inl, inr, ℤ, get_or-set_other, get_or-set_same, length-set, MatchOption, pow_pos, zero-add, ◌^◌}
 use Rattle.std.specs.Prelude.{slice_get, slice_range, nat_abs}
 use Rattle.std.specs.Int.{from_le_bytes, w64}
 use Rattle.std.specs.Option.{option_map_or}
@@ -17,10 +17,9 @@ use Rattle.slub_red_zone.specs.declared.checked.CheckedGive.{CheckedGive}
 use Rattle.slub_red_zone.specs.declared.checked.CheckedGive.TheVariants as give
 use Rattle.slub_red_zone.specs.declared.checked.Run.{Run as SlabRun}
 use Rattle.slub_red_zone.specs.declared.checked.Slot.{Slot}
-use Rattle.slub_red_zone.specs.declared.zones.Damage.{Damage}
 use Rattle.slub_red_zone.specs.Sound.{IsLayoutFor, IsSound}
 use Rattle.slub_red_zone.specs.State.{CheckedState, IsUsed, SlabState, is_free, no_slab, objects_in, slab_of as checked_slab, slot_of, state_of, with_slot}
-use Rattle.slub_red_zone.specs.Steps.{Gives, IsNext, IsOffset, TakesEmpty, next_is_damaged, next_is_whole, nothing_listed, place_of, set_aside, slab_set_aside, slab_with_given, slab_with_taken, with_byte, with_damaged, with_given, with_new_slab, with_taken, without_slab, word_of as slab_word_of, word_place}
+use Rattle.slub_red_zone.specs.Steps.{Gives, TakesEmpty, next_is_damaged, next_is_whole, nothing_listed, place_of, set_aside, slab_set_aside, slab_with_given, slab_with_taken, with_damaged, with_given, with_new_slab, with_taken, without_slab, word_of as slab_word_of, word_place}
 use Rattle.slub_red_zone.specs.Zones.{red_active, red_inactive, set_up}
 use Rattle.slub_red_zone.proofs.Given.{damaged-sound, next-inside}
 use Rattle.slub_red_zone.proofs.Counting.{count-set, got, one_if}
@@ -40,8 +39,8 @@ use Rattle.slub_lists.specs.declared.lists.Slab.{Slab}
 use Rattle.slub_lists.specs.State.{State}
 use Rattle.slub_lists.specs.Alloc.{checked_of, slab_of}
 use Rattle.slub_lists.specs.Checked.{slot_of_held}
-use Rattle.slub_lists.specs.Coherent.{IsCoherent, IsConsistent, covered_from, covers, held_under}
-use Rattle.slub_lists.specs.Laws.{KeepsWords, Names}
+use Rattle.slub_lists.specs.Coherent.{IsCoherent, IsConsistent, covered_from, covers}
+use Rattle.slub_lists.specs.Laws.{Names}
 use Rattle.slub_lists.specs.Words.{is_word, word_at, word_of}
 use Rattle.slub_lists.proofs.Apart.{one-number}
 use Rattle.slub_lists.proofs.CheckedTaking.{held-slab, held-used}
@@ -51,12 +50,12 @@ use Rattle.slub_lists.proofs.ObjectWords.{used-word}
 use Rattle.slub_lists.proofs.Spared.{writes-spare}
 use Rattle.slub_journal.specs.Lawful.{Answers}
 use Rattle.slub_round_law.specs.Event.{IsNamed, SparesWords}
-use Rattle.slub_round_law.proofs.Bytes.{other-row, piece-before, piece-behind, piece-length, set-up-length}
+use Rattle.slub_round_law.proofs.Bytes.{offset-place, other-row, piece-before, piece-behind, piece-length, set-up-length}
 use Rattle.slub_round_law.proofs.Founds.{first-state, run-free}
-use Rattle.slub_round_law.proofs.Poked.{offset-place}
 use Rattle.slub_round_law.proofs.Reports.{slabs-sound}
 use Rattle.slub_round_law.proofs.Slabs.{Slabs, Swaps, event-slabs, gave, made, poked_byte, same, took, wrote}
 use Rattle.slub_round_law.proofs.Steps.{event-step}
+use Rattle.slub_round_law.proofs.Tale.{injected}
 use Rattle.slub_round_law.proofs.Values.{Words, unwrote, words-of, wrote as wrote_word}
 
 -- ---- one slab
@@ -128,7 +127,7 @@ slot-then a b c slot first second = record {
 slab-other : (s : CheckedState) (frame : ℕ) (x : Option SlabState) (at : ℕ) → at ≢ frame → unwrap_or (get_or (set s.slabs frame x) at None) no_slab ≡ checked_slab s at
 slab-other s frame x at differ = ap (λ y. unwrap_or y no_slab) (get_or-set_other s.slabs frame at x None differ)
 
-slot-with : (s : CheckedState) (frame : ℕ) (new : SlabState) (listed : List ℕ) (reports : List Report) (slot : Slot) → (slot.frame ≡ frame → Spares s.layout.size (checked_slab s frame) new slot.index)
+pub slot-with : (s : CheckedState) (frame : ℕ) (new : SlabState) (listed : List ℕ) (reports : List Report) (slot : Slot) → (slot.frame ≡ frame → Spares s.layout.size (checked_slab s frame) new slot.index)
     → SparesSlot s (record s { slabs = set s.slabs frame (Some new); listed = listed; reports = reports }) slot
 slot-with s frame new listed reports slot spares = record {
   layout = refl;
@@ -255,18 +254,20 @@ module _ (s : State) (event : Event) (answer : Reply) (after : State) (coherent 
       ap (λ x. option_map_or (λ slabs. slab_word_of slabs (slot_of_held held) word) x (get_or after.memory (word_at layout held word) 0)) now
       ∙ sym (ap (λ x. option_map_or (λ slabs. slab_word_of slabs (slot_of_held held) word) x (get_or s.memory (word_at layout held word) 0)) was)
 
+  -- the object's cache is as before, or its slabs are others, which spare the object
+  pub data SparesIt : Type 0 where
+    kept : checked_of after held.cache ≡ checked_of s held.cache → SparesIt
+    swapped : (slabs rest : CheckedState) → checked_of s held.cache ≡ Some slabs → checked_of after held.cache ≡ Some rest → SparesSlot slabs rest (slot_of_held held) → SparesIt
+
   -- the slabs of one cache are others
-  module _ (cache : ℕ) (slabs rest : CheckedState) (swaps : Swaps s cache slabs rest after) (memory : after.memory ≡ s.memory) where
-    swapped-word : (held.cache ≡ cache → (was : checked_of s held.cache ≡ Some slabs) → SparesSlot slabs rest (slot_of_held held)) → word_of after layout held word ≡ word_of s layout held word
-    swapped-word spares = elim (cases_eq held.cache cache) [
-      | inl mine ↦
-          let was : checked_of s held.cache ≡ Some slabs = ap (checked_of s) mine ∙ swaps.was in
-          let now : checked_of after held.cache ≡ Some rest = ap (checked_of after) mine ∙ ap (λ (l : List (Option CheckedState)). get_or l cache None) swaps.now ∙ get_or-set_same s.checked cache (Some rest) None (inside-of s.checked cache slabs swaps.was) in
-          spared-word slabs was rest now (spares mine was)
-      | inr differ ↦
-          let still : checked_of after held.cache ≡ checked_of s held.cache = ap (λ (l : List (Option CheckedState)). get_or l held.cache None) swaps.now ∙ get_or-set_other s.checked cache held.cache (Some rest) None differ in
-          same-word (checked_of s held.cache) refl still (λ none. memory)
-    ]
+  swapped-it : (cache : ℕ) (slabs rest : CheckedState) → Swaps s cache slabs rest after → (held.cache ≡ cache → (was : checked_of s held.cache ≡ Some slabs) → SparesSlot slabs rest (slot_of_held held)) → SparesIt
+  swapped-it cache slabs rest swaps spares = elim (cases_eq held.cache cache) [
+    | inl mine ↦
+        let was : checked_of s held.cache ≡ Some slabs = ap (checked_of s) mine ∙ swaps.was in
+        let now : checked_of after held.cache ≡ Some rest = ap (checked_of after) mine ∙ ap (λ (l : List (Option CheckedState)). get_or l cache None) swaps.now ∙ get_or-set_same s.checked cache (Some rest) None (inside-of s.checked cache slabs swaps.was) in
+        swapped slabs rest was now (spares mine was)
+    | inr differ ↦ kept (ap (λ (l : List (Option CheckedState)). get_or l held.cache None) swaps.now ∙ get_or-set_other s.checked cache held.cache (Some rest) None differ)
+  ]
 
   -- a slab that is taken out has no other object
   out-spares : (slabs mid rest : CheckedState) (taken : Slot) (limit : ℕ) (run : Option SlabRun) → IsSound slabs → IsUsed slabs taken → IsUsed slabs (slot_of_held held) → (held.frame ≡ taken.frame → held.index ≡ taken.index → ⊥)
@@ -308,13 +309,13 @@ module _ (s : State) (event : Event) (answer : Reply) (after : State) (coherent 
             subst (λ (c : CheckedState). SparesSlot slabs c (slot_of_held held)) (sym out.2) (slot-then slabs mid (without_slab mid taken.frame) (slot_of_held held) first second)
       ]
 
-  words-by : Slabs s event answer after → after.memory ≡ s.memory → ((object : ℕ) → event.act ≡ act.Free object → other ≢ object) → ((object : ℕ) (offset : ℤ) (byte : ℕ) → event.act ≡ act.Poke object offset byte → ¬ IsNamed s event.worker object held)
-      → ((object place value : ℕ) → event.act ≡ act.Write object place value → ⊥) → word_of after layout held word ≡ word_of s layout held word
-  words-by (same is) memory free poke write = same-word (checked_of s held.cache) refl (ap (λ (l : List (Option CheckedState)). get_or l held.cache None) is) (λ none. memory)
-  words-by (gave cache slabs rest found swaps asked) memory free poke write =
-      swapped-word cache slabs rest swaps memory (λ mine was. gives-spares slabs found rest (slot_of_held held) (mine-sound slabs was) asked (mine-used slabs was).0)
-  words-by (made cache slabs rest run pool live is_live swaps asked finds) memory free poke write =
-      swapped-word cache slabs _ swaps memory (λ mine was.
+  pub spares-it : Slabs s event answer after → ((object : ℕ) → event.act ≡ act.Free object → other ≢ object) → ((object : ℕ) (offset : ℤ) (byte : ℕ) → event.act ≡ act.Poke object offset byte → ¬ IsNamed s event.worker object held)
+      → ((object place value : ℕ) → event.act ≡ act.Write object place value → ⊥) → SparesIt
+  spares-it (same is) free poke write = kept (ap (λ (l : List (Option CheckedState)). get_or l held.cache None) is)
+  spares-it (gave cache slabs rest found swaps asked) free poke write =
+      swapped-it cache slabs rest swaps (λ mine was. gives-spares slabs found rest (slot_of_held held) (mine-sound slabs was) asked (mine-used slabs was).0)
+  spares-it (made cache slabs rest run pool live is_live swaps asked finds) free poke write =
+      swapped-it cache slabs _ swaps (λ mine was.
       let first = gives-spares slabs give.Empty rest (slot_of_held held) (mine-sound slabs was) asked (mine-used slabs was).0 in
       let frame_run : SlabRun = record { frame = run.frame; order = run.order } in
       let mid : CheckedState = with_new_slab rest frame_run run.objects in
@@ -329,15 +330,25 @@ module _ (s : State) (event : Event) (answer : Reply) (after : State) (coherent 
           let free_too : 0 < times run.frame s.pool.free = times-contained run.frame s.pool.free (run-free s.pool live.layout run pool finds) in
           let here : 0 < times held.frame s.pool.free = subst (λ f. 0 < times f s.pool.free) (sym e) free_too in
           omega (arith, covered, here, framed-most s held.frame coherent.framed)
-  words-by (took object mine slabs mid rest limit run asks there swaps takes out) memory free poke write =
-      swapped-word mine.cache slabs rest swaps memory (λ one was.
+  spares-it (took object mine slabs mid rest limit run asks there swaps takes out) free poke write =
+      swapped-it mine.cache slabs rest swaps (λ one was.
       out-spares slabs mid rest (slot_of_held mine) limit run (mine-sound slabs was) (held-used s object mine slabs there swaps.was consistent) (mine-used slabs was).0
       (λ frame index. free object asks (one-number s other object held mine names.here there frame index consistent)) takes.1 out)
-  words-by (wrote object place value mine live slabs asks holds within swaps) memory free poke write = absurd (write object place value asks)
-  words-by (poked_byte object offset byte mine slabs asks is knows within swaps) memory free poke write =
-      swapped-word mine.cache slabs _ swaps memory (λ one was.
+  spares-it (wrote object place value mine live slabs asks holds within swaps) free poke write = absurd (write object place value asks)
+  spares-it (poked_byte object offset byte mine slabs asks is knows within swaps) free poke write =
+      swapped-it mine.cache slabs _ swaps (λ one was.
       byte-spares slabs (slot_of_held mine) (slot_of_held held) (nat_abs (place_of slabs.layout offset)) byte (offset-place slabs.layout offset within).0
       (λ frame index. poke object offset byte asks (subst (λ x. MatchOption x ⊥ (λ known. (known.frame ≡ held.frame) × (known.index ≡ held.index))) (sym knows) (sym frame, sym index))))
+
+  words-of-it : after.memory ≡ s.memory → SparesIt → word_of after layout held word ≡ word_of s layout held word
+  words-of-it memory (kept still) = same-word (checked_of s held.cache) refl still (λ none. memory)
+  words-of-it memory (swapped slabs rest was now spares) = spared-word slabs was rest now spares
+
+  -- its slabs before and after, where its cache is checked
+  pub slots-of-it : (slabs rest : CheckedState) → checked_of s held.cache ≡ Some slabs → checked_of after held.cache ≡ Some rest → SparesIt → SparesSlot slabs rest (slot_of_held held)
+  slots-of-it slabs rest was now (kept still) = subst (λ (c : CheckedState). SparesSlot slabs c (slot_of_held held)) (injected (sym was ∙ sym still ∙ now)) (slot-same slabs (slot_of_held held))
+  slots-of-it slabs rest was now (swapped old new was_too now_too spares) =
+      subst (λ (c : CheckedState). SparesSlot slabs c (slot_of_held held)) (injected (sym now_too ∙ now)) (subst (λ (c : CheckedState). SparesSlot c new (slot_of_held held)) (injected (sym was_too ∙ was)) spares)
 
 -- ---- an event
 
@@ -355,7 +366,8 @@ module _ (s : State) (event : Event) (answer : Reply) (after : State) (coherent 
       → ((object : ℕ) → event.act ≡ act.Free object → other ≢ object) → ((object : ℕ) (offset : ℤ) (byte : ℕ) → event.act ≡ act.Poke object offset byte → ¬ IsNamed s event.worker object held)
       → word_of after layout held word ≡ word_of s layout held word
   spared-by no_write other word held layout names inside free poke =
-      words-by s event answer after coherent other held layout names word inside (event-slabs s event answer after answers) (memory-kept s event answer after no_write answers) free poke no_write
+      words-of-it s event answer after coherent other held layout names word inside (memory-kept s event answer after no_write answers)
+      (spares-it s event answer after coherent other held layout names word inside (event-slabs s event answer after answers) free poke no_write)
 
   pub spares-by : (a : Act) → event.act ≡ a → SparesWords s event.worker a after
   spares-by (act.Alloc place object) is = λ other word held layout apart names inside.

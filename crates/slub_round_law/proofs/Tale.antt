@@ -108,7 +108,7 @@ asked-kept s t (Alloc place object) address same = ap (λ (table : Table). optio
 asked-kept s t act address same = refl
 
 -- a number that is not given names what it named
-same-spot : (before : State) (object : ℕ) (spot : Option Spot) (one : Answered) → gave object one ≡ false → spot_after before object spot one ≡ spot
+pub same-spot : (before : State) (object : ℕ) (spot : Option Spot) (one : Answered) → gave object one ≡ false → spot_after before object spot one ≡ spot
 same-spot before object spot (event, reply.Given address) given = by (is_alloc_of object event.act) given
   where
     by : (b : Bool) → (b && true) ≡ false → cond b (spot_asked before event.act address) spot ≡ spot

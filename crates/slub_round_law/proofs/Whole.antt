@@ -77,10 +77,22 @@ start before coherent rest = record {
     holder = λ object worker held some there mine. absurd (let never : None ≡ Some worker = sym (laid object held there) ∙ mine in cc);
   };
   values = λ worker object word value held live there mine unchecked is_live within last. absurd (let never : None ≡ Some value = last in cc);
+  gones = record {
+    spots = λ worker object held there mine. never object held there;
+    freed_once = λ object held there. never object held there;
+    off = λ object held there. never object held there;
+  };
+  puts = record {
+    unput = λ worker object word place held there free. refl;
+    bytes = λ worker object word place byte held live slabs there mine is_live was within below last. absurd (let none : None ≡ Some byte = last in cc);
+  };
   dry = λ order within room. omega arith;
   reports = reports-none before;
 }
   where
+    never : (object : ℕ) (held : Held) {A : Type 0} → gone_under before object ≡ Some held → A
+    never object held there = absurd (let none : None ≡ Some held = sym (rest.forgotten object) ∙ there in cc)
+
     laid : (object : ℕ) (held : Held) → held_under before object ≡ Some held → held.worker ≡ None
     laid object held there = at_some (held_under before object) held (λ held. held.worker ≡ None) there (rest.laid_down object)
 

@@ -1,8 +1,10 @@
 -- The events of a round with their replies, and what they tell of an object number.
-use Rattle.std.specs.Prelude.{◌≡◌, ℕ, ◌&&◌, ◌||◌, ◌==◌, not, if◌then◌else◌, Bool, true, false, List, ◌∷◌, ◌++◌, count_by, Option, Some, None}
+use Rattle.std.specs.Prelude.{◌≡◌, ◌≢◌, ℕ, ◌+◌, ◌*◌, ◌&&◌, ◌||◌, ◌==◌, not, if◌then◌else◌, Bool, true, false, List, ◌∷◌, ◌++◌, count_by, Option, Some, None, slice_index, pos, All}
+use Rattle.std.specs.Int.{to_le_bytes, w64}
 use Rattle.std.specs.List.{filter, fold}
+use Rattle.std.specs.Ordering.{int_eq}
 use Rattle.slub_object_layout.specs.declared.event.Act.{Act}
-use Rattle.slub_object_layout.specs.declared.event.Act.TheVariants.{Alloc, Free, Write}
+use Rattle.slub_object_layout.specs.declared.event.Act.TheVariants.{Alloc, Free, Write, Poke}
 use Rattle.slub_object_layout.specs.declared.event.Event.{Event}
 use Rattle.slub_answers.specs.declared.reply.Reply.{Reply}
 use Rattle.slub_answers.specs.declared.reply.Reply.TheVariants as reply
@@ -93,3 +95,36 @@ written_after object word last _ = last
 -- what the worker to which these events were answered wrote last in a word of an object
 abbrev pub last_written : ℕ → ℕ → List Answered → Option ℕ
 last_written object word own = fold (written_after object word) None own
+
+-- ---- bytes of words
+
+-- what a write that was done puts in a byte of a word of an object, or else what stood there
+abbrev pub byte_by_write : ℕ → ℕ → ℕ → Option ℕ → Act → Option ℕ
+byte_by_write object word place last (Write other at value) =
+    if (other == object) && (at == word) then Some (slice_index (to_le_bytes w64 value) place)
+    else last
+byte_by_write object word place last _ = last
+
+-- what a poke that was done does
+abbrev pub byte_by_poke : ℕ → ℕ → ℕ → Option ℕ → Act → Option ℕ
+byte_by_poke object word place last (Poke other offset byte) =
+    if (other == object) && int_eq offset (pos (8 * word + place)) then Some byte else last
+byte_by_poke object word place last _ = last
+
+-- what was put last in a byte of a word of an object since it was given, after one more event
+abbrev pub put_after : ℕ → ℕ → ℕ → Option ℕ → Answered → Option ℕ
+put_after object word place last (event, reply.Wrote) =
+    byte_by_write object word place last event.act
+put_after object word place last (event, reply.Poked) =
+    byte_by_poke object word place last event.act
+put_after object word place last (event, reply.Given address) =
+    if is_alloc_of object event.act then None else last
+put_after object word place last _ = last
+
+-- what the worker to which these events were answered put last in a byte of a word of an object
+abbrev pub last_put : ℕ → ℕ → ℕ → List Answered → Option ℕ
+last_put object word place own = fold (put_after object word place) None own
+
+-- none of them is a poke that was done
+abbrev pub AreUnpoked : List Answered → Type 0
+AreUnpoked answers = All (λ one. one.1 ≢ reply.Poked) answers

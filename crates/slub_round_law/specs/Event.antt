@@ -20,8 +20,8 @@ use Rattle.slub_round_law.specs.Round.{spot_of}
 -- ---- an object that is given
 
 -- where an object of a cache is free for an allocation on a CPU: on that CPU's freelist; on the own
--- freelist of the CPU's current slab, or of a slab of the CPU's or the node's partial list; in a slab
--- of a checked cache; or in frames that are free, of which a slab is made
+-- freelist of the CPU's current slab, or of a slab of the CPU's or the node's partial list; in a
+-- slab of a checked cache; or in frames that are free, of which a slab is made
 pub data IsFree (s : State) (cache cpu : ℕ) (held : Held) : Type 0 where
   on_cpu : (lists_of s cache cpu).current ≡ Some held.frame
       → Contains (lists_of s cache cpu).free held.index → IsFree s cache cpu held
@@ -31,7 +31,8 @@ pub data IsFree (s : State) (cache cpu : ℕ) (held : Held) : Type 0 where
       → Contains (own_free s held.frame) held.index → IsFree s cache cpu held
   on_node : Contains (node_of s cache) held.frame
       → Contains (own_free s held.frame) held.index → IsFree s cache cpu held
-  in_checked : IfSome (checked_of s cache) (λ slabs. state_of slabs (slot_of_held held) ≡ Some FreeObject)
+  in_checked : IfSome (checked_of s cache)
+      (λ slabs. state_of slabs (slot_of_held held) ≡ Some FreeObject)
       → IsSome (checked_of s cache) → IsFree s cache cpu held
   in_frames : Contains s.pool.free held.frame → IsFree s cache cpu held
 

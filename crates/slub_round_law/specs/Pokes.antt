@@ -12,8 +12,8 @@ WasGiven answers object address =
     (one : Answered) × Contains answers one × (one.1 ≡ reply.Given address)
     × (is_alloc_of object one.0.act ≡ true)
 
--- this byte was poked at this address: a poke of an object, at its offset from where that was given,
--- was answered Poked
+-- this byte was poked at this address: a poke of an object, at its offset from where that was
+-- given, was answered Poked
 pub record WasPoked (answers : List Answered) (at : ℤ) (byte : ℕ) : Type 0 where
   pub one : Answered
   pub there : Contains answers one

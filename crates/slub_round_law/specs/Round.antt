@@ -1,6 +1,7 @@
 -- Which rounds are lawful: by their events, replies and ledgers and by the machine before and after
 -- alone, whatever the number of workers and however their steps came after one another.
-use Rattle.std.specs.Prelude.{◌≡◌, ◌≢◌, ℕ, ◌+◌, ◌^◌, ◌<◌, ◌≤◌, ◌↔◌, ◌⊎◌, if◌then◌else◌, Bool, true, false, List, length, count_by, Option, Some, None, IsSome, IfSome, MatchOption, ⊤, All, Contains, nat_eq, slice_index}
+use Rattle.std.specs.Prelude.{◌≡◌, ◌≢◌, ℕ, ◌+◌, ◌*◌, ◌^◌, ◌<◌, ◌≤◌, ◌↔◌, ◌⊎◌, if◌then◌else◌, Bool, true, false, List, length, count_by, Option, Some, None, IsSome, IfSome, MatchOption, ⊤, All, Contains, nat_eq, slice_index, ℤ, pos, ◌+ℤ◌}
+use Rattle.std.specs.Int.{from_le_bytes, w64}
 use Rattle.std.specs.List.{IsDistinct, fold, zip}
 use Rattle.std.specs.Option.{option_and_then, option_map, option_map_or}
 use Rattle.slub_object_layout.specs.declared.event.Act.{Act}
@@ -21,7 +22,7 @@ use Rattle.slub_trace_reader.specs.Sound.{objects_of}
 use Rattle.slub_journal.specs.declared.journal.Found.{Found}
 use Rattle.slub_journal.specs.declared.journal.RoundResult.{RoundResult}
 use Rattle.slub_journal.specs.Lawful.{AreLedgers, IsAtRest, IsUnheld, lacks}
-use Rattle.slub_round_law.specs.Answered.{Answered, IsAfter, holding, is_alloc_of, last_written, of_worker, times_freed, times_given, times_taken}
+use Rattle.slub_round_law.specs.Answered.{Answered, IsAfter, holding, is_alloc_of, last_put, last_written, of_worker, times_freed, times_given, times_taken}
 
 -- what a round allocates are numbers of the machine, which have no object, and each number once
 pub record Fits (s : State) (round : Round) : Type 0 where
@@ -137,22 +138,62 @@ WriteCause before own object word reply.OutOfObject =
 WriteCause before own object word reply.NotHeld = holding object own ≡ false
 WriteCause before own object word _ = ⊥
 
+-- a byte was poked at this address under another number than the object's: that of an object which
+-- stood there before, and was freed in the round
+pub record IsPokedUnder (before : State) (answers : List Answered) (object : ℕ) (at : ℤ) (byte : ℕ)
+    : Type 0 where
+  pub worker : ℕ
+  pub own : List Answered
+  pub one : Answered
+  pub there : IsAfter answers worker own one
+  pub other : ℕ
+  pub offset : ℤ
+  pub differs : other ≢ object
+  pub asks : one.0.act ≡ Poke other offset byte
+  pub done : one.1 ≡ reply.Poked
+  pub spot : Spot
+  pub names : spot_by before other own ≡ Some spot
+  pub is : pos spot.address +ℤ offset ≡ at
+
+-- where a byte of a word of an object is
+abbrev pub IsByteAt : State → ℕ → List Answered → ℕ → ℕ → ℤ → Type 0
+IsByteAt before object own word place at =
+    MatchOption (spot_by before object own) ⊥ (λ spot. pos (spot.address + (8 * word + place)) ≡ at)
+
+-- this byte of a word is the one that the worker put there last, by a write or a poke under the
+-- object's number, or it was poked there under another number
+abbrev pub IsOwnByte : State → List Answered → List Answered → ℕ → ℕ → ℕ → ℕ → Type 0
+IsOwnByte before answers own object word place byte =
+    IfSome (last_put object word place own) (λ put. (byte ≡ put)
+    ⊎ ((at : ℤ) × IsByteAt before object own word place at
+    × IsPokedUnder before answers object at byte))
+
+-- the value is that of eight bytes, the least first, which the worker put there last
+pub record IsOwnBytes (before : State) (answers own : List Answered) (object word value : ℕ)
+    : Type 0 where
+  pub bytes : List ℕ
+  pub eight : length bytes ≡ 8
+  pub spelled : value ≡ from_le_bytes w64 bytes
+  pub each : (place : ℕ) → place < 8
+      → IsOwnByte before answers own object word place (slice_index bytes place)
+
 -- the value is what the worker wrote there last, if it wrote there since the object was given; of a
--- checked object a poke may have changed it
-abbrev pub IsOwnValue : State → List Answered → ℕ → ℕ → ℕ → Type 0
-IsOwnValue before own object word value =
-    IsOfChecked before object own
-    ⊎ IfSome (last_written object word own) (λ written. value ≡ written)
+-- checked object pokes are laid over it, byte by byte
+pub record IsOwnValue (before : State) (answers own : List Answered) (object word value : ℕ)
+    : Type 0 where
+  pub unchecked : (¬ IsOfChecked before object own)
+      → IfSome (last_written object word own) (λ written. value ≡ written)
+  pub checked : IsOfChecked before object own → IsOwnBytes before answers own object word value
 
 -- a read answers like a write, with its worker's value
-abbrev pub ReadCause : State → List Answered → ℕ → ℕ → Reply → Type 0
-ReadCause before own object word (reply.Value value) =
+abbrev pub ReadCause : State → List Answered → List Answered → ℕ → ℕ → Reply → Type 0
+ReadCause before answers own object word (reply.Value value) =
     (holding object own ≡ true) × (has_word before object own word ≡ true)
-    × IsOwnValue before own object word value
-ReadCause before own object word reply.OutOfObject =
+    × IsOwnValue before answers own object word value
+ReadCause before answers own object word reply.OutOfObject =
     (holding object own ≡ true) × (has_word before object own word ≡ false)
-ReadCause before own object word reply.NotHeld = holding object own ≡ false
-ReadCause before own object word _ = ⊥
+ReadCause before answers own object word reply.NotHeld = holding object own ≡ false
+ReadCause before answers own object word _ = ⊥
 
 -- a poke is answered by one of four replies
 abbrev pub PokeCause : Reply → Type 0
@@ -180,7 +221,7 @@ abbrev pub Cause : State → List Answered → List Answered → Act → Reply �
 Cause before answers own (Alloc place object) reply = AllocCause before answers own place reply
 Cause before answers own (Free object) reply = FreeCause before answers own object reply
 Cause before answers own (Write object word value) reply = WriteCause before own object word reply
-Cause before answers own (Read object word) reply = ReadCause before own object word reply
+Cause before answers own (Read object word) reply = ReadCause before answers own object word reply
 Cause before answers own (Poke object offset byte) reply = PokeCause reply
 Cause before answers own (Trim place) reply = TrimCause before place reply
 Cause before answers own Flush reply = FlushCause reply

@@ -1,7 +1,7 @@
 //! What holds of every round and of every event of the sequential semantics. None of these does
 //! anything.
 
-ghost use Rattle.std.specs.Prelude.{ℕ, ◌<◌, length};
+ghost use Rattle.std.specs.Prelude.{◌≡◌, ℕ, ◌^◌, ◌<◌, List, Some, length};
 ghost use Rattle.slub_object_layout.specs.declared.event.Event.{Event};
 ghost use Rattle.slub_object_layout.specs.declared.event.Round.{Round};
 ghost use Rattle.slub_answers.specs.declared.reply.Reply.{Reply};
@@ -11,14 +11,23 @@ ghost use Rattle.slub_lists.specs.Named.{AllocatesNamed};
 ghost use Rattle.slub_lists.specs.State.{State};
 ghost use Rattle.slub_journal.specs.declared.journal.RoundResult.{RoundResult};
 ghost use Rattle.slub_journal.specs.Lawful.{Answers, DoesRound, IsAtRest};
+ghost use Rattle.slub_round_law.specs.Answered.{Answered, AreUnpoked, last_written};
 ghost use Rattle.slub_round_law.specs.Event.{GivesFree, LacksFrames, SparesWords};
-ghost use Rattle.slub_round_law.specs.Round.{Fits, IsRound};
+ghost use Rattle.slub_round_law.specs.Round.{Fits, IsOwnValue, IsRound};
 
 /// A round that is done event by event, in the order of the text, is lawful.
 pub fn rounds_are_lawful()
     ensures { (before : State) (round : Round) (result : RoundResult) (after : State) →
         IsCoherent before → IsAtRest before → Fits before round →
         DoesRound before round result after → IsRound before round result after }
+{}
+
+/// A value that a read may be answered is the word that its worker wrote there last, where no byte was
+/// poked in the round, whether the object is checked or not.
+pub fn unpoked_values_were_written()
+    ensures { (before : State) (answers own : List Answered) (object word value written : ℕ) →
+        IsOwnValue before answers own object word value → AreUnpoked answers → AreUnpoked own →
+        last_written object word own ≡ Some written → written < 2 ^ 64 → value ≡ written }
 {}
 
 /// What an allocation gives was free in the cache that it names, and nobody had it.

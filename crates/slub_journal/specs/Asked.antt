@@ -61,8 +61,8 @@ abbrev pub Tells : Reply → Result ℕ CacheRefusal → Type 0
 Tells told (Ok address) = told ≡ reply.Given address
 Tells told (Err why) = refusal_of told ≡ Some why
 
--- a client's line can be served: its numbers, its CPU and the trace's names are the machine's, and no
--- object has a number that it may allocate
+-- a client's line can be served: its numbers, its CPU and the trace's names are the machine's, and
+-- no object has a number that it may allocate
 pub record IsServable (s : State) (trace : Trace) (client : Asked) : Type 0 where
   pub coherent : IsCoherent s
   pub cpus : s.cpus ≡ trace.cpus

@@ -1,4 +1,4 @@
-use Rattle.std.proofs.Common.{◌≡◌, ℕ, ◌+◌, ◌<◌, ◌≤◌, [], ◌∷◌, ◌++◌, List, drop, length, take, get_or, refl, sym, ◌∙◌, ap, arith}
+use Rattle.std.proofs.Common.{◌≡◌, ℕ, ◌+◌, ◌<◌, ◌≤◌, [], ◌∷◌, List, length, take, get_or, ◌∙◌, ap, arith}
 use Rattle.std.proofs.lemmas.List.{get_or_default, length-append, length-set}
 use Rattle.slub_journal.specs.Bulk.{objects_of_slab}
 use Rattle.slub_bulk.specs.declared.order.Place.{Place}

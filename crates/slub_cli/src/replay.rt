@@ -163,8 +163,6 @@ pub fn do_trace<K: Sink>(
     begin(trace, journal);
     let mut lists = open(alloc, trace)?;
     let mut text = Vec::new(alloc);
-    do_items(
-        alloc, replies, trace, &mut lists, &mut text, sink, journal,
-    )?;
+    do_items(alloc, replies, trace, &mut lists, &mut text, sink, journal)?;
     do_total(alloc, trace, &lists, sink, journal)
 }

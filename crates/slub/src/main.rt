@@ -1,14 +1,18 @@
 //! `slub`: replays traces on the slab allocator of Linux 6.1.
 //!
 //! The words after the program's name are the command, the trace comes on standard input, the text
-//! goes to standard output, and the process ends with the number of the status. All of that is
-//! `slub_cli::run::run`; this file hands it the real ends.
+//! goes to standard output, through a buffer of 64 KiB, and the process ends with the number of the
+//! status. All of that is `slub_cli::run::run`; this file hands it the real ends.
 #![tactic(auto)]
 
+mod output;
+
+use output::{HELD, ended};
 use slub_cli::run::run;
 use slub_cli::status::Status;
 use slub_edges::adapters::{ReadSource, WriteSink};
 use std::alloc::AllocError;
+use std::io::BufWriter;
 use std::process::ExitCode;
 use std::rt::Env;
 use std::{env, io};
@@ -22,13 +26,24 @@ fn words(rt: &(impl Env + AllocGlobal)) -> Result<Vec<String>, AllocError> {
     }
 }
 
-fn main(rt: HostRuntime) -> ExitCode {
-    let Ok(words) = words(&rt) else {
-        let _ = println!(rt; "slub: out of memory");
-        return ExitCode::from(Status::NoMemory.number());
+/// Runs the words on standard input and output.
+fn work(rt: &HostRuntime) -> Result<Status, AllocError> {
+    let words = words(rt)?;
+    let Ok(buffer) = BufWriter::with_capacity(rt.alloc(), HELD, rt.stdout()) else {
+        return Err(AllocError);
     };
     let mut source = ReadSource::of(rt.stdin());
-    let mut sink = WriteSink::of(rt.stdout());
+    let mut sink = WriteSink::of(buffer);
     let outcome = run(rt.alloc(), &words, &mut source, &mut sink);
-    ExitCode::from(outcome.status.number())
+    Ok(ended(outcome.status, sink.into_inner()))
+}
+
+fn main(rt: HostRuntime) -> ExitCode {
+    match work(&rt) {
+        Ok(status) => ExitCode::from(status.number()),
+        Err(AllocError) => match println!(rt; "slub: out of memory") {
+            Ok(()) => ExitCode::from(Status::NoMemory.number()),
+            Err(_) => ExitCode::from(Status::WriteFault.number()),
+        },
+    }
 }

@@ -4,7 +4,7 @@
 //! prints what a take costs, by the pool and by a scan of all frames, and the ratio; `reader` reads a
 //! trace of some twelve million bytes, and prints what that costs against counting its lines and
 //! words; `serial` replays traces of 10,000, 100,000 and 500,000 events, and prints what an event costs
-//! in each.
+//! in each, and what of it is reading, replay, text and writing.
 #![tactic(auto)]
 
 mod pool;

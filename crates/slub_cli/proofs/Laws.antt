@@ -1,6 +1,6 @@
 -- How a run grows.
 use Rattle.std.proofs.Common.{◌≡◌, ℕ, ◌+◌, ◌<◌, ◌≤◌, List, [], ◌∷◌, ◌++◌, None, Ok, Err, Result, refl, ap, ◌∙◌, subst, length, take, arith, length-append, le_refl, zero, suc, zero-le}
-use Rattle.std.specs.Prelude.{slice_get, MatchOption}
+use Rattle.std.specs.Prelude.{slice_get, IsSome, MatchOption, OnOk}
 use Rattle.std.proofs.lemmas.List.{take_all}
 use Rattle.slub_lists.specs.State.{State}
 use Rattle.slub_lists.specs.Coherent.{IsCoherent}
@@ -98,6 +98,11 @@ totals_lawful trace s old new (Err NoMemory) run lawful same = record {
   total = rw (same.items, same.total) lawful.total;
 }
 totals_lawful trace s old new _ run lawful h = absurd h
+
+-- where it was put in it is there
+pub totals_some : (s : State) (old new : Journal) (r : Result (Unit {0}) Stop) → Totals s old new r → OnOk r (IsSome new.total)
+totals_some s old new (Ok x) adds = rw adds.there refl
+totals_some s old new (Err e) adds = tt
 
 -- nothing is done yet
 pub Reached-begins : (trace : Trace) (s : State) (journal : Journal) → IsCoherent (opening_of trace) → s ≡ opening_of trace → IsMachineOf trace journal → journal.items ≡ [] → journal.total ≡ None → Reached trace 0 s journal

@@ -8,7 +8,7 @@ use crate::stop::Stop;
 use slub_edges::edges::Sink;
 use slub_edges::pieces::write_lines;
 use slub_object_layout::layout::{Spec, layout_of};
-use slub_slabinfo_text::text::layout_text;
+use slub_slabinfo_text::text::push_layout;
 use std::alloc::Global;
 
 /// Writes the twelve lines of a layout on a machine of `cpus` CPUs, 1 to 16, or the line of its
@@ -27,7 +27,8 @@ pub fn print_layout<K: Sink>(
     ensures counts { K.faults sink.old ≤ K.faults sink.new }
 {
     let answer = layout_of(spec, cpus);
-    let text = layout_text(alloc, &answer)?;
+    let mut text = Vec::new(alloc);
+    push_layout(&mut text, &answer)?;
     write_lines(sink, &text)?;
     Ok(answer_status(&answer))
 }

@@ -1,6 +1,7 @@
 //! Replaying a trace: each item is done, its text made, put into the journal, and written.
 //!
-//! `replies` says whether the lines are written that `--replies` asks for.
+//! `replies` says whether the lines are written that `--replies` asks for. The text of each item is made
+//! in one buffer, which is emptied before and used again.
 
 ghost use Rattle.std.specs.Prelude.{Bool, ◌≡◌, ◌<◌, ◌≤◌, [], None, Some, length, IfErr, IfOk, OnOk, IsSome};
 ghost use Rattle.slub_lists.specs.Coherent.{IsCoherent};
@@ -15,7 +16,7 @@ use slub_edges::edges::Sink;
 use slub_edges::pieces::write_lines;
 use slub_engine::item::{item, total};
 use slub_journal::journal::Journal;
-use slub_journal::text::{text_of_item, text_of_total};
+use slub_journal::text::{push_item, push_sums};
 use slub_list_machine::lists::Lists;
 use slub_trace_reader::trace::Trace;
 use std::alloc::Global;
@@ -27,6 +28,7 @@ fn do_item<K: Sink>(
     trace: &Trace,
     number: usize,
     lists: &mut Lists,
+    text: &mut Vec<u8>,
     sink: &mut K,
     journal: &mut Journal,
 ) -> Result<(), Stop>
@@ -44,9 +46,10 @@ fn do_item<K: Sink>(
     ensures counts { K.faults sink.old ≤ K.faults sink.new }
 {
     let done = item(alloc, lists, trace, number)?;
-    let text = text_of_item(alloc, trace, number, &done, replies)?;
+    text.clear();
+    push_item(text, trace, number, &done, replies)?;
     journal.items.push(done)?;
-    write_lines(sink, &text)?;
+    write_lines(sink, text)?;
     Ok(())
 }
 
@@ -56,6 +59,7 @@ fn do_items<K: Sink>(
     replies: bool,
     trace: &Trace,
     lists: &mut Lists,
+    text: &mut Vec<u8>,
     sink: &mut K,
     journal: &mut Journal,
 ) -> Result<(), Stop>
@@ -78,7 +82,7 @@ fn do_items<K: Sink>(
     ensures counts { K.faults sink.old ≤ K.faults sink.new }
 {
     for number in 0..trace.items.len() {
-        do_item(alloc, replies, trace, number, lists, sink, journal)?;
+        do_item(alloc, replies, trace, number, lists, text, sink, journal)?;
     }
     Ok(())
 }
@@ -104,7 +108,8 @@ fn do_total<K: Sink>(
     ensures counts { K.faults sink.old ≤ K.faults sink.new }
 {
     let sums = total(lists, trace, journal.items.as_slice());
-    let text = text_of_total(alloc, &sums)?;
+    let mut text = Vec::new(alloc);
+    push_sums(&mut text, &sums)?;
     journal.total = Some(sums);
     write_lines(sink, &text)?;
     Ok(())
@@ -157,6 +162,7 @@ pub fn do_trace<K: Sink>(
 {
     begin(trace, journal);
     let mut lists = open(alloc, trace)?;
-    do_items(alloc, replies, trace, &mut lists, sink, journal)?;
+    let mut text = Vec::new(alloc);
+    do_items(alloc, replies, trace, &mut lists, &mut text, sink, journal)?;
     do_total(alloc, trace, &lists, sink, journal)
 }

@@ -1,5 +1,6 @@
 -- What the items of a trace that is sound and built are, what was done for them, and their text.
-use Rattle.std.proofs.Common.{◌≡◌, ℕ, ◌<◌, Bool, List, [], length, get_or, refl, sym, ap, subst, Option, Some, MatchOption, Result, slice_get}
+use Rattle.std.proofs.Common.{◌≡◌, ℕ, ◌<◌, Bool, List, [], ◌++◌, length, get_or, refl, sym, ◌∙◌, ap, subst, Option, Some, MatchOption, Result, slice_get}
+use Rattle.std.proofs.lemmas.List.{append-nil}
 use Rattle.std.proofs.lemmas.Option.{get_or_from_slice_get, slice_get_read}
 use Rattle.std.specs.Option.{option_map_or}
 use Rattle.slub_object_layout.specs.declared.event.Round.{Round}
@@ -167,3 +168,7 @@ pub does_tune : (s : State) (trace : Trace) (number : ℕ) (it : Item) (place : 
 unfolding Does
 does_tune s trace number it place setting answer after within at is does =
     does_at s trace number it (done.Tuned answer) after within at (subst (λ (it : Item). Does s trace it (done.Tuned answer) after) (sym is) does)
+
+-- no line is put behind a text
+pub put_nothing : (old lines : List ℕ) → lines ≡ [] → old ≡ old ++ lines
+put_nothing old lines none = sym (ap (λ rest. old ++ rest) none ∙ append-nil old)

@@ -7,7 +7,7 @@ ghost use Rattle.slub_journal.specs.Text.{found_text};
 
 use crate::client::{CacheRefusal, ClientAnswer, ClientDone, ClientRound};
 use crate::names::class_names;
-use crate::text::{created_answer, damages_text, line_of};
+use crate::text::{created_answer, push_answer, push_damages};
 use slub_answers::create::{CreateRefusal, Created};
 use slub_common::no_memory::NoMemory;
 use slub_object_layout::name::Name;
@@ -38,8 +38,7 @@ fn rounds_text(alloc: Global, rounds: &[ClientRound]) -> Result<Vec<u8>, NoMemor
 {
     let mut text = Vec::new(alloc);
     for round in rounds {
-        let damages = damages_text(alloc, round.result.damages.as_slice())?;
-        text.extend_from_slice(damages.as_slice())?;
+        push_damages(&mut text, round.result.damages.as_slice())?;
     }
     Ok(text)
 }
@@ -91,7 +90,9 @@ fn creation_text(
     ensures { IfOk result (λ text. text.items ≡ creation_text replies (name.now, made.now)) }
 {
     let answer = created_answer(made);
-    line_of(alloc, ItemWord::Cache, name, &answer, replies)
+    let mut text = Vec::new(alloc);
+    push_answer(&mut text, ItemWord::Cache, name, &answer, replies)?;
+    Ok(text)
 }
 
 /// Whether an answer is no refusal: its line is written with `--replies` alone.

@@ -1,7 +1,7 @@
 //! The line of a total, and the journal of nothing.
 
 use crate::journal::{Journal, Total};
-use crate::text::text_of_total;
+use crate::text::push_sums;
 use std::test::Fail;
 
 #[test]
@@ -17,7 +17,8 @@ fn the_total_line(rt: HostRuntime) -> Result<(), Fail> {
         frames: 61,
     };
     let wanted = "total given 9 freed 4 live 5 free 3 aside 8 frozen 1 slabs 2 frames 61\n";
-    let text = text_of_total(rt.alloc(), &total)?;
+    let mut text = Vec::new(rt.alloc());
+    push_sums(&mut text, &total)?;
     assert_eq!(&rt; text.as_slice(), wanted.as_bytes());
     Ok(())
 }

@@ -1,6 +1,6 @@
 //! The text of what was done.
 
-ghost use Rattle.std.specs.Prelude.{◌≡◌, ◌<◌, length, flat_map, All, IfOk};
+ghost use Rattle.std.specs.Prelude.{◌≡◌, ◌<◌, ◌++◌, length, flat_map, All, OnOk};
 ghost use Rattle.std.specs.List.{zip};
 ghost use Rattle.slub_slabinfo_text.specs.Texts.{IsNamed};
 ghost use Rattle.slub_trace_reader.specs.Sound.{IsSound};
@@ -19,30 +19,31 @@ use slub_object_layout::event::{Event, Round};
 use slub_object_layout::layout::LayoutRefusal;
 use slub_object_layout::name::Name;
 use slub_slabinfo_text::text::{
-    ItemAnswer, ItemWord, damage_text, is_ok_answer, item_line, reply_line, slabinfo_text,
-    total_text,
+    ItemAnswer, ItemWord, is_ok_answer, push_damage_line, push_item_line, push_reply_line,
+    push_slabinfo, push_total,
 };
 use slub_trace_reader::trace::{Item, Trace};
-use std::alloc::Global;
 
-/// The lines of an item that was done; those that say that all went well only with `replies`.
-pub fn text_of_item(
-    alloc: Global,
+/// The lines of an item that was done are put behind a text; those that say that all went well only
+/// with `replies`.
+pub fn push_item(
+    text: &mut Vec<u8>,
     trace: &Trace,
     number: usize,
     done: &Done,
     replies: bool,
-) -> Result<Vec<u8>, NoMemory>
+) -> Result<(), NoMemory>
     requires sound { IsSound trace.now }
     requires built { IsBuilt trace.now }
     requires within { number < length trace.now.items }
-    ensures { IfOk result (λ text. text.items ≡ text_at replies trace.now number done.now) }
+    ensures { OnOk result (text.new.items ≡
+        text.old.items ++ text_at replies trace.now number done.now) }
 {
     match (&trace.items.as_slice()[number], done) {
         (Item::Cache { name, spec: _ }, Done::Created(answer)) => {
             let answer = created_answer(answer);
-            line_of(
-                alloc,
+            push_answer(
+                text,
                 ItemWord::Cache,
                 name_of(trace, *name),
                 &answer,
@@ -50,12 +51,12 @@ pub fn text_of_item(
             )
         }
         (Item::Round(round), Done::Round(outcome)) => {
-            round_text(alloc, trace.names.as_slice(), round, outcome, replies)
+            push_round(text, trace.names.as_slice(), round, outcome, replies)
         }
         (Item::Shrink { name }, Done::Shrunk(answer)) => {
             let answer = shrunk_answer(answer);
-            line_of(
-                alloc,
+            push_answer(
+                text,
                 ItemWord::Shrink,
                 name_of(trace, *name),
                 &answer,
@@ -64,26 +65,26 @@ pub fn text_of_item(
         }
         (Item::Destroy { name }, Done::Destroyed(answer)) => {
             let answer = destroyed_answer(answer);
-            line_of(
-                alloc,
+            push_answer(
+                text,
                 ItemWord::Destroy,
                 name_of(trace, *name),
                 &answer,
                 replies,
             )
         }
-        (Item::Slabinfo, Done::Slabinfo(rows)) => Ok(slabinfo_text(alloc, rows.as_slice())?),
+        (Item::Slabinfo, Done::Slabinfo(rows)) => push_slabinfo(text, rows.as_slice()),
         (Item::Tune { name, setting: _ }, Done::Tuned(answer)) => {
             let answer = tuned_answer(answer);
-            line_of(
-                alloc,
+            push_answer(
+                text,
                 ItemWord::Tune,
                 name_of(trace, *name),
                 &answer,
                 replies,
             )
         }
-        _ => Ok(Vec::new(alloc)),
+        _ => Ok(()),
     }
 }
 
@@ -137,100 +138,95 @@ fn tuned_answer(tune: &Result<(), TuneRefusal>) -> ItemAnswer
 }
 
 /// The line of an item's answer, if it is to be written.
-pub(crate) fn line_of(
-    alloc: Global,
+pub(crate) fn push_answer(
+    text: &mut Vec<u8>,
     word: ItemWord,
     name: &Name,
     answer: &ItemAnswer,
     replies: bool,
-) -> Result<Vec<u8>, NoMemory>
-    ensures { IfOk result (λ text. text.items ≡ answer_line replies word name.now answer.now) }
+) -> Result<(), NoMemory>
+    ensures { OnOk result (text.new.items ≡
+        text.old.items ++ answer_line replies word name.now answer.now) }
 {
     if replies || !is_ok_answer(answer) {
-        Ok(item_line(alloc, word, name, answer)?)
+        push_item_line(text, word, name, answer)
     } else {
-        Ok(Vec::new(alloc))
+        Ok(())
     }
 }
 
 /// The lines of a round: its events in their order, each with its reply, and what was found damaged.
-fn round_text(
-    alloc: Global,
+fn push_round(
+    text: &mut Vec<u8>,
     names: &[Name],
     round: &Round,
     outcome: &RoundResult,
     replies: bool,
-) -> Result<Vec<u8>, NoMemory>
+) -> Result<(), NoMemory>
     requires { All (λ event. IsNamed names.now event.act) round.now.events }
-    ensures { IfOk result (λ text. text.items ≡
-        round_text replies names.now round.now outcome.now) }
+    ensures { OnOk result (text.new.items ≡
+        text.old.items ++ round_text replies names.now round.now outcome.now) }
 {
-    let mut text = events_text(
-        alloc,
+    push_events(
+        text,
         names,
         round.events.as_slice(),
         outcome.replies.as_slice(),
         replies,
     )?;
-    let damages = damages_text(alloc, outcome.damages.as_slice())?;
-    text.extend_from_slice(damages.as_slice())?;
-    Ok(text)
+    push_damages(text, outcome.damages.as_slice())
 }
 
 /// The lines of events, each with its reply.
-fn events_text(
-    alloc: Global,
+fn push_events(
+    text: &mut Vec<u8>,
     names: &[Name],
     events: &[Event],
     answers: &[Reply],
     replies: bool,
-) -> Result<Vec<u8>, NoMemory>
+) -> Result<(), NoMemory>
     requires { All (λ event. IsNamed names.now event.act) events.now }
-    ensures { IfOk result (λ text. text.items ≡
-        flat_map (event_text replies names.now) (zip events.now answers.now)) }
+    ensures { OnOk result (text.new.items ≡ text.old.items
+        ++ flat_map (event_text replies names.now) (zip events.now answers.now)) }
 {
-    let mut text = Vec::new(alloc);
     for (event, reply) in events.iter().zip(answers) {
-        let line = event_text(alloc, names, event, reply, replies)?;
-        text.extend_from_slice(line.as_slice())?;
+        push_event(text, names, event, reply, replies)?;
     }
-    Ok(text)
+    Ok(())
 }
 
 /// The line of an event with its reply, if it is to be written.
-fn event_text(
-    alloc: Global,
+fn push_event(
+    text: &mut Vec<u8>,
     names: &[Name],
     event: &Event,
     reply: &Reply,
     replies: bool,
-) -> Result<Vec<u8>, NoMemory>
+) -> Result<(), NoMemory>
     requires { IsNamed names.now event.now.act }
-    ensures { IfOk result (λ text. text.items ≡
-        event_text replies names.now (event.now, reply.now)) }
+    ensures { OnOk result (text.new.items ≡
+        text.old.items ++ event_text replies names.now (event.now, reply.now)) }
 {
     if replies || !reply.is_ok() {
-        Ok(reply_line(alloc, names, event, reply)?)
+        push_reply_line(text, names, event, reply)
     } else {
-        Ok(Vec::new(alloc))
+        Ok(())
     }
 }
 
 /// The lines of what was found damaged.
-pub(crate) fn damages_text(alloc: Global, damages: &[Found]) -> Result<Vec<u8>, NoMemory>
-    ensures { IfOk result (λ text. text.items ≡ flat_map found_text damages.now) }
+pub(crate) fn push_damages(text: &mut Vec<u8>, damages: &[Found]) -> Result<(), NoMemory>
+    ensures { OnOk result (text.new.items ≡ text.old.items ++ flat_map found_text damages.now) }
 {
-    let mut text = Vec::new(alloc);
     for found in damages {
-        let line = damage_text(alloc, &found.title, &found.report)?;
-        text.extend_from_slice(line.as_slice())?;
+        push_damage_line(text, &found.title, &found.report)?;
     }
-    Ok(text)
+    Ok(())
 }
 
-/// The total line.
-pub fn text_of_total(alloc: Global, total: &Total) -> Result<Vec<u8>, NoMemory>
-    ensures { IfOk result (λ text. text.items ≡ total_text total.now) }
+/// The total line is put behind a text.
+pub fn push_sums(text: &mut Vec<u8>, total: &Total) -> Result<(), NoMemory>
+    ensures { OnOk result (text.new.items ≡ text.old.items ++ total_text total.now) }
 {
     let numbers = [
         total.given,
@@ -242,5 +238,5 @@ pub fn text_of_total(alloc: Global, total: &Total) -> Result<Vec<u8>, NoMemory>
         total.slabs,
         total.frames,
     ];
-    Ok(total_text(alloc, &numbers)?)
+    push_total(text, &numbers)
 }

@@ -1,7 +1,9 @@
 //! Lines that no short run shows, and columns that are too narrow.
 
 use crate::counts::{Counts, InfoRow};
-use crate::text::{ItemAnswer, ItemWord, damage_text, item_line, reply_line, slabinfo_text};
+use crate::text::{
+    ItemAnswer, ItemWord, push_damage_line, push_item_line, push_reply_line, push_slabinfo,
+};
 use slub_answers::reply::Reply;
 use slub_object_layout::event::{Act, Event};
 use slub_object_layout::name::Name;
@@ -20,12 +22,12 @@ fn replies_of_no_short_run(rt: HostRuntime) -> Result<(), Fail> {
         cpu: 0,
         act,
     };
-    let line = reply_line(rt.alloc(), &[], &event, &Reply::NoMemory)?;
-    assert_eq!(rt; line.as_slice(), b"alloc 1048576: no memory\n".as_slice());
-    let line = reply_line(rt.alloc(), &[], &event, &Reply::IdsSpent(4294967240))?;
+    let mut text = Vec::new(rt.alloc());
+    push_reply_line(&mut text, &[], &event, &Reply::NoMemory)?;
+    push_reply_line(&mut text, &[], &event, &Reply::IdsSpent(4294967240))?;
     assert_eq!(rt;
-        line.as_slice(),
-        b"alloc 1048576: ids spent 4294967240\n".as_slice()
+        text.as_slice(),
+        b"alloc 1048576: no memory\nalloc 1048576: ids spent 4294967240\n".as_slice()
     );
     Ok(())
 }
@@ -43,7 +45,8 @@ fn a_damaged_end(rt: HostRuntime) -> Result<(), Fail> {
             wanted: 0xa5,
         },
     };
-    let line = damage_text(rt.alloc(), &title, &report)?;
+    let mut line = Vec::new(rt.alloc());
+    push_damage_line(&mut line, &title, &report)?;
     let want = b"damage node 4104: end offset 23 found 0b wanted a5\n";
     assert_eq!(rt; line.as_slice(), want.as_slice());
     Ok(())
@@ -67,10 +70,9 @@ fn answers_of_items(rt: HostRuntime) -> Result<(), Fail> {
         (ItemWord::Tune, ItemAnswer::Checked, b"tune a: checked\n"),
     ];
     for (word, answer, want) in cases {
-        assert_eq!(rt;
-            item_line(rt.alloc(), word, &name, &answer)?.as_slice(),
-            want
-        );
+        let mut line = Vec::new(rt.alloc());
+        push_item_line(&mut line, word, &name, &answer)?;
+        assert_eq!(rt; line.as_slice(), want);
     }
     Ok(())
 }
@@ -94,7 +96,8 @@ fn columns_that_are_too_narrow(rt: HostRuntime) -> Result<(), Fail> {
     }];
     let want =
         b"a_title_of_22_letters. 1234567 18446744073709551615 4294967295 12345 67890 : tunables    0    0    0 : slabdata 7654321 7654321      0\n";
-    let text = slabinfo_text(rt.alloc(), &rows)?;
+    let mut text = Vec::new(rt.alloc());
+    push_slabinfo(&mut text, &rows)?;
     assert!(rt; text.as_slice().ends_with(want.as_slice()));
     Ok(())
 }

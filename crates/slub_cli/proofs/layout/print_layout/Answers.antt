@@ -1,4 +1,5 @@
-use Rattle.std.proofs.Common.{◌∙◌, subst}
+use Rattle.std.proofs.Common.{◌++◌, ap, ◌∙◌, subst}
+use Rattle.slub_slabinfo_text.specs.Texts.{layout_lines}
 use Rattle.std.proofs.lemmas.Result.{err_from_is_err_and}
 use Rattle.std.specs.Io.KnownBytes.{Appends}
 use Rattle.slub_edges.specs.Edges.{AppendsFront}
@@ -13,7 +14,7 @@ returns-in_err-write_lines-clause-printed g c =
       c.layout_of-answer.result,
       answered c.args.spec.now c.args.cpus c.layout_of-answer.result of.solved of.accepted.0 of.bad_size.0 of.bad_align.0 of.bad_flags.0,
       c.in_err-write_lines.ensures.failed,
-      subst (λ l. AppendsFront (g.K.Sink.taken c.args.sink.now) (g.K.Sink.taken c.write_lines.new.sink) 0 l) (c.deref.ensures.value ∙ c.in_ok-text.ensures) c.in_err-write_lines.ensures.err,
+      subst (λ l. AppendsFront (g.K.Sink.taken c.args.sink.now) (g.K.Sink.taken c.write_lines.new.sink) 0 l) (c.deref.ensures.value ∙ c.in_ok-push_layout.ensures ∙ ap (λ l. l ++ layout_lines c.layout_of-answer.result) c.new-text.ensures.items) c.in_err-write_lines.ensures.err,
     )
 
 pub returns-clause-printed : goal.returns-clause-printed
@@ -22,5 +23,5 @@ returns-clause-printed g c =
       c.layout_of-answer.result,
       answered c.args.spec.now c.args.cpus c.layout_of-answer.result of.solved of.accepted.0 of.bad_size.0 of.bad_align.0 of.bad_flags.0,
       c.answer_status.ensures,
-      subst (λ l. Appends (g.K.Sink.taken c.args.sink.now) (g.K.Sink.taken c.write_lines.new.sink) l) (c.deref.ensures.value ∙ c.in_ok-text.ensures) c.in_ok-write_lines.ensures.ok,
+      subst (λ l. Appends (g.K.Sink.taken c.args.sink.now) (g.K.Sink.taken c.write_lines.new.sink) l) (c.deref.ensures.value ∙ c.in_ok-push_layout.ensures ∙ ap (λ l. l ++ layout_lines c.layout_of-answer.result) c.new-text.ensures.items) c.in_ok-write_lines.ensures.ok,
     )

@@ -1,15 +1,19 @@
-use Rattle.std.proofs.Common.{refl, ◌∙◌}
+use Rattle.std.proofs.Common.{◌≡◌, ◌++◌, ap, refl, ◌∙◌}
+use Rattle.slub_journal.specs.Text.{text_at}
 use Rattle.std.proofs.lemmas.Result.{err_from_is_err_and}
 use Rattle.slub_cli.proofs.Texts.{grows_text, grows_front, item_entry}
 use Rattle.slub_cli.proofs.replay.do_item.Goals as goal
 
 pub returns-in_err-write_lines-clause-told : goal.returns-in_err-write_lines-clause-told
 returns-in_err-write_lines-clause-told g c =
+    let made : c.push_item.new.text.items ≡ text_at c.args.replies c.args.trace.now c.args.number c.in_ok-done.done = c.in_ok-push_item.ensures ∙ ap (λ l. l ++ text_at c.args.replies c.args.trace.now c.args.number c.in_ok-done.done) c.clear.ensures.items in
     let p = err_from_is_err_and c.from_residual-in_err-write_lines.result c.from_residual-in_err-write_lines.ensures.1 in
-    rw (p.1, p.2) (grows_front c.args.replies _ _ c.args.trace.now _ _ _ _ (item_entry c.args.replies c.args.trace.now _ _ _ _ c.requires.so_far c.requires.no_total refl c.in_ok-push.ensures) (c.deref.ensures.value ∙ c.in_ok-text.ensures) c.in_err-write_lines.ensures.err)
+    rw (p.1, p.2) (grows_front c.args.replies _ _ c.args.trace.now _ _ _ _ (item_entry c.args.replies c.args.trace.now _ _ _ _ c.requires.so_far c.requires.no_total refl c.in_ok-push.ensures) (c.deref.ensures.value ∙ made) c.in_err-write_lines.ensures.err)
 
 pub returns-clause-told : goal.returns-clause-told
-returns-clause-told g c = grows_text c.args.replies _ _ c.args.trace.now _ _ _ _ (item_entry c.args.replies c.args.trace.now _ _ _ _ c.requires.so_far c.requires.no_total refl c.in_ok-push.ensures) (c.deref.ensures.value ∙ c.in_ok-text.ensures) c.in_ok-write_lines.ensures.ok
+returns-clause-told g c =
+    let made : c.push_item.new.text.items ≡ text_at c.args.replies c.args.trace.now c.args.number c.in_ok-done.done = c.in_ok-push_item.ensures ∙ ap (λ l. l ++ text_at c.args.replies c.args.trace.now c.args.number c.in_ok-done.done) c.clear.ensures.items in
+    grows_text c.args.replies _ _ c.args.trace.now _ _ _ _ (item_entry c.args.replies c.args.trace.now _ _ _ _ c.requires.so_far c.requires.no_total refl c.in_ok-push.ensures) (c.deref.ensures.value ∙ made) c.in_ok-write_lines.ensures.ok
 
 pub returns-in_err-write_lines-clause-done : goal.returns-in_err-write_lines-clause-done
 returns-in_err-write_lines-clause-done g c =

@@ -1,5 +1,7 @@
-use Rattle.std.proofs.Common.{◌∙◌, arith, le_trans, le_refl, refl}
-use Rattle.slub_cli.proofs.Laws.{Reached-begins, Reached-more, Reached-lawful, stopped_lawful}
+use Rattle.std.proofs.Common.{◌∙◌, Err, arith, le_trans, le_refl, refl}
+use Rattle.std.proofs.lemmas.Result.{err_from_is_err_and}
+use Rattle.slub_cli.proofs.Laws.{Reached-begins, Reached-more, Reached-lawful, Reached-whole, stopped_lawful}
+use Rattle.slub_cli.proofs.Texts.{tells_then}
 use Rattle.slub_cli.proofs.replay.do_items.Goals as goal
 
 pub loop-number-init : goal.loop-number-init
@@ -28,3 +30,13 @@ loop-number-preserved g c =
 pub returns-clause-lawful : goal.returns-clause-lawful
 returns-clause-lawful g c =
     Reached-lawful c.args.trace.now c.loop-number.number c.loop-number.lists c.loop-number.journal c.requires.coherent (omega (arith, c.len-number-end.ensures)) c.loop-number.invariant.reached
+
+pub returns-clause-run : goal.returns-clause-run
+returns-clause-run g c =
+    Reached-whole c.args.trace.now c.loop-number.number c.loop-number.lists c.loop-number.journal (omega (arith, c.len-number-end.ensures, c.loop-number-test.false)) c.loop-number.invariant.reached
+
+pub returns-in_err-do_item-clause-told : goal.returns-in_err-do_item-clause-told
+returns-in_err-do_item-clause-told g c =
+    let p = err_from_is_err_and c.from_residual.result c.from_residual.ensures.1 in
+    rw (p.1, p.2)
+    (tells_then c.args.replies (g.K.Sink.taken c.args.sink.now) (g.K.Sink.taken c.loop-number.sink) (g.K.Sink.taken c.do_item.new.sink) c.args.trace.now c.args.journal.now c.loop-number.journal c.do_item.new.journal (Err c.in_err-do_item.field-0.0) c.loop-number.invariant.told c.in_err-do_item.ensures.told)

@@ -1,4 +1,5 @@
-use Rattle.std.proofs.Common.{refl, ◌∙◌}
+use Rattle.std.proofs.Common.{◌++◌, ap, refl, ◌∙◌}
+use Rattle.slub_journal.specs.Text.{total_text}
 use Rattle.std.proofs.lemmas.Result.{err_from_is_err_and}
 use Rattle.slub_cli.proofs.Texts.{grows_text, grows_front, total_entry}
 use Rattle.slub_cli.proofs.replay.do_total.Goals as goal
@@ -6,7 +7,7 @@ use Rattle.slub_cli.proofs.replay.do_total.Goals as goal
 pub returns-in_err-write_lines-clause-told : goal.returns-in_err-write_lines-clause-told
 returns-in_err-write_lines-clause-told g c =
     let p = err_from_is_err_and c.from_residual-in_err-write_lines.result c.from_residual-in_err-write_lines.ensures.1 in
-    λ replies. rw (p.1, p.2) (grows_front replies _ _ c.args.trace.now _ _ _ _ (total_entry replies c.args.trace.now _ _ c.total-sums.result c.requires.no_total refl refl) (c.deref.ensures.value ∙ c.in_ok-text.ensures) c.in_err-write_lines.ensures.err)
+    λ replies. rw (p.1, p.2) (grows_front replies _ _ c.args.trace.now _ _ _ _ (total_entry replies c.args.trace.now _ _ c.total-sums.result c.requires.no_total refl refl) (c.deref.ensures.value ∙ c.in_ok-push_sums.ensures ∙ ap (λ l. l ++ total_text c.total-sums.result) c.new-text.ensures.items) c.in_err-write_lines.ensures.err)
 
 pub returns-clause-told : goal.returns-clause-told
-returns-clause-told g c = λ replies. grows_text replies _ _ c.args.trace.now _ _ _ _ (total_entry replies c.args.trace.now _ _ c.total-sums.result c.requires.no_total refl refl) (c.deref.ensures.value ∙ c.in_ok-text.ensures) c.in_ok-write_lines.ensures.ok
+returns-clause-told g c = λ replies. grows_text replies _ _ c.args.trace.now _ _ _ _ (total_entry replies c.args.trace.now _ _ c.total-sums.result c.requires.no_total refl refl) (c.deref.ensures.value ∙ c.in_ok-push_sums.ensures ∙ ap (λ l. l ++ total_text c.total-sums.result) c.new-text.ensures.items) c.in_ok-write_lines.ensures.ok

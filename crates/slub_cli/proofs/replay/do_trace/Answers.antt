@@ -2,7 +2,7 @@ use Rattle.std.proofs.Common.{◌∙◌, ℕ, Err, IfErr, subst}
 use Rattle.std.proofs.KnownBytes.{Appends-nil}
 use Rattle.std.proofs.lemmas.Result.{err_from_is_err_and}
 use Rattle.slub_cli.specs.Inner.{IsItemStop}
-use Rattle.slub_cli.proofs.Laws.{no_items_lawful, totals_lawful}
+use Rattle.slub_cli.proofs.Laws.{no_items_lawful, totals_lawful, totals_some}
 use Rattle.slub_cli.proofs.Texts.{empty_text, tells_then, took_of}
 use Rattle.slub_cli.proofs.replay.do_trace.Goals as goal
 
@@ -30,3 +30,6 @@ returns-clause-told g c =
 pub returns-clause-stops : goal.returns-clause-stops
 returns-clause-stops g c =
     subst (λ (faults : ℕ). IfErr c.do_total.result (IsItemStop faults (g.K.Sink.faults c.do_total.new.sink) c.do_total.new.journal)) c.in_ok-do_items.ensures.write_faults c.do_total.ensures.stops
+
+pub returns-clause-all : goal.returns-clause-all
+returns-clause-all g c = totals_some _ _ _ c.do_total.result c.do_total.ensures.done

@@ -1,7 +1,0 @@
-use Rattle.std.proofs.Common.{◌≡◌, ◌++◌, take}
-use Rattle.std.specs.Prelude.{flat_map}
-use Rattle.slub_slabinfo_text.specs.Texts.{header_text, row_text}
-use Rattle.slub_slabinfo_text.proofs.text.slabinfo_text.Given as goal
-
-abbrev pub invariant-loop-row : goal.invariant-loop-row
-invariant-loop-row l = l.text.items ≡ header_text ++ flat_map row_text (take l.row-index l.rows)

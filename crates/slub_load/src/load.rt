@@ -107,8 +107,10 @@ impl Load {
         ensures held { AreHeld self.new.events.items self.new.held.items }
         ensures given { self.new.given ≡ length (objects_of self.new.events.items) }
     {
-        let worker = self.generator.draw() % self.held.len() as u32;
-        let eighth = self.generator.draw() % 8;
+        let first = self.generator.draw();
+        let second = self.generator.draw();
+        let worker = first % self.held.len() as u32;
+        let eighth = second % 8;
         let held = &mut self.held[worker as usize];
         let event = turn(held, &mut self.given, worker, eighth);
         self.events.push_reserved(event);

@@ -6,8 +6,8 @@ use Rattle.slub_words.specs.Words.{steps_from_one}
 use Rattle.slub_core.specs.Setup.{Setup, Means, hardened}
 use Rattle.slub_local.specs.declared.cache.CacheFacts.{CacheFacts}
 
--- the sizes of the machine, the live caches that aren't checked, oldest first, and each cache by its
--- number
+-- the sizes of the machine, the live caches that aren't checked, oldest first, and each cache by
+-- its number
 pub record Facts : Type 0 where
   pub frames : ℕ
   pub cpus : ℕ
@@ -61,7 +61,8 @@ setup_of facts means = record {
 -- the memory word of an object's free pointer, and one of its own words
 abbrev pub pointer_in : Facts → ℕ → ℕ → ℕ → ℕ
 pointer_in facts cache frame index =
-    (address_of frame index (cache_of facts cache).layout + (cache_of facts cache).layout.offset) / 8
+    let layout = (cache_of facts cache).layout in
+    (address_of frame index layout + layout.offset) / 8
 
 abbrev pub word_in : Facts → ℕ → ℕ → ℕ → ℕ → ℕ
 word_in facts cache frame index word =

@@ -1,0 +1,4 @@
+pub mod Offsets
+pub mod Gifts
+pub mod Locks
+pub mod Calls

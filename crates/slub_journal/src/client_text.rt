@@ -7,7 +7,7 @@ ghost use Rattle.slub_journal.specs.Text.{found_text};
 
 use crate::client::{CacheRefusal, ClientAnswer, ClientDone, ClientRound};
 use crate::names::class_names;
-use crate::text::{created_answer, push_answer, push_damages};
+use crate::text::{self, created_answer, push_damages};
 use slub_answers::create::{CreateRefusal, Created};
 use slub_common::no_memory::NoMemory;
 use slub_object_layout::name::Name;
@@ -91,7 +91,7 @@ fn creation_text(
 {
     let answer = created_answer(made);
     let mut text = Vec::new(alloc);
-    push_answer(&mut text, ItemWord::Cache, name, &answer, replies)?;
+    text::push_answer(&mut text, ItemWord::Cache, name, &answer, replies)?;
     Ok(text)
 }
 

@@ -44,12 +44,12 @@ told_read_checked opening w v x z others y ac same at idle mine checked after =
     let l = x.local in
     let tale = told-of opening w x others ac in
     let call = (tale.call Read at).0 in
-    let knew = known-here l (place-here w.setup opening.board (public w (x ∷ others)) l Read call tale) in
+    let knew = known-here l (place-here w.setup opening.board (public w (x ∷ others)) l Read call refl tale) in
     let had : (known_of l.known (here l).object).held ≡ true = ap (λ (j : Known). j.held) knew ∙ mine in
     let holds : holding l.done (here l).object ≡ true = sym (tale.holds (here l).object (λ f. absurd (false≢true (sym idle ∙ f)))) ∙ had in
     let of : cache_by opening.board l.done (here l).object ≡ Some (here l).cache = tale.cache (here l).object had ∙ ap (λ (j : Known). Some j.cache) knew in
     told_same opening w v x z others Read (reply.Value y) ac (spoken w v l (reply.Value y) same refl) call idle refl refl after
-    (call.same_kind, rw call.object holds, λ q. absurd (let e : q.0 ≡ (here l).cache = some-same (sym q.1 ∙ ap (cache_by opening.board l.done) call.object ∙ of) in false≢true (sym q.2 ∙ ap w.setup.checks e ∙ checked)))
+    (call.same_kind, rw (call.object refl) holds, λ q. absurd (let e : q.0 ≡ (here l).cache = some-same (sym q.1 ∙ ap (cache_by opening.board l.done) (call.object refl) ∙ of) in false≢true (sym q.2 ∙ ap w.setup.checks e ∙ checked)))
   where
     some-same : {a b : ℕ} → Some a ≡ Some b → a ≡ b
     some-same e = cc
@@ -62,12 +62,12 @@ told_write_checked opening w v x z others ac same at idle mine checked inside af
     let tale = told-of opening w x others ac in
     let wr = written-of opening w x others ac in
     let call = (tale.call Write at).0 in
-    let knew = known-here l (place-here w.setup opening.board (public w (x ∷ others)) l Write call tale) in
+    let knew = known-here l (place-here w.setup opening.board (public w (x ∷ others)) l Write call refl tale) in
     let had : (known_of l.known (here l).object).held ≡ true = ap (λ (j : Known). j.held) knew ∙ mine in
     let holds : holding l.done (here l).object ≡ true = sym (tale.holds (here l).object (λ f. absurd (false≢true (sym idle ∙ f)))) ∙ had in
     let sp = spoken w v l reply.Wrote same refl in
-    told_kept opening w v x z others Write reply.Wrote ac (spoken-on w v l reply.Wrote sp) (spoken-counts w v l reply.Wrote sp) call idle refl after (call.same_kind, rw call.object holds)
-    (written-spoken opening w v x z others Write (here l) reply.Wrote ac sp call refl (answers-here l z.local reply.Wrote after)
+    told_kept opening w v x z others Write reply.Wrote ac (spoken-on w v l reply.Wrote sp) (spoken-counts w v l reply.Wrote sp) call refl idle refl after (call.same_kind, rw (call.object refl) holds)
+    (written-spoken opening w v x z others Write (here l) reply.Wrote ac sp call refl refl (answers-here l z.local reply.Wrote after)
     (λ a y h wrote. (
       elim (cases_eq (call_of l).word a) [
         | inl e ↦ subst (λ a. 8 * (a + 1) ≤ (w.setup.layout (here l).cache).object_size) e inside

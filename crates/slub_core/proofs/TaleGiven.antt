@@ -156,8 +156,8 @@ told_given opening w v x z others frame index ac sp at idle free real un after =
     let k = given_known l frame index in
     let ok = told-of opening w x others ac in
     let call = ok.call Alloc at in
-    told_answer opening w v x z others Alloc k r ac (spoken-on w v l r sp) (spoken-counts w v l r sp) call.0 after (record {
-      below = place-inside m opening.board p l Alloc call.0 ok;
+    told_answer opening w v x z others Alloc k r ac (spoken-on w v l r sp) (spoken-counts w v l r sp) call.0 refl after (record {
+      below = place-inside m opening.board p l Alloc call.0 refl ok;
       same = refl;
       holds = refl;
       address = λ _. refl;
@@ -175,4 +175,4 @@ told_given opening w v x z others frame index ac sp at idle free real un after =
         given-freed opening w (x ∷ others) a ac un,
       );
     })
-    (written-spoken opening w v x z others Alloc k r ac sp call.0 refl after (λ a y h wrote. absurd (none-some y wrote)))
+    (written-spoken opening w v x z others Alloc k r ac sp call.0 refl refl after (λ a y h wrote. absurd (none-some y wrote)))

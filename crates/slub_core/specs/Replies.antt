@@ -21,6 +21,12 @@ abbrev pub is_alloc : CallKind → Bool
 is_alloc Alloc = true
 is_alloc _ = false
 
+-- the call is of an object; a trim is of a cache, a flush of a CPU
+abbrev pub names_object : CallKind → Bool
+names_object Trim = false
+names_object Flush = false
+names_object _ = true
+
 abbrev pub is_given : Reply → Bool
 is_given (reply.Given address) = true
 is_given _ = false

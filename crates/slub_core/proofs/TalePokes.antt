@@ -56,7 +56,7 @@ told_gone opening w v x z others ac same at idle free after =
     let l = x.local in
     let call = ((told-of opening w x others ac).call Poke at).0 in
     told_same opening w v x z others Poke reply.NotHeld ac (spoken w v l reply.NotHeld same refl) call idle refl refl after
-    (rw call.same_kind refl, rw (call.object refl) (not-holding opening w x others ac call refl idle free), λ f. absurd (not_free (sym call.same_kind ∙ f)))
+    (rw call.same_kind refl, rw call.same_kind refl, rw (call.object refl) (not-holding opening w x others ac call refl idle free), λ f. absurd (not_free (sym call.same_kind ∙ f)))
   where
     not_free : Poke ≡ Free → ⊥
     not_free e = cc

@@ -127,7 +127,7 @@ told_at_rest opening w x others call calls r is todo s told ac = by_kind call.ki
       elim (cases_Bool k.held) [
       | inr no_more ↦
           let t' : Some reply.NotHeld ≡ Some r = rw no_more at t in
-          tell reply.NotHeld refl refl refl (rw e (elim which [ inl a ↦ rw a refl | inr b ↦ rw b refl ]), held names ∙ no_more, λ f. absurd (let z = sym e ∙ f in elim which [ inl a ↦ not-free-write (sym a ∙ z) | inr b ↦ not-free-read (sym b ∙ z) ])) t'
+          tell reply.NotHeld refl refl refl (names, rw e (elim which [ inl a ↦ rw a refl | inr b ↦ rw b refl ]), held names ∙ no_more, λ f. absurd (let z = sym e ∙ f in elim which [ inl a ↦ not-free-write (sym a ∙ z) | inr b ↦ not-free-read (sym b ∙ z) ])) t'
       | inl has ↦ elim (cases_Bool (is_outside (m.layout k.cache) call)) [
         | inl far ↦
             let t' : Some reply.OutOfObject ≡ Some r = rw (has, far) at t in
@@ -146,7 +146,7 @@ told_at_rest opening w x others call calls r is todo s told ac = by_kind call.ki
     by_poke e t = elim (cases_Bool (eqb k.frame 0)) [
       | inl zero_frame ↦
           let t' : Some reply.NotHeld ≡ Some r = rw zero_frame at t in
-          tell reply.NotHeld refl refl refl (rw e refl, unheld (eqb-true _ _ zero_frame), λ f. absurd (let z = sym e ∙ f in not-free-poke z)) t'
+          tell reply.NotHeld refl refl refl (names, rw e refl, unheld (eqb-true _ _ zero_frame), λ f. absurd (let z = sym e ∙ f in not-free-poke z)) t'
       | inr some_frame ↦ elim (cases_Bool (m.checks k.cache)) [
         | inr plain ↦
             let t' : Some reply.NotChecked ≡ Some r = rw (some_frame, plain) at t in

@@ -172,8 +172,10 @@ Cause m before p ds c (reply.IdsSpent t) = (c.kind ≡ Alloc) × IsSpent t m.ste
 Cause m before p ds c (reply.Freed a) =
     (c.kind ≡ Free) × (address_by m before ds c.object ≡ Some a)
     × ((holding ds c.object ≡ true) ⊎ (address_on m (before c.object) ≡ Some a))
--- the worker doesn't hold it, and where it is to be freed it isn't on the board
-Cause m before p ds c reply.NotHeld = (is_alloc c.kind ≡ false) × (holding ds c.object ≡ false)
+-- the call is of an object, but not to allocate it; the worker doesn't hold it, and where it is to
+-- be freed it isn't on the board
+Cause m before p ds c reply.NotHeld =
+    (names_object c.kind ≡ true) × (is_alloc c.kind ≡ false) × (holding ds c.object ≡ false)
     × (c.kind ≡ Free → p.boarded c.object ≡ 0)
 Cause m before p ds c (reply.Corrupt d) =
     (c.kind ≡ Free) × (d.found ≢ d.wanted) × IsOfChecked m (cache_by before ds c.object)

@@ -165,9 +165,9 @@ Cause m before p ds c (reply.Given a) =
 Cause m before p ds c reply.NoFrames = (c.kind ≡ Alloc) × ((k : ℕ) × (c.cache ≡ Some k))
 Cause m before p ds c reply.NoSuchCache = ((c.kind ≡ Alloc) ⊎ (c.kind ≡ Trim)) × (c.cache ≡ None)
 Cause m before p ds c reply.NoMemory = (c.kind ≡ Alloc) × IsOfChecked m c.cache
--- the CPU word had that transaction id, and has it or a later one since
+-- the CPU word of an unchecked cache had that transaction id, and has it or a later one since
 Cause m before p ds c (reply.IdsSpent t) = (c.kind ≡ Alloc) × IsSpent t m.step
-    × ((k : ℕ) × (c.cache ≡ Some k) × (t ≤ p.tid (16 * k + c.cpu)))
+    × ((k : ℕ) × (c.cache ≡ Some k) × (m.checks k ≡ false) × (t ≤ p.tid (16 * k + c.cpu)))
 -- what is freed was the worker's or on the board, and stood at this address
 Cause m before p ds c (reply.Freed a) =
     (c.kind ≡ Free) × (address_by m before ds c.object ≡ Some a)

@@ -76,7 +76,7 @@ tells_read opening w x others old is s ac was of =
     let z : Worker = record x { local = answered (at x.local (InChecked GiveChecked Read)) (reply.Value y) } in (
       z,
       refl,
-      told_read_checked opening w w x z others y ac (unseen-same w) (rw is refl) (rw is refl) keep.1 (rw keep.2 (ok.spot.checked (rw is refl)).2)
+      told_read_checked opening w w x z others y ac (unseen-same w) (rw is refl) (rw is refl) keep.1 (rw keep.2 (ok.spot.checked (rw is refl)).2) (rw keep.2 (ok.spot.inside (rw is refl)))
           (record { known = refl; done = refl; todo = refl; freeing = refl; call = refl }),
     )
 

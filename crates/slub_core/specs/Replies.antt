@@ -155,6 +155,10 @@ IsOfPlain m cache = (k : ℕ) × (cache ≡ Some k) × (m.checks k ≡ false)
 abbrev pub IsOfChecked : Setup → Option ℕ → Type 0
 IsOfChecked m cache = (k : ℕ) × (cache ≡ Some k) × (m.checks k ≡ true)
 
+-- the word of a write or a read lies in the object, which is of this cache
+abbrev pub IsWithin : Setup → Option ℕ → Call → Type 0
+IsWithin m cache c = (k : ℕ) × (cache ≡ Some k) × (is_outside (m.layout k) c ≡ false)
+
 -- the call of a worker that was answered `ds` had cause for this reply
 abbrev pub Cause : Setup → (ℕ → Option BoardWord) → Public → List Answered → Call → Reply → Type 0
 -- an object is given that the worker holds under no number, and that stood under no number on the
@@ -181,9 +185,10 @@ Cause m before p ds c (reply.Corrupt d) =
     (c.kind ≡ Free) × (d.found ≢ d.wanted) × IsOfChecked m (cache_by before ds c.object)
     × ((holding ds c.object ≡ true) ⊎ ((a : ℕ) × (address_on m (before c.object) ≡ Some a)))
 Cause m before p ds c reply.Wrote = (c.kind ≡ Write) × (holding ds c.object ≡ true)
+    × IsWithin m (cache_by before ds c.object) c
 -- of an unchecked object the value is what the worker wrote last
 Cause m before p ds c (reply.Value v) =
-    (c.kind ≡ Read) × (holding ds c.object ≡ true)
+    (c.kind ≡ Read) × (holding ds c.object ≡ true) × IsWithin m (cache_by before ds c.object) c
     × (IsOfPlain m (cache_by before ds c.object) → last_wrote ds c.object c.word ≡ Some v)
 Cause m before p ds c reply.OutOfObject =
     ((c.kind ≡ Write) ⊎ (c.kind ≡ Read)) × (holding ds c.object ≡ true)

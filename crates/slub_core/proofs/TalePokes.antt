@@ -31,23 +31,23 @@ poke-knows opening w x others ac doing idle real =
 
 -- the byte is written
 pub told_poked : (opening w v : World) (x z : Worker) (others : List Worker) → IsAccounted opening w (x ∷ others) → Unseen w v → doing x.local.spot ≡ Some Poke → is_freeing x.local.spot ≡ false → 1 ≤ (here x.local).frame
-    → w.setup.checks (here x.local).cache ≡ true → AnswersKept x.local z.local reply.Poked → IsAccounted opening v (z ∷ others)
-told_poked opening w v x z others ac same at idle real checked after =
+    → w.setup.checks (here x.local).cache ≡ true → is_offset (w.setup.layout (here x.local).cache) (call_of x.local).offset ≡ true → AnswersKept x.local z.local reply.Poked → IsAccounted opening v (z ∷ others)
+told_poked opening w v x z others ac same at idle real checked inside after =
     let l = x.local in
     let call = ((told-of opening w x others ac).call Poke at).0 in
     let known = poke-knows opening w x others ac call idle real in
     told_same opening w v x z others Poke reply.Poked ac (spoken w v l reply.Poked same refl) call idle refl refl after
-    (call.same_kind, rw (call.object refl) known.0, ((here l).cache, rw (call.object refl) known.1, checked))
+    (call.same_kind, rw (call.object refl) known.0, ((here l).cache, rw (call.object refl) known.1, checked, inside))
 
 -- it lies outside of the slot
 pub told_out_of_slot : (opening w v : World) (x z : Worker) (others : List Worker) → IsAccounted opening w (x ∷ others) → Unseen w v → doing x.local.spot ≡ Some Poke → is_freeing x.local.spot ≡ false → 1 ≤ (here x.local).frame
-    → is_offset (w.setup.layout (here x.local).cache) (call_of x.local).offset ≡ false → AnswersKept x.local z.local reply.OutOfSlot → IsAccounted opening v (z ∷ others)
-told_out_of_slot opening w v x z others ac same at idle real outside after =
+    → w.setup.checks (here x.local).cache ≡ true → is_offset (w.setup.layout (here x.local).cache) (call_of x.local).offset ≡ false → AnswersKept x.local z.local reply.OutOfSlot → IsAccounted opening v (z ∷ others)
+told_out_of_slot opening w v x z others ac same at idle real checked outside after =
     let l = x.local in
     let call = ((told-of opening w x others ac).call Poke at).0 in
     let known = poke-knows opening w x others ac call idle real in
     told_same opening w v x z others Poke reply.OutOfSlot ac (spoken w v l reply.OutOfSlot same refl) call idle refl refl after
-    (call.same_kind, rw (call.object refl) known.0, ((here l).cache, rw (call.object refl) known.1, outside))
+    (call.same_kind, rw (call.object refl) known.0, ((here l).cache, rw (call.object refl) known.1, checked, outside))
 
 -- its slab is there no more
 pub told_gone : (opening w v : World) (x z : Worker) (others : List Worker) → IsAccounted opening w (x ∷ others) → Unseen w v → doing x.local.spot ≡ Some Poke → is_freeing x.local.spot ≡ false → (here x.local).held ≡ false

@@ -193,11 +193,13 @@ Cause m before p ds c (reply.Value v) =
 Cause m before p ds c reply.OutOfObject =
     ((c.kind ≡ Write) ⊎ (c.kind ≡ Read)) × (holding ds c.object ≡ true)
     × ((k : ℕ) × (cache_by before ds c.object ≡ Some k) × (is_outside (m.layout k) c ≡ true))
-Cause m before p ds c reply.Poked = (c.kind ≡ Poke) × (knows ds c.object ≡ true)
-    × IsOfChecked m (cache_by before ds c.object)
+-- the byte that is poked lies in the slot, or it lies outside of it
+Cause m before p ds c reply.Poked =
+    (c.kind ≡ Poke) × (knows ds c.object ≡ true) × ((k : ℕ) × (cache_by before ds c.object ≡ Some k)
+    × (m.checks k ≡ true) × (is_offset (m.layout k) c.offset ≡ true))
 Cause m before p ds c reply.OutOfSlot =
     (c.kind ≡ Poke) × (knows ds c.object ≡ true) × ((k : ℕ) × (cache_by before ds c.object ≡ Some k)
-    × (is_offset (m.layout k) c.offset ≡ false))
+    × (m.checks k ≡ true) × (is_offset (m.layout k) c.offset ≡ false))
 Cause m before p ds c reply.NotChecked = (c.kind ≡ Poke) × (knows ds c.object ≡ true)
     × IsOfPlain m (cache_by before ds c.object)
 Cause m before p ds c (reply.Trimmed n) = (c.kind ≡ Trim) × IsOfPlain m c.cache

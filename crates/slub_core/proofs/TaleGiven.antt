@@ -168,6 +168,7 @@ told_given opening w v x z others frame index ac sp at idle free real un after =
       asks = rw call.0.same_kind (omega arith);
       cause = (
         call.0.same_kind,
+        (l.cache, call.1.0),
         (λ o is. sym (ok.holds o (λ f. absurd (false≢true (sym idle ∙ f)))) ∙ elim (cases_Bool (known_of l.known o).held) [
           | inl t ↦ absurd (un.held 0 x (omega arith) o t (some-same (sym (ok.address o t) ∙ is)))
           | inr f ↦ f

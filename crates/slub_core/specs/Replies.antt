@@ -164,7 +164,8 @@ abbrev pub Cause : Setup → (ℕ → Option BoardWord) → Public → List Answ
 -- an object is given that the worker holds under no number, and that stood under no number on the
 -- board but one that was freed since
 Cause m before p ds c (reply.Given a) =
-    (c.kind ≡ Alloc) × ((o : ℕ) → address_by m before ds o ≡ Some a → holding ds o ≡ false)
+    (c.kind ≡ Alloc) × ((k : ℕ) × (c.cache ≡ Some k))
+    × ((o : ℕ) → address_by m before ds o ≡ Some a → holding ds o ≡ false)
     × ((o : ℕ) → address_on m (before o) ≡ Some a → 1 ≤ p.freed o)
 Cause m before p ds c reply.NoFrames = (c.kind ≡ Alloc) × ((k : ℕ) × (c.cache ≡ Some k))
 Cause m before p ds c reply.NoSuchCache = ((c.kind ≡ Alloc) ⊎ (c.kind ≡ Trim)) × (c.cache ≡ None)

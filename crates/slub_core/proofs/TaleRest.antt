@@ -123,18 +123,18 @@ told_at_rest opening w x others call calls r is todo s told ac = by_kind call.ki
 
     by_use : (kind : CallKind) → call.kind ≡ kind → (kind ≡ Write) ⊎ (kind ≡ Read) → told_of_use m k call ≡ Some r → IsAccounted opening w (record x { local = answered x.local r } ∷ others)
     by_use kind e which t =
-      let names : names_object call.kind ≡ true = rw e (elim which [ inl a ↦ rw a refl | inr b ↦ rw b refl ]) in
-      elim (cases_Bool k.held) [
-      | inr no_more ↦
-          let t' : Some reply.NotHeld ≡ Some r = rw no_more at t in
-          tell reply.NotHeld refl refl refl (names, rw e (elim which [ inl a ↦ rw a refl | inr b ↦ rw b refl ]), held names ∙ no_more, λ f. absurd (let z = sym e ∙ f in elim which [ inl a ↦ not-free-write (sym a ∙ z) | inr b ↦ not-free-read (sym b ∙ z) ])) t'
-      | inl has ↦ elim (cases_Bool (is_outside (m.layout k.cache) call)) [
-        | inl far ↦
-            let t' : Some reply.OutOfObject ≡ Some r = rw (has, far) at t in
-            tell reply.OutOfObject refl refl refl (elim which [ inl a ↦ inl (e ∙ a) | inr b ↦ inr (e ∙ b) ], held names ∙ has, (k.cache, tale.cache o (ap (λ (k : Known). k.held) (knew names) ∙ has) ∙ ap (λ (k : Known). Some k.cache) (knew names), far)) t'
-        | inr near_by ↦ absurd (let t' : None ≡ Some r = rw (has, near_by) at t in not-some r t')
-      ]
-    ]
+        let names : names_object call.kind ≡ true = rw e (elim which [ inl a ↦ rw a refl | inr b ↦ rw b refl ]) in
+        elim (cases_Bool k.held) [
+          | inr no_more ↦
+              let t' : Some reply.NotHeld ≡ Some r = rw no_more at t in
+              tell reply.NotHeld refl refl refl (names, rw e (elim which [ inl a ↦ rw a refl | inr b ↦ rw b refl ]), held names ∙ no_more, λ f. absurd (let z = sym e ∙ f in elim which [ inl a ↦ not-free-write (sym a ∙ z) | inr b ↦ not-free-read (sym b ∙ z) ])) t'
+          | inl has ↦ elim (cases_Bool (is_outside (m.layout k.cache) call)) [
+            | inl far ↦
+                let t' : Some reply.OutOfObject ≡ Some r = rw (has, far) at t in
+                tell reply.OutOfObject refl refl refl (elim which [ inl a ↦ inl (e ∙ a) | inr b ↦ inr (e ∙ b) ], held names ∙ has, (k.cache, tale.cache o (ap (λ (k : Known). k.held) (knew names) ∙ has) ∙ ap (λ (k : Known). Some k.cache) (knew names), far)) t'
+            | inr near_by ↦ absurd (let t' : None ≡ Some r = rw (has, near_by) at t in not-some r t')
+          ]
+        ]
       where
         not-free-write : Write ≡ Free → ⊥
         not-free-write e = cc

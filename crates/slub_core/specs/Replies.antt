@@ -194,7 +194,7 @@ Cause m before p ds c (reply.Value v) =
 Cause m before p ds c reply.OutOfObject =
     ((c.kind ≡ Write) ⊎ (c.kind ≡ Read)) × (holding ds c.object ≡ true)
     × ((k : ℕ) × (cache_by before ds c.object ≡ Some k) × (is_outside (m.layout k) c ≡ true))
--- the byte that is poked lies in the slot, or it lies outside of it
+-- the byte that is poked lies in the slot of the checked object, or outside of it
 Cause m before p ds c reply.Poked =
     (c.kind ≡ Poke) × (knows ds c.object ≡ true) × ((k : ℕ) × (cache_by before ds c.object ≡ Some k)
     × (m.checks k ≡ true) × (is_offset (m.layout k) c.offset ≡ true))

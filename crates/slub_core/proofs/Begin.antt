@@ -23,7 +23,7 @@ use Rattle.slub_core.specs.Steps.{told_at_once, told_of_alloc, told_of_trim, is_
 use Rattle.slub_core.specs.Fresh.{IsAtWork}
 use Rattle.slub_core.specs.Coherent.{Stands}
 use Rattle.slub_core.specs.Law.{TakesStep}
-use Rattle.slub_core.proofs.MayBegin.{MayBegin, MayBeginFirst}
+use Rattle.slub_core.proofs.MayBegin.{MayBegin, MayBeginFirst, number-at}
 use Rattle.slub_core.proofs.Counts.{places-cons}
 use Rattle.slub_core.proofs.LocalStep.{local_step}
 use Rattle.slub_core.proofs.Locks.{ComesTo}
@@ -126,6 +126,10 @@ not_outside : (b : Bool) → (if b then Some reply.OutOfObject else None) ≡ No
 not_outside true e = absurd (none-some _ (sym e))
 not_outside false e = refl
 
+-- the number that its place has
+number-named : (w : World) (x : Worker) (others : List Worker) (call : Call) → Stands w (x ∷ others) → MayBegin w.setup x.local call → (named x.local call).object < w.setup.objects
+number-named w x others call s may = number-at w.setup x.local.known call.place (let n = (at_work w x others s).spot.number in omega arith) may.numbers
+
 -- by the kind of the call
 abbrev begun_by : Setup → Local → Call → CallKind → Local
 begun_by m l call kind =
@@ -141,64 +145,64 @@ begins_by w x others call Alloc e first is s may none = by_name call.cache refl 
     by_name (Some k) n none =
         let lives : w.setup.lives k ≡ true = rw n at may.cache in
         let below = s.fresh.setup.live k lives in
-        let number = let a = may.known in let b = may.object in subst (λ o. o < w.setup.objects) (sym a) b.1 in
+        let number = number-named w x others call s may in
         elim (cases_Bool (w.setup.checks k)) [
           | inl c ↦ rw c (goes-on w x others (InChecked LockChecked Alloc) k call.cpu call.place is s (λ f. refl) (λ n. refl)
-              (alloc_checked-work w x k call.cpu call.place is may.cpu (below, lives, c) may.place number (may.new e) (at_work w x others s)))
+              (alloc_checked-work w x k call.cpu call.place is may.cpu (below, lives, c) (may.place (rw e refl)) number (may.new e) (at_work w x others s)))
           | inr c ↦ rw c (goes-on w x others (InAlloc LoadCpu) k call.cpu call.place is s (λ f. refl) (λ n. refl)
-              (alloc-work w x k call.cpu call.place is may.cpu (below, lives, c) may.place number (may.new e) (at_work w x others s)))
+              (alloc-work w x k call.cpu call.place is may.cpu (below, lives, c) (may.place (rw e refl)) number (may.new e) (at_work w x others s)))
         ]
 begins_by w x others call Free e first is s may none =
     let k = (named x.local call).cache in
-    let number = let a = may.known in let b = may.object in subst (λ o. o < w.setup.objects) (sym a) b.1 in
-    let some = let a = may.known in let b = may.object in subst (λ o. 1 ≤ o) (sym a) b.0 in
+    let number = number-named w x others call s may in
+    let some = let a = may.known (rw e refl) in let b = may.object (rw e refl) in subst (λ o. 1 ≤ o) (sym a) b.0 in
     let ok = at_work w x others s in
     elim (cases_Bool (named x.local call).held) [
-      | inr h ↦ rw h (goes-on w x others (InFree TakeBoard) k call.cpu call.place is s (λ f. refl) (λ n. refl) (board-work w x k call.cpu call.place is may.cpu may.place some number h ok))
+      | inr h ↦ rw h (goes-on w x others (InFree TakeBoard) k call.cpu call.place is s (λ f. refl) (λ n. refl) (board-work w x k call.cpu call.place is may.cpu (may.place (rw e refl)) some number h ok))
       | inl h ↦
-          let live = held-cache w x others call.place s may.place h in
+          let live = held-cache w x others call.place s (may.place (rw e refl)) h in
           elim (cases_Bool (w.setup.checks k)) [
             | inl c ↦ rw (h, c) (goes-on w x others (InChecked LockChecked Free) k call.cpu call.place is s (λ f. refl) (λ n. refl)
-                (free_checked-work w x k call.cpu call.place is may.cpu (checked-of w.setup k live c) may.place number h refl ok))
+                (free_checked-work w x k call.cpu call.place is may.cpu (checked-of w.setup k live c) (may.place (rw e refl)) number h refl ok))
             | inr c ↦ rw (h, c) (goes-on w x others (InFree LoadOwn) k call.cpu call.place is s (λ f. refl) (λ n. refl)
-                (free-work w x k call.cpu call.place is may.cpu (plain-of w.setup k live c) may.place number h refl ok))
+                (free-work w x k call.cpu call.place is may.cpu (plain-of w.setup k live c) (may.place (rw e refl)) number h refl ok))
           ]
     ]
 begins_by w x others call Write e first is s may none =
     let k = (named x.local call).cache in
-    let number = let a = may.known in let b = may.object in subst (λ o. o < w.setup.objects) (sym a) b.1 in
+    let number = number-named w x others call s may in
     let ok = at_work w x others s in
     elim (cases_Bool (named x.local call).held) [
       | inr h ↦ absurd (none-some _ (sym (rw h at none)))
       | inl h ↦
-          let live = held-cache w x others call.place s may.place h in
+          let live = held-cache w x others call.place s (may.place (rw e refl)) h in
           let within = not_outside (is_outside (w.setup.layout k) call) (rw h at none) in
           elim (cases_Bool (w.setup.checks k)) [
             | inl c ↦ rw c (goes-on w x others (InChecked LockChecked Write) k call.cpu call.place is s (λ f. refl) (λ n. refl)
-                (write_checked-work w x k call.cpu call.place is (rw first within) may.cpu (checked-of w.setup k live c) may.place number h refl ok))
+                (write_checked-work w x k call.cpu call.place is (rw first within) may.cpu (checked-of w.setup k live c) (may.place (rw e refl)) number h refl ok))
             | inr c ↦ rw c (goes-on w x others WriteWord k call.cpu call.place is s (λ f. refl) (λ n. refl)
-                (write-work w x k call.cpu call.place is (rw first within) may.cpu (plain-of w.setup k live c) may.place number h refl ok))
+                (write-work w x k call.cpu call.place is (rw first within) may.cpu (plain-of w.setup k live c) (may.place (rw e refl)) number h refl ok))
           ]
     ]
 begins_by w x others call Read e first is s may none =
     let k = (named x.local call).cache in
-    let number = let a = may.known in let b = may.object in subst (λ o. o < w.setup.objects) (sym a) b.1 in
+    let number = number-named w x others call s may in
     let ok = at_work w x others s in
     elim (cases_Bool (named x.local call).held) [
       | inr h ↦ absurd (none-some _ (sym (rw h at none)))
       | inl h ↦
-          let live = held-cache w x others call.place s may.place h in
+          let live = held-cache w x others call.place s (may.place (rw e refl)) h in
           let within = not_outside (is_outside (w.setup.layout k) call) (rw h at none) in
           elim (cases_Bool (w.setup.checks k)) [
             | inl c ↦ rw c (goes-on w x others (InChecked LockChecked Read) k call.cpu call.place is s (λ f. refl) (λ n. refl)
-                (read_checked-work w x k call.cpu call.place is (rw first within) may.cpu (checked-of w.setup k live c) may.place number h refl ok))
+                (read_checked-work w x k call.cpu call.place is (rw first within) may.cpu (checked-of w.setup k live c) (may.place (rw e refl)) number h refl ok))
             | inr c ↦ rw c (goes-on w x others ReadWord k call.cpu call.place is s (λ f. refl) (λ n. refl)
-                (read-work w x k call.cpu call.place is (rw first within) may.cpu (plain-of w.setup k live c) may.place number h refl ok))
+                (read-work w x k call.cpu call.place is (rw first within) may.cpu (plain-of w.setup k live c) (may.place (rw e refl)) number h refl ok))
           ]
     ]
 begins_by w x others call Poke e first is s may none =
     let k = (named x.local call).cache in
-    let number = let a = may.known in let b = may.object in subst (λ o. o < w.setup.objects) (sym a) b.1 in
+    let number = number-named w x others call s may in
     let c = by_checks ((named x.local call).frame == 0) (w.setup.checks k) none in
     let lives = s.fresh.setup.checked k c.1 in
     let real : 1 ≤ (named x.local call).frame = elim (cases_eq (named x.local call).frame 0) [
@@ -206,7 +210,7 @@ begins_by w x others call Poke e first is s may none =
       | inr d ↦ omega (arith, d)
     ] in
     goes-on w x others (InChecked LockChecked Poke) k call.cpu call.place is s (λ f. refl) (λ n. refl)
-    (poke-work w x k call.cpu call.place is may.cpu (s.fresh.setup.live k lives, lives, c.1) may.place number refl real (at_work w x others s))
+    (poke-work w x k call.cpu call.place is may.cpu (s.fresh.setup.live k lives, lives, c.1) (may.place (rw e refl)) number refl real (at_work w x others s))
   where
     by_checks : (zero checks : Bool) → (if zero then Some reply.NotHeld else if not checks then Some reply.NotChecked else None) ≡ None → (zero ≡ false) × (checks ≡ true)
     by_checks true checks e = absurd (none-some _ (sym e))
@@ -220,14 +224,14 @@ begins_by w x others call Trim e first is s may none = by_name call.cache refl n
         let lives : w.setup.lives k ≡ true = rw n at may.cache in
         let below = s.fresh.setup.live k lives in
         let cpus = s.fresh.setup.cpus in
-        let number = let a = may.known in let b = may.object in subst (λ o. o < w.setup.objects) (sym a) b.1 in
+        let number = number-named w x others call s may in
         elim (cases_Bool (w.setup.checks k)) [
           | inl c ↦ absurd (none-some _ (sym (rw c at none)))
           | inr c ↦ goes-on w x others (InOffline LoadCurrent Trimming) k 0 call.place is s (λ f. refl) (λ n. refl) (trim-work w x k 0 call.place is (omega arith) (below, lives, c) number (at_work w x others s))
         ]
 begins_by w x others call Flush e first is s may none =
     let plain = w.setup.plain in
-    let number = let a = may.known in let b = may.object in subst (λ o. o < w.setup.objects) (sym a) b.1 in
+    let number = number-named w x others call s may in
     elim (cases_eq (length plain) 0) [
       | inl z ↦ absurd (none-some _ (sym (rw (eq-eqb (length plain) 0 z) at none)))
       | inr d ↦

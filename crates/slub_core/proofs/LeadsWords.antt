@@ -40,7 +40,7 @@ leads_LoadCpu opening m value words x others t is s ac =
     let w = world_of m value words in
     let n = own_cpu x.local in
     load m value words (CpuOf n) (λ v a. Reaches opening v others (advance_at m value x.local (InAlloc LoadCpu) a))
-    (at_LoadCpu w x others (get_or words (cpu_base + n) 0) is (cpu-read m value words n (cpu_below m value words x others t (rw is refl) s)) s, tale_LoadCpu opening w value x others (get_or words (cpu_base + n) 0) is (cpu-read m value words n (cpu_below m value words x others t (rw is refl) s)) ac)
+    (at_LoadCpu w x others (get_or words (cpu_base + n) 0) is (cpu-read m value words n (cpu_below m value words x others t (rw is refl) s)) s, tale_LoadCpu opening w value x others (get_or words (cpu_base + n) 0) is ((at_work w x others s).spot.plain (rw is refl)).2 (cpu-read m value words n (cpu_below m value words x others t (rw is refl) s)) ac)
 
 pub leads_LoadAgain : AtSpot (InAlloc LoadAgain)
 unfolding world_of world_from
@@ -48,7 +48,7 @@ leads_LoadAgain opening m value words x others t is s ac =
     let w = world_of m value words in
     let n = own_cpu x.local in
     load m value words (CpuOf n) (λ v a. Reaches opening v others (advance_at m value x.local (InAlloc LoadAgain) a))
-    (at_LoadAgain w x others (get_or words (cpu_base + n) 0) is (cpu-read m value words n (cpu_below m value words x others t (rw is refl) s)) s, tale_LoadAgain opening w value x others (get_or words (cpu_base + n) 0) is (cpu-read m value words n (cpu_below m value words x others t (rw is refl) s)) ac)
+    (at_LoadAgain w x others (get_or words (cpu_base + n) 0) is (cpu-read m value words n (cpu_below m value words x others t (rw is refl) s)) s, tale_LoadAgain opening w value x others (get_or words (cpu_base + n) 0) is ((at_work w x others s).spot.plain (rw is refl)).2 (cpu-read m value words n (cpu_below m value words x others t (rw is refl) s)) ac)
 
 pub leads_LoadOwn : AtSpot (InFree LoadOwn)
 unfolding world_of world_from

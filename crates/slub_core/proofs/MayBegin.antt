@@ -1,26 +1,34 @@
 -- What the account says of a call that begins: it fits the machine, names the place of its object, and allocates nothing that its worker holds.
-use Rattle.std.proofs.Common.{◌≡◌, ◌+◌, ◌<◌, ◌≤◌, true, false, List, [], ◌∷◌, length, get_or, eqb, ◌&&◌, refl, ap, ◌∙◌, subst, arith, inl, inr}
+use Rattle.std.proofs.Common.{◌≡◌, ℕ, zero, suc, ◌+◌, ◌<◌, ◌≤◌, true, false, List, [], ◌∷◌, length, get_or, eqb, ◌&&◌, refl, ap, ◌∙◌, subst, arith, inl, inr}
 use Rattle.std.specs.Prelude.{All, IfSome}
 use Rattle.std.proofs.lemmas.Bool.{cases_Bool, eq-eqb}
 use Rattle.std.proofs.lemmas.List.Sums.{sum_by-cons}
-use Rattle.std.proofs.lemmas.List.Elements.{All-head}
+use Rattle.std.proofs.lemmas.List.Elements.{All-head, All-tail}
 use Rattle.slub_core.specs.declared.call.Call.{Call}
 use Rattle.slub_core.specs.declared.call.CallKind.TheVariants.{Alloc}
+use Rattle.slub_core.specs.declared.local.Known.{Known}
 use Rattle.slub_core.specs.Setup.{Setup}
 use Rattle.slub_core.specs.World.{World}
 use Rattle.slub_core.specs.Local.{Local, Worker, nobody}
-use Rattle.slub_core.specs.Replies.{one_if, asked_in, is_alloc}
+use Rattle.slub_core.specs.Replies.{one_if, asked_in, is_alloc, names_object}
 use Rattle.slub_core.specs.Accounted.{had, known_of, Fits, IsAccounted}
 use Rattle.slub_core.proofs.TaleKnowns.{place_of-object}
 use Rattle.slub_core.proofs.TaleReplies.{told-of}
 
 pub record MayBegin (m : Setup) (l : Local) (call : Call) : Type 0 where
   pub cpu : call.cpu < m.cpus
-  pub object : (1 ≤ call.object) × (call.object < m.objects)
-  pub place : call.place < length l.known
-  pub known : (get_or l.known call.place nobody).object ≡ call.object
+  pub object : names_object call.kind ≡ true → (1 ≤ call.object) × (call.object < m.objects)
+  pub place : names_object call.kind ≡ true → call.place < length l.known
+  pub known : names_object call.kind ≡ true → (get_or l.known call.place nobody).object ≡ call.object
+  pub numbers : All (λ (k : Known). k.object < m.objects) l.known
   pub cache : IfSome call.cache (λ k. m.lives k ≡ true)
   pub new : call.kind ≡ Alloc → (get_or l.known call.place nobody).held ≡ false
+
+-- also where a call names no place, the number there is one of the machine
+pub number-at : (m : Setup) (ks : List Known) (n : ℕ) → 1 ≤ m.objects → All (λ (k : Known). k.object < m.objects) ks → (get_or ks n nobody).object < m.objects
+number-at m [] n some all = some
+number-at m (k ∷ ks) zero some all = All-head (λ (k : Known). k.object < m.objects) k ks all
+number-at m (k ∷ ks) (suc n) some all = number-at m ks n some (All-tail (λ (k : Known). k.object < m.objects) k ks all)
 
 -- the first of the calls to come
 abbrev pub MayBeginFirst : Setup → Local → List Call → Type 0
@@ -56,7 +64,8 @@ may_begin opening w x others ac = by_todo x.local.todo refl
           cpu = fits.cpu;
           object = fits.object;
           place = fits.inside;
-          known = ap (λ q. (get_or l.known q nobody).object) fits.place ∙ place_of-object l.known call.object (subst (λ q. q < length l.known) fits.place fits.inside);
+          known = λ names. ap (λ q. (get_or l.known q nobody).object) (fits.place names) ∙ place_of-object l.known call.object (subst (λ q. q < length l.known) (fits.place names) (fits.inside names));
+          numbers = tale.numbers;
           cache = fits.cache;
-          new = λ kind. ap (λ q. (get_or l.known q nobody).held) fits.place ∙ asked-unheld opening w x others call calls todo kind ac;
+          new = λ kind. ap (λ q. (get_or l.known q nobody).held) (fits.place (rw kind refl)) ∙ asked-unheld opening w x others call calls todo kind ac;
         }

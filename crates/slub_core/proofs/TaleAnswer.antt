@@ -13,7 +13,7 @@ use Rattle.slub_core.specs.Setup.{Setup}
 use Rattle.slub_core.specs.World.{World, pool_of}
 use Rattle.slub_core.specs.Local.{Local, Worker, nobody, no_call, here, call_of, address_in}
 use Rattle.slub_core.specs.Spots.{doing, is_freeing}
-use Rattle.slub_core.specs.Replies.{one_if, is_alloc, is_given, is_freed, is_dry, least_order, holds_after, holding, knows_after, knows, address_after, address_by, cache_after, cache_by, Public, Cause}
+use Rattle.slub_core.specs.Replies.{one_if, is_alloc, names_object, is_given, is_freed, is_dry, least_order, holds_after, holding, knows_after, knows, address_after, address_by, cache_after, cache_by, Public, Cause}
 use Rattle.slub_core.specs.Accounted.{boarded, public, place_of, known_of, Fits, IsDoing, IsTold, IsWritten, IsAccounted}
 use Rattle.slub_core.proofs.TaleKnowns.{known_of-here, known_of-other, fits-set, distinct-set, asked-drop, length-drop}
 use Rattle.slub_core.proofs.TaleStep.{Onward, Moved, caused-later, told-later, told_step}
@@ -41,31 +41,31 @@ pub record Answers (l n : Local) (k : Known) (r : Reply) : Type 0 where
   pub call : doing n.spot ≡ None
 
 told-answer : (m : Setup) (before : ℕ → Option BoardWord) (p : Public) (l n : Local) (kind : CallKind) (k : Known) (r : Reply)
-    → IsDoing l kind → l.place ≡ place_of l.known (here l).object → Answers l n k r → IsTold m before p l → Answer m before p l k r → IsTold m before p n
-told-answer m before p l n kind k r doing place after ok ans =
+    → IsDoing l kind → names_object kind ≡ true → l.place ≡ place_of l.known (here l).object → Answers l n k r → IsTold m before p l → Answer m before p l k r → IsTold m before p n
+told-answer m before p l n kind k r doing names place after ok ans =
     let knew : known_of (set l.known l.place k) (here l).object ≡ k = known_of-here l.known l.place k (here l).object ans.below ans.same place in
-    let other : (o : ℕ) → ((call_of l).object ≡ o → ⊥) → known_of (set l.known l.place k) o ≡ known_of l.known o = λ o d. known_of-other l.known l.place k o ans.below ans.same (λ z. d (doing.object ∙ sym z)) in
+    let other : (o : ℕ) → ((call_of l).object ≡ o → ⊥) → known_of (set l.known l.place k) o ≡ known_of l.known o = λ o d. known_of-other l.known l.place k o ans.below ans.same (λ z. d ((doing.object names) ∙ sym z)) in
     record {
       caused = rw after.done (ans.cause, ok.caused);
       holds = λ o _. rw (after.known, after.done) (elim (cases_eq (call_of l).object o) [
-        | inl e ↦ let o' : o ≡ (here l).object = sym e ∙ doing.object in rw (eq-eqb (call_of l).object o e, o', knew) ans.holds
-        | inr d ↦ rw (ne_eqb (call_of l).object o d, other o d) (ok.holds o (λ _ z. d (doing.object ∙ sym z)))
+        | inl e ↦ let o' : o ≡ (here l).object = sym e ∙ (doing.object names) in rw (eq-eqb (call_of l).object o e, o', knew) ans.holds
+        | inr d ↦ rw (ne_eqb (call_of l).object o d, other o d) (ok.holds o (λ _ z. d ((doing.object names) ∙ sym z)))
       ]);
       source = λ f. absurd (false≢true (sym after.freeing ∙ f));
       address = λ o. rw (after.known, after.done) (elim (cases_eq (call_of l).object o) [
-        | inl e ↦ let o' : o ≡ (here l).object = sym e ∙ doing.object in rw (eq-eqb (call_of l).object o e, o', knew) ans.address
+        | inl e ↦ let o' : o ≡ (here l).object = sym e ∙ (doing.object names) in rw (eq-eqb (call_of l).object o e, o', knew) ans.address
         | inr d ↦ rw (ne_eqb (call_of l).object o d, other o d) (ok.address o)
       ]);
       cache = λ o. rw (after.known, after.done) (elim (cases_eq (call_of l).object o) [
-        | inl e ↦ let o' : o ≡ (here l).object = sym e ∙ doing.object in rw (eq-eqb (call_of l).object o e, o', knew) ans.cache
+        | inl e ↦ let o' : o ≡ (here l).object = sym e ∙ (doing.object names) in rw (eq-eqb (call_of l).object o e, o', knew) ans.cache
         | inr d ↦ rw (ne_eqb (call_of l).object o d, other o d) (ok.cache o)
       ]);
       tells = λ o. rw (after.known, after.done) (elim (cases_eq (call_of l).object o) [
-        | inl e ↦ let o' : o ≡ (here l).object = sym e ∙ doing.object in rw (eq-eqb (call_of l).object o e, o', knew) ans.tells
+        | inl e ↦ let o' : o ≡ (here l).object = sym e ∙ (doing.object names) in rw (eq-eqb (call_of l).object o e, o', knew) ans.tells
         | inr d ↦ rw (ne_eqb (call_of l).object o d, other o d) (ok.tells o)
       ]);
       unknown = λ o. rw (after.known, after.done) (elim (cases_eq (call_of l).object o) [
-        | inl e ↦ let o' : o ≡ (here l).object = sym e ∙ doing.object in rw (eq-eqb (call_of l).object o e, o', knew) ans.unknown
+        | inl e ↦ let o' : o ≡ (here l).object = sym e ∙ (doing.object names) in rw (eq-eqb (call_of l).object o e, o', knew) ans.unknown
         | inr d ↦ rw (ne_eqb (call_of l).object o d, other o d) (ok.unknown o)
       ]);
       call = λ b e. absurd (none-some b (sym after.call ∙ e));
@@ -75,8 +75,8 @@ told-answer m before p l n kind k r doing place after ok ans =
     }
 
 -- the place of the call's object is that of its number
-pub place-here : (m : Setup) (before : ℕ → Option BoardWord) (p : Public) (l : Local) (kind : CallKind) → IsDoing l kind → IsTold m before p l → l.place ≡ place_of l.known (here l).object
-place-here m before p l kind doing ok = let f = fits-first m l.known l.todo doing.some ok.fits in doing.place ∙ f.place ∙ ap (place_of l.known) doing.object
+pub place-here : (m : Setup) (before : ℕ → Option BoardWord) (p : Public) (l : Local) (kind : CallKind) → IsDoing l kind → names_object kind ≡ true → IsTold m before p l → l.place ≡ place_of l.known (here l).object
+place-here m before p l kind doing names ok = let f = fits-first m l.known l.todo doing.some ok.fits in doing.place ∙ f.place (ap names_object doing.same_kind ∙ names) ∙ ap (place_of l.known) (doing.object names)
   where
     fits-first : (m : Setup) (ks : List Known) (cs : List Call) → 1 ≤ length cs → All (Fits m ks) cs → Fits m ks (get_or cs 0 no_call)
     fits-first m ks [] some all = absurd (omega arith)
@@ -95,20 +95,20 @@ pub record Counts (w v : World) (l : Local) (r : Reply) : Type 0 where
   pub board : (o : ℕ) → v.board o ≡ w.board o
   pub dry : (order : ℕ) → slice_index (pool_of v).dry order ≡ slice_index (pool_of w).dry order + one_if (is_dry r && eqb (least_order w.setup (call_of l).cache) order)
 
-moved-answer : (w v : World) (before : ℕ → Option BoardWord) (p : Public) (l n : Local) (kind : CallKind) (k : Known) (r : Reply) → IsDoing l kind → l.place ≡ place_of l.known (here l).object → Answers l n k r → Answer w.setup before p l k r → Counts w v l r → Moved w v l n
-moved-answer w v before p l n kind k r doing place after ans counts =
+moved-answer : (w v : World) (before : ℕ → Option BoardWord) (p : Public) (l n : Local) (kind : CallKind) (k : Known) (r : Reply) → IsDoing l kind → names_object kind ≡ true → l.place ≡ place_of l.known (here l).object → Answers l n k r → Answer w.setup before p l k r → Counts w v l r → Moved w v l n
+moved-answer w v before p l n kind k r doing names place after ans counts =
     let knew : known_of (set l.known l.place k) (here l).object ≡ k = known_of-here l.known l.place k (here l).object ans.below ans.same place in
     record {
       count = λ o. let b = ap boarded (counts.board o) in rw (after.known, after.done) (elim (cases_eq (call_of l).object o) [
         | inl e ↦
-            let o' : o ≡ (here l).object = sym e ∙ doing.object in
+            let o' : o ≡ (here l).object = sym e ∙ (doing.object names) in
             let now : one_if (known_of (set l.known l.place k) o).held ≡ one_if k.held = ap (λ q. one_if (known_of (set l.known l.place k) q).held) o' ∙ ap (λ (j : Known). one_if j.held) knew in
             let was : one_if (known_of l.known o).held ≡ one_if (here l).held = ap (λ q. one_if (known_of l.known q).held) o' ∙ ap (λ q. one_if (get_or l.known q nobody).held) (sym place) in
             let f : one_if (is_freed r && eqb (call_of l).object o) ≡ one_if (is_freed r) = rw (eq-eqb (call_of l).object o e) (and-true (is_freed r)) in
             let g : one_if (is_given r && eqb (call_of l).object o) ≡ one_if (is_given r) = rw (eq-eqb (call_of l).object o e) (and-true (is_given r)) in
             let both = ans.moved in omega arith
         | inr d ↦
-            let there : one_if (known_of (set l.known l.place k) o).held ≡ one_if (known_of l.known o).held = ap (λ (j : Known). one_if j.held) (known_of-other l.known l.place k o ans.below ans.same (λ z. d (doing.object ∙ sym z))) in
+            let there : one_if (known_of (set l.known l.place k) o).held ≡ one_if (known_of l.known o).held = ap (λ (j : Known). one_if j.held) (known_of-other l.known l.place k o ans.below ans.same (λ z. d ((doing.object names) ∙ sym z))) in
             let f : one_if (is_freed r && eqb (call_of l).object o) ≡ 0 = rw (ne_eqb (call_of l).object o d) (and-false (is_freed r)) in
             let g : one_if (is_given r && eqb (call_of l).object o) ≡ 0 = rw (ne_eqb (call_of l).object o d) (and-false (is_given r)) in omega arith
       ]);
@@ -124,15 +124,15 @@ moved-answer w v before p l n kind k r doing place after ans counts =
       dry = λ order. let d = counts.dry order in rw after.done (omega arith);
     }
 
--- any step that answers
-pub told_answer : (opening w v : World) (x z : Worker) (others : List Worker) (kind : CallKind) (k : Known) (r : Reply) → IsAccounted opening w (x ∷ others) → Onward w v → Counts w v x.local r → IsDoing x.local kind → Answers x.local z.local k r
+-- any step that answers a call of an object
+pub told_answer : (opening w v : World) (x z : Worker) (others : List Worker) (kind : CallKind) (k : Known) (r : Reply) → IsAccounted opening w (x ∷ others) → Onward w v → Counts w v x.local r → IsDoing x.local kind → names_object kind ≡ true → Answers x.local z.local k r
     → Answer w.setup opening.board (public w (x ∷ others)) x.local k r → All (λ (o : Worker). IsWritten v opening.board o.local) (z ∷ others) → IsAccounted opening v (z ∷ others)
-told_answer opening w v x z others kind k r ac on counts doing after ans written =
+told_answer opening w v x z others kind k r ac on counts doing names after ans written =
     let l = x.local in
     let ok = All-head (λ (o : Worker). IsTold w.setup opening.board (public w (x ∷ others)) o.local) x others ac.told in
-    let place = place-here w.setup opening.board (public w (x ∷ others)) l kind doing ok in
-    told_step opening w v x z others ac on (moved-answer w v opening.board (public w (x ∷ others)) l z.local kind k r doing place after ans counts)
-    (λ p later. told-answer w.setup opening.board p l z.local kind k r doing place after (told-later w.setup opening.board _ p l later ok) (record {
+    let place = place-here w.setup opening.board (public w (x ∷ others)) l kind doing names ok in
+    told_step opening w v x z others ac on (moved-answer w v opening.board (public w (x ∷ others)) l z.local kind k r doing names place after ans counts)
+    (λ p later. told-answer w.setup opening.board p l z.local kind k r doing names place after (told-later w.setup opening.board _ p l later ok) (record {
       below = ans.below;
       same = ans.same;
       holds = ans.holds;

@@ -15,7 +15,7 @@ use Rattle.slub_core.specs.World.{World}
 use Rattle.slub_core.specs.Local.{Local, Worker, nobody, no_call, here, call_of}
 use Rattle.slub_core.specs.Steps.{told_of_alloc, told_of_trim, told_at_once, cache_for, first_spot, first_cpu, begun_call, begun_with, begun_at, begun}
 use Rattle.slub_core.specs.Spots.{doing, is_freeing}
-use Rattle.slub_core.specs.Replies.{given_in, freed_in, asked_in, dry_in, Later}
+use Rattle.slub_core.specs.Replies.{names_object, given_in, freed_in, asked_in, dry_in, Later}
 use Rattle.slub_core.specs.Accounted.{had, public, place_of, known_of, Fits, NamesCache, IsTold, IsWritten, IsAccounted}
 use Rattle.slub_core.specs.Law.{TakesStep}
 use Rattle.slub_core.proofs.MayBegin.{MayBegin, MayBeginFirst, may_begin}
@@ -56,6 +56,15 @@ first-freeing Poke c h is = absurd (false≢true is)
 first-freeing Trim c h is = absurd (false≢true is)
 first-freeing Flush c h is = absurd (false≢true is)
 
+first-names : (k : CallKind) (c h : Bool) → is_freeing (first_spot k c h) ≡ true → names_object k ≡ true
+first-names Alloc c h is = refl
+first-names Free c h is = refl
+first-names Write c h is = refl
+first-names Read c h is = refl
+first-names Poke c h is = refl
+first-names Trim c h is = absurd (false≢true is)
+first-names Flush c h is = absurd (false≢true is)
+
 named-alloc : (cache : Option ℕ) → told_of_alloc cache ≡ None → cache ≡ Some (unwrap_or cache 0)
 named-alloc None none = absurd (none-some _ (sym none))
 named-alloc (Some k) none = refl
@@ -88,20 +97,20 @@ told_begun opening w fast x others call calls is todo may none ac =
     let tale = told-of opening w x others ac in
     let mine : call_of n ≡ call = ap (λ cs. get_or cs 0 no_call) todo in
     let fits = All-head (Fits m l.known) call calls (subst (All (Fits m l.known)) todo tale.fits) in
-    let object : (here n).object ≡ call.object = may.known in
-    let knew : known_of l.known (here n).object ≡ here n = ap (λ q. get_or l.known q nobody) (ap (place_of l.known) object ∙ sym fits.place) in
+    let object : names_object call.kind ≡ true → (here n).object ≡ call.object = may.known in
+    let knew : names_object call.kind ≡ true → known_of l.known (here n).object ≡ here n = λ names. ap (λ q. get_or l.known q nobody) (ap (place_of l.known) (object names) ∙ sym (fits.place names)) in
     told_like opening w w x (record x { local = n }) others ac (unseen-same w) (record {
       known = refl;
       done = refl;
       todo = refl;
       freeing = λ f. absurd (false≢true (rw is at f));
       frees = λ f. absurd (false≢true (rw is at f));
-      source = λ f. inl (sym (tale.holds (here n).object (λ g. absurd (false≢true (rw is at g)))) ∙ ap (λ (k : Known). k.held) knew ∙ first-freeing call.kind _ known.held f);
+      source = λ f. inl (sym (tale.holds (here n).object (λ g. absurd (false≢true (rw is at g)))) ∙ ap (λ (k : Known). k.held) (knew (first-names call.kind _ known.held f)) ∙ first-freeing call.kind _ known.held f);
       call = λ kind e. let same : call.kind ≡ kind = kind-same (sym (first-doing call.kind _ known.held) ∙ e) in (
         record {
           some = rw todo (omega arith);
           same_kind = ap (λ (c : Call). c.kind) mine ∙ same;
-          object = ap (λ (c : Call). c.object) mine ∙ sym object;
+          object = λ names. ap (λ (c : Call). c.object) mine ∙ sym (object (ap names_object same ∙ names));
           place = ap (λ (c : Call). c.place) (sym mine);
         },
         subst (NamesCache n) same (names-first m known n call call.kind mine refl refl none),

@@ -1,6 +1,6 @@
 -- The calls of a checked cache in the account.
 use Rattle.std.proofs.Common.{◌≡◌, ℕ, ◌+◌, ◌*◌, ◌<◌, ◌≤◌, true, false, List, ◌∷◌, refl, sym, ap, ◌∙◌, subst, arith, inl, inr, Some}
-use Rattle.std.proofs.lemmas.Bool.{cases_eq, ne_eqb, false≢true}
+use Rattle.std.proofs.lemmas.Bool.{cases_eq, ne_eqb, false≢true, le-leb}
 use Rattle.std.proofs.lemmas.List.Sums.{get_or-le-sum_by}
 use Rattle.slub_object_layout.specs.Layout.{address_of}
 use Rattle.slub_answers.specs.declared.reply.Reply.TheVariants as reply
@@ -8,6 +8,7 @@ use Rattle.slub_core.specs.declared.call.CallKind.TheVariants.{Alloc, Write, Rea
 use Rattle.slub_core.specs.declared.local.Known.{Known}
 use Rattle.slub_core.specs.World.{World, cache_at, object_at, idle_in, on_board}
 use Rattle.slub_core.specs.Local.{Worker, here, call_of}
+use Rattle.slub_core.specs.Steps.{is_outside}
 use Rattle.slub_core.specs.Spots.{doing, is_freeing}
 use Rattle.slub_core.specs.Placed.{owned}
 use Rattle.slub_core.specs.Coherent.{Stands}
@@ -39,17 +40,17 @@ told_no_memory opening w v x z others ac same at idle checked after =
 
 -- a word of an object that the worker holds is read
 pub told_read_checked : (opening w v : World) (x z : Worker) (others : List Worker) (y : ℕ) → IsAccounted opening w (x ∷ others) → Unseen w v → doing x.local.spot ≡ Some Read → is_freeing x.local.spot ≡ false → (here x.local).held ≡ true
-    → w.setup.checks (here x.local).cache ≡ true → AnswersKept x.local z.local (reply.Value y) → IsAccounted opening v (z ∷ others)
-told_read_checked opening w v x z others y ac same at idle mine checked after =
+    → w.setup.checks (here x.local).cache ≡ true → is_outside (w.setup.layout (here x.local).cache) (call_of x.local) ≡ false → AnswersKept x.local z.local (reply.Value y) → IsAccounted opening v (z ∷ others)
+told_read_checked opening w v x z others y ac same at idle mine checked inside after =
     let l = x.local in
     let tale = told-of opening w x others ac in
     let call = (tale.call Read at).0 in
-    let knew = known-here l (place-here w.setup opening.board (public w (x ∷ others)) l Read call tale) in
+    let knew = known-here l (place-here w.setup opening.board (public w (x ∷ others)) l Read call refl tale) in
     let had : (known_of l.known (here l).object).held ≡ true = ap (λ (j : Known). j.held) knew ∙ mine in
     let holds : holding l.done (here l).object ≡ true = sym (tale.holds (here l).object (λ f. absurd (false≢true (sym idle ∙ f)))) ∙ had in
     let of : cache_by opening.board l.done (here l).object ≡ Some (here l).cache = tale.cache (here l).object had ∙ ap (λ (j : Known). Some j.cache) knew in
     told_same opening w v x z others Read (reply.Value y) ac (spoken w v l (reply.Value y) same refl) call idle refl refl after
-    (call.same_kind, rw call.object holds, λ q. absurd (let e : q.0 ≡ (here l).cache = some-same (sym q.1 ∙ ap (cache_by opening.board l.done) call.object ∙ of) in false≢true (sym q.2 ∙ ap w.setup.checks e ∙ checked)))
+    (call.same_kind, rw (call.object refl) holds, ((here l).cache, rw (call.object refl) of, inside), λ q. absurd (let e : q.0 ≡ (here l).cache = some-same (sym q.1 ∙ ap (cache_by opening.board l.done) (call.object refl) ∙ of) in false≢true (sym q.2 ∙ ap w.setup.checks e ∙ checked)))
   where
     some-same : {a b : ℕ} → Some a ≡ Some b → a ≡ b
     some-same e = cc
@@ -62,12 +63,14 @@ told_write_checked opening w v x z others ac same at idle mine checked inside af
     let tale = told-of opening w x others ac in
     let wr = written-of opening w x others ac in
     let call = (tale.call Write at).0 in
-    let knew = known-here l (place-here w.setup opening.board (public w (x ∷ others)) l Write call tale) in
+    let knew = known-here l (place-here w.setup opening.board (public w (x ∷ others)) l Write call refl tale) in
     let had : (known_of l.known (here l).object).held ≡ true = ap (λ (j : Known). j.held) knew ∙ mine in
     let holds : holding l.done (here l).object ≡ true = sym (tale.holds (here l).object (λ f. absurd (false≢true (sym idle ∙ f)))) ∙ had in
+    let of : cache_by opening.board l.done (here l).object ≡ Some (here l).cache = tale.cache (here l).object had ∙ ap (λ (j : Known). Some j.cache) knew in
+    let within : is_outside (w.setup.layout (here l).cache) (call_of l) ≡ false = rw (le-leb (8 * ((call_of l).word + 1)) (w.setup.layout (here l).cache).object_size inside) refl in
     let sp = spoken w v l reply.Wrote same refl in
-    told_kept opening w v x z others Write reply.Wrote ac (spoken-on w v l reply.Wrote sp) (spoken-counts w v l reply.Wrote sp) call idle refl after (call.same_kind, rw call.object holds)
-    (written-spoken opening w v x z others Write (here l) reply.Wrote ac sp call refl (answers-here l z.local reply.Wrote after)
+    told_kept opening w v x z others Write reply.Wrote ac (spoken-on w v l reply.Wrote sp) (spoken-counts w v l reply.Wrote sp) call refl idle refl after (call.same_kind, rw (call.object refl) holds, ((here l).cache, rw (call.object refl) of, within))
+    (written-spoken opening w v x z others Write (here l) reply.Wrote ac sp call refl refl (answers-here l z.local reply.Wrote after)
     (λ a y h wrote. (
       elim (cases_eq (call_of l).word a) [
         | inl e ↦ subst (λ a. 8 * (a + 1) ≤ (w.setup.layout (here l).cache).object_size) e inside

@@ -76,7 +76,7 @@ tells_read opening w x others old is s ac was of =
     let z : Worker = record x { local = answered (at x.local (InChecked GiveChecked Read)) (reply.Value y) } in (
       z,
       refl,
-      told_read_checked opening w w x z others y ac (unseen-same w) (rw is refl) (rw is refl) keep.1 (rw keep.2 (ok.spot.checked (rw is refl)).2)
+      told_read_checked opening w w x z others y ac (unseen-same w) (rw is refl) (rw is refl) keep.1 (rw keep.2 (ok.spot.checked (rw is refl)).2) (rw keep.2 (ok.spot.inside (rw is refl)))
           (record { known = refl; done = refl; todo = refl; freeing = refl; call = refl }),
     )
 
@@ -118,6 +118,7 @@ tells_poke opening w x others old is s ac was of =
           z,
           refl,
           told_poked opening w _ x z others ac (unseen-guarded w x.local.cache (Checked (poked x.local old))) (rw is refl) (rw is refl) k.2 (rw k.1 (ok.spot.checked (rw is refl)).2)
+              (ap (λ k. is_offset (w.setup.layout k) (call_of x.local).offset) k.1 ∙ sym (offset-same w x old of) ∙ e)
               (record { known = refl; done = refl; todo = refl; freeing = refl; call = refl }),
         )
     by_place true false e there =
@@ -133,7 +134,7 @@ tells_poke opening w x others old is s ac was of =
         let z : Worker = record x { local = answered (at x.local (InChecked GiveChecked Poke)) reply.OutOfSlot } in (
           z,
           refl,
-          told_out_of_slot opening w _ x z others ac (unseen-guarded w x.local.cache (Checked (poked x.local old))) (rw is refl) (rw is refl) k.2
+          told_out_of_slot opening w _ x z others ac (unseen-guarded w x.local.cache (Checked (poked x.local old))) (rw is refl) (rw is refl) k.2 (rw k.1 (ok.spot.checked (rw is refl)).2)
               (ap (λ k. is_offset (w.setup.layout k) (call_of x.local).offset) k.1 ∙ sym (offset-same w x old of) ∙ e)
               (record { known = refl; done = refl; todo = refl; freeing = refl; call = refl }),
         )

@@ -110,13 +110,13 @@ told_Install opening w x others is won s ac =
 -- ---- ends of calls
 
 -- the CPU's transaction ids are spent
-pub told_spent : (opening w : World) (x z : Worker) (others : List Worker) → IsAccounted opening w (x ∷ others) → doing x.local.spot ≡ Some Alloc → is_freeing x.local.spot ≡ false → IsSpent (w.cpu (own_cpu x.local)).tid w.setup.step
+pub told_spent : (opening w : World) (x z : Worker) (others : List Worker) → IsAccounted opening w (x ∷ others) → doing x.local.spot ≡ Some Alloc → is_freeing x.local.spot ≡ false → w.setup.checks x.local.cache ≡ false → IsSpent (w.cpu (own_cpu x.local)).tid w.setup.step
     → AnswersKept x.local z.local (reply.IdsSpent (w.cpu (own_cpu x.local)).tid) → IsAccounted opening w (z ∷ others)
-told_spent opening w x z others ac at idle spent after =
+told_spent opening w x z others ac at idle plain spent after =
     let l = x.local in
     let call = (told-of opening w x others ac).call Alloc at in
     told_same opening w w x z others Alloc (reply.IdsSpent (w.cpu (own_cpu l)).tid) ac (spoken w w l (reply.IdsSpent (w.cpu (own_cpu l)).tid) (unseen-same w) refl) call.0 idle refl refl after
-    (call.0.same_kind, spent, (l.cache, call.1.0, rw call.1.1 (omega arith)))
+    (call.0.same_kind, spent, (l.cache, call.1.0, plain, rw call.1.1 (omega arith)))
 
 -- a flush ends
 pub told_flushed : (opening w v : World) (x z : Worker) (others : List Worker) (n : ℕ) → IsAccounted opening w (x ∷ others) → Unseen w v → doing x.local.spot ≡ Some Flush → is_freeing x.local.spot ≡ false

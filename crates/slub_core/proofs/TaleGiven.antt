@@ -156,8 +156,8 @@ told_given opening w v x z others frame index ac sp at idle free real un after =
     let k = given_known l frame index in
     let ok = told-of opening w x others ac in
     let call = ok.call Alloc at in
-    told_answer opening w v x z others Alloc k r ac (spoken-on w v l r sp) (spoken-counts w v l r sp) call.0 after (record {
-      below = place-inside m opening.board p l Alloc call.0 ok;
+    told_answer opening w v x z others Alloc k r ac (spoken-on w v l r sp) (spoken-counts w v l r sp) call.0 refl after (record {
+      below = place-inside m opening.board p l Alloc call.0 refl ok;
       same = refl;
       holds = refl;
       address = λ _. refl;
@@ -168,6 +168,7 @@ told_given opening w v x z others frame index ac sp at idle free real un after =
       asks = rw call.0.same_kind (omega arith);
       cause = (
         call.0.same_kind,
+        (l.cache, call.1.0),
         (λ o is. sym (ok.holds o (λ f. absurd (false≢true (sym idle ∙ f)))) ∙ elim (cases_Bool (known_of l.known o).held) [
           | inl t ↦ absurd (un.held 0 x (omega arith) o t (some-same (sym (ok.address o t) ∙ is)))
           | inr f ↦ f
@@ -175,4 +176,4 @@ told_given opening w v x z others frame index ac sp at idle free real un after =
         given-freed opening w (x ∷ others) a ac un,
       );
     })
-    (written-spoken opening w v x z others Alloc k r ac sp call.0 refl after (λ a y h wrote. absurd (none-some y wrote)))
+    (written-spoken opening w v x z others Alloc k r ac sp call.0 refl refl after (λ a y h wrote. absurd (none-some y wrote)))

@@ -48,7 +48,7 @@ held-inside ks o is = elim (cases_lt (place_of ks o) (length ks)) [
 
 pub fits-set : (m : Setup) (ks : List Known) (p : ℕ) (k : Known) (cs : List Call) → k.object ≡ (get_or ks p nobody).object → All (Fits m ks) cs → All (Fits m (set ks p k)) cs
 fits-set m ks p k cs same all =
-    All-weaker (Fits m ks) (Fits m (set ks p k)) (λ c f. record { cpu = f.cpu; object = f.object; place = rw (place_of-set ks p k c.object same) f.place; inside = rw (length-set ks p k) f.inside; cache = f.cache }) cs all
+    All-weaker (Fits m ks) (Fits m (set ks p k)) (λ c f. record { cpu = f.cpu; object = f.object; place = λ n. rw (place_of-set ks p k c.object same) (f.place n); inside = λ n. rw (length-set ks p k) (f.inside n); cache = f.cache }) cs all
 
 pub distinct-set : (ks : List Known) (p : ℕ) (k : Known) → k.object ≡ (get_or ks p nobody).object → AreDistinct ks → AreDistinct (set ks p k)
 distinct-set [] p k same d = d

@@ -107,7 +107,7 @@ pub record IsQuiet (l n : Local) : Type 0 where
   pub call : (kind : CallKind) → doing n.spot ≡ Some kind → (doing l.spot ≡ Some kind) × (NamesCache l kind → NamesCache n kind)
 
 doing-same : (l n : Local) (kind : CallKind) → n.known ≡ l.known → n.todo ≡ l.todo → n.place ≡ l.place → IsDoing l kind → IsDoing n kind
-doing-same l n kind k t p d = grind arith
+doing-same l n kind k t p d = record { some = rw t d.some; same_kind = rw t d.same_kind; object = λ names. rw (k, t, p) (d.object names); place = rw (t, p) d.place }
 
 pub quiet-like : (m : Setup) (before : ℕ → Option BoardWord) (p : Public) (l n : Local) → IsQuiet l n → IsTold m before p l → Like m before l n
 quiet-like m before p l n q ok = record {

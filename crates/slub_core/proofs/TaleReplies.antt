@@ -1,9 +1,10 @@
 -- The replies after which a worker has what it had; and an object is freed, or found damaged.
 use Rattle.std.proofs.Common.{◌≡◌, ◌≢◌, ℕ, ◌+◌, ◌*◌, ◌<◌, ◌≤◌, Bool, true, false, eqb, ◌&&◌, List, [], ◌∷◌, length, get_or, drop, refl, sym, ap, ◌∙◌, subst, arith, inl, inr, Some, None, Option}
-use Rattle.std.specs.Prelude.{All, slice_index}
+use Rattle.std.specs.Prelude.{All, slice_index, cond}
 use Rattle.std.proofs.lemmas.Bool.{false≢true}
 use Rattle.std.proofs.lemmas.List.{set-get_or}
-use Rattle.std.proofs.lemmas.List.Elements.{All-cons, All-head}
+use Rattle.std.proofs.lemmas.Option.{none-some}
+use Rattle.std.proofs.lemmas.List.Elements.{All-cons, All-head, All-drop}
 use Rattle.slub_words.specs.declared.board.BoardWord.{BoardWord}
 use Rattle.slub_red_zone.specs.declared.zones.Damage.{Damage}
 use Rattle.slub_answers.specs.declared.reply.Reply.{Reply}
@@ -12,18 +13,20 @@ use Rattle.slub_core.specs.declared.call.Call.{Call}
 use Rattle.slub_core.specs.declared.call.CallKind.{CallKind}
 use Rattle.slub_core.specs.declared.call.CallKind.TheVariants.{Free}
 use Rattle.slub_core.specs.declared.local.Known.{Known}
+use Rattle.slub_core.specs.declared.local.Answered.{Answered}
 use Rattle.slub_core.specs.declared.spot.Spot.{Spot}
 use Rattle.slub_core.specs.declared.spot.Spot.TheVariants.{Between, InAlloc, InPutAway, InDiscard, InPutOnList, InFree, InMoveSet, InOffline, InTrim, WriteWord, ReadWord, InChecked}
 use Rattle.slub_core.specs.Setup.{Setup}
 use Rattle.slub_core.specs.World.{World, pool_of, content}
 use Rattle.slub_core.specs.Local.{Local, Worker, nobody, no_call, here, call_of, address_in}
 use Rattle.slub_core.specs.Spots.{doing, frees, is_freeing}
-use Rattle.slub_core.specs.Replies.{one_if, is_given, is_freed, is_dry, least_order, holds_after, holding, knows_after, knows, address_after, address_by, cache_after, cache_by, wrote_after, last_wrote, Public, Cause}
-use Rattle.slub_core.specs.Accounted.{public, place_of, known_of, Fits, IsDoing, IsTold, IsWritten, IsAccounted}
-use Rattle.slub_core.proofs.TaleStep.{Onward}
+use Rattle.slub_core.specs.Replies.{one_if, names_object, is_given, is_freed, is_dry, least_order, holds_after, holding, knows_after, knows, address_after, address_by, cache_after, cache_by, wrote_after, last_wrote, Public, Cause}
+use Rattle.slub_core.specs.Accounted.{boarded, public, place_of, known_of, Fits, IsDoing, IsTold, IsWritten, IsAccounted}
+use Rattle.slub_core.proofs.TaleKnowns.{asked-drop, length-drop}
+use Rattle.slub_core.proofs.TaleStep.{Onward, Moved, caused-later, told-later, told_step}
 use Rattle.slub_core.proofs.TaleQuiet.{Unseen, content-same, others-written}
 use Rattle.slub_core.proofs.TaleAnswer.{Answers, Counts, place-here, told_answer}
-use Rattle.slub_core.proofs.TaleWritten.{asked-new, written-answer}
+use Rattle.slub_core.proofs.TaleWritten.{asked-new, written-answer, written-told}
 
 -- ---- replies after which the worker has what it had
 
@@ -84,12 +87,12 @@ wrote-kept reply.Checked c a x is unwrote = refl
 wrote-kept (reply.Flushed n) c a x is unwrote = refl
 
 -- the object of the call has a place among what the worker knows
-pub place-inside : (m : Setup) (before : ℕ → Option BoardWord) (p : Public) (l : Local) (kind : CallKind) → IsDoing l kind → IsTold m before p l → l.place < length l.known
-place-inside m before p l kind doing ok = rw doing.place (fits-first m l.known l.todo doing.some ok.fits)
+pub place-inside : (m : Setup) (before : ℕ → Option BoardWord) (p : Public) (l : Local) (kind : CallKind) → IsDoing l kind → names_object kind ≡ true → IsTold m before p l → l.place < length l.known
+place-inside m before p l kind doing names ok = rw doing.place (fits-first m l.known l.todo doing.some (ap names_object doing.same_kind ∙ names) ok.fits)
   where
-    fits-first : (m : Setup) (ks : List Known) (cs : List Call) → 1 ≤ length cs → All (Fits m ks) cs → (get_or cs 0 no_call).place < length ks
-    fits-first m ks [] some all = absurd (omega arith)
-    fits-first m ks (c ∷ cs) some all = (All-head (Fits m ks) c cs all).inside
+    fits-first : (m : Setup) (ks : List Known) (cs : List Call) → 1 ≤ length cs → names_object (get_or cs 0 no_call).kind ≡ true → All (Fits m ks) cs → (get_or cs 0 no_call).place < length ks
+    fits-first m ks [] some names all = absurd (omega arith)
+    fits-first m ks (c ∷ cs) some names all = (All-head (Fits m ks) c cs all).inside names
 
 -- what is freed of an unchecked cache is freed
 pub freeing-frees : (spot : Spot) → is_freeing spot ≡ false → frees spot ≡ false
@@ -126,20 +129,20 @@ written-of opening w x others ac = All-head (λ (o : Worker). IsWritten w openin
 pub known-here : (l : Local) → l.place ≡ place_of l.known (here l).object → known_of l.known (here l).object ≡ here l
 known-here l place = ap (λ q. get_or l.known q nobody) (sym place)
 
--- what such a reply owes, whatever is so of the words
-pub told_kept : (opening w v : World) (x z : Worker) (others : List Worker) (kind : CallKind) (r : Reply) → IsAccounted opening w (x ∷ others) → Onward w v → Counts w v x.local r → IsDoing x.local kind → is_freeing x.local.spot ≡ false → is_kept r ≡ true
+-- what such a reply owes to a call of an object, whatever is so of the words
+pub told_kept : (opening w v : World) (x z : Worker) (others : List Worker) (kind : CallKind) (r : Reply) → IsAccounted opening w (x ∷ others) → Onward w v → Counts w v x.local r → IsDoing x.local kind → names_object kind ≡ true → is_freeing x.local.spot ≡ false → is_kept r ≡ true
     → AnswersKept x.local z.local r → Cause w.setup opening.board (public w (x ∷ others)) x.local.done (call_of x.local) r → All (λ (o : Worker). IsWritten v opening.board o.local) (z ∷ others) → IsAccounted opening v (z ∷ others)
-told_kept opening w v x z others kind r ac on counts doing idle is after cause written =
+told_kept opening w v x z others kind r ac on counts doing names idle is after cause written =
     let l = x.local in
     let m = w.setup in
     let p = public w (x ∷ others) in
     let ok = told-of opening w x others ac in
-    let place = place-here m opening.board p l kind doing ok in
+    let place = place-here m opening.board p l kind doing names ok in
     let knew = known-here l place in
     let k = kept r is in
     let o = (here l).object in
-    told_answer opening w v x z others kind (here l) r ac on counts doing (answers-here l z.local r after) (record {
-      below = place-inside m opening.board p l kind doing ok;
+    told_answer opening w v x z others kind (here l) r ac on counts doing names (answers-here l z.local r after) (record {
+      below = place-inside m opening.board p l kind doing names ok;
       same = refl;
       holds = ap (λ (j : Known). j.held) (sym knew) ∙ ok.holds o (λ f. absurd (false≢true (sym idle ∙ f))) ∙ sym (k.holds (holding l.done o));
       address = λ h. k.address _ ∙ ok.address o (ap (λ (j : Known). j.held) knew ∙ h) ∙ ap (λ (j : Known). Some (address_in m j)) knew;
@@ -152,10 +155,10 @@ told_kept opening w v x z others kind r ac on counts doing idle is after cause w
     }) written
 
 -- what the worker doesn't hold, its replies don't say that it holds
-pub not-holding : (opening w : World) (x : Worker) (others : List Worker) {kind : CallKind} → IsAccounted opening w (x ∷ others) → IsDoing x.local kind → is_freeing x.local.spot ≡ false → (here x.local).held ≡ false → holding x.local.done (here x.local).object ≡ false
-not-holding opening w x others ac doing idle free =
+pub not-holding : (opening w : World) (x : Worker) (others : List Worker) {kind : CallKind} → IsAccounted opening w (x ∷ others) → IsDoing x.local kind → names_object kind ≡ true → is_freeing x.local.spot ≡ false → (here x.local).held ≡ false → holding x.local.done (here x.local).object ≡ false
+not-holding opening w x others ac doing names idle free =
     let ok = told-of opening w x others ac in
-    sym (ok.holds (here x.local).object (λ f. absurd (false≢true (sym idle ∙ f)))) ∙ ap (λ (j : Known). j.held) (known-here x.local (place-here w.setup opening.board (public w (x ∷ others)) x.local _ doing ok)) ∙ free
+    sym (ok.holds (here x.local).object (λ f. absurd (false≢true (sym idle ∙ f)))) ∙ ap (λ (j : Known). j.held) (known-here x.local (place-here w.setup opening.board (public w (x ∷ others)) x.local _ doing names ok)) ∙ free
 
 -- a state as it is after a reply: with the same board and memory
 pub record Spoken (w v : World) (l : Local) (r : Reply) : Type 0 where
@@ -175,18 +178,59 @@ pub spoken-counts : (w v : World) (l : Local) (r : Reply) → Spoken w v l r →
 spoken-counts w v l r sp = record { board = sp.board; dry = sp.dry }
 
 -- the words after a reply of an object that the worker had, or has no more: it wrote them before, or it wrote none
-pub written-spoken : (opening w v : World) (x z : Worker) (others : List Worker) (kind : CallKind) (k : Known) (r : Reply) → IsAccounted opening w (x ∷ others) → Spoken w v x.local r → IsDoing x.local kind → k.object ≡ (here x.local).object → Answers x.local z.local k r
+pub written-spoken : (opening w v : World) (x z : Worker) (others : List Worker) (kind : CallKind) (k : Known) (r : Reply) → IsAccounted opening w (x ∷ others) → Spoken w v x.local r → IsDoing x.local kind → names_object kind ≡ true → k.object ≡ (here x.local).object → Answers x.local z.local k r
     → ((a y : ℕ) → k.held ≡ true → wrote_after (call_of x.local) r a (last_wrote x.local.done (here x.local).object a) ≡ Some y
     → (8 * (a + 1) ≤ (w.setup.layout k.cache).object_size) × (w.setup.checks k.cache ≡ false → content v k.cache k.frame k.index a ≡ y))
     → All (λ (o : Worker). IsWritten v opening.board o.local) (z ∷ others)
-written-spoken opening w v x z others kind k r ac sp doing same after mine =
+written-spoken opening w v x z others kind k r ac sp doing names same after mine =
     let l = x.local in
     let p = public w (x ∷ others) in
     let ok = told-of opening w x others ac in
     All-cons (λ (o : Worker). IsWritten v opening.board o.local) z others
-    (written-answer w v opening.board l z.local kind k r (written-of opening w x others ac) sp.setup (place-inside w.setup opening.board p l kind doing ok) same doing (place-here w.setup opening.board p l kind doing ok) after
+    (written-answer w v opening.board l z.local kind k r (written-of opening w x others ac) sp.setup (place-inside w.setup opening.board p l kind doing names ok) same doing names (place-here w.setup opening.board p l kind doing names ok) after
     (asked-new opening w x others ac doing.some) (λ o a away h plain within. content-same w v sp.setup sp.memory _ _ _ a) mine)
     (others-written w v opening.board x others sp.setup sp.memory ac.written)
+
+cond-same : {A : Type 0} (b : Bool) (x y : A) → x ≡ y → cond b x y ≡ y
+cond-same true x y e = e
+cond-same false x y e = refl
+
+-- such a reply says nothing new of any object
+told-same : (m : Setup) (before : ℕ → Option BoardWord) (p : Public) (l n : Local) (r : Reply) → is_kept r ≡ true → is_freeing l.spot ≡ false → AnswersKept l n r → Cause m before p l.done (call_of l) r → IsTold m before p l → IsTold m before p n
+told-same m before p l n r is idle after cause ok =
+    let k = kept r is in
+    let d : Answered = record { call = call_of l; reply = r } in
+    let holds : (o : ℕ) → holding (d ∷ l.done) o ≡ holding l.done o = λ o. cond-same (eqb (call_of l).object o) _ (holding l.done o) (k.holds (holding l.done o)) in
+    let knew : (o : ℕ) → knows (d ∷ l.done) o ≡ knows l.done o = λ o. cond-same (eqb (call_of l).object o) _ (knows l.done o) (k.knows (knows l.done o)) in
+    let address : (o : ℕ) → address_by m before (d ∷ l.done) o ≡ address_by m before l.done o = λ o. cond-same (eqb (call_of l).object o) _ (address_by m before l.done o) (k.address (address_by m before l.done o)) in
+    let cache : (o : ℕ) → cache_by before (d ∷ l.done) o ≡ cache_by before l.done o = λ o. cond-same (eqb (call_of l).object o) _ (cache_by before l.done o) (k.cache (call_of l) (cache_by before l.done o)) in
+    record {
+      caused = rw after.done (cause, ok.caused);
+      holds = λ o _. rw (after.known, after.done) (ok.holds o (λ f. absurd (false≢true (sym idle ∙ f))) ∙ sym (holds o));
+      source = λ f. absurd (false≢true (sym after.freeing ∙ f));
+      address = λ o. rw (after.known, after.done) (λ h. address o ∙ ok.address o h);
+      cache = λ o. rw (after.known, after.done) (λ h. cache o ∙ ok.cache o h);
+      tells = λ o. rw (after.known, after.done) (λ h. let t = ok.tells o (sym (knew o) ∙ h) in (address o ∙ t.0, cache o ∙ t.1, t.2));
+      unknown = λ o. rw (after.known, after.done) (λ h. elim (ok.unknown o h) [ inl a ↦ inl (knew o ∙ a) | inr b ↦ inr b ]);
+      call = λ b e. absurd (none-some b (sym after.call ∙ e));
+      fits = rw (after.known, after.todo) (All-drop (Fits m l.known) 1 l.todo ok.fits);
+      distinct = rw after.known ok.distinct;
+      numbers = rw after.known ok.numbers;
+    }
+
+-- and it moves no object
+moved-same : (w v : World) (l n : Local) (r : Reply) → is_kept r ≡ true → 1 ≤ length l.todo → AnswersKept l n r → Counts w v l r → Moved w v l n
+moved-same w v l n r is some after counts =
+    let k = kept r is in
+    let f : (o : ℕ) → one_if (is_freed r && eqb (call_of l).object o) ≡ 0 = λ o. rw k.freed refl in
+    let g : (o : ℕ) → one_if (is_given r && eqb (call_of l).object o) ≡ 0 = λ o. rw k.given refl in
+    record {
+      count = λ o. let b = ap boarded (counts.board o) in let freed = f o in let given = g o in rw (after.known, after.done) (omega arith);
+      asks = λ o. let s = asked-drop o l.todo some in let given = g o in rw (after.done, after.todo) (omega arith);
+      frees = λ o. rw after.done (omega arith);
+      few = rw (after.done, after.todo) (let e = length-drop l.todo some in omega arith);
+      dry = λ order. let d = counts.dry order in rw after.done (omega arith);
+    }
 
 -- a reply after which the worker has what it had, and the words are those that it wrote
 pub told_same : (opening w v : World) (x z : Worker) (others : List Worker) (kind : CallKind) (r : Reply) → IsAccounted opening w (x ∷ others) → Spoken w v x.local r → IsDoing x.local kind → is_freeing x.local.spot ≡ false → is_kept r ≡ true → is_wrote r ≡ false
@@ -194,17 +238,12 @@ pub told_same : (opening w v : World) (x z : Worker) (others : List Worker) (kin
 told_same opening w v x z others kind r ac sp doing idle is unwrote after cause =
     let l = x.local in
     let ok = told-of opening w x others ac in
-    let wr = written-of opening w x others ac in
-    let knew = known-here l (place-here w.setup opening.board (public w (x ∷ others)) l kind doing ok) in
-    told_kept opening w v x z others kind r ac (spoken-on w v l r sp) (spoken-counts w v l r sp) doing idle is after cause
-    (written-spoken opening w v x z others kind (here l) r ac sp doing refl (answers-here l z.local r after)
-    (λ a y h wrote.
-    let wrote' : last_wrote l.done (here l).object a ≡ Some y = sym (wrote-kept r (call_of l) a _ is unwrote) ∙ wrote in
-    let h' : (known_of l.known (here l).object).held ≡ true = ap (λ (j : Known). j.held) knew ∙ h in (
-      subst (λ (j : Known). 8 * (a + 1) ≤ (w.setup.layout j.cache).object_size) knew (wr.inside (here l).object a y h' wrote'),
-      λ plain. content-same w v sp.setup sp.memory _ _ _ a ∙ subst (λ (j : Known). w.setup.checks j.cache ≡ false → content w j.cache j.frame j.index a ≡ y) knew
-          (λ p. wr.stands (here l).object a y (λ f. absurd (false≢true (sym (freeing-frees l.spot idle) ∙ f))) h' p wrote') plain,
-    )))
+    told_step opening w v x z others ac (spoken-on w v l r sp) (moved-same w v l z.local r is doing.some after (spoken-counts w v l r sp))
+    (λ p later. told-same w.setup opening.board p l z.local r is idle after (caused-later w.setup opening.board _ p ((record { call = call_of l; reply = r }) ∷ l.done) later (cause, ok.caused)).0 (told-later w.setup opening.board _ p l later ok))
+    (All-cons (λ (o : Worker). IsWritten v opening.board o.local) z others
+    (written-told w v opening.board l z.local r (written-of opening w x others ac) sp.setup sp.memory (freeing-frees l.spot idle) doing.some after.known after.done after.todo
+    (λ o a. cond-same (eqb (call_of l).object o) _ (last_wrote l.done o a) (wrote-kept r (call_of l) a (last_wrote l.done o a) is unwrote)) (asked-new opening w x others ac doing.some))
+    (others-written w v opening.board x others sp.setup sp.memory ac.written))
 
 -- an object is freed
 pub told_freed : (opening w v : World) (x z : Worker) (others : List Worker) → IsAccounted opening w (x ∷ others) → Spoken w v x.local (reply.Freed (address_in w.setup (here x.local))) → IsDoing x.local Free → is_freeing x.local.spot ≡ true → (here x.local).held ≡ true
@@ -215,14 +254,14 @@ told_freed opening w v x z others ac sp doing busy mine real after =
     let p = public w (x ∷ others) in
     let r = reply.Freed (address_in m (here l)) in
     let ok = told-of opening w x others ac in
-    let place = place-here m opening.board p l Free doing ok in
+    let place = place-here m opening.board p l Free doing refl ok in
     let knew = known-here l place in
     let o = (here l).object in
     let had : (known_of l.known o).held ≡ true = ap (λ (j : Known). j.held) knew ∙ mine in
     let at : address_by m opening.board l.done o ≡ Some (address_in m (here l)) = ok.address o had ∙ ap (λ (j : Known). Some (address_in m j)) knew in
     let of : cache_by opening.board l.done o ≡ Some (here l).cache = ok.cache o had ∙ ap (λ (j : Known). Some j.cache) knew in
-    told_answer opening w v x z others Free (record (here l) { held = false }) r ac (spoken-on w v l r sp) (spoken-counts w v l r sp) doing after (record {
-      below = place-inside m opening.board p l Free doing ok;
+    told_answer opening w v x z others Free (record (here l) { held = false }) r ac (spoken-on w v l r sp) (spoken-counts w v l r sp) doing refl after (record {
+      below = place-inside m opening.board p l Free doing refl ok;
       same = refl;
       holds = refl;
       address = λ h. absurd (false≢true h);
@@ -231,9 +270,9 @@ told_freed opening w v x z others ac sp doing busy mine real after =
       unknown = λ _. inl refl;
       moved = rw mine refl;
       asks = omega arith;
-      cause = (doing.same_kind, rw doing.object at, rw doing.object (ok.source busy));
+      cause = (doing.same_kind, rw (doing.object refl) at, rw (doing.object refl) (ok.source busy));
     })
-    (written-spoken opening w v x z others Free (record (here l) { held = false }) r ac sp doing refl after (λ a y h wrote. absurd (false≢true h)))
+    (written-spoken opening w v x z others Free (record (here l) { held = false }) r ac sp doing refl refl after (λ a y h wrote. absurd (false≢true h)))
 
 -- a damaged object stays with the worker that would free it
 pub told_corrupt : (opening w v : World) (x z : Worker) (others : List Worker) (d : Damage) → IsAccounted opening w (x ∷ others) → Spoken w v x.local (reply.Corrupt d) → IsDoing x.local Free → is_freeing x.local.spot ≡ true → frees x.local.spot ≡ false
@@ -245,14 +284,14 @@ told_corrupt opening w v x z others d ac sp doing busy checked mine checks real 
     let r = reply.Corrupt d in
     let ok = told-of opening w x others ac in
     let wr = written-of opening w x others ac in
-    let place = place-here m opening.board p l Free doing ok in
+    let place = place-here m opening.board p l Free doing refl ok in
     let knew = known-here l place in
     let o = (here l).object in
     let had : (known_of l.known o).held ≡ true = ap (λ (j : Known). j.held) knew ∙ mine in
     let at : address_by m opening.board l.done o ≡ Some (address_in m (here l)) = ok.address o had ∙ ap (λ (j : Known). Some (address_in m j)) knew in
     let of : cache_by opening.board l.done o ≡ Some (here l).cache = ok.cache o had ∙ ap (λ (j : Known). Some j.cache) knew in
-    told_answer opening w v x z others Free (here l) r ac (spoken-on w v l r sp) (spoken-counts w v l r sp) doing (answers-here l z.local r after) (record {
-      below = place-inside m opening.board p l Free doing ok;
+    told_answer opening w v x z others Free (here l) r ac (spoken-on w v l r sp) (spoken-counts w v l r sp) doing refl (answers-here l z.local r after) (record {
+      below = place-inside m opening.board p l Free doing refl ok;
       same = refl;
       holds = mine;
       address = λ _. at;
@@ -261,9 +300,9 @@ told_corrupt opening w v x z others d ac sp doing busy checked mine checks real 
       unknown = λ _. inl refl;
       moved = refl;
       asks = omega arith;
-      cause = (doing.same_kind, damaged, ((here l).cache, rw doing.object of, checks), rw doing.object (elim (ok.source busy) [ inl a ↦ inl a | inr b ↦ inr (address_in m (here l), b) ]));
+      cause = (doing.same_kind, damaged, ((here l).cache, rw (doing.object refl) of, checks), rw (doing.object refl) (elim (ok.source busy) [ inl a ↦ inl a | inr b ↦ inr (address_in m (here l), b) ]));
     })
-    (written-spoken opening w v x z others Free (here l) r ac sp doing refl (answers-here l z.local r after)
+    (written-spoken opening w v x z others Free (here l) r ac sp doing refl refl (answers-here l z.local r after)
     (λ a y h wrote.
     let h' : (known_of l.known (here l).object).held ≡ true = ap (λ (j : Known). j.held) knew ∙ h in (
       subst (λ (j : Known). 8 * (a + 1) ≤ (w.setup.layout j.cache).object_size) knew (wr.inside (here l).object a y h' wrote),

@@ -17,7 +17,7 @@ use Rattle.slub_core.specs.World.{World, object_at}
 use Rattle.slub_core.specs.Local.{Local, Worker, nobody, no_call, call_of, answered}
 use Rattle.slub_core.specs.Steps.{told_of_alloc, told_of_trim, told_of_use, told_of_poke, told_at_once, is_outside}
 use Rattle.slub_core.specs.Coherent.{Stands}
-use Rattle.slub_core.specs.Replies.{is_dry, holding, holds_after, knows, knows_after, Cause}
+use Rattle.slub_core.specs.Replies.{is_dry, names_object, holding, holds_after, knows, knows_after, Cause}
 use Rattle.slub_core.specs.Accounted.{public, known_of, Fits, IsDoing, IsTold, IsAccounted}
 use Rattle.slub_core.proofs.Exists.{nothing-there}
 use Rattle.slub_core.proofs.TaleKnowns.{place_of-object}
@@ -97,14 +97,14 @@ told_at_rest opening w x others call calls r is todo s told ac = by_kind call.ki
     k : Known
     k = get_or l.known call.place nobody
 
-    knew : known_of l.known o ≡ k
-    knew = ap (λ q. get_or l.known q nobody) (sym fits.place)
+    knew : names_object call.kind ≡ true → known_of l.known o ≡ k
+    knew names = ap (λ q. get_or l.known q nobody) (sym (fits.place names))
 
     in_call : IsDoing near.local call.kind
     in_call = record {
       some = rw todo (omega arith);
       same_kind = ap (λ (c : Call). c.kind) mine;
-      object = ap (λ (c : Call). c.object) mine ∙ sym (place_of-object l.known o (subst (λ q. q < length l.known) fits.place fits.inside)) ∙ ap (λ q. (get_or l.known q nobody).object) (sym fits.place);
+      object = λ names. ap (λ (c : Call). c.object) mine ∙ sym (place_of-object l.known o (subst (λ q. q < length l.known) (fits.place names) (fits.inside names))) ∙ ap (λ q. (get_or l.known q nobody).object) (sym (fits.place names));
       place = ap (λ (c : Call). c.place) (sym mine);
     }
 
@@ -115,24 +115,26 @@ told_at_rest opening w x others call calls r is todo s told ac = by_kind call.ki
         (record { known = refl; done = refl; todo = refl; freeing = rw is refl; call = rw is refl })
         (subst (λ c. Cause m opening.board (public w (near ∷ others)) l.done c a) (sym mine) cause))
 
-    held : holding l.done o ≡ k.held
-    held = sym (tale.holds o (λ f. absurd (false≢true (rw is at f)))) ∙ ap (λ (k : Known). k.held) knew
+    held : names_object call.kind ≡ true → holding l.done o ≡ k.held
+    held names = sym (tale.holds o (λ f. absurd (false≢true (rw is at f)))) ∙ ap (λ (k : Known). k.held) (knew names)
 
     not-some : {A : Type 0} (a : A) → None ≡ Some a → ⊥
     not-some a e = none-some a e
 
     by_use : (kind : CallKind) → call.kind ≡ kind → (kind ≡ Write) ⊎ (kind ≡ Read) → told_of_use m k call ≡ Some r → IsAccounted opening w (record x { local = answered x.local r } ∷ others)
-    by_use kind e which t = elim (cases_Bool k.held) [
-      | inr no_more ↦
-          let t' : Some reply.NotHeld ≡ Some r = rw no_more at t in
-          tell reply.NotHeld refl refl refl (rw e (elim which [ inl a ↦ rw a refl | inr b ↦ rw b refl ]), held ∙ no_more, λ f. absurd (let z = sym e ∙ f in elim which [ inl a ↦ not-free-write (sym a ∙ z) | inr b ↦ not-free-read (sym b ∙ z) ])) t'
-      | inl has ↦ elim (cases_Bool (is_outside (m.layout k.cache) call)) [
-        | inl far ↦
-            let t' : Some reply.OutOfObject ≡ Some r = rw (has, far) at t in
-            tell reply.OutOfObject refl refl refl (elim which [ inl a ↦ inl (e ∙ a) | inr b ↦ inr (e ∙ b) ], held ∙ has, (k.cache, tale.cache o (ap (λ (k : Known). k.held) knew ∙ has) ∙ ap (λ (k : Known). Some k.cache) knew, far)) t'
-        | inr near_by ↦ absurd (let t' : None ≡ Some r = rw (has, near_by) at t in not-some r t')
-      ]
-    ]
+    by_use kind e which t =
+        let names : names_object call.kind ≡ true = rw e (elim which [ inl a ↦ rw a refl | inr b ↦ rw b refl ]) in
+        elim (cases_Bool k.held) [
+          | inr no_more ↦
+              let t' : Some reply.NotHeld ≡ Some r = rw no_more at t in
+              tell reply.NotHeld refl refl refl (names, rw e (elim which [ inl a ↦ rw a refl | inr b ↦ rw b refl ]), held names ∙ no_more, λ f. absurd (let z = sym e ∙ f in elim which [ inl a ↦ not-free-write (sym a ∙ z) | inr b ↦ not-free-read (sym b ∙ z) ])) t'
+          | inl has ↦ elim (cases_Bool (is_outside (m.layout k.cache) call)) [
+            | inl far ↦
+                let t' : Some reply.OutOfObject ≡ Some r = rw (has, far) at t in
+                tell reply.OutOfObject refl refl refl (elim which [ inl a ↦ inl (e ∙ a) | inr b ↦ inr (e ∙ b) ], held names ∙ has, (k.cache, tale.cache o (ap (λ (k : Known). k.held) (knew names) ∙ has) ∙ ap (λ (k : Known). Some k.cache) (knew names), far)) t'
+            | inr near_by ↦ absurd (let t' : None ≡ Some r = rw (has, near_by) at t in not-some r t')
+          ]
+        ]
       where
         not-free-write : Write ≡ Free → ⊥
         not-free-write e = cc
@@ -144,12 +146,12 @@ told_at_rest opening w x others call calls r is todo s told ac = by_kind call.ki
     by_poke e t = elim (cases_Bool (eqb k.frame 0)) [
       | inl zero_frame ↦
           let t' : Some reply.NotHeld ≡ Some r = rw zero_frame at t in
-          tell reply.NotHeld refl refl refl (rw e refl, unheld (eqb-true _ _ zero_frame), λ f. absurd (let z = sym e ∙ f in not-free-poke z)) t'
+          tell reply.NotHeld refl refl refl (names, rw e refl, unheld (eqb-true _ _ zero_frame), λ f. absurd (let z = sym e ∙ f in not-free-poke z)) t'
       | inr some_frame ↦ elim (cases_Bool (m.checks k.cache)) [
         | inr plain ↦
             let t' : Some reply.NotChecked ≡ Some r = rw (some_frame, plain) at t in
             let known : knows l.done o ≡ true = known-real (λ z. absurd (false≢true (sym some_frame ∙ eq-eqb k.frame 0 z))) in
-            tell reply.NotChecked refl refl refl (e, known, (k.cache, (tale.tells o known).1 ∙ ap (λ (k : Known). Some k.cache) knew, plain)) t'
+            tell reply.NotChecked refl refl refl (e, known, (k.cache, (tale.tells o known).1 ∙ ap (λ (k : Known). Some k.cache) (knew names), plain)) t'
         | inl checked ↦ absurd (let t' : None ≡ Some r = rw (some_frame, checked) at t in not-some r t')
       ]
     ]
@@ -157,20 +159,23 @@ told_at_rest opening w x others call calls r is todo s told ac = by_kind call.ki
         not-free-poke : Poke ≡ Free → ⊥
         not-free-poke e = cc
 
+        names : names_object call.kind ≡ true
+        names = rw e refl
+
         unheld : k.frame ≡ 0 → holding l.done o ≡ false
         unheld z = elim (cases_Bool k.held) [
           | inl has ↦ absurd (
-              let obj = (known-object w (x ∷ others) 0 x s (omega arith) o (ap (λ (k : Known). k.held) knew ∙ has)).0 in
-              let f : (known_of l.known o).frame ≡ 0 = ap (λ (k : Known). k.frame) knew ∙ z in
+              let obj = (known-object w (x ∷ others) 0 x s (omega arith) o (ap (λ (k : Known). k.held) (knew names) ∙ has)).0 in
+              let f : (known_of l.known o).frame ≡ 0 = ap (λ (k : Known). k.frame) (knew names) ∙ z in
               let n : object_at w (known_of l.known o).frame (known_of l.known o).index ≡ 0 = ap (λ f. object_at w f (known_of l.known o).index) f ∙ nothing-there w s.chains _ s.listed.shaped in
               omega arith)
-          | inr hasnt ↦ held ∙ hasnt
+          | inr hasnt ↦ held names ∙ hasnt
         ]
 
         known-real : (k.frame ≡ 0 → ⊥) → knows l.done o ≡ true
-        known-real d = elim (tale.unknown o (subst (λ (k : Known). 1 ≤ k.frame) (sym knew) (omega (arith, d)))) [
+        known-real d = elim (tale.unknown o (subst (λ (k : Known). 1 ≤ k.frame) (sym (knew names)) (omega (arith, d)))) [
           | inl a ↦ a
-          | inr b ↦ holding-knows l.done o (held ∙ ap (λ (k : Known). k.held) (sym knew) ∙ b)
+          | inr b ↦ holding-knows l.done o (held names ∙ ap (λ (k : Known). k.held) (sym (knew names)) ∙ b)
         ]
 
     by_alloc : (cache : Option ℕ) → call.cache ≡ cache → (call.kind ≡ Alloc) ⊎ (call.kind ≡ Trim) → told_of_alloc cache ≡ Some r → IsAccounted opening w (record x { local = answered x.local r } ∷ others)

@@ -196,8 +196,9 @@ told_TakeBoard opening w x others is s ac = by_word (w.board (here x.local).obje
         told_same opening w _ x _ others Free reply.NotHeld ac (spoken w _ x.local reply.NotHeld (unseen-board w (here x.local).object e) refl) doing' (rw is refl) refl refl
         (record { known = refl; done = refl; todo = refl; freeing = refl; call = refl }) (
           rw doing'.same_kind refl,
-          rw doing'.object (not-holding opening w x others ac doing' (rw is refl) free),
-          λ f. rw doing'.object (ap boarded e),
+          rw doing'.same_kind refl,
+          rw (doing'.object refl) (not-holding opening w x others ac doing' refl (rw is refl) free),
+          λ f. rw (doing'.object refl) (ap boarded e),
         )
     by_word (Some b) e =
         let there = board-object w x others s (here x.local).object b ok.spot.number e in

@@ -16,9 +16,9 @@ use Rattle.slub_core.specs.Accounted.{boarded, had, public, IsTold, IsWritten, I
 
 -- a cause stays
 cause-later : (m : Setup) (before : ℕ → Option BoardWord) (p q : Public) (ds : List Answered) (c : Call) (r : Reply) → Later p q → Cause m before p ds c r → Cause m before q ds c r
-cause-later m before p q ds c (reply.Given a) later h = (h.0, h.1, λ o at. let f = later.freed o in let g = h.2 o at in omega arith)
-cause-later m before p q ds c (reply.IdsSpent t) later h = (h.0, h.1, (h.2.0, h.2.1, let f = later.tid (16 * h.2.0 + c.cpu) in let g = h.2.2 in omega arith))
-cause-later m before p q ds c reply.NotHeld later h = (h.0, h.1, λ f. let b = later.boarded c.object in let z = h.2 f in omega arith)
+cause-later m before p q ds c (reply.Given a) later h = (h.0, h.1, h.2, λ o at. let f = later.freed o in let g = h.3 o at in omega arith)
+cause-later m before p q ds c (reply.IdsSpent t) later h = (h.0, h.1, (h.2.0, h.2.1, h.2.2, let f = later.tid (16 * h.2.0 + c.cpu) in let g = h.2.3 in omega arith))
+cause-later m before p q ds c reply.NotHeld later h = (h.0, h.1, h.2, λ f. let b = later.boarded c.object in let z = h.3 f in omega arith)
 cause-later m before p q ds c reply.NoFrames later h = h
 cause-later m before p q ds c reply.NoSuchCache later h = h
 cause-later m before p q ds c reply.NoMemory later h = h

@@ -49,21 +49,21 @@ quiet_at w value x spot a is away none = quiet_turn w.setup value x.local spot a
 
 -- ---- a spent transaction id
 
-spent-end : (opening w : World) (x z : Worker) (others : List Worker) (word : ℕ) (spot : Spot) → x.local.spot ≡ spot → doing spot ≡ Some Alloc → is_freeing spot ≡ false → w.cpu (own_cpu x.local) ≡ cpu_in word → is_spent w.setup (cpu_in word) ≡ true
+spent-end : (opening w : World) (x z : Worker) (others : List Worker) (word : ℕ) (spot : Spot) → x.local.spot ≡ spot → doing spot ≡ Some Alloc → is_freeing spot ≡ false → w.setup.checks x.local.cache ≡ false → w.cpu (own_cpu x.local) ≡ cpu_in word → is_spent w.setup (cpu_in word) ≡ true
     → IsAccounted opening w (x ∷ others) → AnswersKept x.local z.local (reply.IdsSpent (cpu_in word).tid) → IsAccounted opening w (z ∷ others)
-spent-end opening w x z others word spot is at idle found spent ac after =
-    told_spent opening w x z others ac (rw is at) (rw is idle) (rw found (ltb-true _ _ spent)) (rw found after)
+spent-end opening w x z others word spot is at idle plain found spent ac after =
+    told_spent opening w x z others ac (rw is at) (rw is idle) plain (rw found (ltb-true _ _ spent)) (rw found after)
 
-pub tale_LoadCpu : (opening w : World) (value : ℕ → LockValue) (x : Worker) (others : List Worker) (word : ℕ) → x.local.spot ≡ InAlloc LoadCpu → w.cpu (own_cpu x.local) ≡ cpu_in word → IsAccounted opening w (x ∷ others)
+pub tale_LoadCpu : (opening w : World) (value : ℕ → LockValue) (x : Worker) (others : List Worker) (word : ℕ) → x.local.spot ≡ InAlloc LoadCpu → w.setup.checks x.local.cache ≡ false → w.cpu (own_cpu x.local) ≡ cpu_in word → IsAccounted opening w (x ∷ others)
     → Accounts opening w others (told (advance_at w.setup value x.local (InAlloc LoadCpu) (Word word)))
-tale_LoadCpu opening w value x others word is found ac = elim (cases_Bool (is_spent w.setup (cpu_in word))) [
+tale_LoadCpu opening w value x others word is plain found ac = elim (cases_Bool (is_spent w.setup (cpu_in word))) [
   | inr left ↦ quietly opening w w value x others (InAlloc LoadCpu) (Word word) is ac (unseen-same w) refl (rw left refl)
   | inl spent ↦ elim (cases_Bool x.local.fast) [
     | inl try ↦ quietly opening w w value x others (InAlloc LoadCpu) (Word word) is ac (unseen-same w) refl (rw (spent, try) refl)
     | inr whole ↦ (
       record x { local = told (advance_at w.setup value x.local (InAlloc LoadCpu) (Word word)) },
       refl,
-      spent-end opening w x _ others word (InAlloc LoadCpu) is refl refl found spent ac (record {
+      spent-end opening w x _ others word (InAlloc LoadCpu) is refl refl plain found spent ac (record {
         known = rw (spent, whole) refl;
         done = rw (spent, whole) refl;
         todo = rw (spent, whole) refl;
@@ -78,15 +78,15 @@ way-out : (b : Bool) (s t : Spot) → (is_freeing s ≡ false) × (doing s ≡ N
 way-out true s t a c = a
 way-out false s t a c = c
 
-pub tale_LoadAgain : (opening w : World) (value : ℕ → LockValue) (x : Worker) (others : List Worker) (word : ℕ) → x.local.spot ≡ InAlloc LoadAgain → w.cpu (own_cpu x.local) ≡ cpu_in word → IsAccounted opening w (x ∷ others)
+pub tale_LoadAgain : (opening w : World) (value : ℕ → LockValue) (x : Worker) (others : List Worker) (word : ℕ) → x.local.spot ≡ InAlloc LoadAgain → w.setup.checks x.local.cache ≡ false → w.cpu (own_cpu x.local) ≡ cpu_in word → IsAccounted opening w (x ∷ others)
     → Accounts opening w others (told (advance_at w.setup value x.local (InAlloc LoadAgain) (Word word)))
-tale_LoadAgain opening w value x others word is found ac = elim (cases_Bool (is_spent w.setup (cpu_in word))) [
+tale_LoadAgain opening w value x others word is plain found ac = elim (cases_Bool (is_spent w.setup (cpu_in word))) [
   | inr left ↦ quietly opening w w value x others (InAlloc LoadAgain) (Word word) is ac (unseen-same w) refl (rw left refl)
   | inl spent ↦ (
       let out = way-out ((hand_of x.local).head == 0 || (hand_of x.local).walked) (InPutAway LockAway ForSpent) (InPutAway WalkChain ForSpent) (refl, refl) (refl, refl) in (
         record x { local = told (advance_at w.setup value x.local (InAlloc LoadAgain) (Word word)) },
         refl,
-        spent-end opening w x _ others word (InAlloc LoadAgain) is refl refl found spent ac (record {
+        spent-end opening w x _ others word (InAlloc LoadAgain) is refl refl plain found spent ac (record {
           known = rw spent refl;
           done = rw spent refl;
           todo = rw spent refl;

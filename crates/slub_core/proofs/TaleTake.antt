@@ -105,8 +105,8 @@ told_take opening w x z others b ac at idle free there real takes =
     let ok = told-of opening w x others ac in
     let wr = written-of opening w x others ac in
     let doing' = (ok.call Free at).0 in
-    let below = place-inside m opening.board p l Free doing' ok in
-    let place = place-here m opening.board p l Free doing' ok in
+    let below = place-inside m opening.board p l Free doing' refl ok in
+    let place = place-here m opening.board p l Free doing' refl ok in
     let n = (here l).object in
     let k = taken_known l b in
     let knew : known_of (set l.known l.place k) n ≡ k = known_of-here l.known l.place k n below refl place in
@@ -149,7 +149,7 @@ told_take opening w x z others b ac at idle free there real takes =
       tells = λ o. rw (takes.known, takes.done) (elim (cases_eq o n) [ inl e ↦ rw (e, knew) (λ _. (addressed, cached, real)) | inr d ↦ rw (other o d) (ok.tells o) ]);
       unknown = λ o. rw (takes.known, takes.done) (elim (cases_eq o n) [ inl e ↦ rw (e, knew) (λ _. inr refl) | inr d ↦ rw (other o d) (ok.unknown o) ]);
       call = λ kind e. let d = (ok.call kind (at ∙ sym takes.call ∙ e)).0 in (
-        record { some = rw takes.todo d.some; same_kind = rw takes.todo d.same_kind; object = rw takes.todo (d.object ∙ sym mine); place = rw (takes.todo, takes.place) d.place },
+        record { some = rw takes.todo d.some; same_kind = rw takes.todo d.same_kind; object = λ names. rw takes.todo (d.object names ∙ sym mine); place = rw (takes.todo, takes.place) d.place },
         subst (NamesCache z.local) (kind-same (sym takes.call ∙ e)) tt,
       );
       fits = rw (takes.known, takes.todo) (fits-set m l.known l.place k l.todo refl ok.fits);

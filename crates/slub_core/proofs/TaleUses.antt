@@ -152,16 +152,18 @@ told_WriteWord opening w value x others is s ac =
     let inside : 8 * (c.word + 1) ≤ (m.layout k.cache).object_size = word-inside (m.layout k.cache) c (rw room.2 (ok.spot.inside (rw is refl))) in
     let obj = here-plain w x others s room.0 room.1 plain in
     let word : IsWordOf (m.layout (w.slab k.frame).cache) k.frame k.index p = subst (λ c. IsWordOf (m.layout c) k.frame k.index p) obj.0.cache (word-word m k.cache k.frame k.index c.word s.fresh.setup live inside) in
-    let place = place-here m opening.board (public w (x ∷ others)) l Write call tale in
+    let place = place-here m opening.board (public w (x ∷ others)) l Write call refl tale in
     let knew = known-here l place in
-    let holds : holding l.done k.object ≡ true = sym (tale.holds k.object (λ f. absurd (false≢true (rw is at f)))) ∙ ap (λ (j : Known). j.held) knew ∙ room.1 in
+    let had : (known_of l.known k.object).held ≡ true = ap (λ (j : Known). j.held) knew ∙ room.1 in
+    let holds : holding l.done k.object ≡ true = sym (tale.holds k.object (λ f. absurd (false≢true (rw is at f)))) ∙ had in
+    let of : cache_by opening.board l.done k.object ≡ Some k.cache = tale.cache k.object had ∙ ap (λ (j : Known). Some j.cache) knew in
     let after : AnswersKept l z.local reply.Wrote = record { known = refl; done = refl; todo = refl; freeing = refl; call = refl } in
     let mine : (o a : ℕ) → (o ≡ k.object → ⊥) → (known_of l.known o).held ≡ true → m.checks (known_of l.known o).cache ≡ false → 8 * (a + 1) ≤ (m.layout (known_of l.known o).cache).object_size
     → content v (known_of l.known o).cache (known_of l.known o).frame (known_of l.known o).index a ≡ content w (known_of l.known o).cache (known_of l.known o).frame (known_of l.known o).index a
     = λ o a d h q b. update_other w.memory p c.value _ (mine-spares w x others p s room.0 room.1 obj.1 word o a d h q b) in
-    told_kept opening w v x z others Write reply.Wrote ac (record { setup = refl; tids = λ n. omega arith; less = λ o. inr refl }) (record { board = λ o. refl; dry = λ order. omega arith }) call (rw is refl) refl after (call.same_kind, rw call.object holds)
+    told_kept opening w v x z others Write reply.Wrote ac (record { setup = refl; tids = λ n. omega arith; less = λ o. inr refl }) (record { board = λ o. refl; dry = λ order. omega arith }) call refl (rw is refl) refl after (call.same_kind, rw (call.object refl) holds, (k.cache, rw (call.object refl) of, rw room.2 (ok.spot.inside (rw is refl))))
     (All-cons (λ (o : Worker). IsWritten v opening.board o.local) z others
-    (written-answer w v opening.board l z.local Write k reply.Wrote wr refl room.0 refl call place (answers-here l z.local reply.Wrote after) (asked-new opening w x others ac call.some) mine
+    (written-answer w v opening.board l z.local Write k reply.Wrote wr refl room.0 refl call refl place (answers-here l z.local reply.Wrote after) (asked-new opening w x others ac call.some) mine
     (λ a y h wrote. elim (cases_eq c.word a) [
       | inl e ↦
           let y' : Some c.value ≡ Some y = rw (eq-eqb c.word a e) at wrote in (
@@ -219,7 +221,7 @@ wrote_some m before p (d ∷ ds) o a k caused of plain inside w h = let rest : c
     by_reply rest c reply.NoMemory is q of w h = absurd (false≢true (of_kind c Alloc q.0 w))
     by_reply rest c (reply.IdsSpent t) is q of w h = absurd (false≢true (of_kind c Alloc q.0 w))
     by_reply rest c (reply.Freed b) is q of w h = absurd (false≢true h)
-    by_reply rest c reply.NotHeld is q of w h = absurd (false≢true (sym q.1 ∙ ap (holding ds) is ∙ h))
+    by_reply rest c reply.NotHeld is q of w h = absurd (false≢true (sym q.2 ∙ ap (holding ds) is ∙ h))
     by_reply rest c (reply.Corrupt d) is q of w h =
         absurd (let e : k ≡ q.2.0 = some-same (sym of ∙ ap (cache_by before ds) (sym is) ∙ q.2.1) in false≢true (sym plain ∙ ap m.checks e ∙ q.2.2))
     by_reply rest c reply.Wrote is q of w h =
@@ -264,17 +266,17 @@ told_ReadWord opening w value x others word is found s ac =
     let room = ok.spot.uses (rw is refl) in
     let plain : m.checks k.cache ≡ false = rw room.2 (ok.spot.plain (rw is refl)).2 in
     let inside : 8 * (c.word + 1) ≤ (m.layout k.cache).object_size = word-inside (m.layout k.cache) c (rw room.2 (ok.spot.inside (rw is refl))) in
-    let knew = known-here l (place-here m opening.board p l Read call tale) in
+    let knew = known-here l (place-here m opening.board p l Read call refl tale) in
     let had : (known_of l.known k.object).held ≡ true = ap (λ (j : Known). j.held) knew ∙ room.1 in
     let holds : holding l.done k.object ≡ true = sym (tale.holds k.object (λ f. absurd (false≢true (rw is at f)))) ∙ had in
     let of : cache_by opening.board l.done k.object ≡ Some k.cache = tale.cache k.object had ∙ ap (λ (j : Known). Some j.cache) knew in
-    let asked : written (calls_of l.done) k.object c.word ≡ true = subst (λ o. written (calls_of l.done) o c.word ≡ true) call.object (first-read (calls_of l.done) l.todo call.some call.same_kind wr.reads) in
+    let asked : written (calls_of l.done) k.object c.word ≡ true = subst (λ o. written (calls_of l.done) o c.word ≡ true) (call.object refl) (first-read (calls_of l.done) l.todo call.some call.same_kind wr.reads) in
     let wrote = wrote_some m opening.board p l.done k.object c.word k.cache tale.caused of plain inside asked holds in
     let stands : content w k.cache k.frame k.index c.word ≡ wrote.0
     = subst (λ (j : Known). m.checks j.cache ≡ false → content w j.cache j.frame j.index c.word ≡ wrote.0) knew (λ q. wr.stands k.object c.word wrote.0 (λ f. absurd (false≢true (rw is at f))) had q wrote.1) plain in
     told_same opening w w x _ others Read (reply.Value word) ac (spoken w w l (reply.Value word) (unseen-same w) refl) call (rw is refl) refl refl
     (record { known = refl; done = refl; todo = refl; freeing = refl; call = refl })
-    (call.same_kind, rw call.object holds, λ _. rw call.object (wrote.1 ∙ ap Some (sym stands ∙ found)))
+    (call.same_kind, rw (call.object refl) holds, (k.cache, rw (call.object refl) of, rw room.2 (ok.spot.inside (rw is refl))), λ _. rw (call.object refl) (wrote.1 ∙ ap Some (sym stands ∙ found)))
   where
     first-read : (past cs : List Call) → 1 ≤ length cs → (get_or cs 0 no_call).kind ≡ Read → AreReadable past cs → written past (get_or cs 0 no_call).object (get_or cs 0 no_call).word ≡ true
     first-read past [] some kind ok = absurd (omega arith)

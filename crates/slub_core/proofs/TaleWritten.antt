@@ -1,7 +1,7 @@
 -- What a step owes of the words that workers wrote in the objects that they hold.
 use Rattle.std.proofs.Common.{◌≡◌, ◌≢◌, ℕ, zero, suc, ◌+◌, ◌*◌, ◌<◌, ◌≤◌, true, false, eqb, ◌&&◌, List, [], ◌∷◌, length, get_or, set, drop, refl, sym, ap, ◌∙◌, subst, arith, inl, inr, Some, None, Option}
 use Rattle.std.specs.Prelude.{All, sum_by}
-use Rattle.std.proofs.lemmas.Bool.{cases_eq, cases_Bool, eq-eqb, ne_eqb}
+use Rattle.std.proofs.lemmas.Bool.{cases_eq, cases_Bool, eq-eqb, ne_eqb, false≢true}
 use Rattle.std.proofs.lemmas.List.Sums.{sum_by-cons, get_or-le-sum_by}
 use Rattle.std.proofs.lemmas.List.Elements.{All-cons, All-head, All-tail}
 use Rattle.slub_words.specs.declared.board.BoardWord.{BoardWord}
@@ -15,7 +15,7 @@ use Rattle.slub_core.specs.Local.{Local, Worker, nobody, no_call, here, call_of}
 use Rattle.slub_core.specs.Spots.{frees}
 use Rattle.slub_core.specs.Placed.{held_as, owned}
 use Rattle.slub_core.specs.Coherent.{Stands}
-use Rattle.slub_core.specs.Replies.{one_if, is_alloc, last_wrote, wrote_after, asked_in}
+use Rattle.slub_core.specs.Replies.{one_if, is_alloc, names_object, last_wrote, wrote_after, asked_in}
 use Rattle.slub_core.specs.Accounted.{boarded, place_of, known_of, calls_of, AreReadable, IsDoing, IsWritten, IsAccounted}
 use Rattle.slub_core.proofs.Exists.{IsPlainObject, plain-object, owned-object, object_at-le, alone}
 use Rattle.slub_core.proofs.ValueStep.{known-owned}
@@ -23,6 +23,7 @@ use Rattle.slub_core.proofs.Slots.{IsWordOf, word-word}
 use Rattle.slub_core.proofs.Apart.{one-object}
 use Rattle.slub_core.proofs.Update.{update_other}
 use Rattle.slub_core.proofs.TaleKnowns.{known_of-here, known_of-other, asked-drop, held-inside, place_of-object}
+use Rattle.slub_core.proofs.TaleQuiet.{content-same}
 use Rattle.slub_core.proofs.TaleAnswer.{Answers}
 
 -- ---- a reply
@@ -47,24 +48,24 @@ asked-new opening w x others ac some is =
 
 -- the words of the object of the call are those that it wrote, and each other word that it wrote stays
 pub written-answer : (w v : World) (before : ℕ → Option BoardWord) (l n : Local) (kind : CallKind) (k : Known) (r : Reply) → IsWritten w before l → v.setup ≡ w.setup → l.place < length l.known → k.object ≡ (here l).object
-    → IsDoing l kind → l.place ≡ place_of l.known (here l).object → Answers l n k r → (is_alloc (call_of l).kind ≡ true → before (call_of l).object ≡ None)
+    → IsDoing l kind → names_object kind ≡ true → l.place ≡ place_of l.known (here l).object → Answers l n k r → (is_alloc (call_of l).kind ≡ true → before (call_of l).object ≡ None)
     → ((o a : ℕ) → (o ≡ (here l).object → ⊥) → (known_of l.known o).held ≡ true → w.setup.checks (known_of l.known o).cache ≡ false → 8 * (a + 1) ≤ (w.setup.layout (known_of l.known o).cache).object_size
     → content v (known_of l.known o).cache (known_of l.known o).frame (known_of l.known o).index a ≡ content w (known_of l.known o).cache (known_of l.known o).frame (known_of l.known o).index a)
     → ((a y : ℕ) → k.held ≡ true → wrote_after (call_of l) r a (last_wrote l.done (here l).object a) ≡ Some y
     → (8 * (a + 1) ≤ (w.setup.layout k.cache).object_size) × (w.setup.checks k.cache ≡ false → content v k.cache k.frame k.index a ≡ y))
     → IsWritten v before n
-written-answer w v before l n kind k r ok setup below same doing place after fresh far mine =
+written-answer w v before l n kind k r ok setup below same doing names place after fresh far mine =
     let knew : known_of (set l.known l.place k) (here l).object ≡ k = known_of-here l.known l.place k (here l).object below same place in
-    let other : (o : ℕ) → ((call_of l).object ≡ o → ⊥) → known_of (set l.known l.place k) o ≡ known_of l.known o = λ o d. known_of-other l.known l.place k o below same (λ z. d (doing.object ∙ sym z)) in
+    let other : (o : ℕ) → ((call_of l).object ≡ o → ⊥) → known_of (set l.known l.place k) o ≡ known_of l.known o = λ o d. known_of-other l.known l.place k o below same (λ z. d ((doing.object names) ∙ sym z)) in
     record {
       stands = λ o a y _. rw (after.known, after.done) (elim (cases_eq (call_of l).object o) [
-        | inl e ↦ let o' : o ≡ (here l).object = sym e ∙ doing.object in rw (eq-eqb (call_of l).object o e, o', knew) (λ h p wr. (mine a y h wr).1 (ap (λ (m : Setup). m.checks k.cache) (sym setup) ∙ p))
+        | inl e ↦ let o' : o ≡ (here l).object = sym e ∙ (doing.object names) in rw (eq-eqb (call_of l).object o e, o', knew) (λ h p wr. (mine a y h wr).1 (ap (λ (m : Setup). m.checks k.cache) (sym setup) ∙ p))
         | inr d ↦ rw (ne_eqb (call_of l).object o d, other o d) (λ h p wr.
             let p' : w.setup.checks (known_of l.known o).cache ≡ false = ap (λ (m : Setup). m.checks (known_of l.known o).cache) (sym setup) ∙ p in
-            far o a (λ z. d (doing.object ∙ sym z)) h p' (ok.inside o a y h wr) ∙ ok.stands o a y (λ _ z. d (doing.object ∙ sym z)) h p' wr)
+            far o a (λ z. d ((doing.object names) ∙ sym z)) h p' (ok.inside o a y h wr) ∙ ok.stands o a y (λ _ z. d ((doing.object names) ∙ sym z)) h p' wr)
       ]);
       inside = λ o a y. rw (after.known, after.done) (elim (cases_eq (call_of l).object o) [
-        | inl e ↦ let o' : o ≡ (here l).object = sym e ∙ doing.object in rw (eq-eqb (call_of l).object o e, o', knew) (λ h wr. rw setup (mine a y h wr).0)
+        | inl e ↦ let o' : o ≡ (here l).object = sym e ∙ (doing.object names) in rw (eq-eqb (call_of l).object o e, o', knew) (λ h wr. rw setup (mine a y h wr).0)
         | inr d ↦ rw (ne_eqb (call_of l).object o d, other o d) (λ h wr. rw setup (ok.inside o a y h wr))
       ]);
       reads = rw (after.done, after.todo) (readable-drop (calls_of l.done) l.todo doing.some ok.reads);
@@ -76,6 +77,23 @@ written-answer w v before l n kind k r ok setup below same doing place after fre
         | inr d ↦ rw (ne_eqb (call_of l).object o d) (ok.new o)
       ]);
     }
+
+-- a reply after which the worker has what it had: so are the words
+pub written-told : (w v : World) (before : ℕ → Option BoardWord) (l n : Local) (r : Reply) → IsWritten w before l → v.setup ≡ w.setup → ((p : ℕ) → v.memory p ≡ w.memory p) → frees l.spot ≡ false → 1 ≤ length l.todo
+    → n.known ≡ l.known → n.done ≡ (record { call = call_of l; reply = r }) ∷ l.done → n.todo ≡ drop 1 l.todo → ((o a : ℕ) → last_wrote (record { call = call_of l; reply = r } ∷ l.done) o a ≡ last_wrote l.done o a)
+    → (is_alloc (call_of l).kind ≡ true → before (call_of l).object ≡ None) → IsWritten v before n
+written-told w v before l n r ok setup memory idle some known done todo wrote fresh = record {
+  stands = λ o a y _. rw (known, done) (λ h p wr. content-same w v setup memory _ _ _ a ∙ ok.stands o a y (λ f. absurd (false≢true (sym idle ∙ f))) h (ap (λ (m : Setup). m.checks (known_of l.known o).cache) (sym setup) ∙ p) (sym (wrote o a) ∙ wr));
+  inside = λ o a y. rw (known, done) (λ h wr. rw setup (ok.inside o a y h (sym (wrote o a) ∙ wr)));
+  reads = rw (done, todo) (readable-drop (calls_of l.done) l.todo some ok.reads);
+  new = λ o. rw done (elim (cases_eq (call_of l).object o) [
+    | inl e ↦ elim (cases_Bool (is_alloc (call_of l).kind)) [
+      | inl t ↦ λ _. ap before (sym e) ∙ fresh t
+      | inr f ↦ rw (eq-eqb (call_of l).object o e, f) (ok.new o)
+    ]
+    | inr d ↦ rw (ne_eqb (call_of l).object o d) (ok.new o)
+  ]);
+}
 
 -- ---- a store
 

@@ -10,7 +10,7 @@ use Rattle.slub_core.specs.Setup.{Setup}
 use Rattle.slub_core.specs.World.{World, content, pool_of}
 use Rattle.slub_core.specs.Local.{Local, Worker, nobody, here, call_of, address_in}
 use Rattle.slub_core.specs.Spots.{doing, frees, is_freeing}
-use Rattle.slub_core.specs.Replies.{one_if, given_in, freed_in, asked_in, dry_in, holding, knows, address_by, address_on, cache_by, last_wrote, is_alloc, Public, Caused}
+use Rattle.slub_core.specs.Replies.{one_if, given_in, freed_in, asked_in, dry_in, holding, knows, address_by, address_on, cache_by, last_wrote, is_alloc, names_object, Public, Caused}
 
 -- ---- what a worker knows, by object number
 
@@ -27,12 +27,12 @@ abbrev pub AreDistinct : List Known → Type 0
 AreDistinct [] = Unit {0}
 AreDistinct (k ∷ ks) = (place_of ks k.object ≡ length ks) × AreDistinct ks
 
--- a call fits the machine, and names the place of its object
+-- a call fits the machine, and where it is of an object it names its place
 pub record Fits (m : Setup) (known : List Known) (c : Call) : Type 0 where
   pub cpu : c.cpu < m.cpus
-  pub object : (1 ≤ c.object) × (c.object < m.objects)
-  pub place : c.place ≡ place_of known c.object
-  pub inside : c.place < length known
+  pub object : names_object c.kind ≡ true → (1 ≤ c.object) × (c.object < m.objects)
+  pub place : names_object c.kind ≡ true → c.place ≡ place_of known c.object
+  pub inside : names_object c.kind ≡ true → c.place < length known
   pub cache : IfSome c.cache (λ k. m.lives k ≡ true)
 
 -- ---- reads and writes that are asked for
@@ -73,7 +73,7 @@ calls_of ds = map (λ (d : Answered). d.call) ds
 pub record IsDoing (l : Local) (kind : CallKind) : Type 0 where
   pub some : 1 ≤ length l.todo
   pub same_kind : (call_of l).kind ≡ kind
-  pub object : (call_of l).object ≡ (here l).object
+  pub object : names_object kind ≡ true → (call_of l).object ≡ (here l).object
   pub place : l.place ≡ (call_of l).place
 
 -- the cache of its call is the one that the call names

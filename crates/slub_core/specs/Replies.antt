@@ -21,6 +21,12 @@ abbrev pub is_alloc : CallKind → Bool
 is_alloc Alloc = true
 is_alloc _ = false
 
+-- the call is of an object; a trim is of a cache, a flush of a CPU
+abbrev pub names_object : CallKind → Bool
+names_object Trim = false
+names_object Flush = false
+names_object _ = true
+
 abbrev pub is_given : Reply → Bool
 is_given (reply.Given address) = true
 is_given _ = false
@@ -149,42 +155,52 @@ IsOfPlain m cache = (k : ℕ) × (cache ≡ Some k) × (m.checks k ≡ false)
 abbrev pub IsOfChecked : Setup → Option ℕ → Type 0
 IsOfChecked m cache = (k : ℕ) × (cache ≡ Some k) × (m.checks k ≡ true)
 
+-- the word of a write or a read lies in the object, which is of this cache
+abbrev pub IsWithin : Setup → Option ℕ → Call → Type 0
+IsWithin m cache c = (k : ℕ) × (cache ≡ Some k) × (is_outside (m.layout k) c ≡ false)
+
 -- the call of a worker that was answered `ds` had cause for this reply
 abbrev pub Cause : Setup → (ℕ → Option BoardWord) → Public → List Answered → Call → Reply → Type 0
 -- an object is given that the worker holds under no number, and that stood under no number on the
 -- board but one that was freed since
 Cause m before p ds c (reply.Given a) =
-    (c.kind ≡ Alloc) × ((o : ℕ) → address_by m before ds o ≡ Some a → holding ds o ≡ false)
+    (c.kind ≡ Alloc) × ((k : ℕ) × (c.cache ≡ Some k))
+    × ((o : ℕ) → address_by m before ds o ≡ Some a → holding ds o ≡ false)
     × ((o : ℕ) → address_on m (before o) ≡ Some a → 1 ≤ p.freed o)
 Cause m before p ds c reply.NoFrames = (c.kind ≡ Alloc) × ((k : ℕ) × (c.cache ≡ Some k))
 Cause m before p ds c reply.NoSuchCache = ((c.kind ≡ Alloc) ⊎ (c.kind ≡ Trim)) × (c.cache ≡ None)
 Cause m before p ds c reply.NoMemory = (c.kind ≡ Alloc) × IsOfChecked m c.cache
--- the CPU word had that transaction id, and has it or a later one since
+-- the CPU word of an unchecked cache had that transaction id, and has it or a later one since
 Cause m before p ds c (reply.IdsSpent t) = (c.kind ≡ Alloc) × IsSpent t m.step
-    × ((k : ℕ) × (c.cache ≡ Some k) × (t ≤ p.tid (16 * k + c.cpu)))
+    × ((k : ℕ) × (c.cache ≡ Some k) × (m.checks k ≡ false) × (t ≤ p.tid (16 * k + c.cpu)))
 -- what is freed was the worker's or on the board, and stood at this address
 Cause m before p ds c (reply.Freed a) =
     (c.kind ≡ Free) × (address_by m before ds c.object ≡ Some a)
     × ((holding ds c.object ≡ true) ⊎ (address_on m (before c.object) ≡ Some a))
--- the worker doesn't hold it, and where it is to be freed it isn't on the board
-Cause m before p ds c reply.NotHeld = (is_alloc c.kind ≡ false) × (holding ds c.object ≡ false)
+-- the call is of an object, but not to allocate it; the worker doesn't hold it, and where it is to
+-- be freed it isn't on the board
+Cause m before p ds c reply.NotHeld =
+    (names_object c.kind ≡ true) × (is_alloc c.kind ≡ false) × (holding ds c.object ≡ false)
     × (c.kind ≡ Free → p.boarded c.object ≡ 0)
 Cause m before p ds c (reply.Corrupt d) =
     (c.kind ≡ Free) × (d.found ≢ d.wanted) × IsOfChecked m (cache_by before ds c.object)
     × ((holding ds c.object ≡ true) ⊎ ((a : ℕ) × (address_on m (before c.object) ≡ Some a)))
 Cause m before p ds c reply.Wrote = (c.kind ≡ Write) × (holding ds c.object ≡ true)
+    × IsWithin m (cache_by before ds c.object) c
 -- of an unchecked object the value is what the worker wrote last
 Cause m before p ds c (reply.Value v) =
-    (c.kind ≡ Read) × (holding ds c.object ≡ true)
+    (c.kind ≡ Read) × (holding ds c.object ≡ true) × IsWithin m (cache_by before ds c.object) c
     × (IsOfPlain m (cache_by before ds c.object) → last_wrote ds c.object c.word ≡ Some v)
 Cause m before p ds c reply.OutOfObject =
     ((c.kind ≡ Write) ⊎ (c.kind ≡ Read)) × (holding ds c.object ≡ true)
     × ((k : ℕ) × (cache_by before ds c.object ≡ Some k) × (is_outside (m.layout k) c ≡ true))
-Cause m before p ds c reply.Poked = (c.kind ≡ Poke) × (knows ds c.object ≡ true)
-    × IsOfChecked m (cache_by before ds c.object)
+-- the byte that is poked lies in the slot of the checked object, or outside of it
+Cause m before p ds c reply.Poked =
+    (c.kind ≡ Poke) × (knows ds c.object ≡ true) × ((k : ℕ) × (cache_by before ds c.object ≡ Some k)
+    × (m.checks k ≡ true) × (is_offset (m.layout k) c.offset ≡ true))
 Cause m before p ds c reply.OutOfSlot =
     (c.kind ≡ Poke) × (knows ds c.object ≡ true) × ((k : ℕ) × (cache_by before ds c.object ≡ Some k)
-    × (is_offset (m.layout k) c.offset ≡ false))
+    × (m.checks k ≡ true) × (is_offset (m.layout k) c.offset ≡ false))
 Cause m before p ds c reply.NotChecked = (c.kind ≡ Poke) × (knows ds c.object ≡ true)
     × IsOfPlain m (cache_by before ds c.object)
 Cause m before p ds c (reply.Trimmed n) = (c.kind ≡ Trim) × IsOfPlain m c.cache

@@ -32,10 +32,11 @@ module _ (values : List Guarded) (n lock : ℕ) (x g : Guarded) (at : n ≡ lock
       → (let s = slabs_at (values_of values lock) in
       MatchResult r (λ run. (damage_of_used s slot ≡ None) × (run ≡ spare_run limit (with_taken s slot) slot.frame) × (values_of (set values n g) ≡ update (values_of values) lock (Checked (less_spare limit (with_taken s slot) slot.frame))))
       (λ damage. (damage_of_used s slot ≡ Some damage) × (values_of (set values n g) ≡ values_of values)))
-  taken-in (Ok run) slot limit h =
-      (of-lock (λ (v : LockValue). damage_of_used (slabs_at v) slot ≡ None) h.0,
-      of-lock (λ (v : LockValue). run ≡ spare_run limit (with_taken (slabs_at v) slot) slot.frame) h.1,
-      now-lock (λ (v : LockValue). Checked (less_spare limit (with_taken (slabs_at v) slot) slot.frame)) h.2)
+  taken-in (Ok run) slot limit h = (
+    of-lock (λ (v : LockValue). damage_of_used (slabs_at v) slot ≡ None) h.0,
+    of-lock (λ (v : LockValue). run ≡ spare_run limit (with_taken (slabs_at v) slot) slot.frame) h.1,
+    now-lock (λ (v : LockValue). Checked (less_spare limit (with_taken (slabs_at v) slot) slot.frame)) h.2,
+  )
   taken-in (Err damage) slot limit h = (of-lock (λ (v : LockValue). damage_of_used (slabs_at v) slot ≡ Some damage) h.0, same-lock h.1)
 
   -- a slab that is added

@@ -1,11 +1,9 @@
 -- The calls of a checked cache's slabs, at the value of its lock.
-use Rattle.std.proofs.Common.{◌≡◌, ℕ, ◌<◌, List, length, get_or, set, Option, Some, None, refl, sym, ◌∙◌, ap, subst}
+use Rattle.std.proofs.Common.{◌≡◌, ℕ, List, get_or, set, Option, Some, None, ◌∙◌, ap, subst}
 use Rattle.std.specs.Prelude.{Result, Ok, Err, MatchResult}
-use Rattle.slub_common.specs.declared.no_memory.NoMemory.{NoMemory}
 use Rattle.slub_red_zone.specs.declared.zones.Damage.{Damage}
 use Rattle.slub_red_zone.specs.declared.checked.Slot.{Slot}
-use Rattle.slub_red_zone.specs.State.{CheckedState}
-use Rattle.slub_red_zone.specs.Steps.{damage_of_used, with_taken, with_given, with_new_slab}
+use Rattle.slub_red_zone.specs.Steps.{damage_of_used, with_taken}
 use Rattle.slub_core.specs.declared.local.FrameRun.{FrameRun}
 use Rattle.slub_core.specs.World.{LockValue, Checked, update}
 use Rattle.slub_local.specs.declared.guarded.Guarded.{Guarded}
@@ -38,13 +36,3 @@ module _ (values : List Guarded) (n lock : ℕ) (x g : Guarded) (at : n ≡ lock
     now-lock (λ (v : LockValue). Checked (less_spare limit (with_taken (slabs_at v) slot) slot.frame)) h.2,
   )
   taken-in (Err damage) slot limit h = (of-lock (λ (v : LockValue). damage_of_used (slabs_at v) slot ≡ Some damage) h.0, same-lock h.1)
-
-  -- a slab that is added
-  pub added-in : (r : Result (Unit {0}) NoMemory) (run : FrameRun) → (let s = slabs_at (value_in (get_or values n x)) in
-      MatchResult r (λ _. value_in g ≡ Checked (with_given (with_new_slab s (record { frame = run.frame; order = run.order }) run.objects) (record { frame = run.frame; index = 0 })))
-      (λ _. value_in g ≡ value_in (get_or values n x)))
-      → (let s = slabs_at (values_of values lock) in
-      MatchResult r (λ _. values_of (set values n g) ≡ update (values_of values) lock (Checked (with_given (with_new_slab s (record { frame = run.frame; order = run.order }) run.objects) (record { frame = run.frame; index = 0 }))))
-      (λ _. values_of (set values n g) ≡ values_of values))
-  added-in (Ok done) run h = now-lock (λ (v : LockValue). Checked (with_given (with_new_slab (slabs_at v) (record { frame = run.frame; order = run.order }) run.objects) (record { frame = run.frame; index = 0 }))) h
-  added-in (Err out) run h = same-lock h

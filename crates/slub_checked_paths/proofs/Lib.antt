@@ -2,3 +2,4 @@ pub mod Offsets
 pub mod Gifts
 pub mod Locks
 pub mod Calls
+pub mod AtOnce

@@ -1,5 +1,5 @@
 -- What a change under the lock of a checked cache finds there.
-use Rattle.std.specs.Prelude.{ℕ, ◌+◌, ◌*◌, ◌<◌, ◌≤◌, List}
+use Rattle.std.specs.Prelude.{◌+◌, ◌*◌, ◌<◌, ◌≤◌, List}
 use Rattle.slub_page_pool.specs.Block.{CanPut}
 use Rattle.slub_red_zone.specs.State.{CheckedState, Has, IsUsed}
 use Rattle.slub_red_zone.specs.Sound.{IsSized}

@@ -23,7 +23,8 @@ slabs_at v = slabs_in no_layout v
 -- all objects of the slab are free, and so many slabs are listed
 abbrev pub is_spare_by : ℕ → CheckedState → ℕ → Bool
 is_spare_by limit s frame =
-    (length (slab_of s frame).free == objects_in (slab_of s frame)) && nat_le limit (length s.listed)
+    (length (slab_of s frame).free == objects_in (slab_of s frame))
+    && nat_le limit (length s.listed)
 
 -- the run of a spare slab, and the slabs without it
 abbrev pub spare_run : ℕ → CheckedState → ℕ → Option FrameRun

@@ -154,7 +154,7 @@ fn has_object(slabs: &CheckedSlabs, slot: Slot) -> bool
 
 /// Adds the run as a slab and gives its first object (`alloc_single_from_new_slab`), where there is memory for its
 /// bytes.
-fn add_slab(guarded: &mut Guarded, run: FrameRun) -> Result<(), NoMemory>
+pub fn add_slab(guarded: &mut Guarded, run: FrameRun) -> Result<(), NoMemory>
     requires checked { IsCheckedValue (value_in guarded.old) }
     requires new { ¬ Has (slabs_at (value_in guarded.old)) run.frame }
     requires frame { (1 ≤ run.frame) × (run.frame < 4096) }
@@ -224,18 +224,4 @@ pub fn poke_in(values: &mut [Guarded], cache: u8, local: &Local) -> Reply
     ensures rooms { rooms_of values.new ≡ rooms_of values.old }
 {
     poke(&mut values[usize::from(cache) + 1], local)
-}
-
-/// Adds the run as a slab of a cache and gives its first object, where there is memory for its bytes.
-pub fn add_slab_in(values: &mut [Guarded], cache: u8, run: FrameRun) -> Result<(), NoMemory>
-    requires checked { IsCheckedValue (values_of values.old (node_lock cache)) }
-    requires new { ¬ Has (slabs_at (values_of values.old (node_lock cache))) run.frame }
-    requires frame { (1 ≤ run.frame) × (run.frame < 4096) }
-    requires sized { IsSized (slabs_at (values_of values.old (node_lock cache))).layout run.order run.objects }
-    ensures added { let s = slabs_at (values_of values.old (node_lock cache)) in
-        MatchResult result (λ _. values_of values.new ≡ update (values_of values.old) (node_lock cache) (Checked (with_given (with_new_slab s (record { frame = run.frame; order = run.order }) run.objects) (record { frame = run.frame; index = 0 }))))
-        (λ _. values_of values.new ≡ values_of values.old) }
-    ensures rooms { rooms_of values.new ≡ rooms_of values.old }
-{
-    add_slab(&mut values[usize::from(cache) + 1], run)
 }

@@ -1,4 +1,4 @@
-use Rattle.std.proofs.Common.{◌≡◌, ℕ, ◌+◌, ap}
+use Rattle.std.proofs.Common.{ℕ, ◌+◌, ap}
 use Rattle.slub_core.specs.Setup.{node_lock}
 use Rattle.slub_core.specs.World.{LockValue}
 use Rattle.slub_red_zone.specs.Sound.{IsSound}

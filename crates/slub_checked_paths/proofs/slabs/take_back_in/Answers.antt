@@ -1,4 +1,4 @@
-use Rattle.std.proofs.Common.{◌≡◌, ℕ, ◌+◌, ap}
+use Rattle.std.proofs.Common.{ℕ, ◌+◌, ap}
 use Rattle.slub_core.specs.Setup.{node_lock}
 use Rattle.slub_checked_paths.proofs.Calls.{taken-in}
 use Rattle.slub_local.proofs.Updates.{rooms_of-set}

@@ -22,7 +22,8 @@ use Rattle.slub_core.specs.Listed.{marked_of, takes}
 use Rattle.slub_core.specs.Steps.{told_at_once, told_of_alloc, told_of_trim, is_outside, cache_for, first_spot, first_cpu, begun_at, begun_with, begun}
 use Rattle.slub_core.specs.Fresh.{IsAtWork}
 use Rattle.slub_core.specs.Coherent.{Stands}
-use Rattle.slub_core.specs.Law.{MayBegin, MayBeginFirst, TakesStep}
+use Rattle.slub_core.specs.Law.{TakesStep}
+use Rattle.slub_core.proofs.MayBegin.{MayBegin, MayBeginFirst}
 use Rattle.slub_core.proofs.Counts.{places-cons}
 use Rattle.slub_core.proofs.LocalStep.{local_step}
 use Rattle.slub_core.proofs.Locks.{ComesTo}
@@ -77,8 +78,8 @@ read_checked-work : (w : World) (x : Worker) (cache cpu place : ℕ) → x.local
 read_checked-work w x cache cpu place is within below checked inside number held owner ok = grind arith
 
 poke-work : (w : World) (x : Worker) (cache cpu place : ℕ) → x.local.spot ≡ Between → cpu < w.setup.cpus → IsChecked w.setup cache → place < length x.local.known → (get_or x.local.known place nobody).object < w.setup.objects
-    → (get_or x.local.known place nobody).cache ≡ cache → IsAtWork w x → IsAtWork w (record x { local = begins x.local (InChecked LockChecked Poke) cache cpu place })
-poke-work w x cache cpu place is below checked inside number owner ok = grind arith
+    → (get_or x.local.known place nobody).cache ≡ cache → 1 ≤ (get_or x.local.known place nobody).frame → IsAtWork w x → IsAtWork w (record x { local = begins x.local (InChecked LockChecked Poke) cache cpu place })
+poke-work w x cache cpu place is below checked inside number owner real ok = grind arith
 
 trim-work : (w : World) (x : Worker) (cache cpu place : ℕ) → x.local.spot ≡ Between → cpu < w.setup.cpus → IsPlain w.setup cache → (get_or x.local.known place nobody).object < w.setup.objects
     → IsAtWork w x → IsAtWork w (record x { local = begins x.local (InOffline LoadCurrent Trimming) cache cpu place })
@@ -198,14 +199,18 @@ begins_by w x others call Read e first is s may none =
 begins_by w x others call Poke e first is s may none =
     let k = (named x.local call).cache in
     let number = let a = may.known in let b = may.object in subst (λ o. o < w.setup.objects) (sym a) b.1 in
-    let c : w.setup.checks k ≡ true = by_checks ((named x.local call).frame == 0) (w.setup.checks k) none in
-    let lives = s.fresh.setup.checked k c in
+    let c = by_checks ((named x.local call).frame == 0) (w.setup.checks k) none in
+    let lives = s.fresh.setup.checked k c.1 in
+    let real : 1 ≤ (named x.local call).frame = elim (cases_eq (named x.local call).frame 0) [
+      | inl z ↦ absurd (false≢true (sym c.0 ∙ eq-eqb (named x.local call).frame 0 z))
+      | inr d ↦ omega (arith, d)
+    ] in
     goes-on w x others (InChecked LockChecked Poke) k call.cpu call.place is s (λ f. refl) (λ n. refl)
-    (poke-work w x k call.cpu call.place is may.cpu (s.fresh.setup.live k lives, lives, c) may.place number refl (at_work w x others s))
+    (poke-work w x k call.cpu call.place is may.cpu (s.fresh.setup.live k lives, lives, c.1) may.place number refl real (at_work w x others s))
   where
-    by_checks : (zero checks : Bool) → (if zero then Some reply.NotHeld else if not checks then Some reply.NotChecked else None) ≡ None → checks ≡ true
+    by_checks : (zero checks : Bool) → (if zero then Some reply.NotHeld else if not checks then Some reply.NotChecked else None) ≡ None → (zero ≡ false) × (checks ≡ true)
     by_checks true checks e = absurd (none-some _ (sym e))
-    by_checks false true e = refl
+    by_checks false true e = (refl, refl)
     by_checks false false e = absurd (none-some _ (sym e))
 begins_by w x others call Trim e first is s may none = by_name call.cache refl none
   where

@@ -1,5 +1,5 @@
 -- The step of each spot that the law covers, spot by spot.
-use Rattle.std.proofs.Common.{refl}
+use Rattle.std.proofs.Common.{refl, get_or}
 use Rattle.slub_core.specs.declared.call.CallKind.{CallKind}
 use Rattle.slub_core.specs.declared.spot.Spot.{Spot}
 use Rattle.slub_core.specs.declared.spot.Spot.TheVariants.{Between, InAlloc, InPutAway, InDiscard, InPutOnList, InFree, InMoveSet, InOffline, InTrim, WriteWord, ReadWord, InChecked}
@@ -27,8 +27,8 @@ use Rattle.slub_core.specs.declared.spot.TrimSpot.TheVariants.{LockTrim, LoadSca
 use Rattle.slub_core.specs.declared.spot.CheckedSpot.{CheckedSpot}
 use Rattle.slub_core.specs.declared.spot.CheckedSpot.TheVariants.{LockChecked, LockRun, GiveRun, GiveChecked, DoChecked, MoveRun, AddSlab}
 use Rattle.slub_core.specs.declared.step.Place.TheVariants.{LockOf}
+use Rattle.slub_core.specs.World.{world_from, world_of}
 use Rattle.slub_core.specs.Steps.{advance_at}
-use Rattle.slub_core.proofs.Locks.{ComesTo}
 use Rattle.slub_core.proofs.Leads.{AtSpot}
 use Rattle.slub_core.proofs.WordSteps.{load}
 use Rattle.slub_core.proofs.LeadsLocks.{leads_LockNode, leads_LockPool, leads_LockAway, leads_LockDiscard, leads_LockFree, leads_LockMove, leads_LockTrim, leads_LockChecked, leads_LockRun, leads_GiveNode, leads_GivePool, leads_GiveDry, leads_GiveAway, leads_GiveDiscard, leads_GoBack, leads_GiveFree, leads_GiveMove, leads_GiveTrim, leads_GiveRun, leads_GiveChecked}
@@ -40,47 +40,104 @@ use Rattle.slub_core.proofs.LeadsMake.{leads_Make}
 use Rattle.slub_core.proofs.LeadsStrings.{leads_LoadList, leads_LoadCount, leads_FollowFront, leads_FollowSet, leads_WalkString}
 use Rattle.slub_core.proofs.LeadsSlabs.{leads_TakeAll, leads_MarkFull, leads_FreezeKept, leads_FreezePopped, leads_Unlist, leads_FreeSlab, leads_FreeLocked, leads_Unfreeze, leads_ListSlab}
 use Rattle.slub_core.proofs.LeadsLists.{leads_PushString, leads_TakeList, leads_TakeSet, leads_TakeCurrent, leads_LinkString}
+use Rattle.slub_core.proofs.Accounts.{Reaches}
+use Rattle.slub_core.proofs.TaleSteps.{quietly}
+use Rattle.slub_core.proofs.TaleSpots.{unseen-same}
+use Rattle.slub_core.specs.Words.{number_of}
+use Rattle.slub_core.specs.declared.step.Answer.TheVariants.{Word}
 
 -- ---- a spot that calls for no step
 
 rests_Between : AtSpot (Between)
-rests_Between m value words x others t is s = load m value words (LockOf 0) (λ v a. ComesTo v others (advance_at m value x.local (Between) a).local) (x, refl, s)
+unfolding world_of world_from
+rests_Between opening m value words x others t is s ac =
+    let w = world_of m value words in
+    load m value words (LockOf 0) (λ v a. Reaches opening v others (advance_at m value x.local (Between) a))
+    ((x, refl, s), quietly opening w w value x others (Between) (Word (get_or words (number_of m (LockOf 0)) 0)) is ac (unseen-same w) refl refl)
 
 rests_PopNode : AtSpot (InAlloc PopNode)
-rests_PopNode m value words x others t is s = load m value words (LockOf 0) (λ v a. ComesTo v others (advance_at m value x.local (InAlloc PopNode) a).local) (x, refl, s)
+unfolding world_of world_from
+rests_PopNode opening m value words x others t is s ac =
+    let w = world_of m value words in
+    load m value words (LockOf 0) (λ v a. Reaches opening v others (advance_at m value x.local (InAlloc PopNode) a))
+    ((x, refl, s), quietly opening w w value x others (InAlloc PopNode) (Word (get_or words (number_of m (LockOf 0)) 0)) is ac (unseen-same w) refl refl)
 
 rests_TakeRun : AtSpot (InAlloc TakeRun)
-rests_TakeRun m value words x others t is s = load m value words (LockOf 0) (λ v a. ComesTo v others (advance_at m value x.local (InAlloc TakeRun) a).local) (x, refl, s)
+unfolding world_of world_from
+rests_TakeRun opening m value words x others t is s ac =
+    let w = world_of m value words in
+    load m value words (LockOf 0) (λ v a. Reaches opening v others (advance_at m value x.local (InAlloc TakeRun) a))
+    ((x, refl, s), quietly opening w w value x others (InAlloc TakeRun) (Word (get_or words (number_of m (LockOf 0)) 0)) is ac (unseen-same w) refl refl)
 
 rests_PutNode : (away : Away) → AtSpot (InPutAway PutNode away)
-rests_PutNode away m value words x others t is s = load m value words (LockOf 0) (λ v a. ComesTo v others (advance_at m value x.local (InPutAway PutNode away) a).local) (x, refl, s)
+unfolding world_of world_from
+rests_PutNode away opening m value words x others t is s ac =
+    let w = world_of m value words in
+    load m value words (LockOf 0) (λ v a. Reaches opening v others (advance_at m value x.local (InPutAway PutNode away) a))
+    ((x, refl, s), quietly opening w w value x others (InPutAway PutNode away) (Word (get_or words (number_of m (LockOf 0)) 0)) is ac (unseen-same w) refl refl)
 
 rests_PutRun : (discard : Discard) → AtSpot (InDiscard PutRun discard)
-rests_PutRun discard m value words x others t is s = load m value words (LockOf 0) (λ v a. ComesTo v others (advance_at m value x.local (InDiscard PutRun discard) a).local) (x, refl, s)
+unfolding world_of world_from
+rests_PutRun discard opening m value words x others t is s ac =
+    let w = world_of m value words in
+    load m value words (LockOf 0) (λ v a. Reaches opening v others (advance_at m value x.local (InDiscard PutRun discard) a))
+    ((x, refl, s), quietly opening w w value x others (InDiscard PutRun discard) (Word (get_or words (number_of m (LockOf 0)) 0)) is ac (unseen-same w) refl refl)
 
 rests_TakeOff : AtSpot (InFree TakeOff)
-rests_TakeOff m value words x others t is s = load m value words (LockOf 0) (λ v a. ComesTo v others (advance_at m value x.local (InFree TakeOff) a).local) (x, refl, s)
+unfolding world_of world_from
+rests_TakeOff opening m value words x others t is s ac =
+    let w = world_of m value words in
+    load m value words (LockOf 0) (λ v a. Reaches opening v others (advance_at m value x.local (InFree TakeOff) a))
+    ((x, refl, s), quietly opening w w value x others (InFree TakeOff) (Word (get_or words (number_of m (LockOf 0)) 0)) is ac (unseen-same w) refl refl)
 
 rests_ChooseFront : (move : MoveSet) → AtSpot (InMoveSet ChooseFront move)
-rests_ChooseFront move m value words x others t is s = load m value words (LockOf 0) (λ v a. ComesTo v others (advance_at m value x.local (InMoveSet ChooseFront move) a).local) (x, refl, s)
+unfolding world_of world_from
+rests_ChooseFront move opening m value words x others t is s ac =
+    let w = world_of m value words in
+    load m value words (LockOf 0) (λ v a. Reaches opening v others (advance_at m value x.local (InMoveSet ChooseFront move) a))
+    ((x, refl, s), quietly opening w w value x others (InMoveSet ChooseFront move) (Word (get_or words (number_of m (LockOf 0)) 0)) is ac (unseen-same w) refl refl)
 
 rests_PutTail : (move : MoveSet) → AtSpot (InMoveSet PutTail move)
-rests_PutTail move m value words x others t is s = load m value words (LockOf 0) (λ v a. ComesTo v others (advance_at m value x.local (InMoveSet PutTail move) a).local) (x, refl, s)
+unfolding world_of world_from
+rests_PutTail move opening m value words x others t is s ac =
+    let w = world_of m value words in
+    load m value words (LockOf 0) (λ v a. Reaches opening v others (advance_at m value x.local (InMoveSet PutTail move) a))
+    ((x, refl, s), quietly opening w w value x others (InMoveSet PutTail move) (Word (get_or words (number_of m (LockOf 0)) 0)) is ac (unseen-same w) refl refl)
 
 rests_ScanNode : AtSpot (InTrim ScanNode)
-rests_ScanNode m value words x others t is s = load m value words (LockOf 0) (λ v a. ComesTo v others (advance_at m value x.local (InTrim ScanNode) a).local) (x, refl, s)
+unfolding world_of world_from
+rests_ScanNode opening m value words x others t is s ac =
+    let w = world_of m value words in
+    load m value words (LockOf 0) (λ v a. Reaches opening v others (advance_at m value x.local (InTrim ScanNode) a))
+    ((x, refl, s), quietly opening w w value x others (InTrim ScanNode) (Word (get_or words (number_of m (LockOf 0)) 0)) is ac (unseen-same w) refl refl)
 
 rests_DropScanned : AtSpot (InTrim DropScanned)
-rests_DropScanned m value words x others t is s = load m value words (LockOf 0) (λ v a. ComesTo v others (advance_at m value x.local (InTrim DropScanned) a).local) (x, refl, s)
+unfolding world_of world_from
+rests_DropScanned opening m value words x others t is s ac =
+    let w = world_of m value words in
+    load m value words (LockOf 0) (λ v a. Reaches opening v others (advance_at m value x.local (InTrim DropScanned) a))
+    ((x, refl, s), quietly opening w w value x others (InTrim DropScanned) (Word (get_or words (number_of m (LockOf 0)) 0)) is ac (unseen-same w) refl refl)
 
 rests_DoChecked : (kind : CallKind) → AtSpot (InChecked DoChecked kind)
-rests_DoChecked kind m value words x others t is s = load m value words (LockOf 0) (λ v a. ComesTo v others (advance_at m value x.local (InChecked DoChecked kind) a).local) (x, refl, s)
+unfolding world_of world_from
+rests_DoChecked kind opening m value words x others t is s ac =
+    let w = world_of m value words in
+    load m value words (LockOf 0) (λ v a. Reaches opening v others (advance_at m value x.local (InChecked DoChecked kind) a))
+    ((x, refl, s), quietly opening w w value x others (InChecked DoChecked kind) (Word (get_or words (number_of m (LockOf 0)) 0)) is ac (unseen-same w) refl refl)
 
 rests_MoveRun : (kind : CallKind) → AtSpot (InChecked MoveRun kind)
-rests_MoveRun kind m value words x others t is s = load m value words (LockOf 0) (λ v a. ComesTo v others (advance_at m value x.local (InChecked MoveRun kind) a).local) (x, refl, s)
+unfolding world_of world_from
+rests_MoveRun kind opening m value words x others t is s ac =
+    let w = world_of m value words in
+    load m value words (LockOf 0) (λ v a. Reaches opening v others (advance_at m value x.local (InChecked MoveRun kind) a))
+    ((x, refl, s), quietly opening w w value x others (InChecked MoveRun kind) (Word (get_or words (number_of m (LockOf 0)) 0)) is ac (unseen-same w) refl refl)
 
 rests_AddSlab : (kind : CallKind) → AtSpot (InChecked AddSlab kind)
-rests_AddSlab kind m value words x others t is s = load m value words (LockOf 0) (λ v a. ComesTo v others (advance_at m value x.local (InChecked AddSlab kind) a).local) (x, refl, s)
+unfolding world_of world_from
+rests_AddSlab kind opening m value words x others t is s ac =
+    let w = world_of m value words in
+    load m value words (LockOf 0) (λ v a. Reaches opening v others (advance_at m value x.local (InChecked AddSlab kind) a))
+    ((x, refl, s), quietly opening w w value x others (InChecked AddSlab kind) (Word (get_or words (number_of m (LockOf 0)) 0)) is ac (unseen-same w) refl refl)
 
 -- ---- by path
 

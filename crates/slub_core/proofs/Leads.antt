@@ -1,4 +1,4 @@
--- What the step of a spot leads to, on the table of words: all stands again, with the worker where the answer leads it and the others unchanged.
+-- What the step of a spot leads to, on the table of words: all stands again and the account agrees, with the worker where the answer leads it and the others unchanged.
 use Rattle.std.proofs.Common.{◌≡◌, ◌≢◌, ℕ, ◌<◌, ◌≤◌, true, List, ◌∷◌, length, subst, arith}
 use Rattle.std.proofs.lemmas.List.Elements.{All-head}
 use Rattle.slub_words.specs.declared.cpu.CpuWord.{CpuWord}
@@ -15,6 +15,8 @@ use Rattle.slub_core.specs.Spots.{in_plain, in_checked}
 use Rattle.slub_core.specs.Steps.{step_at, advance_at}
 use Rattle.slub_core.specs.Fresh.{IsAtWork}
 use Rattle.slub_core.specs.Coherent.{Stands}
+use Rattle.slub_core.specs.Accounted.{IsAccounted}
+use Rattle.slub_core.proofs.Accounts.{Reaches}
 use Rattle.slub_core.proofs.Locks.{ComesTo}
 use Rattle.slub_core.proofs.Exists.{home-live}
 use Rattle.slub_core.proofs.Values.{word-objects, object-within}
@@ -25,12 +27,12 @@ use Rattle.slub_core.proofs.Packed.{IsCpuFit, IsSlabFit, IsListFit}
 use Rattle.slub_core.proofs.Words.{IsTable}
 use Rattle.slub_core.proofs.WordSteps.{AfterStep}
 
-abbrev pub Leads : Setup → (ℕ → LockValue) → List ℕ → Worker → List Worker → Spot → Type 0
-Leads m value words x others spot = AfterStep m value words (step_at m value x.local spot) (λ v a. ComesTo v others (advance_at m value x.local spot a).local)
+abbrev pub Leads : World → Setup → (ℕ → LockValue) → List ℕ → Worker → List Worker → Spot → Type 0
+Leads opening m value words x others spot = AfterStep m value words (step_at m value x.local spot) (λ v a. Reaches opening v others (advance_at m value x.local spot a))
 
 abbrev pub AtSpot : Spot → Type 0
-AtSpot spot = (m : Setup) (value : ℕ → LockValue) (words : List ℕ) (x : Worker) (others : List Worker) → IsTable m words → x.local.spot ≡ spot → Stands (world_of m value words) (x ∷ others)
-    → Leads m value words x others spot
+AtSpot spot = (opening : World) (m : Setup) (value : ℕ → LockValue) (words : List ℕ) (x : Worker) (others : List Worker) → IsTable m words → x.local.spot ≡ spot → Stands (world_of m value words) (x ∷ others)
+    → IsAccounted opening (world_of m value words) (x ∷ others) → Leads opening m value words x others spot
 
 pub at_work : (w : World) (x : Worker) (others : List Worker) → Stands w (x ∷ others) → IsAtWork w x
 at_work w x others s = All-head (IsAtWork w) x others s.fresh.workers

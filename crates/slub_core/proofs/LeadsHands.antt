@@ -21,13 +21,16 @@ use Rattle.slub_core.specs.Listed.{home_of}
 use Rattle.slub_core.specs.Steps.{advance_at}
 use Rattle.slub_core.specs.Coherent.{Stands}
 use Rattle.slub_core.proofs.Hands.{first-hand}
-use Rattle.slub_core.proofs.Locks.{ComesTo}
 use Rattle.slub_core.proofs.Leads.{AtSpot, at_work, home_below}
 use Rattle.slub_core.proofs.Lists.{times-at}
 use Rattle.slub_core.proofs.UnderLock.{stocked-within}
 use Rattle.slub_core.proofs.Words.{slab-read}
 use Rattle.slub_core.proofs.WordSteps.{load}
 use Rattle.slub_core.proofs.Kind8.{at_LoadTaken, at_LoadKept, at_LoadPopped, at_LoadAway, at_LoadMoved, at_LoadScanned}
+use Rattle.slub_core.proofs.Accounts.{Reaches}
+use Rattle.slub_core.proofs.TaleSteps.{quietly}
+use Rattle.slub_core.proofs.TaleSpots.{unseen-same}
+use Rattle.slub_core.specs.declared.step.Answer.TheVariants.{Word}
 
 -- a slab in hand is among the frames
 pub hand_below : (w : World) (x : Worker) (others : List Worker) (r : Role) (rs : List Role) → Stands w (x ∷ others) → AreHands (r ∷ rs) x.local.hands x.chains → (hand_of x.local).frame < w.setup.frames
@@ -42,43 +45,43 @@ hand_below w x others r rs s hands = by_hand (first-hand r rs x.local.hands x.ch
 
 pub leads_LoadTaken : AtSpot (InAlloc LoadTaken)
 unfolding world_of world_from
-leads_LoadTaken m value words x others t is s =
+leads_LoadTaken opening m value words x others t is s ac =
     let w = world_of m value words in
     let f = (hand_of x.local).frame in
-    load m value words (SlabOf f) (λ v a. ComesTo v others (advance_at m value x.local (InAlloc LoadTaken) a).local)
-    (at_LoadTaken w x others (get_or words (slab_base + f) 0) is (slab-read m value words f (hand_below w x others Taken [] s (rw is at (at_work w x others s).spot.hands))) s)
+    load m value words (SlabOf f) (λ v a. Reaches opening v others (advance_at m value x.local (InAlloc LoadTaken) a))
+    (at_LoadTaken w x others (get_or words (slab_base + f) 0) is (slab-read m value words f (hand_below w x others Taken [] s (rw is at (at_work w x others s).spot.hands))) s, quietly opening w w value x others (InAlloc LoadTaken) (Word (get_or words (slab_base + f) 0)) is ac (unseen-same w) refl refl)
 
 pub leads_LoadKept : AtSpot (InAlloc LoadKept)
 unfolding world_of world_from
-leads_LoadKept m value words x others t is s =
+leads_LoadKept opening m value words x others t is s ac =
     let w = world_of m value words in
     let f = (hand_of x.local).frame in
-    load m value words (SlabOf f) (λ v a. ComesTo v others (advance_at m value x.local (InAlloc LoadKept) a).local)
-    (at_LoadKept w x others (get_or words (slab_base + f) 0) is (slab-read m value words f (hand_below w x others Kept [] s (rw is at (at_work w x others s).spot.hands))) s)
+    load m value words (SlabOf f) (λ v a. Reaches opening v others (advance_at m value x.local (InAlloc LoadKept) a))
+    (at_LoadKept w x others (get_or words (slab_base + f) 0) is (slab-read m value words f (hand_below w x others Kept [] s (rw is at (at_work w x others s).spot.hands))) s, quietly opening w w value x others (InAlloc LoadKept) (Word (get_or words (slab_base + f) 0)) is ac (unseen-same w) refl refl)
 
 pub leads_LoadPopped : AtSpot (InAlloc LoadPopped)
 unfolding world_of world_from
-leads_LoadPopped m value words x others t is s =
+leads_LoadPopped opening m value words x others t is s ac =
     let w = world_of m value words in
     let f = (hand_of x.local).frame in
-    load m value words (SlabOf f) (λ v a. ComesTo v others (advance_at m value x.local (InAlloc LoadPopped) a).local)
-    (at_LoadPopped w x others (get_or words (slab_base + f) 0) is (slab-read m value words f (hand_below w x others Popped (ready_of (length x.local.hands - 1)) s (rw is at (at_work w x others s).spot.hands))) s)
+    load m value words (SlabOf f) (λ v a. Reaches opening v others (advance_at m value x.local (InAlloc LoadPopped) a))
+    (at_LoadPopped w x others (get_or words (slab_base + f) 0) is (slab-read m value words f (hand_below w x others Popped (ready_of (length x.local.hands - 1)) s (rw is at (at_work w x others s).spot.hands))) s, quietly opening w w value x others (InAlloc LoadPopped) (Word (get_or words (slab_base + f) 0)) is ac (unseen-same w) refl refl)
 
 pub leads_LoadAway : (away : Away) → AtSpot (InPutAway LoadAway away)
 unfolding world_of world_from
-leads_LoadAway away m value words x others t is s =
+leads_LoadAway away opening m value words x others t is s ac =
     let w = world_of m value words in
     let f = (hand_of x.local).frame in
-    load m value words (SlabOf f) (λ v a. ComesTo v others (advance_at m value x.local (InPutAway LoadAway away) a).local)
-    (at_LoadAway w x others away (get_or words (slab_base + f) 0) is (slab-read m value words f (hand_below w x others Leaving (beside_away away) s (rw is at (at_work w x others s).spot.hands))) s)
+    load m value words (SlabOf f) (λ v a. Reaches opening v others (advance_at m value x.local (InPutAway LoadAway away) a))
+    (at_LoadAway w x others away (get_or words (slab_base + f) 0) is (slab-read m value words f (hand_below w x others Leaving (beside_away away) s (rw is at (at_work w x others s).spot.hands))) s, quietly opening w w value x others (InPutAway LoadAway away) (Word (get_or words (slab_base + f) 0)) is ac (unseen-same w) refl refl)
 
 pub leads_LoadMoved : (move : MoveSet) → AtSpot (InMoveSet LoadMoved move)
 unfolding world_of world_from
-leads_LoadMoved move m value words x others t is s =
+leads_LoadMoved move opening m value words x others t is s ac =
     let w = world_of m value words in
     let f = (hand_of x.local).frame in
-    load m value words (SlabOf f) (λ v a. ComesTo v others (advance_at m value x.local (InMoveSet LoadMoved move) a).local)
-    (at_LoadMoved w x others move (get_or words (slab_base + f) 0) is (slab-read m value words f (hand_below w x others Kept (beside_move move) s (rw is at (at_work w x others s).spot.hands))) s)
+    load m value words (SlabOf f) (λ v a. Reaches opening v others (advance_at m value x.local (InMoveSet LoadMoved move) a))
+    (at_LoadMoved w x others move (get_or words (slab_base + f) 0) is (slab-read m value words f (hand_below w x others Kept (beside_move move) s (rw is at (at_work w x others s).spot.hands))) s, quietly opening w w value x others (InMoveSet LoadMoved move) (Word (get_or words (slab_base + f) 0)) is ac (unseen-same w) refl refl)
 
 -- the slab that a scan has come to stands on the node list
 pub scanned_below : (w : World) (x : Worker) (others : List Worker) → x.local.spot ≡ InTrim LoadScanned → Stands w (x ∷ others) → scanned_slab w.value x.local < w.setup.frames
@@ -93,8 +96,8 @@ scanned_below w x others is s =
 
 pub leads_LoadScanned : AtSpot (InTrim LoadScanned)
 unfolding world_of world_from
-leads_LoadScanned m value words x others t is s =
+leads_LoadScanned opening m value words x others t is s ac =
     let w = world_of m value words in
     let f = scanned_slab value x.local in
-    load m value words (SlabOf f) (λ v a. ComesTo v others (advance_at m value x.local (InTrim LoadScanned) a).local)
-    (at_LoadScanned w x others (get_or words (slab_base + f) 0) is (slab-read m value words f (scanned_below w x others is s)) s)
+    load m value words (SlabOf f) (λ v a. Reaches opening v others (advance_at m value x.local (InTrim LoadScanned) a))
+    (at_LoadScanned w x others (get_or words (slab_base + f) 0) is (slab-read m value words f (scanned_below w x others is s)) s, quietly opening w w value x others (InTrim LoadScanned) (Word (get_or words (slab_base + f) 0)) is ac (unseen-same w) refl refl)

@@ -1,5 +1,5 @@
 -- The step of a spot, on the table of words: words of memory, which lie among the table's.
-use Rattle.std.proofs.Common.{◌≡◌, ℕ, suc, ◌+◌, ◌-◌, ◌*◌, ◌/◌, ◌<◌, ◌≤◌, true, false, Option, Some, None, List, [], ◌∷◌, length, refl, sym, ap, ◌∙◌, subst, arith}
+use Rattle.std.proofs.Common.{◌≡◌, ℕ, suc, ◌+◌, ◌-◌, ◌*◌, ◌/◌, ◌<◌, ◌≤◌, true, false, Option, Some, None, List, [], ◌∷◌, length, refl, sym, ap, ◌∙◌, subst, arith, get_or}
 use Rattle.std.specs.Prelude.{slice_index, IsSome}
 use Rattle.std.proofs.lemmas.Bool.{leb-true, not-false, false≢true}
 use Rattle.std.proofs.lemmas.List.Elements.{All-head}
@@ -11,15 +11,15 @@ use Rattle.slub_core.specs.declared.spot.AllocSpot.TheVariants.{LinkNew, LoadRea
 use Rattle.slub_core.specs.declared.spot.Away.{Away}
 use Rattle.slub_core.specs.declared.spot.PutAwaySpot.TheVariants.{WalkChain, LinkLast}
 use Rattle.slub_core.specs.declared.spot.FreeSpot.TheVariants.{LinkOwn, LinkSlab, LinkLocked}
-use Rattle.slub_core.specs.declared.step.Answer.TheVariants.{Word}
+use Rattle.slub_core.specs.declared.step.Answer.TheVariants.{Word, Done}
 use Rattle.slub_core.specs.declared.step.Place.TheVariants.{MemoryOf}
 use Rattle.slub_core.specs.Setup.{pointer_at, word_at, hardened}
 use Rattle.slub_core.specs.World.{World, pointer, exists_at, object_at, in_chain, Leads, world_from, world_of}
 use Rattle.slub_core.specs.Local.{Worker, here, hand_of, run_of, run_in, call_of}
 use Rattle.slub_core.specs.Alloc.{alloc_advance, reached}
 use Rattle.slub_core.specs.PutAway.{put_away_advance}
-use Rattle.slub_core.specs.Steps.{advance_at}
-use Rattle.slub_core.specs.Spots.{Ready, Leaving, Untied, beside_away, frees, in_plain}
+use Rattle.slub_core.specs.Steps.{advance_at, told}
+use Rattle.slub_core.specs.Spots.{Ready, Leaving, Untied, beside_away, frees, uses, uses_word, in_plain}
 use Rattle.slub_core.specs.Placed.{owned, in_hands}
 use Rattle.slub_core.specs.Fresh.{IsHeldRun, AreHands, AreHeld, rising_next}
 use Rattle.slub_core.specs.Coherent.{Stands}
@@ -37,6 +37,12 @@ use Rattle.slub_core.proofs.Slots.{IsWordOf, pointer-word, word-word, word-frame
 use Rattle.slub_core.proofs.Walks.{Leads-some, place_of, reached-at}
 use Rattle.slub_core.proofs.Words.{memory-read}
 use Rattle.slub_core.proofs.WordSteps.{load, memory_store}
+use Rattle.slub_core.proofs.Accounts.{Reaches}
+use Rattle.slub_core.proofs.TaleSteps.{quietly}
+use Rattle.slub_core.proofs.TaleLinks.{tale_link, tale_LinkLast, tale_LinkNew}
+use Rattle.slub_core.proofs.TaleSpots.{unseen-same}
+use Rattle.slub_core.proofs.TaleUses.{told_WriteWord}
+use Rattle.slub_core.specs.Words.{number_of}
 
 -- ---- the words lie in memory
 
@@ -58,16 +64,16 @@ freed-inside w x others s is =
     subst (λ c. pointer_at w.setup c k.frame k.index < 512 * w.setup.frames) (sym cache)
     (word-inside w (x ∷ others) k.frame k.index (pointer_at w.setup (w.slab k.frame).cache k.frame k.index) s (held-there w x others s o.1 o.0.exists) (pointer-word w.setup (w.slab k.frame).cache k.frame k.index s.fresh.setup live))
 
-pub used-inside : (w : World) (x : Worker) (others : List Worker) → Stands w (x ∷ others) → x.local.spot ≡ WriteWord → word_at w.setup (here x.local).cache (here x.local).frame (here x.local).index (call_of x.local).word < 512 * w.setup.frames
-used-inside w x others s is =
+pub used-inside : (w : World) (x : Worker) (others : List Worker) → Stands w (x ∷ others) → in_plain x.local.spot ≡ true → uses x.local.spot ≡ true → uses_word x.local.spot ≡ true → word_at w.setup (here x.local).cache (here x.local).frame (here x.local).index (call_of x.local).word < 512 * w.setup.frames
+used-inside w x others s plain used is =
     let k = here x.local in
     let ok = at_work w x others s in
-    let mine = ok.spot.uses (rw is refl) in
-    let o = held-object w x others s (rw is refl) mine in
+    let mine = ok.spot.uses used in
+    let o = held-object w x others s plain mine in
     let cache : k.cache ≡ (w.slab k.frame).cache = mine.2 ∙ o.0.cache in
     let live = (s.listed.shaped.plain k.frame o.0.live).1 in
     let inside : 8 * ((call_of x.local).word + 1) ≤ (w.setup.layout (w.slab k.frame).cache).object_size
-    = subst (λ c. 8 * ((call_of x.local).word + 1) ≤ (w.setup.layout c).object_size) o.0.cache (leb-true (8 * ((call_of x.local).word + 1)) (w.setup.layout x.local.cache).object_size (not-false _ (ok.spot.inside (rw is refl)))) in
+    = subst (λ c. 8 * ((call_of x.local).word + 1) ≤ (w.setup.layout c).object_size) o.0.cache (leb-true (8 * ((call_of x.local).word + 1)) (w.setup.layout x.local.cache).object_size (not-false _ (ok.spot.inside is))) in
     subst (λ c. word_at w.setup c k.frame k.index (call_of x.local).word < 512 * w.setup.frames) (sym cache)
     (word-inside w (x ∷ others) k.frame k.index (word_at w.setup (w.slab k.frame).cache k.frame k.index (call_of x.local).word) s (held-there w x others s o.1 o.0.exists) (word-word w.setup (w.slab k.frame).cache k.frame k.index (call_of x.local).word s.fresh.setup live inside))
 
@@ -168,64 +174,70 @@ run-inside w x others i is s = by_run x.local.run refl
 
 pub leads_LoadReady : AtSpot (InAlloc LoadReady)
 unfolding world_of world_from
-leads_LoadReady m value words x others t is s =
+leads_LoadReady opening m value words x others t is s ac =
     let w = world_of m value words in
     let p = pointer_at m x.local.cache (hand_of x.local).frame ((hand_of x.local).head - 1) in
-    load m value words (MemoryOf p) (λ v a. ComesTo v others (advance_at m value x.local (InAlloc LoadReady) a).local)
-    (subst (λ q. ComesTo w others (alloc_advance m x.local LoadReady (Word q)).local) (memory-read m value words p (ready-inside w x others is s)) (at_LoadReady w x others is s))
+    load m value words (MemoryOf p) (λ v a. Reaches opening v others (advance_at m value x.local (InAlloc LoadReady) a))
+    (subst (λ q. ComesTo w others (alloc_advance m x.local LoadReady (Word q)).local) (memory-read m value words p (ready-inside w x others is s)) (at_LoadReady w x others is s), quietly opening w w value x others (InAlloc LoadReady) (Word (get_or words (number_of m (MemoryOf p)) 0)) is ac (unseen-same w) refl refl)
 
 pub leads_WalkChain : (away : Away) → AtSpot (InPutAway WalkChain away)
 unfolding world_of world_from
-leads_WalkChain away m value words x others t is s =
+leads_WalkChain away opening m value words x others t is s ac =
     let w = world_of m value words in
     let p = pointer_at m x.local.cache (hand_of x.local).frame (reached (hand_of x.local) - 1) in
-    load m value words (MemoryOf p) (λ v a. ComesTo v others (advance_at m value x.local (InPutAway WalkChain away) a).local)
-    (subst (λ q. ComesTo w others (put_away_advance m value x.local WalkChain away (Word q)).local) (memory-read m value words p (walk-inside w x others away is s)) (at_WalkChain w x others away is s))
+    load m value words (MemoryOf p) (λ v a. Reaches opening v others (advance_at m value x.local (InPutAway WalkChain away) a))
+    (subst (λ q. ComesTo w others (put_away_advance m value x.local WalkChain away (Word q)).local) (memory-read m value words p (walk-inside w x others away is s)) (at_WalkChain w x others away is s), quietly opening w w value x others (InPutAway WalkChain away) (Word (get_or words (number_of m (MemoryOf p)) 0)) is ac (unseen-same w) refl refl)
 
 pub leads_LinkOwn : AtSpot (InFree LinkOwn)
 unfolding world_of world_from
-leads_LinkOwn m value words x others t is s =
+leads_LinkOwn opening m value words x others t is s ac =
     let w = world_of m value words in
     let k = here x.local in
-    memory_store m value words (pointer_at m k.cache k.frame k.index) (hardened k.cache (pointer_at m k.cache k.frame k.index) x.local.cpu_word.head) (λ v a. ComesTo v others (advance_at m value x.local (InFree LinkOwn) a).local) t
-    (freed-inside w x others s (rw is refl)) (at_LinkOwn w x others is s)
+    memory_store m value words (pointer_at m k.cache k.frame k.index) (hardened k.cache (pointer_at m k.cache k.frame k.index) x.local.cpu_word.head) (λ v a. Reaches opening v others (advance_at m value x.local (InFree LinkOwn) a)) t
+    (freed-inside w x others s (rw is refl))
+    (at_LinkOwn w x others is s, tale_link opening w value x others (hardened k.cache (pointer_at m k.cache k.frame k.index) x.local.cpu_word.head) (InFree LinkOwn) is refl refl refl refl s ac)
 
 pub leads_LinkSlab : AtSpot (InFree LinkSlab)
 unfolding world_of world_from
-leads_LinkSlab m value words x others t is s =
+leads_LinkSlab opening m value words x others t is s ac =
     let w = world_of m value words in
     let k = here x.local in
-    memory_store m value words (pointer_at m k.cache k.frame k.index) (hardened k.cache (pointer_at m k.cache k.frame k.index) x.local.slab_word.head) (λ v a. ComesTo v others (advance_at m value x.local (InFree LinkSlab) a).local) t
-    (freed-inside w x others s (rw is refl)) (at_LinkSlab w x others is s)
+    memory_store m value words (pointer_at m k.cache k.frame k.index) (hardened k.cache (pointer_at m k.cache k.frame k.index) x.local.slab_word.head) (λ v a. Reaches opening v others (advance_at m value x.local (InFree LinkSlab) a)) t
+    (freed-inside w x others s (rw is refl))
+    (at_LinkSlab w x others is s, tale_link opening w value x others (hardened k.cache (pointer_at m k.cache k.frame k.index) x.local.slab_word.head) (InFree LinkSlab) is refl refl refl refl s ac)
 
 pub leads_LinkLocked : AtSpot (InFree LinkLocked)
 unfolding world_of world_from
-leads_LinkLocked m value words x others t is s =
+leads_LinkLocked opening m value words x others t is s ac =
     let w = world_of m value words in
     let k = here x.local in
-    memory_store m value words (pointer_at m k.cache k.frame k.index) (hardened k.cache (pointer_at m k.cache k.frame k.index) x.local.slab_word.head) (λ v a. ComesTo v others (advance_at m value x.local (InFree LinkLocked) a).local) t
-    (freed-inside w x others s (rw is refl)) (at_LinkLocked w x others is s)
+    memory_store m value words (pointer_at m k.cache k.frame k.index) (hardened k.cache (pointer_at m k.cache k.frame k.index) x.local.slab_word.head) (λ v a. Reaches opening v others (advance_at m value x.local (InFree LinkLocked) a)) t
+    (freed-inside w x others s (rw is refl))
+    (at_LinkLocked w x others is s, tale_link opening w value x others (hardened k.cache (pointer_at m k.cache k.frame k.index) x.local.slab_word.head) (InFree LinkLocked) is refl refl refl refl s ac)
 
 pub leads_WriteWord : AtSpot WriteWord
 unfolding world_of world_from
-leads_WriteWord m value words x others t is s =
+leads_WriteWord opening m value words x others t is s ac =
     let w = world_of m value words in
     let k = here x.local in
-    memory_store m value words (word_at m k.cache k.frame k.index (call_of x.local).word) (call_of x.local).value (λ v a. ComesTo v others (advance_at m value x.local WriteWord a).local) t
-    (used-inside w x others s is) (at_WriteWord w x others is s)
+    memory_store m value words (word_at m k.cache k.frame k.index (call_of x.local).word) (call_of x.local).value (λ v a. Reaches opening v others (advance_at m value x.local WriteWord a)) t
+    (used-inside w x others s (rw is refl) (rw is refl) (rw is refl))
+    (at_WriteWord w x others is s, (record x { local = told (advance_at m value x.local WriteWord Done) }, refl, told_WriteWord opening w value x others is s ac))
 
 pub leads_LinkNew : (i : ℕ) → AtSpot (InAlloc (LinkNew i))
 unfolding world_of world_from
-leads_LinkNew i m value words x others t is s =
+leads_LinkNew i opening m value words x others t is s ac =
     let w = world_of m value words in
     let p = pointer_at m x.local.cache (run_of x.local).frame i in
-    memory_store m value words p (hardened x.local.cache p (rising_next (run_of x.local).objects i)) (λ v a. ComesTo v others (advance_at m value x.local (InAlloc (LinkNew i)) a).local) t
-    (run-inside w x others i is s) (at_LinkNew w x others i is s)
+    memory_store m value words p (hardened x.local.cache p (rising_next (run_of x.local).objects i)) (λ v a. Reaches opening v others (advance_at m value x.local (InAlloc (LinkNew i)) a)) t
+    (run-inside w x others i is s)
+    (at_LinkNew w x others i is s, tale_LinkNew opening w value x others (hardened x.local.cache p (rising_next (run_of x.local).objects i)) i is s ac)
 
 pub leads_LinkLast : (away : Away) → AtSpot (InPutAway LinkLast away)
 unfolding world_of world_from
-leads_LinkLast away m value words x others t is s =
+leads_LinkLast away opening m value words x others t is s ac =
     let w = world_of m value words in
     let p = pointer_at m x.local.cache (hand_of x.local).frame ((hand_of x.local).last - 1) in
-    memory_store m value words p (hardened x.local.cache p x.local.slab_word.head) (λ v a. ComesTo v others (advance_at m value x.local (InPutAway LinkLast away) a).local) t
-    (last-inside w x others away is s) (at_LinkLast w x others away is s)
+    memory_store m value words p (hardened x.local.cache p x.local.slab_word.head) (λ v a. Reaches opening v others (advance_at m value x.local (InPutAway LinkLast away) a)) t
+    (last-inside w x others away is s)
+    (at_LinkLast w x others away is s, tale_LinkLast opening w value x others (hardened x.local.cache p x.local.slab_word.head) away is s ac)

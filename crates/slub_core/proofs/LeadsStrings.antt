@@ -19,12 +19,15 @@ use Rattle.slub_core.specs.Steps.{advance_at}
 use Rattle.slub_core.specs.Coherent.{Stands}
 use Rattle.slub_core.proofs.Exists.{times-self}
 use Rattle.slub_core.proofs.Lists.{times-at}
-use Rattle.slub_core.proofs.Locks.{ComesTo}
 use Rattle.slub_core.proofs.Leads.{AtSpot, at_work, cpu_below, home_below}
 use Rattle.slub_core.proofs.Words.{list-read, link-read}
 use Rattle.slub_core.proofs.WordSteps.{load}
 use Rattle.slub_core.proofs.Kind25.{at_LoadList, at_LoadCount}
 use Rattle.slub_core.proofs.Kind27.{at_FollowFront, at_FollowSet, at_WalkString}
+use Rattle.slub_core.proofs.Accounts.{Reaches}
+use Rattle.slub_core.proofs.TaleSteps.{quietly}
+use Rattle.slub_core.proofs.TaleSpots.{unseen-same}
+use Rattle.slub_core.specs.declared.step.Answer.TheVariants.{Word}
 
 -- ---- slabs of a string in hand are among the frames
 
@@ -61,43 +64,45 @@ cursor_below w x others s some = by_string x.local.string x.string refl refl (at
 
 pub leads_LoadList : (put : PutOnList) → AtSpot (InPutOnList LoadList put)
 unfolding world_of world_from
-leads_LoadList put m value words x others t is s =
+leads_LoadList put opening m value words x others t is s ac =
+    let w = world_of m value words in
     let n = own_cpu x.local in
-    load m value words (ListOf n) (λ v a. ComesTo v others (advance_at m value x.local (InPutOnList LoadList put) a).local)
-    (at_LoadList (world_of m value words) x others put (get_or words (list_base + n) 0) is (list-read m value words n (cpu_below m value words x others t (rw is refl) s)) s)
+    load m value words (ListOf n) (λ v a. Reaches opening v others (advance_at m value x.local (InPutOnList LoadList put) a))
+    (at_LoadList w x others put (get_or words (list_base + n) 0) is (list-read m value words n (cpu_below m value words x others t (rw is refl) s)) s, quietly opening w w value x others (InPutOnList LoadList put) (Word (get_or words (list_base + n) 0)) is ac (unseen-same w) refl refl)
 
 pub leads_LoadCount : AtSpot (InFree LoadCount)
 unfolding world_of world_from
-leads_LoadCount m value words x others t is s =
+leads_LoadCount opening m value words x others t is s ac =
+    let w = world_of m value words in
     let n = own_cpu x.local in
-    load m value words (ListOf n) (λ v a. ComesTo v others (advance_at m value x.local (InFree LoadCount) a).local)
-    (at_LoadCount (world_of m value words) x others (get_or words (list_base + n) 0) is (list-read m value words n (cpu_below m value words x others t (rw is refl) s)) s)
+    load m value words (ListOf n) (λ v a. Reaches opening v others (advance_at m value x.local (InFree LoadCount) a))
+    (at_LoadCount w x others (get_or words (list_base + n) 0) is (list-read m value words n (cpu_below m value words x others t (rw is refl) s)) s, quietly opening w w value x others (InFree LoadCount) (Word (get_or words (list_base + n) 0)) is ac (unseen-same w) refl refl)
 
 -- ---- links
 
 pub leads_FollowFront : AtSpot (InAlloc FollowFront)
 unfolding world_of world_from
-leads_FollowFront m value words x others t is s =
+leads_FollowFront opening m value words x others t is s ac =
     let w = world_of m value words in
     let f = (string_of x.local).front in
     let least : 2 ≤ (string_of x.local).count = rw is at (at_work w x others s).spot.least in
-    load m value words (LinkOf f) (λ v a. ComesTo v others (advance_at m value x.local (InAlloc FollowFront) a).local)
-    (at_FollowFront w x others (get_or words (link_base m + f) 0) is (link-read m value words f (front_below w x others s (omega arith))) s)
+    load m value words (LinkOf f) (λ v a. Reaches opening v others (advance_at m value x.local (InAlloc FollowFront) a))
+    (at_FollowFront w x others (get_or words (link_base m + f) 0) is (link-read m value words f (front_below w x others s (omega arith))) s, quietly opening w w value x others (InAlloc FollowFront) (Word (get_or words (link_base m + f) 0)) is ac (unseen-same w) refl refl)
 
 pub leads_FollowSet : (move : MoveSet) → AtSpot (InMoveSet FollowSet move)
 unfolding world_of world_from
-leads_FollowSet move m value words x others t is s =
+leads_FollowSet move opening m value words x others t is s ac =
     let w = world_of m value words in
     let f = (string_of x.local).front in
     let least : 2 ≤ (string_of x.local).count = rw is at (at_work w x others s).spot.least in
-    load m value words (LinkOf f) (λ v a. ComesTo v others (advance_at m value x.local (InMoveSet FollowSet move) a).local)
-    (at_FollowSet w x others move (get_or words (link_base m + f) 0) is (link-read m value words f (front_below w x others s (omega arith))) s)
+    load m value words (LinkOf f) (λ v a. Reaches opening v others (advance_at m value x.local (InMoveSet FollowSet move) a))
+    (at_FollowSet w x others move (get_or words (link_base m + f) 0) is (link-read m value words f (front_below w x others s (omega arith))) s, quietly opening w w value x others (InMoveSet FollowSet move) (Word (get_or words (link_base m + f) 0)) is ac (unseen-same w) refl refl)
 
 pub leads_WalkString : (put : PutOnList) → AtSpot (InPutOnList WalkString put)
 unfolding world_of world_from
-leads_WalkString put m value words x others t is s =
+leads_WalkString put opening m value words x others t is s ac =
     let w = world_of m value words in
     let f = (string_of x.local).cursor in
     let least : 1 ≤ (string_of x.local).count = rw is at (at_work w x others s).spot.least in
-    load m value words (LinkOf f) (λ v a. ComesTo v others (advance_at m value x.local (InPutOnList WalkString put) a).local)
-    (at_WalkString w x others put (get_or words (link_base m + f) 0) is (link-read m value words f (cursor_below w x others s least)) s)
+    load m value words (LinkOf f) (λ v a. Reaches opening v others (advance_at m value x.local (InPutOnList WalkString put) a))
+    (at_WalkString w x others put (get_or words (link_base m + f) 0) is (link-read m value words f (cursor_below w x others s least)) s, quietly opening w w value x others (InPutOnList WalkString put) (Word (get_or words (link_base m + f) 0)) is ac (unseen-same w) refl refl)

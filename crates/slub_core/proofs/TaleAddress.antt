@@ -21,7 +21,7 @@ eight : (f r p : ℕ) → r % 8 ≡ 0 → p % 8 ≡ 0 → 8 * ((f * 4096 + r + p
 eight f r p a b = omega arith
 
 -- an object begins with a word in its slot
-address-word : (m : Setup) (cache f i : ℕ) → IsSetup m → m.lives cache ≡ true → IsWordOf (m.layout cache) f i (address_of f i (m.layout cache) / 8)
+pub address-word : (m : Setup) (cache f i : ℕ) → IsSetup m → m.lives cache ≡ true → IsWordOf (m.layout cache) f i (address_of f i (m.layout cache) / 8)
 address-word m cache f i setup live =
     let l = m.layout cache in
     let b = setup.layout cache live in
@@ -41,7 +41,7 @@ checked-fits m cache f slabs of some =
     rw (← size) (elim slab.sized [ inl e ↦ rw (e.0, e.1) b.objects_fit | inr e ↦ rw (e.0, e.1) b.min_objects_fit ])
 
 -- a slab covers the frame of each word of its objects, of a checked cache too
-object-covers : (w : World) (xs : List Worker) (f i p : ℕ) → Stands w xs → 1 ≤ object_at w f i → IsWordOf (w.setup.layout (cache_at w f)) f i p → covers w (p / 512) f ≡ 1
+pub object-covers : (w : World) (xs : List Worker) (f i p : ℕ) → Stands w xs → 1 ≤ object_at w f i → IsWordOf (w.setup.layout (cache_at w f)) f i p → covers w (p / 512) f ≡ 1
 object-covers w xs f i p s some is = elim (cases_lt 0 (w.slab f).objects) [
   | inl l ↦ slab-covers w xs f i p s (let e = word-object w f i (omega arith) in omega arith) (subst (λ c. IsWordOf (w.setup.layout c) f i p) (word-cache w f (omega arith)) is)
   | inr g ↦

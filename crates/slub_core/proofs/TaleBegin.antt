@@ -1,5 +1,5 @@
 -- A worker begins its next call; and the account does not depend on the order of the workers.
-use Rattle.std.proofs.Common.{◌≡◌, ℕ, ◌+◌, ◌++◌, Bool, true, false, List, ◌∷◌, length, get_or, refl, sym, ap, ◌∙◌, subst, arith, inl, Some, None, Option}
+use Rattle.std.proofs.Common.{◌≡◌, ℕ, ◌+◌, ◌++◌, Bool, true, false, List, [], ◌∷◌, length, get_or, refl, sym, ap, ◌∙◌, subst, arith, inl, Some, None, Option}
 use Rattle.std.specs.Prelude.{All, sum_by, unwrap_or}
 use Rattle.std.proofs.lemmas.Bool.{false≢true}
 use Rattle.std.proofs.lemmas.Option.{none-some}
@@ -8,16 +8,19 @@ use Rattle.slub_core.specs.declared.call.Call.{Call}
 use Rattle.slub_core.specs.declared.call.CallKind.{CallKind}
 use Rattle.slub_core.specs.declared.call.CallKind.TheVariants.{Alloc, Free, Write, Read, Poke, Trim, Flush}
 use Rattle.slub_core.specs.declared.local.Known.{Known}
+use Rattle.slub_core.specs.declared.spot.Spot.{Spot}
 use Rattle.slub_core.specs.declared.spot.Spot.TheVariants.{Between}
 use Rattle.slub_core.specs.Setup.{Setup}
 use Rattle.slub_core.specs.World.{World}
 use Rattle.slub_core.specs.Local.{Local, Worker, nobody, no_call, here, call_of}
-use Rattle.slub_core.specs.Steps.{told_of_alloc, told_of_trim, told_at_once, cache_for, first_spot, first_cpu, begun_call}
+use Rattle.slub_core.specs.Steps.{told_of_alloc, told_of_trim, told_at_once, cache_for, first_spot, first_cpu, begun_call, begun_with, begun_at, begun}
 use Rattle.slub_core.specs.Spots.{doing, is_freeing}
 use Rattle.slub_core.specs.Replies.{given_in, freed_in, asked_in, dry_in, Later}
 use Rattle.slub_core.specs.Accounted.{had, public, place_of, known_of, Fits, NamesCache, IsTold, IsWritten, IsAccounted}
-use Rattle.slub_core.specs.Law.{MayBegin}
+use Rattle.slub_core.specs.Law.{TakesStep}
+use Rattle.slub_core.proofs.MayBegin.{MayBegin, MayBeginFirst, may_begin}
 use Rattle.slub_core.proofs.Among.{sum_by-middle, All-middle, All-back}
+use Rattle.slub_core.proofs.Accounts.{Accounts}
 use Rattle.slub_core.proofs.TaleStep.{told-later}
 use Rattle.slub_core.proofs.TaleQuiet.{told_like}
 use Rattle.slub_core.proofs.TaleReplies.{told-of}
@@ -104,6 +107,18 @@ told_begun opening w fast x others call calls is todo may none ac =
         subst (NamesCache n) same (names-first m known n call call.kind mine refl refl none),
       );
     })
+
+-- a worker between two calls begins its next one
+pub told_begin : (opening w : World) (x : Worker) (others : List Worker) → (x.local.spot ≡ Between → TakesStep w.setup x.local x.local.todo) → IsAccounted opening w (x ∷ others) → Accounts opening w others (begun w.setup false x.local)
+told_begin opening w x others rested ac = by_spot x.local.spot refl
+  where
+    by_todo : (calls : List Call) → x.local.todo ≡ calls → x.local.spot ≡ Between → MayBeginFirst w.setup x.local calls → TakesStep w.setup x.local calls → Accounts opening w others (begun_with w.setup false x.local calls)
+    by_todo [] e is may takes = (x, refl, ac)
+    by_todo (call ∷ calls) e is may takes = (record x { local = begun_call w.setup false x.local call }, refl, told_begun opening w false x others call calls is e may takes ac)
+
+    by_spot : (spot : Spot) → x.local.spot ≡ spot → Accounts opening w others (begun_at w.setup false x.local spot)
+    by_spot Between is = by_todo x.local.todo refl is (may_begin opening w x others ac) (rested is)
+    by_spot _ is = (x, refl, ac)
 
 -- ---- the order of the workers
 

@@ -27,7 +27,7 @@ use Rattle.slub_core.proofs.TaleGiven.{known-object}
 use Rattle.slub_core.proofs.TaleSpots.{unseen-same}
 
 -- what a worker holds by its replies, it knows by them
-holding-knows : (ds : List Answered) (o : ℕ) → holding ds o ≡ true → knows ds o ≡ true
+pub holding-knows : (ds : List Answered) (o : ℕ) → holding ds o ≡ true → knows ds o ≡ true
 holding-knows [] o h = absurd (false≢true h)
 holding-knows (d ∷ ds) o h = let rest : holding ds o ≡ true → knows ds o ≡ true = holding-knows ds o in elim (cases_eq d.call.object o) [
   | inl e ↦ (let h' : holds_after d.reply (holding ds o) ≡ true = rw (eq-eqb d.call.object o e) at h in rw (eq-eqb d.call.object o e) (by_reply rest d.reply h'))

@@ -123,7 +123,7 @@ told_run opening w x z others run i v ac s mine below quiet =
 
 -- ---- writes
 
-word-inside : (layout : Layout) (c : Call) → is_outside layout c ≡ false → 8 * (c.word + 1) ≤ layout.object_size
+pub word-inside : (layout : Layout) (c : Call) → is_outside layout c ≡ false → 8 * (c.word + 1) ≤ layout.object_size
 word-inside layout c is = elim (cases_Bool (nat_le (8 * (c.word + 1)) layout.object_size)) [
   | inl e ↦ leb-true _ _ e
   | inr e ↦ absurd (false≢true (sym is ∙ rw e refl))

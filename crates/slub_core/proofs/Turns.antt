@@ -1,113 +1,54 @@
 -- A turn of any worker keeps all, and so does a run of turns.
-use Rattle.std.proofs.Common.{◌≡◌, ℕ, zero, suc, ◌<◌, ◌≤◌, Bool, false, Option, Some, None, List, [], ◌∷◌, ◌++◌, length, get_or, set, map, refl, sym, ap, ◌∙◌, subst, arith, inl, inr}
+use Rattle.std.proofs.Common.{◌≡◌, ℕ, zero, suc, ◌<◌, ◌≤◌, Bool, false, List, [], ◌∷◌, ◌++◌, length, get_or, set, map, refl, sym, ap, ◌∙◌, subst, arith, inl, inr}
 use Rattle.std.proofs.lemmas.List.{length-set, set-get_or}
-use Rattle.std.proofs.lemmas.List.Elements.{All-head, All-set}
+use Rattle.std.proofs.lemmas.List.Elements.{All-set}
 use Rattle.std.proofs.lemmas.Bool.{cases_lt}
-use Rattle.std.proofs.lemmas.Option.{none-some}
-use Rattle.slub_answers.specs.declared.reply.Reply.{Reply}
-use Rattle.slub_core.specs.declared.call.Call.{Call}
-use Rattle.slub_core.specs.declared.spot.Spot.{Spot}
 use Rattle.slub_core.specs.declared.spot.Spot.TheVariants.{Between}
 use Rattle.slub_core.specs.Setup.{Setup}
 use Rattle.slub_core.specs.Words.{word_count, number_of, after_op, answer_of}
 use Rattle.slub_core.specs.World.{World, LockValue, world_from, world_of}
-use Rattle.slub_core.specs.Local.{Local, Worker, nobody, answered, noted}
-use Rattle.slub_core.specs.Steps.{step_of, advance_at, advance_of, at_once, told, settled, told_at_once, or_step, rested_with, rested_at, begun}
-use Rattle.slub_core.specs.Run.{System, Pick, idle, after_step, turn}
-use Rattle.slub_core.specs.Spots.{uses_word}
-use Rattle.slub_core.specs.Fresh.{IsAtWork}
+use Rattle.slub_core.specs.Local.{Local, Worker, noted}
+use Rattle.slub_core.specs.Steps.{step_of, advance_at, advance_of, settled, begun}
+use Rattle.slub_core.specs.Run.{System, Pick, idle, after_step, turn, run}
 use Rattle.slub_core.specs.Coherent.{Stands}
-use Rattle.slub_core.specs.Law.{TakesStep, IsRested, IsStanding, MayBeginFirst, MayTurn, TurnsKeepAll, RunsKeepAll}
+use Rattle.slub_core.specs.Accounted.{IsAccounted}
+use Rattle.slub_core.specs.Law.{TakesStep, IsRested, IsCoherentSystem, TurnsKeepAll, RunsKeepAll}
+use Rattle.slub_core.proofs.Accounts.{Comes}
+use Rattle.slub_core.proofs.MayBegin.{may_begin}
+use Rattle.slub_core.proofs.Noted.{noted-comes}
+use Rattle.slub_core.proofs.TaleSettled.{comes_settled}
+use Rattle.slub_core.proofs.Rests.{joined, rests-at, is_rested}
+use Rattle.slub_core.proofs.CallsStay.{script, has-call, step-script, begun-script, scripts-set}
+use Rattle.slub_core.proofs.Scripts.{turn-says}
+use Rattle.slub_core.proofs.TaleBegin.{told_begin, accounted_to_front, accounted_from_front}
 use Rattle.slub_core.proofs.Among.{to_front, from_front}
 use Rattle.slub_core.proofs.Begin.{begin}
 use Rattle.slub_core.proofs.Dispatch.{leads}
 use Rattle.slub_core.proofs.Leads.{table}
-use Rattle.slub_core.proofs.LocalStep.{local_step}
-use Rattle.slub_core.proofs.Locks.{ComesTo}
-use Rattle.slub_core.proofs.Onces.{makes}
-use Rattle.slub_core.proofs.Tells.{Quiet, turn-tells, change-quits}
-
--- ---- replies
-
--- the facts of the machine do not read what a worker was answered
-answered-work : (w : World) (x : Worker) (r : Reply) → uses_word x.local.spot ≡ false → IsAtWork w x → IsAtWork w (record x { local = answered x.local r })
-answered-work w x r away ok = grind arith
-
-answered-comes : (w : World) (others : List Worker) (l : Local) (r : Reply) → uses_word l.spot ≡ false → ComesTo w others l → ComesTo w others (answered l r)
-answered-comes w others l r away (z, e, s) = (
-  record z { local = answered z.local r },
-  ap (λ l. answered l r) e,
-  local_step w z _ others s (λ f i. refl) (record { home = λ f. refl; marked = λ f. refl; covered = λ g. refl; takes = λ n. refl })
-      (answered-work w z r (ap (λ l. uses_word l.spot) e ∙ away) (All-head (IsAtWork w) z others s.fresh.workers)),
-)
-
-pub noted-comes : (w : World) (others : List Worker) (l : Local) (r : Option Reply) → Quiet r l.spot → ComesTo w others l → ComesTo w others (noted l r)
-noted-comes w others l None quiet c = c
-noted-comes w others l (Some r) (inl none) c = absurd (none-some r (sym none))
-noted-comes w others l (Some r) (inr away) c = answered-comes w others l r away c
-
--- ---- what is done at once
-
-once-comes : (m : Setup) (value : ℕ → LockValue) (words : List ℕ) (refused : Bool) (others : List Worker) (l : Local) → ComesTo (world_of m value words) others l
-    → let c = at_once m refused value l l.spot in ComesTo (world_of m c.value words) others (noted c.local c.reply)
-unfolding world_of world_from
-once-comes m value words refused others l (z, e, s) =
-    subst (λ l. let c = at_once m refused value l l.spot in ComesTo (world_of m c.value words) others (noted c.local c.reply)) e
-    (let c = at_once m refused value z.local z.local.spot in
-    noted-comes (world_of m c.value words) others c.local c.reply (change-quits m refused value z.local z.local.spot) (makes (world_of m value words) refused z others z.local.spot refl s))
-
--- ---- replies that take no step
-
-or-comes : (w : World) (others : List Worker) (l : Local) (more : Reply → Local) (r : Option Reply) → ComesTo w others l → ((reply : Reply) → ComesTo w others (more reply)) → ComesTo w others (or_step l more r)
-or-comes w others l more None c d = c
-or-comes w others l more (Some reply) c d = d reply
-
-rests : (w : World) (others : List Worker) (m : Setup) (calls : List Call) (l : Local) → l.spot ≡ Between → ComesTo w others l → ComesTo w others (rested_with m calls l)
-rests w others m [] l is c = c
-rests w others m (call ∷ calls) l is c =
-    or-comes w others l (λ reply. rested_with m calls (answered l reply)) (told_at_once m (get_or l.known call.place nobody) call call.kind) c
-    (λ reply. rests w others m calls (answered l reply) is (answered-comes w others l reply (rw is refl) c))
-
-rests-at : (w : World) (others : List Worker) (m : Setup) (l : Local) (spot : Spot) → l.spot ≡ spot → ComesTo w others l → ComesTo w others (rested_at m l spot)
-rests-at w others m l Between is c = rests w others m l.todo l is c
-rests-at w others m l _ is c = c
-
--- after them the next call takes a step
-or-takes : (m : Setup) (l : Local) (more : Reply → Local) (r : Option Reply) → (r ≡ None → TakesStep m l l.todo) → ((reply : Reply) → TakesStep m (more reply) (more reply).todo) → TakesStep m (or_step l more r) (or_step l more r).todo
-or-takes m l more None c d = c refl
-or-takes m l more (Some reply) c d = d reply
-
-takes_step : (m : Setup) (calls : List Call) (l : Local) → l.todo ≡ calls → TakesStep m (rested_with m calls l) (rested_with m calls l).todo
-takes_step m [] l e = rw e tt
-takes_step m (call ∷ calls) l e =
-    or-takes m l (λ reply. rested_with m calls (answered l reply)) (told_at_once m (get_or l.known call.place nobody) call call.kind)
-    (λ none. rw e none) (λ reply. takes_step m calls (answered l reply) (rw e refl))
-
-is_rested : (m : Setup) (l : Local) (spot : Spot) → l.spot ≡ spot → IsRested m (rested_at m l spot)
-is_rested m l Between e = λ between. takes_step m l.todo l refl
-is_rested m l _ e = λ between. absurd (let z = sym e ∙ between in cc)
+use Rattle.slub_core.proofs.Tells.{turn-tells}
 
 -- ---- a step
 
-pub steps : (m : Setup) (value : ℕ → LockValue) (words : List ℕ) (refused : Bool) (x : Worker) (others : List Worker) → length words ≡ word_count m → Stands (world_of m value words) (x ∷ others)
+pub steps : (opening : World) (m : Setup) (value : ℕ → LockValue) (words : List ℕ) (refused : Bool) (x : Worker) (others : List Worker) → length words ≡ word_count m → Stands (world_of m value words) (x ∷ others)
+    → IsAccounted opening (world_of m value words) (x ∷ others)
     → let step = step_of m value x.local in let n = number_of m step.place in let q = get_or words n 0 in let a = answer_of step.op q in
-    let c = advance_of m refused value x.local a in ComesTo (world_of m c.value (set words n (after_op step.op q))) others c.local
-steps m value words refused x others long s =
+    let c = advance_of m refused value x.local a in Comes opening (world_of m c.value (set words n (after_op step.op q))) others c.local × (script c.local ≡ script x.local)
+unfolding world_of world_from
+steps opening m value words refused x others long s ac =
     let step = step_of m value x.local in
     let n = number_of m step.place in
     let q = get_or words n 0 in
     let a = answer_of step.op q in
     let after = set words n (after_op step.op q) in
     let turn = advance_at m value x.local x.local.spot a in
-    let led = leads x.local.spot m value words x others (table m value words x others long s) refl s in
-    let l0 = told turn in
-    let c1 = at_once m refused value l0 l0.spot in
-    let l1 = noted c1.local c1.reply in
-    let c2 = at_once m refused c1.value l1 l1.spot in
-    let l2 = noted c2.local c2.reply in
-    let first = once-comes m value after refused others l0 (noted-comes (world_of m value after) others turn.local turn.reply (turn-tells m value x.local x.local.spot a) led) in
-    let second = once-comes m c1.value after refused others l1 first in
-    rests-at (world_of m c2.value after) others m l2 l2.spot refl second
+    let led = leads x.local.spot opening m value words x others (table m value words x others long s) refl s ac in
+    let stands = noted-comes (world_of m value after) others turn.local turn.reply (turn-tells m value x.local x.local.spot a) led.0 in
+    let c = settled m refused (record { value = value; local = turn.local; reply = turn.reply }) in
+    let l = noted c.local c.reply in (
+      rests-at opening (world_of m c.value after) others l l.spot refl (comes_settled opening (world_of m value after) refused others turn.local turn.reply (stands, led.1)),
+      step-script opening (world_of m value after) refused others x.local turn.local x.local.spot turn.reply (turn-says m value x.local x.local.spot a)
+          (has-call opening (world_of m value words) others x.local ((x, refl, s), (x, refl, ac))) (stands, led.1),
+    )
 
 -- ---- a worker among the others
 
@@ -139,45 +80,54 @@ length-mapped f (x ∷ xs) = ap suc (length-mapped f xs)
 locals-middle : (f : Worker → Local) (front back : List Worker) (x : Worker) (ls : List Local) (k : ℕ) → length front ≡ k → map f (front ++ x ∷ back) ≡ ls → (map f front ++ f x ∷ map f back ≡ ls) × (length (map f front) ≡ k)
 locals-middle f front back x ls k at is = (sym (map-append f front (x ∷ back)) ∙ is, length-mapped f front ∙ at)
 
-turn_below : (m : Setup) (s : System) (pick : Pick) → pick.worker < length s.locals → IsStanding m s → MayTurn m s pick → IsStanding m (turn m s pick)
+turn_below : (m : Setup) (opening : World) (s : System) (pick : Pick) → pick.worker < length s.locals → IsCoherentSystem m opening s → IsCoherentSystem m opening (turn m s pick) × (map script (turn m s pick).locals ≡ map script s.locals)
 unfolding world_of world_from
-turn_below m s pick below stands may =
-    let r = split stands.workers pick.worker (let e = ap (λ ls. length ls) stands.locals in let g = length-mapped (λ (x : Worker). x.local) stands.workers in omega arith) in
-    by_split r.0 r.2 r.1 r.4 (sym (ap (map (λ (x : Worker). x.local)) r.3) ∙ stands.locals) (subst (Stands (world_of m s.value s.words)) r.3 stands.stands)
+turn_below m opening s pick below is =
+    let r = split is.workers pick.worker (let e = ap (λ ls. length ls) is.locals in let g = length-mapped (λ (x : Worker). x.local) is.workers in omega arith) in
+    let w = world_of m s.value s.words in
+    let all : Stands w is.workers = record { chains = is.chains; placed = is.coherent.placed; listed = is.coherent.listed; fresh = is.coherent.fresh } in
+    by_split r.0 r.2 r.1 r.4 (sym (ap (map (λ (x : Worker). x.local)) r.3) ∙ is.locals) (subst (Stands w) r.3 all) (subst (IsAccounted opening w) r.3 is.coherent.accounted)
   where
-    by_split : (front back : List Worker) (x : Worker) → length front ≡ pick.worker → map (λ (x : Worker). x.local) (front ++ x ∷ back) ≡ s.locals → Stands (world_of m s.value s.words) (front ++ x ∷ back) → IsStanding m (turn m s pick)
-    by_split front back x at is all =
+    by_split : (front back : List Worker) (x : Worker) → length front ≡ pick.worker → map (λ (x : Worker). x.local) (front ++ x ∷ back) ≡ s.locals → Stands (world_of m s.value s.words) (front ++ x ∷ back) → IsAccounted opening (world_of m s.value s.words) (front ++ x ∷ back)
+        → IsCoherentSystem m opening (turn m s pick) × (map script (turn m s pick).locals ≡ map script s.locals)
+    by_split front back x at locals all ac =
         let w = world_of m s.value s.words in
         let k = pick.worker in
         let l = get_or s.locals k idle in
         let others = front ++ back in
-        let lay = locals-middle (λ (x : Worker). x.local) front back x s.locals k at is in
+        let lay = locals-middle (λ (x : Worker). x.local) front back x s.locals k at locals in
         let mine : x.local ≡ l = sym (subst (λ ls. get_or ls (length (map (λ (x : Worker). x.local) front)) idle ≡ x.local) lay.0 (get_or-middle (map (λ (x : Worker). x.local) front) (map (λ (x : Worker). x.local) back) x.local idle)) ∙ ap (λ n. get_or s.locals n idle) lay.1 in
-        let rest = stands.rested k idle below in
-        let began = subst (λ l. ComesTo w others (begun m false l)) mine
-        (begin w x others (to_front w front back x all) (subst (λ l. l.spot ≡ Between → MayBeginFirst m l l.todo) (sym mine) may) (subst (λ l. l.spot ≡ Between → TakesStep m l l.todo) (sym mine) rest)) in
-        let y = began.0 in
+        let rest = subst (λ l. l.spot ≡ Between → TakesStep m l l.todo) (sym mine) (is.rested k idle below) in
+        let stood = to_front w front back x all in
+        let agrees = accounted_to_front opening w front back x ac in
+        let began = subst (λ l. Comes opening w others (begun m false l)) mine (begin w x others stood (λ _. may_begin opening w x others agrees) rest, told_begin opening w x others rest agrees) in
+        let y = joined opening w others (begun m false l) began in
         let step = step_of m s.value (begun m false l) in
         let n = number_of m step.place in
         let q = get_or s.words n 0 in
         let c = advance_of m pick.refused s.value (begun m false l) (answer_of step.op q) in
-        let led : ComesTo (world_of m c.value (set s.words n (after_op step.op q))) others c.local
+        let v = world_of m c.value (set s.words n (after_op step.op q)) in
+        let led : Comes opening v others c.local × (script c.local ≡ script (begun m false l))
         = subst (λ b. let step = step_of m s.value b in let n = number_of m step.place in let q = get_or s.words n 0 in let a = answer_of step.op q in
-        let c = advance_of m pick.refused s.value b a in ComesTo (world_of m c.value (set s.words n (after_op step.op q))) others c.local) began.1
-        (steps m s.value s.words pick.refused y others stands.words began.2) in
-        let z = led.0 in
+        let c = advance_of m pick.refused s.value b a in Comes opening (world_of m c.value (set s.words n (after_op step.op q))) others c.local × (script c.local ≡ script b)) y.1
+        (steps opening m s.value s.words pick.refused y.0 others is.words y.2 y.3) in
+        let z = joined opening v others c.local led.0 in
         let turned = advance_at m s.value (begun m false l) (begun m false l).spot (answer_of step.op q) in
         let last = settled m pick.refused (record { value = s.value; local = turned.local; reply = turned.reply }) in
         let told_last = noted last.local last.reply in
-        record {
-          words = length-set s.words n (after_op step.op q) ∙ stands.words;
-          workers = front ++ z ∷ back;
-          locals = map-append (λ (x : Worker). x.local) front (z ∷ back) ∙ sym (set-middle (map (λ (x : Worker). x.local) front) (map (λ (x : Worker). x.local) back) x.local z.local)
-              ∙ ap (λ v. set (map (λ (x : Worker). x.local) front ++ x.local ∷ map (λ (x : Worker). x.local) back) (length (map (λ (x : Worker). x.local) front)) v) led.1
-              ∙ ap (λ ls. set ls (length (map (λ (x : Worker). x.local) front)) c.local) lay.0 ∙ ap (λ n. set s.locals n c.local) lay.1;
-          stands = from_front (world_of m c.value (set s.words n (after_op step.op q))) front back z led.2;
-          rested = All-set (IsRested m) s.locals k c.local (is_rested m told_last told_last.spot refl) stands.rested;
-        }
+        let stands = from_front v front back z.0 z.2 in (
+          record {
+            words = length-set s.words n (after_op step.op q) ∙ is.words;
+            workers = front ++ z.0 ∷ back;
+            locals = map-append (λ (x : Worker). x.local) front (z.0 ∷ back) ∙ sym (set-middle (map (λ (x : Worker). x.local) front) (map (λ (x : Worker). x.local) back) x.local z.0.local)
+                ∙ ap (λ v. set (map (λ (x : Worker). x.local) front ++ x.local ∷ map (λ (x : Worker). x.local) back) (length (map (λ (x : Worker). x.local) front)) v) z.1
+                ∙ ap (λ ls. set ls (length (map (λ (x : Worker). x.local) front)) c.local) lay.0 ∙ ap (λ n. set s.locals n c.local) lay.1;
+            chains = stands.chains;
+            coherent = record { placed = stands.placed; listed = stands.listed; fresh = stands.fresh; accounted = accounted_from_front opening v front back z.0 z.3 };
+            rested = All-set (IsRested m) s.locals k c.local (is_rested m told_last told_last.spot refl) is.rested;
+          },
+          scripts-set s.locals k c.local idle (led.1 ∙ begun-script m l l.spot),
+        )
 
 -- a pick of no worker changes nothing
 set-beyond : {X : Type 0} (xs : List X) (k : ℕ) (v : X) → length xs ≤ k → set xs k v ≡ xs
@@ -199,12 +149,23 @@ idle-turn m s refused k past =
 no-turn : (m : Setup) (s : System) (pick : Pick) → length s.locals ≤ pick.worker → turn m s pick ≡ s
 no-turn m s pick past = ap (λ l. after_step m pick.refused s pick.worker (begun m false l)) (get_or-beyond s.locals pick.worker idle past) ∙ idle-turn m s pick.refused pick.worker past
 
-pub turn_keeps : TurnsKeepAll
-turn_keeps m s pick stands may = elim (cases_lt pick.worker (length s.locals)) [
-  | inl below ↦ turn_below m s pick below stands may
-  | inr past ↦ subst (IsStanding m) (sym (no-turn m s pick past)) stands
+turn_both : (m : Setup) (opening : World) (s : System) (pick : Pick) → IsCoherentSystem m opening s → IsCoherentSystem m opening (turn m s pick) × (map script (turn m s pick).locals ≡ map script s.locals)
+turn_both m opening s pick is = elim (cases_lt pick.worker (length s.locals)) [
+  | inl below ↦ turn_below m opening s pick below is
+  | inr past ↦ subst (λ t. IsCoherentSystem m opening t × (map script t.locals ≡ map script s.locals)) (sym (no-turn m s pick past)) (is, refl)
 ]
 
+pub turn_keeps : TurnsKeepAll
+turn_keeps m opening s pick is = (turn_both m opening s pick is).0
+
 pub run_keeps : RunsKeepAll
-run_keeps m s [] stands may = stands
-run_keeps m s (pick ∷ picks) stands may = (stands, run_keeps m (turn m s pick) picks (turn_keeps m s pick stands may.0) may.1)
+run_keeps m opening s [] is = is
+run_keeps m opening s (pick ∷ picks) is = (is, run_keeps m opening (turn m s pick) picks (turn_keeps m opening s pick is))
+
+-- after a run
+pub run_both : (m : Setup) (opening : World) (s : System) (picks : List Pick) → IsCoherentSystem m opening s → IsCoherentSystem m opening (run m s picks) × (map script (run m s picks).locals ≡ map script s.locals)
+run_both m opening s [] is = (is, refl)
+run_both m opening s (pick ∷ picks) is =
+    let t = turn_both m opening s pick is in
+    let r = run_both m opening (turn m s pick) picks t.0 in
+    (r.0, r.1 ∙ t.1)

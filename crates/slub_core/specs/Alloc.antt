@@ -149,7 +149,8 @@ way_of_link l i = if nat_lt (i + 1) (run_of l).objects then InAlloc (LinkNew (i 
 -- before an install: spent, another slab is current, or none
 abbrev pub way_of_again : Setup → Hand → CpuWord → Spot
 way_of_again m hand c =
-    if is_spent m c then way_of_away hand ForSpent else if c.frame == 0 then InAlloc Install else InAlloc DetachOther
+    if is_spent m c then way_of_away hand ForSpent
+    else if c.frame == 0 then InAlloc Install else InAlloc DetachOther
 
 -- ---- walks along a chain in hand
 
@@ -232,7 +233,11 @@ run_taken value pool layout l None =
       reply = Some NoFrames;
     }
 run_taken value pool layout l (Some run) =
-    record { value = pool_with value (pool_after pool run.order (Some run.frame)); local = record l { run = Some run }; reply = None }
+    record {
+      value = pool_with value (pool_after pool run.order (Some run.frame));
+      local = record l { run = Some run };
+      reply = None;
+    }
 
 abbrev pub take_run : Setup → (ℕ → LockValue) → Local → FreeFrames → Change
 take_run m value l pool =

@@ -76,5 +76,6 @@ with_put pool run = record pool { free = with_run pool.free run.frame run.order 
 
 abbrev pub discard_at_once : (ℕ → LockValue) → Local → DiscardSpot → Discard → Change
 discard_at_once value l PutRun discard =
-    stays (pool_with value (with_put (pool_in (value pool_lock)) (run_of l))) (record l { run = None; spot = InDiscard GiveDiscard discard })
+    stays (pool_with value (with_put (pool_in (value pool_lock)) (run_of l)))
+    (record l { run = None; spot = InDiscard GiveDiscard discard })
 discard_at_once value l s discard = stays value l

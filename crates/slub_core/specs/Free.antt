@@ -67,7 +67,8 @@ board_taken m l (Some b) =
 
 -- to the CPU freelist, where the object's slab is current (`likely(slab == c->slab)`)
 abbrev pub way_of_own : Setup → Local → CpuWord → Spot
-way_of_own m l c = if (c.frame == (here l).frame) && not (is_spent m c) then InFree LinkOwn else InFree LoadSlab
+way_of_own m l c = if (c.frame == (here l).frame) && not (is_spent m c) then InFree LinkOwn
+    else InFree LoadSlab
 
 abbrev pub way_of_slab : SlabWord → Spot
 way_of_slab s = if is_last_listed s then InFree LockFree else InFree LinkSlab

@@ -128,7 +128,7 @@ pub record IsAtSpot (m : Setup) (x : Worker) : Type 0 where
   pub keeps : keeps x.local.spot ≡ true → (x.local.place < length x.local.known)
       × ((here x.local).held ≡ true) × ((here x.local).cache ≡ x.local.cache)
   pub pokes : pokes x.local.spot ≡ true → (x.local.place < length x.local.known)
-      × ((here x.local).cache ≡ x.local.cache)
+      × ((here x.local).cache ≡ x.local.cache) × (1 ≤ (here x.local).frame)
   -- slabs in hand
   pub hands : AreHands (roles x.local.spot (length x.local.hands)) x.local.hands x.chains
   pub walking : is_walking x.local.spot ≡ true → (1 ≤ (hand_of x.local).head)

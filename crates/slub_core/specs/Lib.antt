@@ -20,4 +20,6 @@ pub mod Fresh
 pub mod Replies
 pub mod Accounted
 pub mod Coherent
+pub mod Opening
+pub mod Round
 pub mod Law

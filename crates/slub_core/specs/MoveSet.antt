@@ -29,7 +29,9 @@ listed_word s = record s { listed = true }
 
 -- an empty slab is discarded, where the list has enough without it
 abbrev pub way_of_moved : Setup → (ℕ → LockValue) → Local → MoveSet → SlabWord → Spot
-way_of_moved m value l move s = if (s.inuse == 0) && has_enough m value l then InDiscard Unmake (FromMove move) else InMoveSet ListSlab move
+way_of_moved m value l move s =
+    if (s.inuse == 0) && has_enough m value l then InDiscard Unmake (FromMove move)
+    else InMoveSet ListSlab move
 
 -- the front is taken off the string; the last slab of it at once, since nothing follows
 abbrev pub front_taken : Local → MoveSet → Option PartialString → Local

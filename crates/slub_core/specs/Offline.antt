@@ -77,7 +77,11 @@ way_of_current sweep c = if c.frame == 0 then InOffline TakeCurrent sweep
 abbrev pub list_swept : Setup → Local → Sweep → ListWord → Turn
 list_swept m l sweep list =
     if list.count == 0 then next_swept m l sweep
-    else goes (record l { string = Some (taken_string list.front list.count); count = l.count + if_flushing sweep list.count; spot = InMoveSet LockMove (ForOffline sweep) })
+    else goes (record l {
+      string = Some (taken_string list.front list.count);
+      count = l.count + if_flushing sweep list.count;
+      spot = InMoveSet LockMove (ForOffline sweep);
+    })
 
 -- the slab that the scan has come to
 abbrev pub scanned_slab : (ℕ → LockValue) → Local → ℕ

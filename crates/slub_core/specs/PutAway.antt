@@ -99,5 +99,6 @@ put_on_node s frame frames = if s.head == 0 then frame ∷ frames else frames ++
 
 abbrev pub put_away_at_once : (ℕ → LockValue) → Local → PutAwaySpot → Away → Change
 put_away_at_once value l PutNode away =
-    stays (with_node value l (put_on_node l.slab_word (hand_of l).frame (node_of value l))) (at (less_hand l) (InPutAway GiveAway away))
+    stays (with_node value l (put_on_node l.slab_word (hand_of l).frame (node_of value l)))
+    (at (less_hand l) (InPutAway GiveAway away))
 put_away_at_once value l s away = stays value l

@@ -28,7 +28,8 @@ way_of_string string put = if nat_lt string.place string.count then InPutOnList 
 
 -- nothing is stored where the string leads to the list's front already
 abbrev pub way_of_front : PartialString → ℕ → PutOnList → Spot
-way_of_front string front put = if leads_to string.link front then InPutOnList PushString put else way_of_string string put
+way_of_front string front put = if leads_to string.link front then InPutOnList PushString put
+    else way_of_string string put
 
 abbrev pub longer_list : Local → ListWord
 longer_list l = record {

@@ -1,0 +1,62 @@
+-- What the account says of a call that begins: it fits the machine, names the place of its object, and allocates nothing that its worker holds.
+use Rattle.std.proofs.Common.{◌≡◌, ◌+◌, ◌<◌, ◌≤◌, true, false, List, [], ◌∷◌, length, get_or, eqb, ◌&&◌, refl, ap, ◌∙◌, subst, arith, inl, inr}
+use Rattle.std.specs.Prelude.{All, IfSome}
+use Rattle.std.proofs.lemmas.Bool.{cases_Bool, eq-eqb}
+use Rattle.std.proofs.lemmas.List.Sums.{sum_by-cons}
+use Rattle.std.proofs.lemmas.List.Elements.{All-head}
+use Rattle.slub_core.specs.declared.call.Call.{Call}
+use Rattle.slub_core.specs.declared.call.CallKind.TheVariants.{Alloc}
+use Rattle.slub_core.specs.Setup.{Setup}
+use Rattle.slub_core.specs.World.{World}
+use Rattle.slub_core.specs.Local.{Local, Worker, nobody}
+use Rattle.slub_core.specs.Replies.{one_if, asked_in, is_alloc}
+use Rattle.slub_core.specs.Accounted.{had, known_of, Fits, IsAccounted}
+use Rattle.slub_core.proofs.TaleKnowns.{place_of-object}
+use Rattle.slub_core.proofs.TaleReplies.{told-of}
+
+pub record MayBegin (m : Setup) (l : Local) (call : Call) : Type 0 where
+  pub cpu : call.cpu < m.cpus
+  pub object : (1 ≤ call.object) × (call.object < m.objects)
+  pub place : call.place < length l.known
+  pub known : (get_or l.known call.place nobody).object ≡ call.object
+  pub cache : IfSome call.cache (λ k. m.lives k ≡ true)
+  pub new : call.kind ≡ Alloc → (get_or l.known call.place nobody).held ≡ false
+
+-- the first of the calls to come
+abbrev pub MayBeginFirst : Setup → Local → List Call → Type 0
+MayBeginFirst m l [] = Unit {0}
+MayBeginFirst m l (call ∷ calls) = MayBegin m l call
+
+-- a worker doesn't hold what it is to allocate: a number is given once, and isn't on the board then
+asked-unheld : (opening w : World) (x : Worker) (others : List Worker) (call : Call) (calls : List Call) → x.local.todo ≡ call ∷ calls → call.kind ≡ Alloc → IsAccounted opening w (x ∷ others) → (known_of x.local.known call.object).held ≡ false
+asked-unheld opening w x others call calls todo kind ac = elim (cases_Bool (known_of x.local.known call.object).held) [
+  | inr free ↦ free
+  | inl held ↦ absurd (
+      let o = call.object in
+      let once = ac.once o in
+      let count = ac.count o in
+      let asks : one_if (is_alloc call.kind && eqb call.object o) ≡ 1 = rw (kind, eq-eqb o o refl) refl in
+      let asked : asked_in o x.local.todo ≡ one_if (is_alloc call.kind && eqb call.object o) + asked_in o calls = ap (asked_in o) todo in
+      let has : one_if (known_of x.local.known o).held ≡ 1 = rw held refl in
+      let a = sum_by-cons (λ (x : Worker). asked_in o x.local.todo) x others in
+      let h = sum_by-cons (λ (x : Worker). had o x.local) x others in
+      omega arith)
+]
+
+pub may_begin : (opening w : World) (x : Worker) (others : List Worker) → IsAccounted opening w (x ∷ others) → MayBeginFirst w.setup x.local x.local.todo
+may_begin opening w x others ac = by_todo x.local.todo refl
+  where
+    by_todo : (calls : List Call) → x.local.todo ≡ calls → MayBeginFirst w.setup x.local calls
+    by_todo [] todo = tt
+    by_todo (call ∷ calls) todo =
+        let l = x.local in
+        let tale = told-of opening w x others ac in
+        let fits = All-head (Fits w.setup l.known) call calls (subst (All (Fits w.setup l.known)) todo tale.fits) in
+        record {
+          cpu = fits.cpu;
+          object = fits.object;
+          place = fits.inside;
+          known = ap (λ q. (get_or l.known q nobody).object) fits.place ∙ place_of-object l.known call.object (subst (λ q. q < length l.known) fits.place fits.inside);
+          cache = fits.cache;
+          new = λ kind. ap (λ q. (get_or l.known q nobody).held) fits.place ∙ asked-unheld opening w x others call calls todo kind ac;
+        }

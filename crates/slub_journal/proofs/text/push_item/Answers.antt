@@ -1,8 +1,8 @@
-use Rattle.std.proofs.Common.{◌≡◌, get_or, ℕ, List, [], OnOk, ◌++◌, ap, subst, refl, sym, ◌∙◌}
+use Rattle.std.proofs.Common.{◌≡◌, get_or, ℕ, List, [], OnOk, ◌++◌, subst, sym, ◌∙◌}
 use Rattle.slub_slabinfo_text.specs.declared.text.ItemWord.TheVariants as word
 use Rattle.slub_slabinfo_text.specs.Texts.{info_text}
 use Rattle.slub_journal.specs.Text.{answer_line, done_text, round_text}
-use Rattle.slub_journal.proofs.Items.{creation_text, destroy_text, events_text, no_creation_text, no_destroy_text, no_events_text, no_client_text, no_shrink_text, no_slabinfo_text, no_tune_text, put_nothing, shrink_text, slabinfo_text, text_at_is, tune_text}
+use Rattle.slub_journal.proofs.Items.{creation_text, destroy_text, events_text, no_creation_text, no_destroy_text, no_events_text, no_shrink_text, no_slabinfo_text, no_tune_text, put_nothing, shrink_text, slabinfo_text, text_at_is, tune_text}
 use Rattle.slub_journal.proofs.text.push_item.Goals as goal
 
 pub returns-in_default : goal.returns-in_default

@@ -1,6 +1,6 @@
 -- How a run grows.
-use Rattle.std.proofs.Common.{◌≡◌, ℕ, ◌+◌, ◌<◌, ◌≤◌, List, [], ◌∷◌, None, Ok, Err, Result, refl, ap, ◌∙◌, length, take, arith, length-append, le_refl, suc, zero-le}
-use Rattle.std.specs.Prelude.{IsSome, OnOk}
+use Rattle.std.proofs.Common.{◌≡◌, ℕ, ◌+◌, ◌<◌, ◌≤◌, List, [], ◌∷◌, ◌++◌, None, Ok, Err, Result, refl, ap, ◌∙◌, subst, length, take, arith, length-append, le_refl, zero, suc, zero-le}
+use Rattle.std.specs.Prelude.{slice_get, IsSome, MatchOption, OnOk}
 use Rattle.std.proofs.lemmas.List.{take_all}
 use Rattle.slub_lists.specs.State.{State}
 use Rattle.slub_lists.specs.Coherent.{IsCoherent}
@@ -8,7 +8,7 @@ use Rattle.slub_trace_reader.specs.declared.trace.Item.{Item}
 use Rattle.slub_trace_reader.specs.declared.trace.Trace.{Trace}
 use Rattle.slub_journal.specs.declared.journal.Done.{Done}
 use Rattle.slub_journal.specs.declared.journal.Journal.{Journal}
-use Rattle.slub_journal.specs.Lawful.{IsLawful, IsReady, RunsItems, opening_of}
+use Rattle.slub_journal.specs.Lawful.{Does, IsLawful, IsReady, RunsItems, opening_of}
 use Rattle.slub_journal.proofs.Laws.{opened_ready, run_more}
 use Rattle.slub_cli.specs.declared.stop.Stop.{Stop}
 use Rattle.slub_cli.specs.declared.stop.Stop.TheVariants.{WriteFault, NoMemory}

@@ -13,7 +13,7 @@ use Rattle.slub_object_layout.specs.declared.event.Event.{Event}
 use Rattle.slub_object_layout.specs.Name.{IsName}
 use Rattle.slub_trace_reader.specs.declared.trace.Item.{Item}
 use Rattle.slub_trace_reader.specs.declared.trace.Item.TheVariants.{Cache, Round, Shrink}
-use Rattle.slub_trace_reader.specs.Sound.{IsSound, IsSoundAct, IsSoundEvent, IsSoundItem, IsSoundRound, allocated, events_in, objects_in, objects_of}
+use Rattle.slub_trace_reader.specs.Sound.{IsSound, IsSoundAct, IsSoundEvent, IsSoundItem, IsSoundRound, AreReadable, IsReadable, allocated, events_in, objects_in, objects_of}
 use Rattle.slub_trace_reader.proofs.Fields.{name_tells}
 use Rattle.slub_trace_reader.proofs.Runs.{distinct_run, run_each}
 use Rattle.slub_load.specs.Generator.{number}
@@ -197,13 +197,28 @@ are_names = (
   refl,
 )
 
-sound_items : (workers : ℕ) (es : List Event) → (1 ≤ workers) × (workers ≤ 16) → length cache_names ≡ 3 → All (IsSoundEvent (trace_of workers es) workers) es → All (IsSoundItem (trace_of workers es)) (items_of workers es)
-sound_items workers es many three all =
+-- and nothing is read
+nothing_read : (workers count : ℕ) (before es : List Event) → All (IsGood workers count) es → AreReadable before es
+nothing_read workers count before [] all = tt
+nothing_read workers count before (e ∷ es) all =
+    (one e.act (All-head (IsGood workers count) e es all).act, nothing_read workers count (e ∷ before) es (All-tail (IsGood workers count) e es all))
+  where
+    one : (a : Act) → IsGoodAct count a → IsReadable before e a
+    one (Alloc place object) is = tt
+    one (Free object) is = tt
+    one (Write object word value) is = tt
+    one (Read object word) is = absurd is
+    one (Poke object offset byte) is = tt
+    one (Trim place) is = tt
+    one Flush is = tt
+
+sound_items : (workers : ℕ) (es : List Event) → AreReadable [] es → (1 ≤ workers) × (workers ≤ 16) → length cache_names ≡ 3 → All (IsSoundEvent (trace_of workers es) workers) es → All (IsSoundItem (trace_of workers es)) (items_of workers es)
+sound_items workers es reads many three all =
     let P = IsSoundItem (trace_of workers es) in
     let zeroth : 0 < length cache_names = omega (arith, three) in
     let first : 1 < length cache_names = omega (arith, three) in
     let second : 2 < length cache_names = omega (arith, three) in
-    let round : IsSoundRound (trace_of workers es) (record { workers = workers; events = es }) = record { workers = many; events = all } in
+    let round : IsSoundRound (trace_of workers es) (record { workers = workers; events = es }) = record { workers = many; events = all; readable = reads } in
     let first_item : Item = Cache 0 (record { size = 192; align = 8; flags = record plain { reclaim = true } }) in
     let second_item : Item = Cache 1 (record { size = 256; align = 8; flags = record plain { line = true } }) in
     let third_item : Item = Cache 2 (record { size = 128; align = 8; flags = plain }) in
@@ -231,7 +246,7 @@ sound seed count workers some few_workers few =
       few = omega (arith, three);
       named = are_names.0;
       differ = are_names.1;
-      items = sound_items workers es (some, few_workers) three (λ k d low. sound_event workers es (get_or es k d) (good k d low));
+      items = sound_items workers es (nothing_read workers (fold max 0 (objects_of es)) [] es good) (some, few_workers) three (λ k d low. sound_event workers es (get_or es k d) (good k d low));
       distinct = subst (λ (os : List ℕ). IsDistinct nat_eq os) (sym (append-nil (objects_of es) ∙ load_objects seed count workers)) (distinct_numbers (length (objects_of (drawn_events seed workers count))));
       brief = omega (arith, ap length (append-nil es), load_long seed count workers few_workers few);
     }

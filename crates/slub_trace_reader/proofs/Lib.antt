@@ -5,6 +5,7 @@ mod Fronts
 mod FirstBytes
 pub mod LineTexts
 pub mod LinesBelow
+pub mod Readable
 pub mod Runs
 pub mod Places
 pub mod ReadingLaws

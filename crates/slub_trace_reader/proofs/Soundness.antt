@@ -32,8 +32,9 @@ use Rattle.slub_trace_reader.specs.Classes.{class_names}
 use Rattle.slub_trace_reader.specs.Grammar.{IsLine, AreLines, IsTrace, IsTid, IsInRound, IsOffset, ClientInRange, HasSource}
 use Rattle.slub_trace_reader.specs.Lines.{SaysClient}
 use Rattle.slub_trace_reader.specs.Numbers.{client_allocates, client_needs}
-use Rattle.slub_trace_reader.specs.Sound.{allocated, asked_objects, objects_of, objects_in, events_in, IsSoundAct, IsSoundEvent, IsSoundClient, IsSoundSetting, IsSoundObject, AreSoundObjects, IsSoundItem, IsSound}
+use Rattle.slub_trace_reader.specs.Sound.{allocated, asked_objects, objects_of, objects_in, events_in, IsSoundAct, IsSoundEvent, IsSoundClient, IsSoundSetting, IsSoundObject, AreSoundObjects, IsSoundItem, IsSound, AreReadable}
 use Rattle.slub_trace_reader.proofs.LinesBelow.{count_after}
+use Rattle.slub_trace_reader.proofs.Readable.{IsRead, ReadAt, ended_read, read_after}
 use Rattle.slub_trace_reader.proofs.Runs.{from_first, any_within, greatest_more, greatest_from, greatest_within, distinct_run, each_run}
 use Rattle.slub_trace_reader.proofs.ClassNames.{are_class_names}
 
@@ -105,7 +106,7 @@ grown_client s t (client.Mput cpu pool object) g is = (omega (arith, is.0, g.cpu
 
 grown_item : (s t : Trace) (i : Item) → Grows s t → IsSoundItem s i → IsSoundItem t i
 grown_item s t (item.Cache name spec) g is = omega (arith, g.names, is)
-grown_item s t (item.Round round) g is = record { workers = is.workers; events = grown_events s t round.workers round.events g is.events }
+grown_item s t (item.Round round) g is = record { workers = is.workers; events = grown_events s t round.workers round.events g is.events; readable = is.readable }
 grown_item s t (item.Shrink name) g is = omega (arith, g.names, is)
 grown_item s t (item.Destroy name) g is = omega (arith, g.names, is)
 grown_item s t item.Slabinfo g is = tt
@@ -183,11 +184,11 @@ item_listed a b i listed none items events count grows sound no_events objects =
 }
 
 -- the round ends
-done_listed : (a b : Above) → IsListed a → (1 ≤ workers_in a.place) × (workers_in a.place ≤ 16) → b.items ≡ a.items ++ item.Round (record { workers = workers_in a.place; events = a.events }) ∷ [] → b.events ≡ []
+done_listed : (a b : Above) → IsListed a → AreReadable [] a.events → (1 ≤ workers_in a.place) × (workers_in a.place ≤ 16) → b.items ≡ a.items ++ item.Round (record { workers = workers_in a.place; events = a.events }) ∷ [] → b.events ≡ []
     → b.count ≡ a.count + 1 → Grows (trace_of a) (trace_of b) → b.objects ≡ a.objects → IsListed b
-done_listed a b listed workers items events count grows objects =
+done_listed a b listed reads workers items events count grows objects =
     let round : Item = item.Round (record { workers = workers_in a.place; events = a.events }) in
-    let sound : IsSoundItem (trace_of b) round = record { workers = workers; events = grown_events (trace_of a) (trace_of b) (workers_in a.place) a.events grows listed.events } in
+    let sound : IsSoundItem (trace_of b) round = record { workers = workers; events = grown_events (trace_of a) (trace_of b) (workers_in a.place) a.events grows listed.events; readable = reads } in
     record {
       items = subst (λ (is : List Item). All (IsSoundItem (trace_of b)) is) (sym items)
           (All-append (IsSoundItem (trace_of b)) a.items (round ∷ []) (grown_items (trace_of a) (trace_of b) a.items grows listed.items) (All-cons (IsSoundItem (trace_of b)) round [] sound (All-nil (IsSoundItem (trace_of b)))));
@@ -548,74 +549,74 @@ sound_client a t text (Mput cpu pool object) says range source known within g =
     let low = any_within 0 object a.objects (one_known a object known) in
     (omega (arith, range.0, g.cpus), says.3, (range.1.0, omega (arith, low, g.objects)))
 
-listed_after : (a : Above) (text : List ℕ) (line : Line) → HeadAt a.place a → IsListed a → IsLine a text line → IsListed (after a line)
+listed_after : (a : Above) (text : List ℕ) (line : Line) → IsRead a → HeadAt a.place a → IsListed a → IsLine a text line → IsListed (after a line)
 unfolding HeadAt
-listed_after a text Passed head listed good = record { items = listed.items; events = listed.events; same = listed.same; brief = omega (arith, listed.brief) }
-listed_after a text (Slubtrace version) head listed good = (let here = subst (λ (p : Place). HeadAt p a) good.stands head in empty_listed a (after a (Slubtrace version)) listed here.0 here.1 refl refl refl refl)
-listed_after a text (Machine frames cpus tid) head listed good = (let here = subst (λ (p : Place). HeadAt p a) good.stands head in empty_listed a (after a (Machine frames cpus tid)) listed here.2 here.3 refl refl refl refl)
-listed_after a text (Cache name size align flags) head listed good =
+listed_after a text Passed read head listed good = record { items = listed.items; events = listed.events; same = listed.same; brief = omega (arith, listed.brief) }
+listed_after a text (Slubtrace version) read head listed good = (let here = subst (λ (p : Place). HeadAt p a) good.stands head in empty_listed a (after a (Slubtrace version)) listed here.0 here.1 refl refl refl refl)
+listed_after a text (Machine frames cpus tid) read head listed good = (let here = subst (λ (p : Place). HeadAt p a) good.stands head in empty_listed a (after a (Machine frames cpus tid)) listed here.2 here.3 refl refl refl refl)
+listed_after a text (Cache name size align flags) read head listed good =
     let here = subst (λ (p : Place). HeadAt p a) good.stands head in
     item_listed a (after a (Cache name size align flags)) (item.Cache (place_of name a.names) (record { size = size; align = align; flags = flags })) listed here.1 refl here.1 refl
     (record { names = put_more bytes_eq a.names name; objects = omega arith; cpus = refl }) (put_within bytes_eq a.names name) refl (sym (append-nil a.objects))
-listed_after a text (Shrink name) head listed good =
+listed_after a text (Shrink name) read head listed good =
     let here = subst (λ (p : Place). HeadAt p a) good.stands head in
     item_listed a (after a (Shrink name)) (item.Shrink (place_of name a.names)) listed here.1 refl here.1 refl (stays a (after a (Shrink name)) refl refl refl) (found_within (bytes_eq name) a.names good.named) refl (sym (append-nil a.objects))
-listed_after a text (Destroy name) head listed good =
+listed_after a text (Destroy name) read head listed good =
     let here = subst (λ (p : Place). HeadAt p a) good.stands head in
     item_listed a (after a (Destroy name)) (item.Destroy (place_of name a.names)) listed here.1 refl here.1 refl (stays a (after a (Destroy name)) refl refl refl) (found_within (bytes_eq name) a.names good.named) refl (sym (append-nil a.objects))
-listed_after a text (Tune name knob number) head listed good =
+listed_after a text (Tune name knob number) read head listed good =
     let here = subst (λ (p : Place). HeadAt p a) good.stands.1 head in
     item_listed a (after a (Tune name knob number)) (item.Tune (place_of name a.names) (setting_of knob number)) listed here.1 refl here.1 refl
     (stays a (after a (Tune name knob number)) refl refl refl) (found_within (bytes_eq name) a.names good.named, sound_setting knob number good.range) refl (sym (append-nil a.objects))
-listed_after a text Slabinfo head listed good =
+listed_after a text Slabinfo read head listed good =
     let here = subst (λ (p : Place). HeadAt p a) good.stands head in
     item_listed a (after a Slabinfo) (item.Slabinfo) listed here.1 refl here.1 refl (stays a (after a Slabinfo) refl refl refl) tt refl (sym (append-nil a.objects))
-listed_after a text (Client line) head listed good =
+listed_after a text (Client line) read head listed good =
     let here = subst (λ (p : Place). HeadAt p a) good.stands.1 head in
     let b = after a (Client line) in
     let grows : Grows (trace_of a) (trace_of b) = client_grows a line in
     item_listed a b (item.Client (asked_of a.names line)) listed here.1 refl here.1 refl grows
     (sound_client a (trace_of b) text line good.says good.range good.named good.known (client_within a line good.range) grows) refl
     (ap (λ l. a.objects ++ l) (client_same a.names line))
-listed_after a text (Round workers) head listed good = (let here = subst (λ (p : Place). HeadAt p a) good.stands head in quiet_listed a (after a (Round workers)) listed here.1 refl refl refl (stays a (after a (Round workers)) refl refl refl) refl)
-listed_after a text (Alloc worker cpu name object) head listed good =
+listed_after a text (Round workers) read head listed good = (let here = subst (λ (p : Place). HeadAt p a) good.stands head in quiet_listed a (after a (Round workers)) listed here.1 refl refl refl (stays a (after a (Round workers)) refl refl refl) refl)
+listed_after a text (Alloc worker cpu name object) read head listed good =
     let most : fold max 0 (a.objects ++ object ∷ []) ≡ max (fold max 0 a.objects) object = greatest_more 0 object a.objects in
     let e : Event = record { line = a.count + 1; worker = worker; cpu = cpu; act = act.Alloc (place_of name a.names) object } in
     event_listed a (after a (Alloc worker cpu name object)) e listed refl refl refl refl
     (record { names = omega arith; objects = omega (arith, most); cpus = refl })
     (record { worker = good.range.0; cpu = good.range.1; act = (found_within (bytes_eq name) a.names good.named, good.range.2.0, omega (arith, most)); idle = tt })
     refl
-listed_after a text (Free worker cpu object) head listed good =
+listed_after a text (Free worker cpu object) read head listed good =
     let here = in_round a a.place good.stands head in
     let e : Event = record { line = a.count + 1; worker = worker; cpu = cpu; act = act.Free object } in
     event_listed a (after a (Free worker cpu object)) e listed refl refl refl refl (stays a (after a (Free worker cpu object)) refl refl refl)
     (record { worker = good.range.0; cpu = good.range.1; act = (good.range.2.0, any_within 0 object a.objects (one_known a object good.known)); idle = tt }) (sym (append-nil a.objects))
-listed_after a text (Write worker object word value) head listed good =
+listed_after a text (Write worker object word value) read head listed good =
     let here = in_round a a.place good.stands head in
     let e : Event = record { line = a.count + 1; worker = worker; cpu = 0; act = act.Write object word value } in
     event_listed a (after a (Write worker object word value)) e listed refl refl refl refl (stays a (after a (Write worker object word value)) refl refl refl)
     (record { worker = good.range.0; cpu = omega (arith, here.0.cpus.0); act = (good.range.1.0, any_within 0 object a.objects (one_known a object good.known), good.range.2); idle = refl }) (sym (append-nil a.objects))
-listed_after a text (Read worker object word) head listed good =
+listed_after a text (Read worker object word) read head listed good =
     let here = in_round a a.place good.stands head in
     let e : Event = record { line = a.count + 1; worker = worker; cpu = 0; act = act.Read object word } in
     event_listed a (after a (Read worker object word)) e listed refl refl refl refl (stays a (after a (Read worker object word)) refl refl refl)
     (record { worker = good.range.0; cpu = omega (arith, here.0.cpus.0); act = (good.range.1.0, any_within 0 object a.objects (one_known a object good.known), good.range.2); idle = refl }) (sym (append-nil a.objects))
-listed_after a text (Poke worker object negative offset byte) head listed good =
+listed_after a text (Poke worker object negative offset byte) read head listed good =
     let here = in_round a a.place good.stands head in
     let e : Event = record { line = a.count + 1; worker = worker; cpu = 0; act = act.Poke object (offset_of negative offset) byte } in
     event_listed a (after a (Poke worker object negative offset byte)) e listed refl refl refl refl (stays a (after a (Poke worker object negative offset byte)) refl refl refl)
     (record { worker = good.range.0; cpu = omega (arith, here.0.cpus.0); act = (good.range.1.0, any_within 0 object a.objects (one_known a object good.known), offset_low negative offset (offset_small negative offset good.range.2), offset_high negative offset good.range.2); idle = refl }) (sym (append-nil a.objects))
-listed_after a text (Trim worker name) head listed good =
+listed_after a text (Trim worker name) read head listed good =
     let here = in_round a a.place good.stands.1 head in
     let e : Event = record { line = a.count + 1; worker = worker; cpu = 0; act = act.Trim (place_of name a.names) } in
     event_listed a (after a (Trim worker name)) e listed refl refl refl refl (stays a (after a (Trim worker name)) refl refl refl)
     (record { worker = good.range; cpu = omega (arith, here.0.cpus.0); act = found_within (bytes_eq name) a.names good.named; idle = refl }) (sym (append-nil a.objects))
-listed_after a text (Flush worker cpu) head listed good =
+listed_after a text (Flush worker cpu) read head listed good =
     let e : Event = record { line = a.count + 1; worker = worker; cpu = cpu; act = act.Flush } in
     event_listed a (after a (Flush worker cpu)) e listed refl refl refl refl (stays a (after a (Flush worker cpu)) refl refl refl)
     (record { worker = good.range.0; cpu = good.range.1; act = tt; idle = tt }) (sym (append-nil a.objects))
-listed_after a text Done head listed good = (let here = in_round a a.place good.stands head in done_listed a (after a Done) listed (here.1, here.2) refl refl refl (stays a (after a Done) refl refl refl) refl)
-listed_after a text End head listed good = (let here = subst (λ (p : Place). HeadAt p a) good.stands head in quiet_listed a (after a End) listed here.1 refl here.1 refl (stays a (after a End) refl refl refl) refl)
+listed_after a text Done read head listed good = (let here = in_round a a.place good.stands head in done_listed a (after a Done) listed (ended_read a good.stands read) (here.1, here.2) refl refl refl (stays a (after a Done) refl refl refl) refl)
+listed_after a text End read head listed good = (let here = subst (λ (p : Place). HeadAt p a) good.stands head in quiet_listed a (after a End) listed here.1 refl here.1 refl (stays a (after a End) refl refl refl) refl)
 
 -- ---- all lines
 
@@ -624,20 +625,22 @@ record IsSoFar (a : Above) : Type 0 where
   pub head : HeadAt a.place a
   pub wide : IsWide a
   pub listed : IsListed a
+  pub read : IsRead a
 
 so_far_start : IsSoFar start
-unfolding HeadAt IsDistinct
+unfolding HeadAt IsDistinct ReadAt
 so_far_start = record {
   head = (refl, refl);
   wide = record { named = All-nil IsName; differ = tt; fewer = omega arith; least = omega arith; distinct = tt };
   listed = record { items = All-nil (IsSoundItem (trace_of start)); events = All-nil (IsSoundEvent (trace_of start) 0); same = refl; brief = omega arith };
+  read = tt;
 }
 
 so_far_all : (a : Above) (bytes : List ℕ) (lines : List Line) → IsSoFar a → AreLines a bytes lines → IsSoFar (after_all a lines)
 so_far_all a bytes [] so are = so
 so_far_all a bytes (line ∷ lines) so are =
     so_far_all (after a line) are.1 lines
-    (record { head = head_after a are.0 line so.head are.4; wide = wide_after a are.0 line so.wide are.4; listed = listed_after a are.0 line so.head so.listed are.4 }) are.5
+    (record { head = head_after a are.0 line so.head are.4; wide = wide_after a are.0 line so.wide are.4; listed = listed_after a are.0 line so.read so.head so.listed are.4; read = read_after a are.0 line so.read are.4 }) are.5
 
 -- each line has a byte at least
 count_all : (a : Above) (bytes : List ℕ) (lines : List Line) → AreLines a bytes lines → (after_all a lines).count ≤ a.count + length bytes

@@ -1,5 +1,5 @@
 -- What holds of every trace that is read, in the words of the trace alone.
-use Rattle.std.specs.Prelude.{◌≡◌, ℕ, ◌+◌, ◌-◌, ◌^◌, ◌<◌, ◌≤◌, pos, neg_ℤ, ◌≤ℤ◌, List, [], ◌∷◌, length, Option, Some, None, All, filter_map, flat_map, nat_eq, ⊤}
+use Rattle.std.specs.Prelude.{◌≡◌, ℕ, ◌+◌, ◌-◌, ◌^◌, ◌<◌, ◌≤◌, pos, neg_ℤ, ◌≤ℤ◌, Bool, true, false, ◌==◌, ◌&&◌, ◌||◌, if◌then◌else◌, List, [], ◌∷◌, length, Option, Some, None, All, filter_map, flat_map, nat_eq, ⊤}
 use Rattle.std.specs.List.{IsDistinct, range_with_len}
 use Rattle.std.specs.Str.{bytes_eq}
 use Rattle.slub_object_layout.specs.declared.event.Act.{Act}
@@ -95,11 +95,42 @@ pub record IsSoundEvent (trace : Trace) (workers : ℕ) (event : Event) : Type 0
   pub act : IsSoundAct trace event.act
   pub idle : IsSoundCpu event.act event.cpu
 
+-- ---- reads
+
+-- an act of a worker bears on whether a word of an object was written by this one
+abbrev pub written_after : Act → Bool → ℕ → ℕ → Bool → Bool
+written_after (act.Alloc place other) same object word before =
+    if other == object then false else before
+written_after (act.Write other at value) same object word before =
+    (same && (other == object) && (at == word)) || before
+written_after _ same object word before = before
+
+-- among these events, the last one first, the worker wrote the word of the object, and after that
+-- nobody allocated the object
+abbrev pub is_written : List Event → ℕ → ℕ → ℕ → Bool
+is_written [] worker object word = false
+is_written (event ∷ events) worker object word =
+    written_after event.act (event.worker == worker) object word
+    (is_written events worker object word)
+
+-- a read is of a word that its worker wrote before in the round
+abbrev pub IsReadable : List Event → Event → Act → Type 0
+IsReadable before event (act.Read object word) =
+    is_written before event.worker object word ≡ true
+IsReadable before event _ = ⊤
+
+-- so is each of these events, by those before it, the last one first
+abbrev pub AreReadable : List Event → List Event → Type 0
+AreReadable before [] = ⊤
+AreReadable before (event ∷ events) =
+    IsReadable before event event.act × AreReadable (event ∷ before) events
+
 -- ---- items
 
 pub record IsSoundRound (trace : Trace) (round : Events) : Type 0 where
   pub workers : (1 ≤ round.workers) × (round.workers ≤ 16)
   pub events : All (IsSoundEvent trace round.workers) round.events
+  pub readable : AreReadable [] round.events
 
 -- the number that is set of a cache is in its range
 abbrev pub IsSoundSetting : Setting → Type 0

@@ -12,7 +12,8 @@
 //! `Lists::alloc_named`, `free`, `write`, `read`, `poke`, `trim`, `flush`, `create`, `tune`,
 //! `shrink`, `destroy` and `end_round` are their definitions in `slub_lists`, and each keeps the
 //! machine coherent. After `open` only checked caches take memory: an allocation that finds none
-//! puts its run of frames back, and a creation that finds none changes nothing.
+//! puts its run of frames back, and a creation that finds none changes nothing. `Lists::into_parts`
+//! and `from_parts` take the machine apart and put it together, with nothing lost.
 #![tactic(auto)]
 
 pub mod alloc;
@@ -26,6 +27,7 @@ pub mod free;
 pub mod lists;
 pub mod node;
 mod partial;
+pub mod parts;
 pub mod shrink;
 mod shrink_checked;
 mod stock;

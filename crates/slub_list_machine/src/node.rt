@@ -43,6 +43,27 @@ impl Node {
         })
     }
 
+    /// The list, and the room for its counts, apart.
+    pub fn into_parts(self) -> (NodeList, Vec<u16>)
+        ensures frames { result.0.frames ≡ self }
+        ensures room { result.0.room ≡ 4095 }
+        ensures within { length self ≤ 4095 }
+        ensures counts { 4095 ≤ vec_capacity result.1 }
+    {
+        let Node { list, counts } = self;
+        (list, counts)
+    }
+
+    /// A list with the room for its counts, put together again.
+    pub fn from_parts(list: NodeList, counts: Vec<u16>) -> Node
+        requires room { list.room ≡ 4095 }
+        requires counts { 4095 ≤ vec_capacity counts }
+        ensures { result ≡ list.frames }
+    {
+        prove!(list.len() <= SLABS_MAX);
+        Node { list, counts }
+    }
+
     /// How many slabs stand on it (`nr_partial`), at most 4095.
     pub fn len(&self) -> usize
         ensures value { result ≡ length self.now }

@@ -1,0 +1,4 @@
+pub mod Takes
+pub mod Gifts
+pub mod Orders
+pub mod Laws

@@ -1,0 +1,15 @@
+pub mod Counts
+pub mod Values
+pub mod OnNode
+pub mod AllocFits
+pub mod AwayFits
+pub mod DiscardFits
+pub mod PutFits
+pub mod FreeFits
+pub mod MoveFits
+pub mod OfflineFits
+pub mod UseFits
+pub mod CheckedFits
+pub mod BeginFits
+pub mod Steps
+pub mod Turns

@@ -1,0 +1,10 @@
+pub mod Keeps
+pub mod Steps
+pub mod Once
+pub mod Sets
+pub mod Idle
+pub mod Carried
+pub mod Turns
+pub mod Rooms
+pub mod Opens
+pub mod Closes

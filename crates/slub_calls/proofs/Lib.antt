@@ -1,0 +1,5 @@
+pub mod Numbers
+pub mod Shares
+pub mod Fitting
+pub mod Reading
+pub mod Walks

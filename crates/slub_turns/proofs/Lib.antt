@@ -1,0 +1,7 @@
+pub mod Rested
+pub mod Settled
+pub mod Twice
+pub mod Turned
+pub mod Mixed
+pub mod Alone
+pub mod Ready

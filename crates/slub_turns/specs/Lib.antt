@@ -1,0 +1,6 @@
+pub mod Means
+pub mod Fits
+pub mod System
+pub mod Ready
+pub mod Round
+pub mod Laws

@@ -1,0 +1,19 @@
+-- What the step machine leaves to its parts, as one record.
+use Rattle.slub_core.specs.Setup.{Means}
+use Rattle.slub_means.specs.Takes.{take_of}
+use Rattle.slub_means.specs.Gifts.{gave_of, give_of}
+use Rattle.slub_means.specs.Orders.{promote_of}
+use Rattle.slub_means.proofs.Takes.{pools-give}
+use Rattle.slub_means.proofs.Gifts.{checked_caches-give}
+use Rattle.slub_means.proofs.Orders.{lists_are-promoted}
+
+abbrev pub the_means : Means
+the_means = record {
+  take = take_of;
+  takes = pools-give;
+  gave = gave_of;
+  give = give_of;
+  gives = checked_caches-give;
+  promote = promote_of;
+  promotes = lists_are-promoted;
+}

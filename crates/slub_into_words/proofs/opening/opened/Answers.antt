@@ -1,0 +1,69 @@
+use Rattle.std.proofs.Common.{◌≡◌, ℕ, ◌+◌, ◌-◌, ◌*◌, ◌++◌, List, length, map, arith, ap, sym, subst, ◌∙◌, length-append}
+use Rattle.std.specs.List.{range_with_len}
+use Rattle.slub_lists.specs.State.{State}
+use Rattle.slub_lists.specs.Coherent.{IsConsistent}
+use Rattle.slub_lists.proofs.CheckedSlabs.{memory-consistent}
+use Rattle.slub_local.specs.Facts as local
+use Rattle.slub_local.specs.Facts.{Facts}
+use Rattle.slub_schedule.specs.Table.{WordTable}
+use Rattle.slub_list_machine.specs.Parts.{state_of}
+use Rattle.slub_opening.specs.Opening.{value_of}
+use Rattle.slub_into_words.specs.Classes.{front_words}
+use Rattle.slub_into_words.specs.Opened.{room_of}
+use Rattle.slub_into_words.specs.Rest.{IsRestOf}
+use Rattle.slub_into_words.proofs.Setups.{setup-same}
+use Rattle.slub_into_words.proofs.Whole.{front-count, words-whole, rest-of, values-same, rooms-same}
+use Rattle.slub_into_words.proofs.opening.opened.Goals as goal
+
+pub push_memory-requires : goal.push_memory-requires
+push_memory-requires c =
+    let s = state_of c.args.parts in
+    let front : length c.push_front.new.words.items ≡ 1057 + s.frames + (length s.board - 1) = ap length c.push_front.ensures.words ∙ front-count s c.deref.result.now in
+    let memory : length c.deref-2.result.now ≡ 512 * s.frames = ap length c.deref-2.ensures.value ∙ c.lay_all.ensures.count ∙ c.requires.consistent.shaped.memory in
+    record { room = omega (arith, front, memory, c.push_front.ensures.capacity, c.requires.room.words.1, c.requires.beside.objects) }
+
+pub push_links-requires : goal.push_links-requires
+push_links-requires c =
+    let s = state_of c.args.parts in
+    let front : length c.push_front.new.words.items ≡ 1057 + s.frames + (length s.board - 1) = ap length c.push_front.ensures.words ∙ front-count s c.deref.result.now in
+    let memory : length c.deref-2.result.now ≡ 512 * s.frames = ap length c.deref-2.ensures.value ∙ c.lay_all.ensures.count ∙ c.requires.consistent.shaped.memory in
+    let both = ap length c.push_memory.ensures.words ∙ length-append c.push_front.new.words.items c.deref-2.result.now in
+    let links : length c.deref-3.result.now ≡ s.frames = ap length c.deref-3.ensures.value ∙ c.lay_all.ensures.links_count ∙ c.requires.beside.links in
+    record { room = omega (arith, front, memory, both, links, c.push_memory.ensures.capacity, c.push_front.ensures.capacity, c.requires.room.words.1, c.requires.beside.objects) }
+
+pub open-table-requires : goal.open-table-requires
+open-table-requires c =
+    let s = state_of c.args.parts in
+    let front : length c.push_front.new.words.items ≡ 1057 + s.frames + (length s.board - 1) = ap length c.push_front.ensures.words ∙ front-count s c.deref.result.now in
+    let memory : length c.deref-2.result.now ≡ 512 * s.frames = ap length c.deref-2.ensures.value ∙ c.lay_all.ensures.count ∙ c.requires.consistent.shaped.memory in
+    let both = ap length c.push_memory.ensures.words ∙ length-append c.push_front.new.words.items c.deref-2.result.now in
+    let links : length c.deref-3.result.now ≡ s.frames = ap length c.deref-3.ensures.value ∙ c.lay_all.ensures.links_count ∙ c.requires.beside.links in
+    let all = ap length c.push_links.ensures.words ∙ length-append c.push_memory.new.words.items c.deref-3.result.now in
+    let frames : c.lay_all.new.parts.frames ≡ s.frames = ap (λ (t : State). t.frames) c.lay_all.ensures.state in
+    let board : length c.lay_all.new.parts.board.items ≡ length s.board = ap (λ (t : State). length t.board) c.lay_all.ensures.state in
+    omega (arith, front, memory, both, links, all, frames, board, c.len.ensures, c.lay_all.new.parts.board.ok.0, c.requires.beside.objects)
+
+pub moved-values-requires-clause-consistent : goal.moved-values-requires-clause-consistent
+moved-values-requires-clause-consistent c =
+    subst IsConsistent (sym c.lay_all.ensures.state) (memory-consistent (state_of c.args.parts) c.lay_all.new.parts.memory.items c.lay_all.ensures.count c.requires.consistent)
+
+pub returns : goal.returns
+returns c =
+    let s = state_of c.args.parts in
+    let b = c.args.beside in
+    let memory = c.lay_all.new.parts.memory.items in
+    let links = c.lay_all.new.links.items in
+    let e = c.lay_all.ensures.state in
+    let front : c.push_front.new.words.items ≡ front_words s b.tids.items = c.push_front.ensures.words ∙ ap (front_words s) c.deref.ensures.value in
+    let more : c.push_memory.new.words.items ≡ front_words s b.tids.items ++ memory = c.push_memory.ensures.words ∙ ap (λ (l : List ℕ). l ++ c.deref-2.result.now) front ∙ ap (λ (l : List ℕ). front_words s b.tids.items ++ l) c.deref-2.ensures.value in
+    let all : c.push_links.new.words.items ≡ (front_words s b.tids.items ++ memory) ++ links = c.push_links.ensures.words ∙ ap (λ (l : List ℕ). l ++ c.deref-3.result.now) more ∙ ap (λ (l : List ℕ). (front_words s b.tids.items ++ memory) ++ l) c.deref-3.ensures.value in
+    record {
+      setup = λ means. ap (λ (f : Facts). local.setup_of f means) c.requires.room.setup ∙ setup-same s c.requires.consistent b means;
+      frames = ap (λ (t : WordTable). t.frames) c.open-table.ensures ∙ ap (λ (t : State). t.frames) e;
+      objects = ap (λ (t : WordTable). t.objects) c.open-table.ensures ∙ (let n : c.len.result ≡ length c.lay_all.new.parts.board.items = omega (arith, c.len.ensures, c.lay_all.new.parts.board.ok.0) in n) ∙ ap (λ (t : State). length t.board) e;
+      words = λ means. ap (λ (t : WordTable). t.words) c.open-table.ensures ∙ all
+          ∙ words-whole s b means memory links c.requires.consistent (c.lay_all.ensures.count ∙ c.requires.consistent.shaped.memory) c.lay_all.ensures.memory (c.lay_all.ensures.links_count ∙ c.requires.beside.links) c.lay_all.ensures.links;
+      values = c.moved-values.ensures.values ∙ ap value_of e ∙ values-same s memory;
+      rooms = c.moved-values.ensures.rooms ∙ ap (λ (t : State). map (room_of t) (range_with_len 0 33)) e ∙ ap (λ (f : ℕ → ℕ). map f (range_with_len 0 33)) (rooms-same s memory);
+      rest = rest-of s memory c.moved-values.result.1 (subst (λ (t : State). IsRestOf t c.moved-values.result.1) e c.moved-values.ensures.rest);
+    }

@@ -1,0 +1,9 @@
+pub mod Walked
+pub mod Bounds
+pub mod Worlds
+pub mod Made
+pub mod Knows
+pub mod Counting
+pub mod Ended
+pub mod Taking
+pub mod Returning

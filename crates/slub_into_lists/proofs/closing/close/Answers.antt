@@ -1,0 +1,28 @@
+use Rattle.std.proofs.Common.{length, ap, subst}
+use Rattle.slub_local.specs.Values.{values_of}
+use Rattle.slub_into_words.specs.declared.opened.Rest.{Rest}
+use Rattle.slub_into_lists.specs.Closing.{IsWritten, IsPutTogether}
+use Rattle.slub_into_lists.proofs.Ended.{sizes, may-take, is-closed}
+use Rattle.slub_into_lists.proofs.closing.close.Goals as goal
+
+pub write_lists-requires : goal.write_lists-requires
+write_lists-requires c =
+    let z = c.requires in
+    sizes c.args.setup.now c.args.table c.args.values.items c.args.rest c.args.locals.now z.0 z.1 z.2 z.3
+
+pub put_together-requires : goal.put_together-requires
+put_together-requires c =
+    let z = c.requires in
+    let kept = c.write_lists.ensures.rest in
+    may-take c.args.setup.now c.args.table c.args.values.items c.args.rest c.args.locals.now z.0 z.1 z.2 z.3 c.write_lists.new.rest
+    (ap (λ (r : Rest). r.nodes) kept) (ap (λ (r : Rest). r.kept) kept) (ap (λ (r : Rest). length r.checked.items) kept)
+
+pub returns : goal.returns
+returns c = λ s b world ended.
+    let new = c.write_lists.new.rest in
+    let written : IsWritten c.args.setup.now c.args.table.words (values_of c.args.values.items) c.args.locals.now c.args.rest new =
+    subst (λ ws. IsWritten c.args.setup.now ws (values_of c.args.values.items) c.args.locals.now c.args.rest new) c.words.ensures.words
+    (subst (λ vs. IsWritten c.args.setup.now c.words.result.now (values_of vs) c.args.locals.now c.args.rest new) c.deref.ensures.value c.write_lists.ensures) in
+    let put : IsPutTogether c.args.setup.now.step (values_of c.args.values.items) new c.put_together.result.0 c.put_together.result.1 =
+    subst (λ n. IsPutTogether n (values_of c.args.values.items) new c.put_together.result.0 c.put_together.result.1) c.step.ensures.step c.put_together.ensures in
+    is-closed c.args.setup.now c.args.table c.args.values.items c.args.rest c.args.locals.now s b world ended new c.put_together.result.0 c.put_together.result.1 written put

@@ -1,0 +1,75 @@
+//! Walks along free pointers and links.
+
+ghost use Rattle.std.specs.Prelude.{◌≡◌, ℕ, ◌+◌, ◌%◌, ◌^◌, ◌<◌, ◌≤◌, length, slice_index_or};
+ghost use Rattle.slub_into_lists.specs.Reads.{chain_in, string_in};
+
+use slub_lists::lists::{FrameList, FreeList};
+use slub_local::setup::Setup;
+
+/// A slab has so many objects at most, and a machine so many slabs.
+const OBJECTS_MAX: usize = 512;
+
+const SLABS_MAX: usize = 4095;
+
+/// A word of the table; 0 where there is none.
+pub fn word(words: &[u64], at: usize) -> u64
+    ensures { result ≡ slice_index_or words.now at 0 }
+{
+    match words.get(at) {
+        Some(word) => *word,
+        None => 0,
+    }
+}
+
+/// Walks along the free pointers of a slab from a head on (`get_freepointer`), into a freelist.
+pub fn walk_chain(
+    setup: &Setup,
+    memory: &[u64],
+    cache: u8,
+    frame: u16,
+    head: u16,
+    free: &mut FreeList,
+)
+    ensures { free.new ≡ chain_in setup.now memory.now cache frame head }
+{
+    free.clear();
+    let mut next = head;
+    while next > 0 && free.len() < OBJECTS_MAX {
+        let index = next - 1;
+        free.push_back(index);
+        let place = setup.pointer_at(cache, frame, index);
+        next = setup.found_at(cache, frame, index, word(memory, place as usize));
+    }
+}
+
+/// Walks along the links of a CPU's partial list from its front on (`slab->next`). The links begin
+/// at a word of the table.
+pub fn walk_string(words: &[u64], links: usize, front: u16, partial: &mut FrameList)
+    requires { links < 2 ^ 32 }
+    ensures { partial.new ≡ string_in words.now links front }
+{
+    partial.clear();
+    let mut next = front;
+    while next > 0 && partial.len() < SLABS_MAX {
+        partial.push_back(next);
+        next = low(word(words, links + usize::from(next)));
+    }
+}
+
+/// The sixteen low bits of a word.
+fn low(word: u64) -> u16
+    ensures { result ≡ word % 2 ^ 16 }
+{
+    (word & 0xffff) as u16
+}
+
+/// Copies the words of the frames, which begin at a word of the table.
+pub fn copy_memory(words: &[u64], base: usize, memory: &mut [u64])
+    requires base { base < 2 ^ 32 }
+    requires few { length memory.old ≤ 2097152 }
+    ensures { (at : ℕ) → at < length memory.old → slice_index_or memory.new at 0 ≡ slice_index_or words.now (base + at) 0 }
+{
+    for (at, place) in memory.iter_mut().enumerate() {
+        *place = word(words, base + at);
+    }
+}

@@ -30,7 +30,7 @@ use Rattle.slub_laws.proofs.Moved.{freed_was_given, given_once}
 use Rattle.slub_laws.proofs.Totals.{given_is_live}
 use Rattle.slub_laws.proofs.Rounds.{lawful-rounds}
 use Rattle.slub_laws.proofs.Pokes.{poked-damages}
-use Rattle.slub_cli.specs.Run.{AreBadWords, AsksReplay, Call, Ends, IsAsked, IsBadInput, IsBadBytes, IsCauseOf, IsDone, IsFaultLine, IsJournalOf, IsLayoutAnswer, IsLayoutCause, IsLayoutText, IsReplayCause, HoldsOver, IsRunOf, IsSomeTrace, IsTextOf, IsWant, NoFault, TellsReads, TookAll, TookFront, Wrote, answer_status, done_status, has_refused, lacks_memory, last_in, text_in}
+use Rattle.slub_cli.specs.Run.{AreBadWords, AsksReplay, Call, Ends, IsAsked, IsBadInput, IsBadBytes, IsCauseOf, IsDone, IsFaultLine, IsJournalOf, IsLayoutAnswer, IsLayoutCause, IsLayoutText, IsReplayCause, HoldsOver, IsRunOf, IsSomeTrace, IsTextOf, IsWant, NoFault, TellsReads, TookAll, TookFront, Wrote, answer_status, done_status, is_refused, lacks_memory, last_in, text_in}
 use Rattle.slub_cli.specs.Inner.{Finishes, StopsAtReadFault, StopsAtWriteFault, Worked, Works, stop_line, stop_status}
 use Rattle.slub_cli.proofs.Words.{one_layout, replay_apart}
 
@@ -49,7 +49,7 @@ done_apart false true h = cc
 done_apart false false h = cc
 
 -- and has its row
-done_cause : (c : Call) (trace : Option Trace) (j : Journal) (lacks refused : Bool) → done_status j ≡ cond lacks NoMemory (cond refused Refused Fine) → IsDone trace j → IsReplayCause c trace j (cond lacks NoMemory (cond refused Refused Fine))
+done_cause : (c : Call) (trace : Option Trace) (j : Journal) (lacks refused : Bool) → done_status trace j ≡ cond lacks NoMemory (cond refused Refused Fine) → IsDone trace j → IsReplayCause c trace j (cond lacks NoMemory (cond refused Refused Fine))
 done_cause c trace j true refused is done = inr (done, is)
 done_cause c trace j false true is done = (done, is)
 done_cause c trace j false false is done = (done, is)
@@ -250,8 +250,8 @@ module _ (words : List (List ℕ)) (told left old mid new : Option (List ℕ)) (
   done_wrote None done works reads writes same = absurd works.0
   done_wrote (Some (Replay how seed replies)) done works reads writes same =
       let lacks = list_any lacks_memory j.items in
-      let has = list_any has_refused j.items in
-      let took : TookAll ran (Some (Replay how seed replies)) trace j (done_status j) = record {
+      let has = is_refused trace j in
+      let took : TookAll ran (Some (Replay how seed replies)) trace j (done_status trace j) = record {
         text = text_in replies trace j;
         line = [];
         text_is = refl;
@@ -260,7 +260,7 @@ module _ (words : List (List ℕ)) (told left old mid new : Option (List ℕ)) (
         reads = done_reads ran lacks has reads;
         writes = writes;
       } in
-      rw works.0.1 (whole ran (Some (Replay how seed replies)) trace j (done_status j) (done_apart lacks has) took)
+      rw works.0.1 (whole ran (Some (Replay how seed replies)) trace j (done_status trace j) (done_apart lacks has) took)
   done_wrote (Some (Layout spec cpus)) done works reads writes same =
       let p = works.0 in
       let took : TookAll ran (Some (Layout spec cpus)) trace j (answer_status p.0) = record {
@@ -318,7 +318,7 @@ module _ (words : List (List ℕ)) (told left old mid new : Option (List ℕ)) (
   done_has_cause : (asked : Option Command) (done : Status) → Works worked asked trace j (Ok done) → IsCauseOf ran asked trace j done
   done_has_cause None done works = absurd works.0
   done_has_cause (Some (Replay how seed replies)) done works =
-      rw works.0.1 (done_cause ran trace j (list_any lacks_memory j.items) (list_any has_refused j.items) refl works.0.0)
+      rw works.0.1 (done_cause ran trace j (list_any lacks_memory j.items) (is_refused trace j) refl works.0.0)
   done_has_cause (Some (Layout spec cpus)) done works = let p = works.0 in (rw p.2 (answer_cause ran spec cpus p.0 p.1), works.1)
   done_has_cause (Some (Load m events workers)) done works = absurd works
 
@@ -394,7 +394,7 @@ read_bad c None j law some bad = false≢true some
 read_bad c (Some trace) j law some bad = told_apart c.told trace bad law.spelled law.built
 
 -- a replay whose status is that something was refused did not lack memory
-not_wanting : (trace : Option Trace) (j : Journal) → IsWant trace j → IsDone trace j → done_status j ≡ Refused → ⊥
+not_wanting : (trace : Option Trace) (j : Journal) → IsWant trace j → IsDone trace j → done_status trace j ≡ Refused → ⊥
 not_wanting trace j (inl none) done is = none_some j.total none done.1
 not_wanting trace j (inr wanting) done is = let e : Refused ≡ NoMemory = sym is ∙ wanting.1 in cc
 
@@ -423,7 +423,7 @@ bad_trace c trace j (Some (Load m events workers)) status asked cause law asks b
 
 -- where everything of a replay was done, the status is that of what was done
 refused : (c : Call) (trace : Option Trace) (j : Journal) (asked : Option Command) (status : Status) → IsCauseOf c asked trace j status
-    → IsDone trace j → done_status j ≡ Refused → (Rose c.write.0 c.write.1 → ⊥) → status ≡ Refused
+    → IsDone trace j → done_status trace j ≡ Refused → (Rose c.write.0 c.write.1 → ⊥) → status ≡ Refused
 refused c trace j None status cause done is no_write = absurd (none_some trace cause.1 done.0)
 refused c trace j (Some (Replay how seed replies)) Fine cause done is no_write = sym cause.1 ∙ is
 refused c trace j (Some (Replay how seed replies)) Refused cause done is no_write = refl
@@ -437,7 +437,7 @@ refused c trace j (Some (Load m events workers)) status cause done is no_write =
 
 -- a replay of a trace, neither of whose ends failed, did everything or lacked memory
 complete : (c : Call) (trace : Option Trace) (j : Journal) (asked : Option Command) (status : Status) → IsAsked c.words asked → IsCauseOf c asked trace j status
-    → AsksReplay c.words → IsSomeAnd c.told IsSomeTrace → NoFault c → (status ≡ done_status j) ⊎ (status ≡ NoMemory)
+    → AsksReplay c.words → IsSomeAnd c.told IsSomeTrace → NoFault c → (status ≡ done_status trace j) ⊎ (status ≡ NoMemory)
 complete c trace j None BadWords asked cause asks good sound = absurd (cause.0 (Replay Serial asks.0 asks.1) (asks.2, refl))
 complete c trace j None WriteFault asked cause asks good sound = absurd (sound.writes cause.0)
 complete c trace j None NoMemory asked cause asks good sound = inr refl
@@ -485,8 +485,8 @@ layout c trace j (Some (Load m events workers)) status asked cause want on asks 
 over : (c : Call) (trace : Option Trace) (journal : Journal) → IsJournalOf c trace journal → IfSome trace (λ trace. HoldsOver trace journal)
 over c None journal law = tt
 over c (Some trace) journal law = record {
-  given_once = λ object. given_once trace journal law.sound object;
-  freed_once = λ object. freed_was_given trace journal law.lawful object;
+  given_once = λ object. given_once trace journal law.sound law.lawful object;
+  freed_once = λ object. freed_was_given trace journal law.sound law.lawful object;
   balance = given_is_live trace journal law.sound law.lawful;
   rounds = lawful-rounds trace journal law.sound law.lawful;
   damages = poked-damages trace journal law.sound law.lawful;

@@ -1,6 +1,6 @@
 -- How a run grows.
-use Rattle.std.proofs.Common.{◌≡◌, ℕ, ◌+◌, ◌<◌, ◌≤◌, List, [], ◌∷◌, ◌++◌, None, Ok, Err, Result, refl, ap, ◌∙◌, subst, length, take, arith, length-append, le_refl, zero, suc, zero-le}
-use Rattle.std.specs.Prelude.{slice_get, IsSome, MatchOption, OnOk}
+use Rattle.std.proofs.Common.{◌≡◌, ℕ, ◌+◌, ◌<◌, ◌≤◌, List, [], ◌∷◌, None, Ok, Err, Result, refl, ap, ◌∙◌, length, take, arith, length-append, le_refl, suc, zero-le}
+use Rattle.std.specs.Prelude.{IsSome, OnOk}
 use Rattle.std.proofs.lemmas.List.{take_all}
 use Rattle.slub_lists.specs.State.{State}
 use Rattle.slub_lists.specs.Coherent.{IsCoherent}
@@ -8,25 +8,26 @@ use Rattle.slub_trace_reader.specs.declared.trace.Item.{Item}
 use Rattle.slub_trace_reader.specs.declared.trace.Trace.{Trace}
 use Rattle.slub_journal.specs.declared.journal.Done.{Done}
 use Rattle.slub_journal.specs.declared.journal.Journal.{Journal}
-use Rattle.slub_journal.specs.Lawful.{Does, IsLawful, IsReady, RunsItems, opening_of}
-use Rattle.slub_journal.proofs.Laws.{opened_ready, run_more}
+use Rattle.slub_journal.specs.Lawful.{opening_of}
+use Rattle.slub_journal.specs.Runs.{IsLawful, IsReadyMachine, MachineState, RunsItems, machine_of}
+use Rattle.slub_journal.proofs.Laws.{opened_machine_ready, run_more}
 use Rattle.slub_cli.specs.declared.stop.Stop.{Stop}
 use Rattle.slub_cli.specs.declared.stop.Stop.TheVariants.{WriteFault, NoMemory}
 use Rattle.slub_cli.specs.Inner.{Adds, AddsTotal, DoesItem, IsMachineOf, SameMachine, Totals}
 
 -- each item has one answer
-RunsItems-length : (s : State) (trace : Trace) (items : List Item) (dones : List Done) (after : State) → RunsItems s trace items dones after → length dones ≡ length items
+RunsItems-length : (s : MachineState) (trace : Trace) (items : List Item) (dones : List Done) (after : MachineState) → RunsItems s trace items dones after → length dones ≡ length items
 RunsItems-length s trace [] [] after run = refl
 RunsItems-length s trace (i ∷ items) (e ∷ dones) after (next, first, sound, run) = ap suc (RunsItems-length next trace items dones after run)
 RunsItems-length s trace [] (e ∷ dones) after run = absurd run
 RunsItems-length s trace (i ∷ items) [] after run = absurd run
 
 -- the first items are done so far
-pub record Reached (trace : Trace) (number : ℕ) (s : State) (journal : Journal) : Type 0 where
-  pub run : RunsItems (opening_of trace) trace (take number trace.items) journal.items s
+pub record Reached (trace : Trace) (number : ℕ) (s : MachineState) (journal : Journal) : Type 0 where
+  pub run : RunsItems (machine_of trace) trace (take number trace.items) journal.items s
   pub length_is : length journal.items ≡ number
   pub no_total : journal.total ≡ None
-  pub ready : IsReady s trace number
+  pub ready : IsReadyMachine s trace number
   pub machine : IsMachineOf trace journal
 
 -- a journal stays one for the machine of the trace
@@ -38,9 +39,9 @@ same_machine trace old new machine same = record {
 }
 
 -- one item more is done
-pub Reached-more : (trace : Trace) (number : ℕ) (s after : State) (old new : Journal) → number < length trace.items → Reached trace number s old → Adds s trace number after old new → Reached trace (number + 1) after new
+pub Reached-more : (trace : Trace) (number : ℕ) (s after : MachineState) (old new : Journal) → number < length trace.items → Reached trace number s old → Adds s trace number after old new → Reached trace (number + 1) after new
 Reached-more trace number s after old new within so_far adds = record {
-  run = rw adds.items (run_more (opening_of trace) trace number old.items s after adds.answer within so_far.run adds.does adds.ready.coherent);
+  run = rw adds.items (run_more (machine_of trace) trace number old.items s after adds.answer within so_far.run adds.does adds.ready.lists.coherent);
   length_is = ap length adds.items ∙ length-append old.items _ ∙ ap (λ n. n + 1) so_far.length_is;
   no_total = adds.total ∙ so_far.no_total;
   ready = adds.ready;
@@ -48,12 +49,12 @@ Reached-more trace number s after old new within so_far adds = record {
 }
 
 -- what was done so far is lawful
-pub Reached-lawful : (trace : Trace) (number : ℕ) (s : State) (journal : Journal) → IsCoherent (opening_of trace) → number ≤ length trace.items → Reached trace number s journal → IsLawful trace journal
+pub Reached-lawful : (trace : Trace) (number : ℕ) (s : MachineState) (journal : Journal) → IsCoherent (opening_of trace) → number ≤ length trace.items → Reached trace number s journal → IsLawful trace journal
 Reached-lawful trace number s journal coherent within so_far = record {
   frames = so_far.machine.frames;
   cpus = so_far.machine.cpus;
   tid = so_far.machine.tid;
-  state = s;
+  machine = s;
   coherent = coherent;
   within = omega (arith, so_far.length_is);
   run = rw so_far.length_is so_far.run;
@@ -61,7 +62,7 @@ Reached-lawful trace number s journal coherent within so_far = record {
 }
 
 -- what an item that stopped leaves is lawful
-pub stopped_lawful : (trace : Trace) (number : ℕ) (s after : State) (old new : Journal) (e : Stop) → IsCoherent (opening_of trace) → number < length trace.items → Reached trace number s old → DoesItem s trace number after old new (Err e) → IsLawful trace new
+pub stopped_lawful : (trace : Trace) (number : ℕ) (s after : MachineState) (old new : Journal) (e : Stop) → IsCoherent (opening_of trace) → number < length trace.items → Reached trace number s old → DoesItem s trace number after old new (Err e) → IsLawful trace new
 stopped_lawful trace number s after old new WriteFault coherent within so_far adds =
     Reached-lawful trace (number + 1) after new coherent (omega arith) (Reached-more trace number s after old new within so_far adds)
 stopped_lawful trace number s after old new NoMemory coherent within so_far same =
@@ -69,14 +70,14 @@ stopped_lawful trace number s after old new NoMemory coherent within so_far same
 stopped_lawful trace number s after old new _ coherent within so_far h = absurd h
 
 -- with its total a journal of all items is lawful
-total_lawful : (trace : Trace) (s : State) (old new : Journal) → RunsItems (opening_of trace) trace trace.items old.items s → IsLawful trace old → AddsTotal s old new → IsLawful trace new
+total_lawful : (trace : Trace) (s : MachineState) (old new : Journal) → RunsItems (machine_of trace) trace trace.items old.items s → IsLawful trace old → AddsTotal s.lists old new → IsLawful trace new
 total_lawful trace s old new run lawful adds =
-    let whole : length new.items ≡ length trace.items = ap length adds.items ∙ RunsItems-length (opening_of trace) trace trace.items old.items s run in
+    let whole : length new.items ≡ length trace.items = ap length adds.items ∙ RunsItems-length (machine_of trace) trace trace.items old.items s run in
     record {
       frames = adds.machine.frames ∙ lawful.frames;
       cpus = adds.machine.cpus ∙ lawful.cpus;
       tid = adds.machine.tid ∙ lawful.tid;
-      state = s;
+      machine = s;
       coherent = lawful.coherent;
       within = omega arith;
       run = rw (whole, take_all (length trace.items) trace.items (le_refl _), adds.items) run;
@@ -84,14 +85,14 @@ total_lawful trace s old new run lawful adds =
     }
 
 -- what the total leaves is lawful
-pub totals_lawful : (trace : Trace) (s : State) (old new : Journal) (r : Result (Unit {0}) Stop) → RunsItems (opening_of trace) trace trace.items old.items s → IsLawful trace old → Totals s old new r → IsLawful trace new
+pub totals_lawful : (trace : Trace) (s : MachineState) (old new : Journal) (r : Result (Unit {0}) Stop) → RunsItems (machine_of trace) trace trace.items old.items s → IsLawful trace old → Totals s.lists old new r → IsLawful trace new
 totals_lawful trace s old new (Ok x) run lawful adds = total_lawful trace s old new run lawful adds
 totals_lawful trace s old new (Err WriteFault) run lawful adds = total_lawful trace s old new run lawful adds
 totals_lawful trace s old new (Err NoMemory) run lawful same = record {
   frames = same.machine.frames ∙ lawful.frames;
   cpus = same.machine.cpus ∙ lawful.cpus;
   tid = same.machine.tid ∙ lawful.tid;
-  state = lawful.state;
+  machine = lawful.machine;
   coherent = lawful.coherent;
   within = rw same.items lawful.within;
   run = rw same.items lawful.run;
@@ -105,12 +106,12 @@ totals_some s old new (Ok x) adds = rw adds.there refl
 totals_some s old new (Err e) adds = tt
 
 -- nothing is done yet
-pub Reached-begins : (trace : Trace) (s : State) (journal : Journal) → IsCoherent (opening_of trace) → s ≡ opening_of trace → IsMachineOf trace journal → journal.items ≡ [] → journal.total ≡ None → Reached trace 0 s journal
+pub Reached-begins : (trace : Trace) (s : MachineState) (journal : Journal) → IsCoherent (opening_of trace) → s ≡ machine_of trace → IsMachineOf trace journal → journal.items ≡ [] → journal.total ≡ None → Reached trace 0 s journal
 Reached-begins trace s journal coherent is machine no_items no_total = record {
   run = rw no_items is;
   length_is = ap length no_items;
   no_total = no_total;
-  ready = rw is (opened_ready trace coherent);
+  ready = rw is (opened_machine_ready trace coherent);
   machine = machine;
 }
 
@@ -120,7 +121,7 @@ no_items_lawful trace journal coherent machine no_items no_total = record {
   frames = machine.frames;
   cpus = machine.cpus;
   tid = machine.tid;
-  state = opening_of trace;
+  machine = machine_of trace;
   coherent = coherent;
   within = rw no_items zero-le;
   run = rw no_items refl;
@@ -128,5 +129,5 @@ no_items_lawful trace journal coherent machine no_items no_total = record {
 }
 
 -- where all items are done, their run is that of the whole trace
-pub Reached-whole : (trace : Trace) (number : ℕ) (s : State) (journal : Journal) → length trace.items ≤ number → Reached trace number s journal → RunsItems (opening_of trace) trace trace.items journal.items s
+pub Reached-whole : (trace : Trace) (number : ℕ) (s : MachineState) (journal : Journal) → length trace.items ≤ number → Reached trace number s journal → RunsItems (machine_of trace) trace trace.items journal.items s
 Reached-whole trace number s journal all so_far = let e : take number trace.items ≡ trace.items = take_all number trace.items all in rw e at so_far.run

@@ -3,3 +3,4 @@ pub mod Laws
 pub mod Words
 pub mod Parts
 pub mod Ends
+pub mod Pairs

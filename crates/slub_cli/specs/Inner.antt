@@ -15,7 +15,8 @@ use Rattle.slub_trace_reader.specs.Reads.{IsBadIn, IsTooLong, Spells}
 use Rattle.slub_journal.specs.declared.journal.Done.{Done}
 use Rattle.slub_journal.specs.declared.journal.Total.{Total}
 use Rattle.slub_journal.specs.declared.journal.Journal.{Journal}
-use Rattle.slub_journal.specs.Lawful.{DoesAt, IsBuilt, IsReady, IsTotal}
+use Rattle.slub_journal.specs.Lawful.{IsBuilt, IsTotal}
+use Rattle.slub_journal.specs.Runs.{DoesAt, IsReadyMachine, MachineState}
 use Rattle.slub_journal.specs.Text.{text_of}
 use Rattle.slub_cli.specs.declared.stop.Stop.{Stop}
 use Rattle.slub_cli.specs.declared.stop.Stop.TheVariants.{BadWords, BadLine, NotBuilt, TooLong, ReadFault, WriteFault, NoMemory}
@@ -68,14 +69,14 @@ pub record SameMachine (old new : Journal) : Type 0 where
   pub cpus : new.cpus ≡ old.cpus
   pub tid : new.tid ≡ old.tid
 
--- the journal has one item more, which was done from this state to that
-pub record Adds (s : State) (trace : Trace) (number : ℕ) (after : State)
+-- the journal has one item more, which was done from this machine to that
+pub record Adds (m : MachineState) (trace : Trace) (number : ℕ) (after : MachineState)
     (old new : Journal) : Type 0 where
   pub answer : Done
-  pub does : DoesAt s trace number answer after
+  pub does : DoesAt m trace number answer after
   pub items : new.items ≡ old.items ++ answer ∷ []
   pub total : new.total ≡ old.total
-  pub ready : IsReady after trace (number + 1)
+  pub ready : IsReadyMachine after trace (number + 1)
   pub machine : SameMachine old new
 
 -- nothing was put in
@@ -85,12 +86,12 @@ pub record IsSame (old new : Journal) : Type 0 where
   pub machine : SameMachine old new
 
 -- doing an item adds it, but for want of memory
-abbrev pub DoesItem : State → Trace → ℕ → State → Journal → Journal → Result (Unit {0}) Stop
-    → Type 0
-DoesItem s trace number after old new (Ok x) = Adds s trace number after old new
-DoesItem s trace number after old new (Err WriteFault) = Adds s trace number after old new
-DoesItem s trace number after old new (Err NoMemory) = IsSame old new
-DoesItem s trace number after old new _ = ⊥
+abbrev pub DoesItem : MachineState → Trace → ℕ → MachineState → Journal → Journal
+    → Result (Unit {0}) Stop → Type 0
+DoesItem m trace number after old new (Ok x) = Adds m trace number after old new
+DoesItem m trace number after old new (Err WriteFault) = Adds m trace number after old new
+DoesItem m trace number after old new (Err NoMemory) = IsSame old new
+DoesItem m trace number after old new _ = ⊥
 
 -- the total is put in
 pub record AddsTotal (s : State) (old new : Journal) : Type 0 where
@@ -157,7 +158,7 @@ PrintsLayout old new write spec cpus _ = ⊥
 
 -- what a replay came to: everything was done, or why it ended early
 abbrev pub Replays : Call → Option Trace → Journal → Result Status Stop → Type 0
-Replays c trace journal (Ok status) = IsDone trace journal × (status ≡ done_status journal)
+Replays c trace journal (Ok status) = IsDone trace journal × (status ≡ done_status trace journal)
 Replays c trace journal (Err (BadLine text)) =
     (trace ≡ None) × (line : ℕ) × (why : Why) × (text.items ≡ bad_line line why)
     × IsBadLine c line why

@@ -1,6 +1,6 @@
 -- What a run promises: the table of statuses, the text, the law.
 use Rattle.std.specs.Prelude.{◌+◌, ◌≤◌, ◌≡◌, ◌≢◌, ℕ, ◌-◌, ◌↔◌, ◌⊎◌, List, [], ◌∷◌, ◌++◌, length, take, Bool, true, false, ◌||◌, not, cond, Option, Some, None, IfSome, IsSome, IsSomeAnd, Result, Ok, Err, codes, ⊤}
-use Rattle.std.specs.List.{list_any}
+use Rattle.std.specs.List.{list_any, zip}
 use Rattle.std.specs.Fmt.{decimal}
 use Rattle.std.specs.Io.KnownBytes.{Appends, IsAtEnd}
 use Rattle.slub_edges.specs.Edges.{Rose, AppendsFront}
@@ -15,19 +15,28 @@ use Rattle.slub_command.specs.declared.command.How.TheVariants.{Serial}
 use Rattle.slub_command.specs.Command.{IsCommand}
 use Rattle.slub_slabinfo_text.specs.Texts.{layout_lines}
 use Rattle.slub_answers.specs.Kinds.{is_no_memory, is_ok_reply}
+use Rattle.slub_trace_reader.specs.declared.trace.Client.{Client as Asked}
+use Rattle.slub_trace_reader.specs.declared.trace.Item.{Item}
+use Rattle.slub_trace_reader.specs.declared.trace.Item.TheVariants as item
 use Rattle.slub_trace_reader.specs.declared.trace.Trace.{Trace}
 use Rattle.slub_trace_reader.specs.Grammar.{IsTrace}
 use Rattle.slub_trace_reader.specs.declared.reading.Why.{Why}
 use Rattle.slub_trace_reader.specs.Faults.{why_text}
 use Rattle.slub_trace_reader.specs.Reads.{IsBadIn, IsNoTrace, IsTooLong, Spells}
 use Rattle.slub_trace_reader.specs.Sound.{IsSound}
+use Rattle.slub_journal.specs.declared.client.ClientAnswer.{ClientAnswer}
+use Rattle.slub_journal.specs.declared.client.ClientAnswer.TheVariants as answer
+use Rattle.slub_journal.specs.declared.client.ClientDone.{ClientDone}
+use Rattle.slub_journal.specs.declared.client.ClientRound.{ClientRound}
 use Rattle.slub_journal.specs.declared.journal.Done.{Done}
 use Rattle.slub_journal.specs.declared.journal.Done.TheVariants as done
 use Rattle.slub_journal.specs.declared.journal.Found.{Found}
 use Rattle.slub_journal.specs.declared.journal.Total.{Total}
 use Rattle.slub_journal.specs.declared.journal.Journal.{Journal}
 use Rattle.slub_journal.specs.Journal.{IsEmpty}
-use Rattle.slub_journal.specs.Lawful.{IsBuilt, IsLawful}
+use Rattle.slub_journal.specs.ClientText.{is_ok_client}
+use Rattle.slub_journal.specs.Lawful.{IsBuilt}
+use Rattle.slub_journal.specs.Runs.{IsLawful}
 use Rattle.slub_journal.specs.Text.{text_of, items_text}
 use Rattle.slub_laws.specs.Freed.{freed_times, given_times}
 use Rattle.slub_laws.specs.Poked.{HasPokedDamages}
@@ -77,22 +86,50 @@ abbrev pub is_some_found : List Found → Bool
 is_some_found [] = false
 is_some_found (found ∷ others) = true
 
--- a creation, a shrink, a destruction or a tune was refused, a reply isn't Ok, or an object was
--- found damaged
-abbrev pub has_refused : Done → Bool
-has_refused (done.Created answer) = is_err answer
-has_refused (done.Round result) =
+-- a client's line was refused, or one of the creations of a `kmalloc`: it has a line that is always
+-- written
+abbrev pub is_refused_client : Asked → ClientAnswer → Bool
+is_refused_client client (answer.Created answers) = list_any is_err answers
+is_refused_client client answered = not (is_ok_client client answered)
+
+-- something was found damaged in one of these rounds
+abbrev pub has_damage : List ClientRound → Bool
+has_damage rounds = list_any (λ round. is_some_found round.result.damages) rounds
+
+-- a client's line was refused, or something was found damaged in its rounds; their replies don't
+-- count
+abbrev pub refuses_client : Item → ClientDone → Bool
+refuses_client (item.Client client) outcome =
+    is_refused_client client outcome.answer || has_damage outcome.rounds
+refuses_client _ outcome = false
+
+-- a creation, a shrink, a destruction, a tune or a client's line was refused, a reply isn't Ok, or
+-- an object was found damaged
+abbrev pub has_refused : Item → Done → Bool
+has_refused item (done.Created answer) = is_err answer
+has_refused item (done.Round result) =
     list_any (λ reply. not (is_ok_reply reply)) result.replies || is_some_found result.damages
-has_refused (done.Shrunk answer) = is_err answer
-has_refused (done.Destroyed answer) = is_err answer
-has_refused (done.Slabinfo rows) = false
-has_refused (done.Tuned answer) = is_err answer
+has_refused item (done.Shrunk answer) = is_err answer
+has_refused item (done.Destroyed answer) = is_err answer
+has_refused item (done.Slabinfo rows) = false
+has_refused item (done.Tuned answer) = is_err answer
+has_refused item (done.Client outcome) = refuses_client item outcome
+
+-- the items of the trace that was read, or none
+abbrev pub items_in : Option Trace → List Item
+items_in None = []
+items_in (Some trace) = trace.items
+
+-- one of the items was refused
+abbrev pub is_refused : Option Trace → Journal → Bool
+is_refused trace journal =
+    list_any (λ one. has_refused one.0 one.1) (zip (items_in trace) journal.items)
 
 -- the status of a replay that did everything
-abbrev pub done_status : Journal → Status
-done_status journal =
+abbrev pub done_status : Option Trace → Journal → Status
+done_status trace journal =
     cond (list_any lacks_memory journal.items) NoMemory
-    (cond (list_any has_refused journal.items) Refused Fine)
+    (cond (is_refused trace journal) Refused Fine)
 
 -- the number with which the program ends
 abbrev pub number_of : Status → ℕ
@@ -199,12 +236,13 @@ IsBadInput c =
 -- want of memory ended the replay, or is one of its replies
 abbrev pub IsWant : Option Trace → Journal → Type 0
 IsWant trace journal =
-    (journal.total ≡ None) ⊎ (IsDone trace journal × (done_status journal ≡ NoMemory))
+    (journal.total ≡ None) ⊎ (IsDone trace journal × (done_status trace journal ≡ NoMemory))
 
 -- the row of each status, for a replay
 abbrev pub IsReplayCause : Call → Option Trace → Journal → Status → Type 0
-IsReplayCause c trace journal Fine = IsDone trace journal × (done_status journal ≡ Fine)
-IsReplayCause c trace journal Refused = IsDone trace journal × (done_status journal ≡ Refused)
+IsReplayCause c trace journal Fine = IsDone trace journal × (done_status trace journal ≡ Fine)
+IsReplayCause c trace journal Refused =
+    IsDone trace journal × (done_status trace journal ≡ Refused)
 IsReplayCause c trace journal BadTrace = IsBadInput c × (trace ≡ None)
 IsReplayCause c trace journal ReadFault = Rose c.read.0 c.read.1 × (trace ≡ None)
 IsReplayCause c trace journal WriteFault = Rose c.write.0 c.write.1
@@ -396,10 +434,11 @@ pub record IsRunOf (c : Call) (outcome : Outcome) : Type 0 where
       (outcome.status ≡ BadTrace) ⊎ (outcome.status ≡ NoMemory)
   -- a trace is done to its end
   pub complete : AsksReplay c.words → IsSomeAnd c.told IsSomeTrace → NoFault c →
-      (outcome.status ≡ done_status outcome.journal) ⊎ (outcome.status ≡ NoMemory)
+      (outcome.status ≡ done_status outcome.trace outcome.journal) ⊎ (outcome.status ≡ NoMemory)
   -- and what was refused is told
   pub refused : AsksReplay c.words → IsDone outcome.trace outcome.journal →
-      done_status outcome.journal ≡ Refused → ¬ Rose c.write.0 c.write.1 → outcome.status ≡ Refused
+      done_status outcome.trace outcome.journal ≡ Refused → ¬ Rose c.write.0 c.write.1 →
+      outcome.status ≡ Refused
   -- a layout is answered
   pub layout : (spec : Spec) (cpus : ℕ) → IsCommand c.words (Layout spec cpus) →
       ¬ Rose c.write.0 c.write.1 →

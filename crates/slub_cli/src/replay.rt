@@ -7,17 +7,16 @@ ghost use Rattle.std.specs.Prelude.{Bool, ◌≡◌, ◌<◌, ◌≤◌, [], Non
 ghost use Rattle.slub_lists.specs.Coherent.{IsCoherent};
 ghost use Rattle.slub_journal.specs.Journal.{IsEmpty};
 ghost use Rattle.slub_trace_reader.specs.Sound.{IsSound};
-ghost use Rattle.slub_journal.specs.Lawful.{IsBuilt, IsLawful, IsReady, RunsItems, opening_of};
+ghost use Rattle.slub_journal.specs.Lawful.{opening_of};
+ghost use Rattle.slub_journal.specs.Runs.{IsLawful, IsReadyMachine, RunsItems, machine_of};
 ghost use Rattle.slub_cli.specs.Inner.{DoesItem, IsItemStop, IsMachineOf, StopsAtWriteFault, Tells, TookText, Totals};
 
 use crate::stop::Stop;
-use slub_common::no_memory::NoMemory;
 use slub_edges::edges::Sink;
 use slub_edges::pieces::write_lines;
-use slub_engine::item::{item, total};
+use slub_items::machine::Machine;
 use slub_journal::journal::Journal;
 use slub_journal::text::{push_item, push_sums};
-use slub_list_machine::lists::Lists;
 use slub_trace_reader::trace::Trace;
 use std::alloc::Global;
 
@@ -27,27 +26,26 @@ fn do_item<K: Sink>(
     replies: bool,
     trace: &Trace,
     number: usize,
-    lists: &mut Lists,
+    machine: &mut Machine,
     text: &mut Vec<u8>,
     sink: &mut K,
     journal: &mut Journal,
 ) -> Result<(), Stop>
     requires sound { IsSound trace.now }
-    requires built { IsBuilt trace.now }
     requires within { number < length trace.now.items }
-    requires ready { IsReady lists.old trace.now number }
+    requires ready { IsReadyMachine machine.old trace.now number }
     requires so_far { length journal.old.items ≡ number }
     requires no_total { journal.old.total ≡ None }
-    ensures done { DoesItem lists.old trace.now number lists.new journal.old journal.new result }
+    ensures done { DoesItem machine.old trace.now number machine.new journal.old journal.new result }
     ensures told { Tells replies (K.taken sink.old) (K.taken sink.new) trace.now
         journal.old journal.new result }
     ensures stops { IfErr result (IsItemStop (K.faults sink.old) (K.faults sink.new) journal.new) }
     ensures write_faults { StopsAtWriteFault (K.faults sink.old) (K.faults sink.new) result }
     ensures counts { K.faults sink.old ≤ K.faults sink.new }
 {
-    let done = item(alloc, lists, trace, number)?;
+    let done = machine.item(alloc, trace, number)?;
     text.clear();
-    push_item(text, trace, number, &done, replies)?;
+    push_item(alloc, text, trace, number, &done, replies)?;
     journal.items.push(done)?;
     write_lines(sink, text)?;
     Ok(())
@@ -58,21 +56,20 @@ fn do_items<K: Sink>(
     alloc: Global,
     replies: bool,
     trace: &Trace,
-    lists: &mut Lists,
+    machine: &mut Machine,
     text: &mut Vec<u8>,
     sink: &mut K,
     journal: &mut Journal,
 ) -> Result<(), Stop>
     requires sound { IsSound trace.now }
-    requires built { IsBuilt trace.now }
-    requires opened { lists.old ≡ opening_of trace.now }
+    requires opened { machine.old ≡ machine_of trace.now }
     requires coherent { IsCoherent (opening_of trace.now) }
-    requires machine { IsMachineOf trace.now journal.old }
+    requires begun { IsMachineOf trace.now journal.old }
     requires no_items { journal.old.items ≡ [] }
     requires no_total { journal.old.total ≡ None }
-    ensures run { OnOk result (RunsItems (opening_of trace.now) trace.now trace.now.items
-        journal.new.items lists.new) }
-    ensures coherent { OnOk result (IsCoherent lists.new) }
+    ensures run { OnOk result (RunsItems (machine_of trace.now) trace.now trace.now.items
+        journal.new.items machine.new) }
+    ensures coherent { OnOk result (IsCoherent machine.new.lists) }
     ensures lawful { IsLawful trace.now journal.new }
     ensures no_total { journal.new.total ≡ None }
     ensures told { Tells replies (K.taken sink.old) (K.taken sink.new) trace.now
@@ -82,7 +79,7 @@ fn do_items<K: Sink>(
     ensures counts { K.faults sink.old ≤ K.faults sink.new }
 {
     for number in 0..trace.items.len() {
-        do_item(alloc, replies, trace, number, lists, text, sink, journal)?;
+        do_item(alloc, replies, trace, number, machine, text, sink, journal)?;
     }
     Ok(())
 }
@@ -91,23 +88,24 @@ fn do_items<K: Sink>(
 fn do_total<K: Sink>(
     alloc: Global,
     trace: &Trace,
-    lists: &Lists,
+    machine: &Machine,
     sink: &mut K,
     journal: &mut Journal,
 ) -> Result<(), Stop>
     requires sound { IsSound trace.now }
-    requires coherent { IsCoherent lists.now }
-    requires run { RunsItems (opening_of trace.now) trace.now trace.now.items
-        journal.old.items lists.now }
+    requires opened { IsCoherent (opening_of trace.now) }
+    requires coherent { IsCoherent machine.now.lists }
+    requires run { RunsItems (machine_of trace.now) trace.now trace.now.items
+        journal.old.items machine.now }
     requires no_total { journal.old.total ≡ None }
-    ensures done { Totals lists.now journal.old journal.new result }
+    ensures done { Totals machine.now.lists journal.old journal.new result }
     ensures told { (replies : Bool) → Tells replies (K.taken sink.old) (K.taken sink.new)
         trace.now journal.old journal.new result }
     ensures stops { IfErr result (IsItemStop (K.faults sink.old) (K.faults sink.new) journal.new) }
     ensures write_faults { StopsAtWriteFault (K.faults sink.old) (K.faults sink.new) result }
     ensures counts { K.faults sink.old ≤ K.faults sink.new }
 {
-    let sums = total(lists, trace, journal.items.as_slice());
+    let sums = machine.total(journal.items.as_slice());
     let mut text = Vec::new(alloc);
     push_sums(&mut text, &sums)?;
     journal.total = Some(sums);
@@ -126,21 +124,6 @@ fn begin(trace: &Trace, journal: &mut Journal)
     journal.tid = trace.tid;
 }
 
-/// The machine before the first item of a trace.
-fn open(alloc: Global, trace: &Trace) -> Result<Lists, NoMemory>
-    requires { IsSound trace.now }
-    ensures opened { IfOk result (λ lists. lists ≡ opening_of trace.now) }
-    ensures coherent { IsCoherent (opening_of trace.now) }
-{
-    Lists::open(
-        alloc,
-        trace.frames,
-        trace.cpus,
-        trace.objects,
-        trace.names.as_slice(),
-    )
-}
-
 /// Replays a trace on a machine of its own.
 pub fn do_trace<K: Sink>(
     alloc: Global,
@@ -150,7 +133,6 @@ pub fn do_trace<K: Sink>(
     journal: &mut Journal,
 ) -> Result<(), Stop>
     requires sound { IsSound trace.now }
-    requires built { IsBuilt trace.now }
     requires empty { IsEmpty journal.old }
     ensures lawful { IsLawful trace.now journal.new }
     ensures all { OnOk result (IsSome journal.new.total) }
@@ -161,8 +143,16 @@ pub fn do_trace<K: Sink>(
     ensures counts { K.faults sink.old ≤ K.faults sink.new }
 {
     begin(trace, journal);
-    let mut lists = open(alloc, trace)?;
+    let mut machine = Machine::open(alloc, trace)?;
     let mut text = Vec::new(alloc);
-    do_items(alloc, replies, trace, &mut lists, &mut text, sink, journal)?;
-    do_total(alloc, trace, &lists, sink, journal)
+    do_items(
+        alloc,
+        replies,
+        trace,
+        &mut machine,
+        &mut text,
+        sink,
+        journal,
+    )?;
+    do_total(alloc, trace, &machine, sink, journal)
 }

@@ -67,7 +67,7 @@ fn replay<S: Source, K: Sink>(
     let end = do_trace(alloc, replies, &read, sink, journal);
     *trace = Some(read);
     match end {
-        Ok(()) => Ok(done_status(journal)),
+        Ok(()) => Ok(done_status(trace, journal)),
         Err(stop) => Err(stop),
     }
 }
@@ -161,8 +161,9 @@ fn status_of(stop: &Stop) -> Status
 /// The words are read before a byte of the source. Where a run ends early, one fault line says why.
 ///
 /// Run today are `replay` in the order of the text, with or without `--replies`, and `layout`; another
-/// command ends the run as words that are no command do. Replayed today are the traces that are built
-/// (`is_built` of `slub_journal`): another one ends the run as bytes that are no trace do.
+/// command ends the run as words that are no command do. Replayed today are the traces whose CPUs start
+/// at transaction id 0 (`is_built` of `slub_journal`): another one ends the run as bytes that are no trace
+/// do.
 pub fn run<S: Source, K: Sink>(
     alloc: Global,
     words: &[String],

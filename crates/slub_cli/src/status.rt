@@ -1,22 +1,25 @@
 //! How a run ended, and what it leaves.
 
 ghost use Rattle.std.specs.Prelude.{◌≡◌, not};
-ghost use Rattle.std.specs.List.{list_any};
+ghost use Rattle.std.specs.List.{list_any, zip};
 ghost use Rattle.slub_answers.specs.Kinds.{is_no_memory, is_ok_reply};
-ghost use Rattle.slub_cli.specs.Run.{answer_status, done_status, has_refused, lacks_memory};
+ghost use Rattle.slub_cli.specs.Run.{answer_status, done_status, has_damage, has_refused, is_err, is_refused_client, items_in, lacks_memory, refuses_client};
 
+use slub_answers::create::{CreateRefusal, Created};
 use slub_answers::reply::{Kind, Reply};
+use slub_journal::client::{ClientAnswer, ClientDone, ClientRound};
+use slub_journal::client_text::is_ok_client;
 use slub_journal::journal::{Done, Journal};
 use slub_object_layout::layout::{Layout, LayoutRefusal};
-use slub_trace_reader::trace::Trace;
+use slub_trace_reader::trace::{Client, Item, Trace};
 
 /// How a run ended.
 #[derive(Clone, Copy, Debug, PartialEq, Eq)]
 pub enum Status {
     /// Everything was done, and nothing was refused or found damaged.
     Fine,
-    /// Everything was done, and a creation, a shrink, a destruction or a layout was refused, a reply
-    /// isn't Ok, or an object was found damaged.
+    /// Everything was done, and a creation, a shrink, a destruction, a tune, a client's line or a layout was
+    /// refused, a reply isn't Ok, or an object was found damaged.
     Refused,
     /// The words are no command, or one that isn't run today.
     BadWords,
@@ -81,7 +84,8 @@ fn lacks_memory(done: &Done) -> bool
         | Done::Shrunk(_)
         | Done::Destroyed(_)
         | Done::Slabinfo(_)
-        | Done::Tuned(_) => false,
+        | Done::Tuned(_)
+        | Done::Client(_) => false,
     }
 }
 
@@ -92,10 +96,10 @@ fn has_refusal(replies: &[Reply]) -> bool
     replies.iter().any(|reply| !reply.is_ok())
 }
 
-/// Whether a creation, a shrink, a destruction or a tune was refused, a reply isn't Ok, or an object was
-/// found damaged.
-fn has_refused(done: &Done) -> bool
-    ensures { result ≡ has_refused done.now }
+/// Whether a creation, a shrink, a destruction, a tune or a client's line was refused, a reply isn't Ok, or
+/// an object was found damaged.
+fn has_refused(item: &Item, done: &Done) -> bool
+    ensures { result ≡ has_refused item.now done.now }
 {
     match done {
         Done::Created(answer) => answer.is_err(),
@@ -106,7 +110,43 @@ fn has_refused(done: &Done) -> bool
         Done::Destroyed(answer) => answer.is_err(),
         Done::Slabinfo(_) => false,
         Done::Tuned(answer) => answer.is_err(),
+        Done::Client(outcome) => refuses_client(item, outcome),
     }
+}
+
+/// The same of a client's line.
+fn refuses_client(item: &Item, outcome: &ClientDone) -> bool
+    ensures { result ≡ refuses_client item.now outcome.now }
+{
+    match item {
+        Item::Client(client) => {
+            is_refused_client(client, &outcome.answer) || has_damage(outcome.rounds.as_slice())
+        }
+        _ => false,
+    }
+}
+
+/// Whether a client's line was refused, or one of the creations of a `kmalloc`.
+fn is_refused_client(client: &Client, answer: &ClientAnswer) -> bool
+    ensures { result ≡ is_refused_client client.now answer.now }
+{
+    match answer {
+        ClientAnswer::Created(answers) => has_refused_creation(answers.as_slice()),
+        _ => !is_ok_client(client, answer),
+    }
+}
+
+fn has_refused_creation(answers: &[Result<Created, CreateRefusal>]) -> bool
+    ensures { result ≡ list_any is_err answers.now }
+{
+    answers.iter().any(|answer| answer.is_err())
+}
+
+/// Whether something was found damaged in one of these rounds.
+fn has_damage(rounds: &[ClientRound]) -> bool
+    ensures { result ≡ has_damage rounds.now }
+{
+    rounds.iter().any(|round| !round.result.damages.is_empty())
 }
 
 /// Whether one of the items lacks memory.
@@ -117,19 +157,34 @@ fn is_wanting(dones: &[Done]) -> bool
 }
 
 /// Whether one of the items was refused.
-fn is_refused(dones: &[Done]) -> bool
-    ensures { result ≡ list_any has_refused dones.now }
+fn is_refused(items: &[Item], dones: &[Done]) -> bool
+    ensures { result ≡ list_any (λ one. has_refused one.0 one.1) (zip items.now dones.now) }
 {
-    dones.iter().any(|done| has_refused(done))
+    for (item, done) in items.iter().zip(dones) {
+        if has_refused(item, done) {
+            return true;
+        }
+    }
+    false
+}
+
+/// The items of the trace that was read, or none.
+fn items_in(trace: &Option<Trace>) -> &[Item]
+    ensures { result.now ≡ items_in trace.now }
+{
+    match trace {
+        Some(trace) => trace.items.as_slice(),
+        None => &[],
+    }
 }
 
 /// The status of a replay that did everything.
-pub(crate) fn done_status(journal: &Journal) -> Status
-    ensures { result ≡ done_status journal.now }
+pub(crate) fn done_status(trace: &Option<Trace>, journal: &Journal) -> Status
+    ensures { result ≡ done_status trace.now journal.now }
 {
     if is_wanting(journal.items.as_slice()) {
         Status::NoMemory
-    } else if is_refused(journal.items.as_slice()) {
+    } else if is_refused(items_in(trace), journal.items.as_slice()) {
         Status::Refused
     } else {
         Status::Fine

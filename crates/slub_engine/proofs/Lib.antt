@@ -8,4 +8,3 @@ pub mod Ready
 pub mod Few
 pub mod CountSums
 pub mod Counted
-pub mod Whole

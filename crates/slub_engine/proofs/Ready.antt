@@ -95,6 +95,12 @@ pub ready_same : (s : State) (trace : Trace) (number : ℕ) (it : Item) → IsSo
 ready_same s trace number it sound ready within at =
     ready_kept s s trace number it sound ready within at ready.coherent (record { frames = refl; cpus = refl; kept = refl; gone = refl }) refl
 
+-- ---- before a client's line
+
+-- no object has a number that it may allocate
+pub item_unheld : (s : State) (trace : Trace) (number : ℕ) (it : Item) → IsReady s trace number → number < length trace.items → it ≡ get_or trace.items number it → All (IsUnheld s) (objects_in it)
+item_unheld s trace number it ready within at = All-front (IsUnheld s) (objects_in it) (coming trace (number + 1)) (coming_unheld s trace number it ready within at)
+
 -- ---- before a round
 
 -- its numbers are different, and no object has one of them

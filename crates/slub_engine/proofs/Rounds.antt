@@ -12,7 +12,6 @@ use Rattle.slub_object_layout.specs.declared.event.Act.TheVariants.{Alloc, Free,
 use Rattle.slub_object_layout.specs.declared.event.Event.{Event}
 use Rattle.slub_cache_create.specs.Table.{Table}
 use Rattle.slub_answers.specs.declared.reply.Reply.{Reply}
-use Rattle.slub_answers.specs.declared.reply.Reply.TheVariants as reply
 use Rattle.slub_lists.specs.State.{State}
 use Rattle.slub_lists.specs.Alloc.{checked_of}
 use Rattle.slub_lists.specs.Coherent.{AddsReportsOf, IsCoherent, KeepsOthers, findable_in}
@@ -53,7 +52,7 @@ least_order_kept : (s now : State) (act : Act) → now.table ≡ s.table → lea
 least_order_kept s now (Alloc place object) table = rw table refl
 least_order_kept s now _ table = refl
 
-lacks_kept : (s now : State) (order : ℕ) (event : Event) (reply : Reply) → now.table ≡ s.table
+pub lacks_kept : (s now : State) (order : ℕ) (event : Event) (reply : Reply) → now.table ≡ s.table
     → lacks now order (event, reply) ≡ lacks s order (event, reply)
 lacks_kept s now order event answer table = ap (λ b. is_no_frames answer && b) (ap (is_order order) (least_order_kept s now event.act table))
 
@@ -98,7 +97,7 @@ ledger_other s answers event reply worker ledger differ counted = record {
   no_frames = λ order within. counted.no_frames order within ∙ sym (count_other (lacks s order) answers event reply worker differ);
 }
 
-ledgers_more : (s now : State) (answers : List (Event × Reply)) (workers : ℕ) (event : Event) (reply : Reply) (before after : List Ledger)
+pub ledgers_more : (s now : State) (answers : List (Event × Reply)) (workers : ℕ) (event : Event) (reply : Reply) (before after : List Ledger)
     → now.table ≡ s.table → event.worker < workers → AreLedgers s answers workers before → NotesOwn now event reply before after
     → AreLedgers s (answers ++ (event, reply) ∷ []) workers after
 ledgers_more s now answers workers event reply before after table mine counted noted = record {
@@ -117,7 +116,7 @@ ledgers_more s now answers workers event reply before after table mine counted n
         rw (get_or-set_other before event.worker worker noted.ledger other differ) (ledger_other s answers event reply worker (get_or before worker other) (λ same. differ (sym same)) (counted.counts worker other within))
 
 -- no number of a ledger is greater than the replies are many
-ledgers_below : (s : State) (events : List Event) (replies : List Reply) (workers : ℕ) (ledgers : List Ledger) (limit : ℕ)
+pub ledgers_below : (s : State) (events : List Event) (replies : List Reply) (workers : ℕ) (ledgers : List Ledger) (limit : ℕ)
     → length replies < limit → AreLedgers s (zip events replies) workers ledgers → All (IsBelow limit) ledgers
 ledgers_below s events replies workers ledgers limit few counted k d within =
     let mine = counted.counts k d (omega (arith, counted.each)) in
@@ -129,7 +128,7 @@ ledgers_below s events replies workers ledgers limit few counted k d within =
     }
 
 -- before the first event
-blank_ledgers : (s : State) (ledgers : List Ledger) → All IsBlank ledgers → AreLedgers s [] (length ledgers) ledgers
+pub blank_ledgers : (s : State) (ledgers : List Ledger) → All IsBlank ledgers → AreLedgers s [] (length ledgers) ledgers
 blank_ledgers s ledgers blank = record {
   each = refl;
   counts = λ worker other within.

@@ -15,7 +15,7 @@ use slub_red_zone::zones::Report;
 use std::alloc::Global;
 
 /// How much was found of each cache so far, by cache number.
-pub(crate) fn counts_told(alloc: Global, lists: &Lists) -> Result<Vec<usize>, NoMemory>
+pub fn counts_told(alloc: Global, lists: &Lists) -> Result<Vec<usize>, NoMemory>
     ensures { IfOk result (λ counts. counts.items ≡ told_in lists.now) }
 {
     let mut counts = Vec::new(alloc);
@@ -36,7 +36,7 @@ fn count_told(slabs: &Option<CheckedSlabs>) -> usize
 
 /// How many damages can be found at most while so many events are answered: one of each slab that is
 /// listed, and one of the slab that an event lists.
-pub(crate) fn room_to_find(lists: &Lists, events: usize) -> usize
+pub fn room_to_find(lists: &Lists, events: usize) -> usize
     requires coherent { IsCoherent lists.now }
     requires few { events < 2 ^ 63 }
     ensures { result ≡ listed_in lists.now + events }
@@ -59,7 +59,7 @@ fn count_listed(slabs: &Option<CheckedSlabs>) -> usize
 }
 
 /// Puts in what was found of each cache past these counts, by cache number. It takes no memory.
-pub(crate) fn push_found(lists: &Lists, told: &[usize], damages: &mut Vec<Found>)
+pub fn push_found(lists: &Lists, told: &[usize], damages: &mut Vec<Found>)
     requires coherent { IsCoherent lists.now }
     requires each { length told.now ≡ 32 }
     requires grown { (cache : ℕ) →

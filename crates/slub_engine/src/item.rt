@@ -5,7 +5,7 @@ ghost use Rattle.std.specs.List.{IsDistinct, zip};
 ghost use Rattle.slub_lists.specs.Coherent.{AddsReportsOf, IsCoherent, KeepsMachine, KeepsOthers, findable_in};
 ghost use Rattle.slub_lists.specs.Alloc.{checked_of};
 ghost use Rattle.slub_trace_reader.specs.Sound.{IsSound, objects_of};
-ghost use Rattle.slub_journal.specs.Lawful.{Answers, AreLedgers, CreatesName, DoesAt, DoesRound, IsBuilt, IsReady, IsTotal, IsUnheld, RunsEvents, RunsItems, TakesMemoryAt, least_order_of, opening_of};
+ghost use Rattle.slub_journal.specs.Lawful.{Answers, AreLedgers, CreatesName, DoesPlainAt, DoesRound, IsPlainAt, IsReady, IsTotal, IsUnheld, RunsEvents, TakesMemoryAt, all_freed, all_given, least_order_of};
 ghost use Rattle.slub_engine.specs.Steps.{IsBelow, IsBlank, IsKnown, IsKnownAct, KeepsCaches, KeepsSizes, KeepsUnheld, Notes, NotesOwn, object_of};
 
 use crate::counts::info_rows;
@@ -26,8 +26,8 @@ use slub_object_layout::name::Name;
 use slub_trace_reader::trace::{Item, Trace};
 use std::alloc::Global;
 
-/// Does the item of this number. Only a creation, a round and slabinfo take memory; where none is
-/// found, the machine is as it was given.
+/// Does the item of this number, which isn't a client's line. Only a creation, a round and slabinfo take
+/// memory; where none is found, the machine is as it was given.
 pub fn item(
     alloc: Global,
     lists: &mut Lists,
@@ -35,10 +35,10 @@ pub fn item(
     number: usize,
 ) -> Result<Done, NoMemory>
     requires sound { IsSound trace.now }
-    requires built { IsBuilt trace.now }
     requires within { number < length trace.now.items }
+    requires plain { IsPlainAt trace.now number }
     requires ready { IsReady lists.old trace.now number }
-    ensures done { IfOk result (λ done. DoesAt lists.old trace.now number done lists.new) }
+    ensures done { IfOk result (λ done. DoesPlainAt lists.old trace.now number done lists.new) }
     ensures ready { OnOk result (IsReady lists.new trace.now (number + 1)) }
     ensures err { OnErr result (lists.new ≡ lists.old) }
     ensures memory { OnErr result (TakesMemoryAt trace.now number) }
@@ -116,7 +116,7 @@ pub fn serial(alloc: Global, lists: &mut Lists, round: &Round) -> Result<RoundRe
 }
 
 /// So many ledgers with nothing counted.
-fn blank_ledgers(alloc: Global, workers: usize) -> Result<Vec<Ledger>, NoMemory>
+pub fn blank_ledgers(alloc: Global, workers: usize) -> Result<Vec<Ledger>, NoMemory>
     ensures each { IfOk result (λ ledgers. length ledgers.items ≡ workers) }
     ensures blank { IfOk result (λ ledgers. All IsBlank ledgers.items) }
 {
@@ -185,7 +185,7 @@ fn answer(lists: &mut Lists, event: &Event) -> Reply
 }
 
 /// Counts a reply in the ledger of the event's worker.
-fn note_own(ledgers: &mut [Ledger], lists: &Lists, event: &Event, reply: Reply)
+pub fn note_own(ledgers: &mut [Ledger], lists: &Lists, event: &Event, reply: Reply)
     requires coherent { IsCoherent lists.now }
     requires known { IsKnownAct lists.now event.now.act }
     requires worker { event.now.worker < length ledgers.old }
@@ -230,10 +230,10 @@ fn least_order(lists: &Lists, act: &Act) -> Option<u32>
 }
 
 /// The sums over all that was done, and over the machine that it left.
-pub fn total(lists: &Lists, trace: &Trace, items: &[Done]) -> Total
-    requires sound { IsSound trace.now }
+pub fn total(lists: &Lists, items: &[Done]) -> Total
     requires coherent { IsCoherent lists.now }
-    requires run { RunsItems (opening_of trace.now) trace.now trace.now.items items.now lists.now }
+    requires given { all_given items.now < 2 ^ 64 }
+    requires freed { all_freed items.now < 2 ^ 64 }
     ensures { IsTotal lists.now items.now result }
 {
     let CacheSums {

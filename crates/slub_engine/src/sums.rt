@@ -1,11 +1,12 @@
 //! The sums of the total line.
 
-ghost use Rattle.std.specs.Prelude.{◌≡◌, ◌+◌, ◌*◌, ◌^◌, ◌<◌, reverse, sum_by};
+ghost use Rattle.std.specs.Prelude.{◌≡◌, ◌+◌, ◌*◌, ◌^◌, ◌<◌, reverse};
 ghost use Rattle.slub_lists.specs.Coherent.{IsCoherent};
-ghost use Rattle.slub_journal.specs.Lawful.{freed_in, given_in, ledgers_of};
+ghost use Rattle.slub_journal.specs.Lawful.{all_freed, all_given, freed_by, freed_in, freed_of, given_by, given_in, given_of};
 
 use crate::counts::cache_counts;
 use slub_answers::ledger::Ledger;
+use slub_journal::client::ClientRound;
 use slub_journal::journal::Done;
 use slub_list_machine::lists::Lists;
 use slub_slabinfo_text::counts::Counts;
@@ -62,50 +63,92 @@ impl CacheSums {
 
 /// How many objects were given, by all ledgers.
 pub(crate) fn given(items: &[Done]) -> u64
-    requires { sum_by (λ done. given_in (ledgers_of done)) items.now < 2 ^ 64 }
-    ensures { result ≡ sum_by (λ done. given_in (ledgers_of done)) items.now }
+    requires { all_given items.now < 2 ^ 64 }
+    ensures { result ≡ all_given items.now }
 {
     let mut given = 0;
     for done in items {
-        given += given_by(ledgers_of(done));
+        given += given_of(done);
     }
     given
 }
 
 /// How many objects were freed, by all ledgers.
 pub(crate) fn freed(items: &[Done]) -> u64
-    requires { sum_by (λ done. freed_in (ledgers_of done)) items.now < 2 ^ 64 }
-    ensures { result ≡ sum_by (λ done. freed_in (ledgers_of done)) items.now }
+    requires { all_freed items.now < 2 ^ 64 }
+    ensures { result ≡ all_freed items.now }
 {
     let mut freed = 0;
     for done in items {
-        freed += freed_by(ledgers_of(done));
+        freed += freed_of(done);
     }
     freed
 }
 
-/// The ledgers of an item.
-fn ledgers_of(done: &Done) -> &[Ledger]
-    ensures { result.now ≡ ledgers_of done.now }
+/// How many objects an item gave.
+fn given_of(done: &Done) -> u64
+    requires { given_of done.now < 2 ^ 64 }
+    ensures { result ≡ given_of done.now }
 {
     match done {
-        Done::Round(outcome) => outcome.ledgers.as_slice(),
+        Done::Round(outcome) => given_in(outcome.ledgers.as_slice()),
+        Done::Client(outcome) => given_by(outcome.rounds.as_slice()),
         Done::Created(_)
         | Done::Shrunk(_)
         | Done::Destroyed(_)
         | Done::Slabinfo(_)
-        | Done::Tuned(_) => &[],
+        | Done::Tuned(_) => 0,
     }
 }
 
-fn given_by(ledgers: &[Ledger]) -> u64
+/// How many objects an item freed.
+fn freed_of(done: &Done) -> u64
+    requires { freed_of done.now < 2 ^ 64 }
+    ensures { result ≡ freed_of done.now }
+{
+    match done {
+        Done::Round(outcome) => freed_in(outcome.ledgers.as_slice()),
+        Done::Client(outcome) => freed_by(outcome.rounds.as_slice()),
+        Done::Created(_)
+        | Done::Shrunk(_)
+        | Done::Destroyed(_)
+        | Done::Slabinfo(_)
+        | Done::Tuned(_) => 0,
+    }
+}
+
+/// How many objects a client's rounds gave.
+fn given_by(rounds: &[ClientRound]) -> u64
+    requires { given_by rounds.now < 2 ^ 64 }
+    ensures { result ≡ given_by rounds.now }
+{
+    let mut given = 0;
+    for round in rounds {
+        given += given_in(round.result.ledgers.as_slice());
+    }
+    given
+}
+
+/// How many objects a client's rounds freed.
+fn freed_by(rounds: &[ClientRound]) -> u64
+    requires { freed_by rounds.now < 2 ^ 64 }
+    ensures { result ≡ freed_by rounds.now }
+{
+    let mut freed = 0;
+    for round in rounds {
+        freed += freed_in(round.result.ledgers.as_slice());
+    }
+    freed
+}
+
+fn given_in(ledgers: &[Ledger]) -> u64
     requires { given_in ledgers.now < 2 ^ 64 }
     ensures { result ≡ given_in ledgers.now }
 {
     ledgers.iter().map(|ledger| ledger.given).sum()
 }
 
-fn freed_by(ledgers: &[Ledger]) -> u64
+fn freed_in(ledgers: &[Ledger]) -> u64
     requires { freed_in ledgers.now < 2 ^ 64 }
     ensures { result ≡ freed_in ledgers.now }
 {

@@ -1,4 +1,4 @@
--- What the items of a trace that is sound and built are, what was done for them, and their text.
+-- What the items of a trace that is sound are, what was done for them, and their text.
 use Rattle.std.proofs.Common.{◌≡◌, ℕ, ◌<◌, Bool, List, [], ◌++◌, length, get_or, refl, sym, ◌∙◌, ap, subst, Option, Some, MatchOption, Result, slice_get}
 use Rattle.std.proofs.lemmas.List.{append-nil}
 use Rattle.std.proofs.lemmas.Option.{get_or_from_slice_get, slice_get_read}
@@ -28,8 +28,11 @@ use Rattle.slub_answers.specs.declared.create.CreateRefusal.{CreateRefusal}
 use Rattle.slub_journal.specs.declared.journal.RoundResult.{RoundResult}
 use Rattle.slub_journal.specs.declared.journal.Done.{Done}
 use Rattle.slub_journal.specs.declared.journal.Done.TheVariants as done
-use Rattle.slub_journal.specs.Lawful.{CreatesName, Does, DoesAt, DoesRound, TakesMemory, TakesMemoryAt, name_at}
-use Rattle.slub_journal.specs.Text.{answer_line, created_answer, destroyed_answer, done_text, round_text, shrunk_answer, text_at, tuned_answer}
+use Rattle.slub_journal.specs.declared.client.ClientDone.{ClientDone}
+use Rattle.slub_journal.specs.ClientText.{client_text}
+use Rattle.slub_journal.specs.Lawful.{CreatesName, DoesPlain, DoesPlainAt, DoesRound, TakesMemory, TakesMemoryAt, name_at}
+use Rattle.slub_journal.specs.Lines.{answer_line, created_answer, destroyed_answer, round_text, shrunk_answer, tuned_answer}
+use Rattle.slub_journal.specs.Text.{done_text, text_at}
 
 -- ---- an item that was read
 
@@ -108,10 +111,14 @@ unfolding done_text
 no_tune_text replies trace place setting (done.Tuned answer) isnt = absurd (isnt answer refl)
 no_tune_text replies trace place setting _ isnt = refl
 
--- nor has a client's line
-pub no_client_text : (replies : Bool) (trace : Trace) (client : Client) (dn : Done) → done_text replies trace (item.Client client) dn ≡ []
+pub client_lines : (replies : Bool) (trace : Trace) (client : Client) (outcome : ClientDone) → done_text replies trace (item.Client client) (done.Client outcome) ≡ client_text replies client outcome
 unfolding done_text
-no_client_text replies trace client dn = refl
+client_lines replies trace client outcome = refl
+
+pub no_client_text : (replies : Bool) (trace : Trace) (client : Client) (dn : Done) → ((outcome : ClientDone) → dn ≡ done.Client outcome → ⊥) → done_text replies trace (item.Client client) dn ≡ []
+unfolding done_text
+no_client_text replies trace client (done.Client outcome) isnt = absurd (isnt outcome refl)
+no_client_text replies trace client _ isnt = refl
 
 -- ---- an item that was read is done
 
@@ -122,52 +129,52 @@ takes_at trace number it within is takes =
     subst (λ (found : Option Item). MatchOption found ⊥ TakesMemory) (sym found) takes
 
 does_at : (s : State) (trace : Trace) (number : ℕ) (it : Item) (dn : Done) (after : State) → number < length trace.items → it ≡ get_or trace.items number it
-    → Does s trace it dn after → DoesAt s trace number dn after
+    → DoesPlain s trace it dn after → DoesPlainAt s trace number dn after
 does_at s trace number it dn after within is does =
     let found : slice_get trace.items number ≡ Some it = slice_get_read trace.items (length trace.items) number it refl within is in
-    subst (λ (found : Option Item). MatchOption found ⊥ (λ it. Does s trace it dn after)) (sym found) does
+    subst (λ (found : Option Item). MatchOption found ⊥ (λ it. DoesPlain s trace it dn after)) (sym found) does
 
 pub does_creation : (s : State) (trace : Trace) (number : ℕ) (it : Item) (place : ℕ) (spec : Spec) (answer : Result Created CreateRefusal) (after : State)
     → number < length trace.items → it ≡ get_or trace.items number it → it ≡ item.Cache place spec
-    → CreatesName s (name_at trace place) spec answer after → DoesAt s trace number (done.Created answer) after
-unfolding Does
+    → CreatesName s (name_at trace place) spec answer after → DoesPlainAt s trace number (done.Created answer) after
+unfolding DoesPlain
 does_creation s trace number it place spec answer after within at is creates =
-    does_at s trace number it (done.Created answer) after within at (subst (λ (it : Item). Does s trace it (done.Created answer) after) (sym is) creates)
+    does_at s trace number it (done.Created answer) after within at (subst (λ (it : Item). DoesPlain s trace it (done.Created answer) after) (sym is) creates)
 
 pub does_round : (s : State) (trace : Trace) (number : ℕ) (it : Item) (round : Round) (outcome : RoundResult) (after : State)
     → number < length trace.items → it ≡ get_or trace.items number it → it ≡ item.Round round
-    → DoesRound s round outcome after → DoesAt s trace number (done.Round outcome) after
-unfolding Does
+    → DoesRound s round outcome after → DoesPlainAt s trace number (done.Round outcome) after
+unfolding DoesPlain
 does_round s trace number it round outcome after within at is does =
-    does_at s trace number it (done.Round outcome) after within at (subst (λ (it : Item). Does s trace it (done.Round outcome) after) (sym is) does)
+    does_at s trace number it (done.Round outcome) after within at (subst (λ (it : Item). DoesPlain s trace it (done.Round outcome) after) (sym is) does)
 
 pub does_slabinfo : (s : State) (trace : Trace) (number : ℕ) (it : Item) (rows : List InfoRow)
     → number < length trace.items → it ≡ get_or trace.items number it → it ≡ item.Slabinfo
-    → rows ≡ rows_of s → DoesAt s trace number (done.Slabinfo rows) s
-unfolding Does
+    → rows ≡ rows_of s → DoesPlainAt s trace number (done.Slabinfo rows) s
+unfolding DoesPlain
 does_slabinfo s trace number it rows within at is rows_are =
-    does_at s trace number it (done.Slabinfo rows) s within at (subst (λ (it : Item). Does s trace it (done.Slabinfo rows) s) (sym is) (rows_are, refl))
+    does_at s trace number it (done.Slabinfo rows) s within at (subst (λ (it : Item). DoesPlain s trace it (done.Slabinfo rows) s) (sym is) (rows_are, refl))
 
 pub does_shrink : (s : State) (trace : Trace) (number : ℕ) (it : Item) (place : ℕ) (answer : Result Bool NoSuchCache) (after : State)
     → number < length trace.items → it ≡ get_or trace.items number it → it ≡ item.Shrink place
-    → Shrinks s (name_at trace place) answer after → DoesAt s trace number (done.Shrunk answer) after
-unfolding Does
+    → Shrinks s (name_at trace place) answer after → DoesPlainAt s trace number (done.Shrunk answer) after
+unfolding DoesPlain
 does_shrink s trace number it place answer after within at is does =
-    does_at s trace number it (done.Shrunk answer) after within at (subst (λ (it : Item). Does s trace it (done.Shrunk answer) after) (sym is) does)
+    does_at s trace number it (done.Shrunk answer) after within at (subst (λ (it : Item). DoesPlain s trace it (done.Shrunk answer) after) (sym is) does)
 
 pub does_destroy : (s : State) (trace : Trace) (number : ℕ) (it : Item) (place : ℕ) (answer : Result Destroyed DestroyRefusal) (after : State)
     → number < length trace.items → it ≡ get_or trace.items number it → it ≡ item.Destroy place
-    → Destroys s (name_at trace place) answer after → DoesAt s trace number (done.Destroyed answer) after
-unfolding Does
+    → Destroys s (name_at trace place) answer after → DoesPlainAt s trace number (done.Destroyed answer) after
+unfolding DoesPlain
 does_destroy s trace number it place answer after within at is does =
-    does_at s trace number it (done.Destroyed answer) after within at (subst (λ (it : Item). Does s trace it (done.Destroyed answer) after) (sym is) does)
+    does_at s trace number it (done.Destroyed answer) after within at (subst (λ (it : Item). DoesPlain s trace it (done.Destroyed answer) after) (sym is) does)
 
 pub does_tune : (s : State) (trace : Trace) (number : ℕ) (it : Item) (place : ℕ) (setting : Setting) (answer : Result (Unit {0}) TuneRefusal) (after : State)
     → number < length trace.items → it ≡ get_or trace.items number it → it ≡ item.Tune place setting
-    → Tunes s (name_at trace place) setting answer after → DoesAt s trace number (done.Tuned answer) after
-unfolding Does
+    → Tunes s (name_at trace place) setting answer after → DoesPlainAt s trace number (done.Tuned answer) after
+unfolding DoesPlain
 does_tune s trace number it place setting answer after within at is does =
-    does_at s trace number it (done.Tuned answer) after within at (subst (λ (it : Item). Does s trace it (done.Tuned answer) after) (sym is) does)
+    does_at s trace number it (done.Tuned answer) after within at (subst (λ (it : Item). DoesPlain s trace it (done.Tuned answer) after) (sym is) does)
 
 -- no line is put behind a text
 pub put_nothing : (old lines : List ℕ) → lines ≡ [] → old ≡ old ++ lines

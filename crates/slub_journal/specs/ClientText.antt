@@ -13,7 +13,7 @@ use Rattle.slub_journal.specs.declared.client.CacheRefusal.TheVariants as why
 use Rattle.slub_journal.specs.declared.client.ClientAnswer.{ClientAnswer}
 use Rattle.slub_journal.specs.declared.client.ClientAnswer.TheVariants as answer
 use Rattle.slub_journal.specs.declared.client.ClientDone.{ClientDone}
-use Rattle.slub_journal.specs.Text.{answer_line, created_answer, found_text, shown}
+use Rattle.slub_journal.specs.Lines.{answer_line, created_answer, found_text, shown}
 
 -- why a cache gave no object
 abbrev pub refusal_words : CacheRefusal → List ℕ

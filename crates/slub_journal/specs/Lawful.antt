@@ -1,5 +1,5 @@
--- Which journals are lawful for a trace.
-use Rattle.std.specs.Prelude.{◌≡◌, ℕ, ◌+◌, ◌<◌, ◌≤◌, ◌&&◌, Bool, false, ◌==◌, List, [], ◌∷◌, length, map, take, drop, reverse, sum_by, count_by, flat_map, Option, Some, None, IfSome, MatchOption, ⊤, Result, Ok, Err, slice_index, slice_index_or, slice_get, All}
+-- What is done lawfully on the lists: a creation, a round, each item but a client's line.
+use Rattle.std.specs.Prelude.{◌≡◌, ℕ, ◌+◌, ◌<◌, ◌&&◌, Bool, false, ◌==◌, List, [], ◌∷◌, length, map, drop, reverse, sum_by, count_by, flat_map, Option, Some, None, IfSome, MatchOption, ⊤, Result, Ok, Err, slice_index, slice_index_or, slice_get, All}
 use Rattle.std.specs.List.{filter_map, range_with_len, zip}
 use Rattle.std.specs.Option.{option_map, option_map_or, option_and_then}
 use Rattle.slub_object_layout.specs.declared.layout.LayoutRefusal.TheVariants as refused
@@ -39,12 +39,12 @@ use Rattle.slub_answers.specs.declared.create.Created.{Created}
 use Rattle.slub_answers.specs.declared.create.Created.TheVariants.{New, Merged}
 use Rattle.slub_answers.specs.declared.create.CreateRefusal.{CreateRefusal}
 use Rattle.slub_answers.specs.declared.create.CreateRefusal.TheVariants as refusal
+use Rattle.slub_journal.specs.declared.client.ClientRound.{ClientRound}
 use Rattle.slub_journal.specs.declared.journal.Found.{Found}
 use Rattle.slub_journal.specs.declared.journal.RoundResult.{RoundResult}
 use Rattle.slub_journal.specs.declared.journal.Done.{Done}
 use Rattle.slub_journal.specs.declared.journal.Done.TheVariants as done
 use Rattle.slub_journal.specs.declared.journal.Total.{Total}
-use Rattle.slub_journal.specs.declared.journal.Journal.{Journal}
 
 -- the name at a place of the trace's names
 abbrev pub name_at : Trace → ℕ → List ℕ
@@ -173,38 +173,39 @@ pub record DoesRound (s : State) (round : Round) (result : RoundResult)
 
 -- ---- items
 
--- an item is done, by an answer of its kind; a client's line isn't done today
-unfoldable pub Does : State → Trace → Item → Done → State → Type 0
-Does s trace (item.Cache place spec) (done.Created answer) after =
+-- an item that isn't a client's line is done on the machine's lists, by an answer of its kind
+unfoldable pub DoesPlain : State → Trace → Item → Done → State → Type 0
+DoesPlain s trace (item.Cache place spec) (done.Created answer) after =
     CreatesName s (name_at trace place) spec answer after
-Does s trace (item.Round round) (done.Round result) after = DoesRound s round result after
-Does s trace (item.Shrink place) (done.Shrunk answer) after =
+DoesPlain s trace (item.Round round) (done.Round result) after = DoesRound s round result after
+DoesPlain s trace (item.Shrink place) (done.Shrunk answer) after =
     Shrinks s (name_at trace place) answer after
-Does s trace (item.Destroy place) (done.Destroyed answer) after =
+DoesPlain s trace (item.Destroy place) (done.Destroyed answer) after =
     Destroys s (name_at trace place) answer after
-Does s trace item.Slabinfo (done.Slabinfo rows) after = (rows ≡ rows_of s) × (after ≡ s)
-Does s trace (item.Tune place setting) (done.Tuned answer) after =
+DoesPlain s trace item.Slabinfo (done.Slabinfo rows) after = (rows ≡ rows_of s) × (after ≡ s)
+DoesPlain s trace (item.Tune place setting) (done.Tuned answer) after =
     Tunes s (name_at trace place) setting answer after
-Does s trace _ _ after = ⊥
+DoesPlain s trace _ _ after = ⊥
 
--- the item of this number is done
-abbrev pub DoesAt : State → Trace → ℕ → Done → State → Type 0
-DoesAt s trace number done after =
-    MatchOption (slice_get trace.items number) ⊥ (λ item. Does s trace item done after)
+-- so is the item of this number
+abbrev pub DoesPlainAt : State → Trace → ℕ → Done → State → Type 0
+DoesPlainAt s trace number done after =
+    MatchOption (slice_get trace.items number) ⊥ (λ item. DoesPlain s trace item done after)
 
--- the items are done one after the other, and the machine is coherent after each
-abbrev pub RunsItems : State → Trace → List Item → List Done → State → Type 0
-RunsItems s trace [] [] after = after ≡ s
-RunsItems s trace (item ∷ items) (done ∷ dones) after =
-    (mid : State) × Does s trace item done mid × IsCoherent mid
-    × RunsItems mid trace items dones after
-RunsItems s trace _ _ after = ⊥
+-- the item of this number isn't a client's line
+abbrev pub IsPlain : Item → Type 0
+IsPlain (item.Client client) = ⊥
+IsPlain _ = ⊤
 
--- memory is taken for a creation, a round and slabinfo, and for no other item
+abbrev pub IsPlainAt : Trace → ℕ → Type 0
+IsPlainAt trace number = MatchOption (slice_get trace.items number) ⊥ IsPlain
+
+-- memory is taken for a creation, a round, slabinfo and a client's line, and for no other item
 abbrev pub TakesMemory : Item → Type 0
 TakesMemory (item.Cache place spec) = ⊤
 TakesMemory (item.Round round) = ⊤
 TakesMemory item.Slabinfo = ⊤
+TakesMemory (item.Client client) = ⊤
 TakesMemory _ = ⊥
 
 -- the same of the item of this number
@@ -213,16 +214,39 @@ TakesMemoryAt trace number = MatchOption (slice_get trace.items number) ⊥ Take
 
 -- ---- the total
 
+-- how many objects ledgers gave
 abbrev pub given_in : List Ledger → ℕ
 given_in ledgers = sum_by (λ ledger. ledger.given) ledgers
 
+-- and how many they freed
 abbrev pub freed_in : List Ledger → ℕ
 freed_in ledgers = sum_by (λ ledger. ledger.freed) ledgers
 
--- the ledgers of an item
-abbrev pub ledgers_of : Done → List Ledger
-ledgers_of (done.Round result) = result.ledgers
-ledgers_of _ = []
+-- the same of many rounds
+abbrev pub given_by : List ClientRound → ℕ
+given_by rounds = sum_by (λ round. given_in round.result.ledgers) rounds
+
+abbrev pub freed_by : List ClientRound → ℕ
+freed_by rounds = sum_by (λ round. freed_in round.result.ledgers) rounds
+
+-- how many objects an item gave, by the ledgers of its round or of a client's rounds
+abbrev pub given_of : Done → ℕ
+given_of (done.Round result) = given_in result.ledgers
+given_of (done.Client outcome) = given_by outcome.rounds
+given_of _ = 0
+
+-- and how many it freed
+abbrev pub freed_of : Done → ℕ
+freed_of (done.Round result) = freed_in result.ledgers
+freed_of (done.Client outcome) = freed_by outcome.rounds
+freed_of _ = 0
+
+-- the same of many items
+abbrev pub all_given : List Done → ℕ
+all_given dones = sum_by given_of dones
+
+abbrev pub all_freed : List Done → ℕ
+all_freed dones = sum_by freed_of dones
 
 -- the sum of a number of the counts of these caches, as far as they are live
 abbrev pub counted : (Counts → ℕ) → State → List ℕ → ℕ
@@ -234,8 +258,8 @@ over_caches number s = counted number s (reverse s.table.ages)
 
 -- the sums of the ledgers, of the counts of the live caches, and the free frames
 pub record IsTotal (s : State) (dones : List Done) (total : Total) : Type 0 where
-  pub given : total.given ≡ sum_by (λ done. given_in (ledgers_of done)) dones
-  pub freed : total.freed ≡ sum_by (λ done. freed_in (ledgers_of done)) dones
+  pub given : total.given ≡ all_given dones
+  pub freed : total.freed ≡ all_freed dones
   pub live : total.live ≡ over_caches (λ counts. counts.live) s
   pub free : total.free ≡ over_caches (λ counts. counts.free) s
   pub aside : total.aside ≡ over_caches (λ counts. counts.aside) s
@@ -243,39 +267,17 @@ pub record IsTotal (s : State) (dones : List Done) (total : Total) : Type 0 wher
   pub slabs : total.slabs ≡ over_caches (λ counts. counts.num_slabs) s
   pub frames : total.frames ≡ length s.pool.free
 
--- ---- the journal
+-- ---- the opening machine
 
--- the machine before the first item of a trace
+-- the lists before the first item of a trace
 abbrev pub opening_of : Trace → State
 opening_of trace = opening trace.frames trace.cpus trace.objects trace.names
 
--- the journal's items answer the trace's first items, one each in their order, from the opening
--- machine on; each state on the way is coherent; a total is there where all is done, with the sums
--- of the state
-pub record IsLawful (trace : Trace) (journal : Journal) : Type 0 where
-  pub frames : journal.frames ≡ trace.frames
-  pub cpus : journal.cpus ≡ trace.cpus
-  pub tid : journal.tid ≡ trace.tid
-  pub state : State
-  pub coherent : IsCoherent (opening_of trace)
-  pub within : length journal.items ≤ length trace.items
-  pub run : RunsItems (opening_of trace) trace (take (length journal.items) trace.items)
-      journal.items state
-  pub total : MatchOption journal.total ⊤
-      (λ total. IsTotal state journal.items total
-      × (length journal.items ≡ length trace.items))
-
 -- ---- what is built
 
--- an item but a client's line
-abbrev pub IsBuiltItem : Item → Type 0
-IsBuiltItem (item.Client client) = ⊥
-IsBuiltItem _ = ⊤
-
--- the trace is one that is replayed today: no transaction id to start at, and no client's line
-pub record IsBuilt (trace : Trace) : Type 0 where
-  pub tid : trace.tid ≡ 0
-  pub items : All IsBuiltItem trace.items
+-- the trace is one that is replayed today: no transaction id to start at
+abbrev pub IsBuilt : Trace → Type 0
+IsBuilt trace = trace.tid ≡ 0
 
 -- ---- where the machine stands
 

@@ -3,7 +3,7 @@
 ghost use Rattle.std.specs.Prelude.{◌≡◌, ◌++◌, codes, flat_map, IfOk, OnOk};
 ghost use Rattle.std.specs.List.{zip};
 ghost use Rattle.slub_journal.specs.ClientText.{answer_words, answered_text, client_line, client_text, client_words, creation_text, frees_all, is_ok_client, refusal_words};
-ghost use Rattle.slub_journal.specs.Text.{found_text};
+ghost use Rattle.slub_journal.specs.Lines.{found_text};
 
 use crate::client::{CacheRefusal, ClientAnswer, ClientDone, ClientRound};
 use crate::names::class_names;
@@ -29,6 +29,22 @@ pub fn client_text(
     let damages = rounds_text(alloc, done.rounds.as_slice())?;
     text.extend_from_slice(damages.as_slice())?;
     Ok(text)
+}
+
+/// These lines are put behind a text.
+pub(crate) fn push_client(
+    alloc: Global,
+    text: &mut Vec<u8>,
+    client: &Client,
+    done: &ClientDone,
+    replies: bool,
+) -> Result<(), NoMemory>
+    ensures { OnOk result (text.new.items ≡
+        text.old.items ++ client_text replies client.now done.now) }
+{
+    let lines = client_text(alloc, client, done, replies)?;
+    text.extend_from_slice(lines.as_slice())?;
+    Ok(())
 }
 
 /// What was found damaged in rounds, in their order.

@@ -2,6 +2,7 @@
 
 ghost use Rattle.slub_journal.specs.Journal.{IsEmpty};
 
+use crate::client::ClientDone;
 use slub_answers::create::{CreateRefusal, Created};
 use slub_answers::destroy::{DestroyRefusal, Destroyed};
 use slub_answers::ledger::Ledger;
@@ -43,6 +44,7 @@ pub enum Done {
     Destroyed(Result<Destroyed, DestroyRefusal>),
     Slabinfo(Sequence<InfoRow>),
     Tuned(Result<(), TuneRefusal>),
+    Client(ClientDone),
 }
 
 /// The sums at the end: of the ledgers, and over the live caches.

@@ -1,22 +1,24 @@
 //! The journal of what was done: what came of each item of a trace, which journals are lawful for a
 //! trace, and the text that a journal has.
 //!
-//! `journal` has the types. `specs/Lawful.antt` says which journals are lawful for a trace: the items
+//! `journal` has the types. `specs/Runs.antt` says which journals are lawful for a trace: the items
 //! answer the trace's first items, one each, by the sequential semantics from the opening machine, and
-//! between any two steps the machine is coherent. It also says which traces are built, that is,
-//! replayed today (`is_built` decides it), and where a machine stands before an item.
+//! between any two steps the machine is coherent. The machine is its lists and, beside them, the reserves
+//! of its clients (`MachineState`). `specs/Lawful.antt` says what is done on the lists alone, which traces are
+//! built, that is, replayed today (`is_built` decides it), and where the lists stand before an item.
 //! `specs/Text.antt` says which text a journal has, and `text` makes it, an item at a time. Nothing here
 //! knows a machine's bodies: an answer is made into text whoever gave it.
 //!
-//! `client` has what the lines of clients are answered, and `client_text` their text; no journal has them
-//! yet. `specs/Asked.antt` says which rounds they make, `specs/Classes.antt` and `specs/Kmalloc.antt` what
-//! `kmalloc`, `kget` and `krealloc` do, and `specs/Bulk.antt` in which order a bulk free frees.
+//! `client` has what the lines of clients are answered, and `client_text` their text.
+//! `specs/Asked.antt` says which rounds they make, `specs/Classes.antt` and `specs/Kmalloc.antt` what
+//! `kmalloc`, `kget` and `krealloc` do, `specs/Bulk.antt` and `specs/BulkLines.antt` what `bulk` and
+//! `bulkfree` do, and `specs/Reserves.antt` what `mempool`, `mget` and `mput` do.
 //!
 //! # What it promises
 //!
 //! Which journals are lawful (`IsLawful`), exactly which traces are replayed today (`is_built`),
-//! and the text of what was done, with or without the lines that `--replies` asks for; so too of a
-//! client's line (`client_text`).
+//! and the text of what was done, with or without the lines that `--replies` asks for, clients' lines
+//! among it.
 #![tactic(auto)]
 
 pub mod built;

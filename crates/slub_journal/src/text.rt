@@ -4,9 +4,10 @@ ghost use Rattle.std.specs.Prelude.{◌≡◌, ◌<◌, ◌++◌, length, flat_m
 ghost use Rattle.std.specs.List.{zip};
 ghost use Rattle.slub_slabinfo_text.specs.Texts.{IsNamed};
 ghost use Rattle.slub_trace_reader.specs.Sound.{IsSound};
-ghost use Rattle.slub_journal.specs.Lawful.{IsBuilt};
-ghost use Rattle.slub_journal.specs.Text.{answer_line, created_answer, destroyed_answer, event_text, found_text, round_text, shrunk_answer, text_at, total_text, tuned_answer};
+ghost use Rattle.slub_journal.specs.Lines.{answer_line, created_answer, destroyed_answer, event_text, found_text, round_text, shrunk_answer, tuned_answer};
+ghost use Rattle.slub_journal.specs.Text.{text_at, total_text};
 
+use crate::client_text::push_client;
 use crate::journal::{Done, Found, RoundResult, Total};
 use crate::names::name_of;
 use slub_answers::create::{CreateRefusal, Created};
@@ -23,10 +24,12 @@ use slub_slabinfo_text::text::{
     push_slabinfo, push_total,
 };
 use slub_trace_reader::trace::{Item, Trace};
+use std::alloc::Global;
 
 /// The lines of an item that was done are put behind a text; those that say that all went well only
 /// with `replies`.
 pub fn push_item(
+    alloc: Global,
     text: &mut Vec<u8>,
     trace: &Trace,
     number: usize,
@@ -34,7 +37,6 @@ pub fn push_item(
     replies: bool,
 ) -> Result<(), NoMemory>
     requires sound { IsSound trace.now }
-    requires built { IsBuilt trace.now }
     requires within { number < length trace.now.items }
     ensures { OnOk result (text.new.items ≡
         text.old.items ++ text_at replies trace.now number done.now) }
@@ -83,6 +85,9 @@ pub fn push_item(
                 &answer,
                 replies,
             )
+        }
+        (Item::Client(client), Done::Client(outcome)) => {
+            push_client(alloc, text, client, outcome, replies)
         }
         _ => Ok(()),
     }

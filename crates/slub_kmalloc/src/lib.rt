@@ -2,7 +2,6 @@
 //!
 //! `class_of` finds the class of a size. `serve` does a `kmalloc`, a `kget` or a `krealloc` on the machine
 //! that it is handed; its definitions are `specs/Classes.antt` and `specs/Kmalloc.antt` of `slub_journal`.
-//! No program calls it yet.
 //!
 //! # What it promises
 //!

@@ -1,5 +1,7 @@
--- What leaves the board and the counts of held objects as they are: each item but a round.
-use Rattle.std.proofs.Common.{◌≡◌, ℕ, Bool, true, false, cond, List, [], ◌∷◌, fold, is_some, refl, ◌∙◌, ap, Option, Some, None, MatchOption, Result, Ok, Err}
+-- What leaves the board and the counts of held objects as they are: each item that makes no round.
+use Rattle.std.proofs.Common.{◌≡◌, ℕ, ◌+◌, ◌<◌, Bool, true, false, cond, List, [], ◌∷◌, fold, is_some, refl, sym, ◌∙◌, ap, arith, All, Option, Some, None, MatchOption, Result, Ok, Err, inl, sum_by, append-nil}
+use Rattle.std.proofs.lemmas.List.Sums.{sum_by-cons}
+use Rattle.slub_object_layout.specs.declared.event.Event.{Event}
 use Rattle.std.specs.List.{range_with_len}
 use Rattle.slub_object_layout.specs.declared.event.Round.{Round}
 use Rattle.slub_object_layout.specs.declared.layout.Setting.{Setting}
@@ -16,6 +18,7 @@ use Rattle.slub_answers.specs.declared.destroy.DestroyRefusal.TheVariants.{NoSuc
 use Rattle.slub_answers.specs.declared.tune.TuneRefusal.{TuneRefusal}
 use Rattle.slub_answers.specs.declared.tune.TuneRefusal.TheVariants as unset
 use Rattle.slub_lists.specs.State.{State}
+use Rattle.slub_lists.specs.Coherent.{IsCoherent}
 use Rattle.slub_lists.specs.Create.{CreatesCache}
 use Rattle.slub_lists.specs.Destroy.{Destroys}
 use Rattle.slub_lists.specs.Alloc.{checked_of}
@@ -29,14 +32,22 @@ use Rattle.slub_lists.proofs.FlushingCpu.{rest-flushed_of}
 use Rattle.slub_trace_reader.specs.declared.trace.Item.{Item}
 use Rattle.slub_trace_reader.specs.declared.trace.Item.TheVariants as item
 use Rattle.slub_trace_reader.specs.declared.trace.Trace.{Trace}
-use Rattle.slub_trace_reader.specs.Sound.{events_in}
+use Rattle.slub_trace_reader.specs.declared.trace.Client.{Client as Asked}
+use Rattle.slub_trace_reader.specs.Sound.{IsSoundEvent, IsSoundItem, objects_in, objects_of}
 use Rattle.slub_answers.specs.declared.create.Created.{Created}
 use Rattle.slub_answers.specs.declared.create.Created.TheVariants.{New, Merged}
 use Rattle.slub_answers.specs.declared.create.CreateRefusal.{CreateRefusal}
 use Rattle.slub_journal.specs.declared.journal.RoundResult.{RoundResult}
 use Rattle.slub_journal.specs.declared.journal.Done.{Done}
 use Rattle.slub_journal.specs.declared.journal.Done.TheVariants as done
-use Rattle.slub_journal.specs.Lawful.{CreatesName, Does, DoesRound, ledgers_of}
+use Rattle.slub_answers.specs.declared.ledger.Ledger.{Ledger}
+use Rattle.slub_journal.specs.declared.client.ClientDone.{ClientDone}
+use Rattle.slub_journal.specs.declared.client.ClientRound.{ClientRound}
+use Rattle.slub_journal.specs.Kmalloc.{CreatesClasses}
+use Rattle.slub_journal.specs.Lawful.{CreatesName, DoesPlain, DoesRound, freed_by, freed_of, given_by, given_of}
+use Rattle.slub_journal.specs.Runs.{Does, MachineState}
+use Rattle.slub_laws.specs.Freed.{rounds_of}
+use Rattle.slub_laws.proofs.Made.{ClientEffect, MadeFor, client_effect, made_caches, made_rounds}
 
 -- ---- what stays
 
@@ -127,19 +138,53 @@ tunes_keep s name setting (Ok done) after tunes =
 pub flushed_keeps : (s : State) (cpu : ℕ) → Keeps s (flushed_cpu s cpu)
 flushed_keeps s cpu = folded_keeps (flushed_of cpu) (λ t cache. keeps_checked t (flushed_of cpu t cache) (rest-flushed_of cpu t cache)) s s.table.ages
 
+-- ---- the caches of classes
+
+classes_keep : (s : State) (classes : List ℕ) (answers : List (Result Created CreateRefusal)) (after : State) → CreatesClasses s classes answers after → Keeps s after
+classes_keep s [] [] after creates = keeps_same s after creates
+classes_keep s [] (answer ∷ answers) after creates = absurd creates
+classes_keep s (class ∷ classes) [] after creates = absurd creates
+classes_keep s (class ∷ classes) (answer ∷ answers) after creates =
+    keeps_both s creates.0 after (creates_keep s _ _ answer creates.0 creates.1) (classes_keep creates.0 classes answers after creates.3)
+
 -- ---- items
 
--- an item is a round; or no event and no ledger is counted of it, and it keeps the board and the counts
+-- an item makes rounds, one after the other, and its ledgers are theirs; or it makes none, and keeps the board and the counts
 pub data ItemEffect (s : State) (it : Item) (dn : Done) (after : State) : Type 0 where
-  one_round : (round : Round) (outcome : RoundResult) → it ≡ item.Round round → dn ≡ done.Round outcome → DoesRound s round outcome after → ItemEffect s it dn after
-  no_round : events_in it ≡ [] → ledgers_of dn ≡ [] → Keeps s after → ItemEffect s it dn after
+  some_rounds : MadeFor s (rounds_of it dn) (objects_in it) after → given_of dn ≡ given_by (rounds_of it dn) → freed_of dn ≡ freed_by (rounds_of it dn) → ItemEffect s it dn after
+  no_round : rounds_of it dn ≡ [] → given_of dn ≡ 0 → freed_of dn ≡ 0 → Keeps s after → ItemEffect s it dn after
 
-pub item_effect : (s : State) (trace : Trace) (it : Item) (dn : Done) (after : State) → Does s trace it dn after → ItemEffect s it dn after
+-- a round's workers are its own
+sound_workers : (trace : Trace) (workers : ℕ) (events : List Event) → All (IsSoundEvent trace workers) events → All (λ event. event.worker < workers) events
+sound_workers trace workers events sound = λ k d within. (sound k d within).worker
+
+pub round_made : (s : State) (trace : Trace) (round : Round) (outcome : RoundResult) (after : State) → IsSoundItem trace (item.Round round) → IsCoherent after → DoesRound s round outcome after
+    → MadeFor s (record { asked = round; result = outcome } ∷ []) (objects_of round.events) after
+round_made s trace round outcome after sound coherent does = record {
+  runs = (after, record { does = does; coherent = coherent; workers = sound_workers trace round.workers round.events sound.events }, refl);
+  objects = inl (append-nil (objects_of round.events));
+}
+
+one_round : (number : Ledger → ℕ) (round : Round) (outcome : RoundResult) → sum_by number outcome.ledgers ≡ sum_by (λ (one : ClientRound). sum_by number one.result.ledgers) (record { asked = round; result = outcome } ∷ [])
+one_round number round outcome = sym (sum_by-cons (λ (one : ClientRound). sum_by number one.result.ledgers) (record { asked = round; result = outcome }) [] ∙ (let e : sum_by number outcome.ledgers + 0 ≡ sum_by number outcome.ledgers = omega arith in e))
+
+plain_effect : (s : State) (trace : Trace) (it : Item) (dn : Done) (after : State) → IsSoundItem trace it → IsCoherent after → DoesPlain s trace it dn after → ItemEffect s it dn after
+unfolding DoesPlain
+plain_effect s trace (item.Cache place spec) (done.Created answer) after sound coherent does = no_round refl refl refl (creates_keep s _ spec answer after does)
+plain_effect s trace (item.Round round) (done.Round outcome) after sound coherent does =
+    some_rounds (round_made s trace round outcome after sound coherent does) (one_round (λ ledger. ledger.given) round outcome) (one_round (λ ledger. ledger.freed) round outcome)
+plain_effect s trace (item.Shrink place) (done.Shrunk answer) after sound coherent does = no_round refl refl refl (shrinks_keep s _ answer after does)
+plain_effect s trace (item.Destroy place) (done.Destroyed answer) after sound coherent does = no_round refl refl refl (destroys_keep s _ answer after does)
+plain_effect s trace item.Slabinfo (done.Slabinfo rows) after sound coherent does = no_round refl refl refl (keeps_same s after does.1)
+plain_effect s trace (item.Tune place setting) (done.Tuned answer) after sound coherent does = no_round refl refl refl (tunes_keep s _ setting answer after does)
+plain_effect s trace _ _ after sound coherent does = absurd does
+
+client_item : (s : State) (client : Asked) (outcome : ClientDone) (after : State) → ClientEffect s client outcome after → ItemEffect s (item.Client client) (done.Client outcome) after
+client_item s client outcome after (made_rounds rounds) = some_rounds rounds refl refl
+client_item s client outcome after (made_caches answers none creates) =
+    no_round none (ap given_by none) (ap freed_by none) (classes_keep s (range_with_len 0 13) answers after creates)
+
+pub item_effect : (m : MachineState) (trace : Trace) (it : Item) (dn : Done) (after : MachineState) → IsSoundItem trace it → IsCoherent after.lists → Does m trace it dn after → ItemEffect m.lists it dn after.lists
 unfolding Does
-item_effect s trace (item.Cache place spec) (done.Created answer) after does = no_round refl refl (creates_keep s _ spec answer after does)
-item_effect s trace (item.Round round) (done.Round outcome) after does = one_round round outcome refl refl does
-item_effect s trace (item.Shrink place) (done.Shrunk answer) after does = no_round refl refl (shrinks_keep s _ answer after does)
-item_effect s trace (item.Destroy place) (done.Destroyed answer) after does = no_round refl refl (destroys_keep s _ answer after does)
-item_effect s trace item.Slabinfo (done.Slabinfo rows) after does = no_round refl refl (keeps_same s after does.1)
-item_effect s trace (item.Tune place setting) (done.Tuned answer) after does = no_round refl refl (tunes_keep s _ setting answer after does)
-item_effect s trace _ _ after does = absurd does
+item_effect m trace (item.Client client) (done.Client outcome) after sound coherent does = client_item m.lists client outcome after.lists (client_effect m trace client outcome after does)
+item_effect m trace it dn after sound coherent does = plain_effect m.lists trace it dn after.lists sound coherent does.0

@@ -1,4 +1,6 @@
+pub mod Made
 pub mod Keeping
+pub mod Few
 pub mod Effects
 pub mod Balance
 pub mod Tally

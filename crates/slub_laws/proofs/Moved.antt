@@ -1,10 +1,12 @@
 -- A number that is given is on the board from then on, and one that is freed was on it and is so no more.
-use Rattle.std.proofs.Common.{◌≡◌, ◌≢◌, ℕ, ◌+◌, ◌≤◌, ◌&&◌, Bool, true, false, cond, eqb, List, [], ◌∷◌, length, take, get_or, set, map, count_by, flat_map, is_some, refl, sym, ◌∙◌, ap, arith, Option, Some, None, inl, inr, zero, suc, replicate}
+use Rattle.std.proofs.Common.{◌≡◌, ◌≢◌, ℕ, ◌+◌, ◌≤◌, ◌&&◌, Bool, true, false, cond, eqb, List, [], ◌∷◌, length, take, get_or, set, map, count_by, flat_map, is_some, refl, sym, ◌∙◌, ap, arith, All, Option, Some, None, inl, inr, zero, suc, replicate}
 use Rattle.std.specs.List.{zip}
 use Rattle.std.specs.Option.{option_map}
 use Rattle.std.proofs.lemmas.Bool.{cases_eq, eq-eqb, ne_eqb}
 use Rattle.std.proofs.lemmas.List.{get_or-set_other, get_or-set_same}
+use Rattle.std.proofs.lemmas.List.Elements.{All-head, All-tail}
 use Rattle.std.proofs.lemmas.List.Sums.{sum_by-cons}
+use Rattle.slub_common.specs.Times.{times}
 use Rattle.slub_object_layout.specs.declared.event.Act.{Act}
 use Rattle.slub_object_layout.specs.declared.event.Act.TheVariants.{Alloc, Free}
 use Rattle.slub_object_layout.specs.declared.event.Event.{Event}
@@ -17,17 +19,21 @@ use Rattle.slub_lists.specs.Coherent.{laid_down}
 use Rattle.slub_common.proofs.Writes.{inside-of}
 use Rattle.slub_trace_reader.specs.declared.trace.Item.{Item}
 use Rattle.slub_trace_reader.specs.declared.trace.Trace.{Trace}
-use Rattle.slub_trace_reader.specs.Sound.{IsSound, objects_in as allocated_in}
+use Rattle.slub_trace_reader.specs.Sound.{IsSound, IsSoundItem, objects_in}
 use Rattle.slub_journal.specs.declared.journal.Done.{Done}
 use Rattle.slub_journal.specs.declared.journal.Journal.{Journal}
-use Rattle.slub_journal.specs.Lawful.{Does, IsLawful, RunsEvents, RunsItems, opening_of}
+use Rattle.slub_journal.specs.declared.client.ClientRound.{ClientRound}
+use Rattle.slub_journal.specs.Lawful.{DoesRound, RunsEvents}
+use Rattle.slub_journal.specs.Runs.{IsLawful, MachineState, RunsItems, machine_of}
 use Rattle.slub_answers.specs.Kinds.{is_freed, is_given}
 use Rattle.slub_laws.proofs.Effects.{Effect, event_effect, given, kept, quiet, taken}
-use Rattle.slub_laws.proofs.Keeping.{ItemEffect, item_effect, no_round, one_round}
-use Rattle.slub_round_law.specs.Answered.{did_free, gave, is_alloc_of, is_free_of}
-use Rattle.slub_round_law.proofs.Times.{counted_append, once_times, one_where}
-use Rattle.slub_laws.specs.Freed.{answered_in, freed_times, given_times}
-use Rattle.slub_laws.proofs.Times.{items_given, zip_taken}
+use Rattle.slub_laws.proofs.Keeping.{ItemEffect, item_effect, no_round, some_rounds}
+use Rattle.slub_laws.proofs.Made.{MakesRounds}
+use Rattle.slub_laws.proofs.Rounds.{front}
+use Rattle.slub_round_law.specs.Answered.{Answered, did_free, gave, is_alloc_of, is_free_of}
+use Rattle.slub_round_law.proofs.Times.{counted_append, once_times, one_where, times_append}
+use Rattle.slub_laws.specs.Freed.{answered_by, freed_times, given_times, rounds_among, rounds_in, rounds_of}
+use Rattle.slub_laws.proofs.Times.{answered_more, made_given, zip_taken}
 
 -- ---- one number
 
@@ -114,32 +120,60 @@ laid_on_board (None ∷ board) zero = refl
 laid_on_board (Some held ∷ board) zero = refl
 laid_on_board (held ∷ board) (suc number) = laid_on_board board number
 
+-- ---- rounds
+
+round_moves : (number : ℕ) (s : State) (round : ClientRound) (after : State) → DoesRound s round.asked round.result after
+    → on_board number after.board + count_by (did_free number) (answered_by round) ≤ on_board number s.board + count_by (gave number) (answered_by round)
+round_moves number s round after does =
+    let run = runs_move number s round.asked.events round.result.replies does.last does.runs in
+    let laid : on_board number after.board ≡ on_board number does.last.board = ap (λ (s : State). on_board number s.board) does.after_is ∙ laid_on_board does.last.board number in
+    omega (arith, run, laid)
+
+abbrev RoundsMove : ℕ → State → List ClientRound → State → Type 0
+RoundsMove number s rounds after =
+    on_board number after.board + count_by (did_free number) (flat_map answered_by rounds) ≤ on_board number s.board + count_by (gave number) (flat_map answered_by rounds)
+
+rounds_move : (number : ℕ) (s : State) (rounds : List ClientRound) (after : State) → MakesRounds s rounds after → RoundsMove number s rounds after
+rounds_move number s [] after same = omega (arith, ap (λ (t : State). on_board number t.board) same)
+rounds_move number s (round ∷ rounds) after makes =
+    let one = round_moves number s round makes.0 makes.1.does in
+    let rest = rounds_move number makes.0 rounds after makes.2 in
+    let others = flat_map answered_by rounds in
+    omega (arith, one, rest, counted_append (did_free number) (answered_by round) others, counted_append (gave number) (answered_by round) others)
+
 -- ---- items
 
-abbrev ItemMoves : ℕ → State → Item → Done → State → Type 0
-ItemMoves number s it dn after =
-    on_board number after.board + count_by (did_free number) (answered_in (it, dn)) ≤ on_board number s.board + count_by (gave number) (answered_in (it, dn))
+item_moves : (number : ℕ) (s : State) (it : Item) (dn : Done) (after : State) → ItemEffect s it dn after → RoundsMove number s (rounds_of it dn) after
+item_moves number s it dn after (some_rounds made gives frees) = rounds_move number s (rounds_of it dn) after made.runs
+item_moves number s it dn after (no_round none gives frees keeps) =
+    let bare : (p : Answered → Bool) → count_by p (flat_map answered_by (rounds_of it dn)) ≡ 0 = λ p. ap (λ (rounds : List ClientRound). count_by p (flat_map answered_by rounds)) none in
+    omega (arith, ap (on_board number) keeps.board, bare (did_free number), bare (gave number))
 
-item_moves : (number : ℕ) (s : State) (trace : Trace) (it : Item) (dn : Done) (after : State) → Does s trace it dn after → ItemMoves number s it dn after
-item_moves number s trace it dn after does = by (item_effect s trace it dn after does)
-  where
-    by : ItemEffect s it dn after → ItemMoves number s it dn after
-    by (one_round round outcome it_is dn_is does) =
-        let run = runs_move number s round.events outcome.replies does.last does.runs in
-        let laid : on_board number after.board ≡ on_board number does.last.board = ap (λ (s : State). on_board number s.board) does.after_is ∙ laid_on_board does.last.board number in
-        rw (it_is, dn_is) (omega (arith, run, laid))
-    by (no_round no_events no_ledgers keeps) = rw no_events (omega (arith, ap (on_board number) keeps.board))
+item_gives : (object : ℕ) (s : State) (it : Item) (dn : Done) (after : State) → ItemEffect s it dn after → count_by (gave object) (flat_map answered_by (rounds_of it dn)) ≤ times object (objects_in it)
+item_gives object s it dn after (some_rounds made gives frees) = made_given object (rounds_of it dn) (objects_in it) made.objects
+item_gives object s it dn after (no_round none gives frees keeps) =
+    let bare : count_by (gave object) (flat_map answered_by (rounds_of it dn)) ≡ 0 = ap (λ (rounds : List ClientRound). count_by (gave object) (flat_map answered_by rounds)) none in
+    omega (arith, bare)
 
-items_move : (number : ℕ) (s : State) (trace : Trace) (items : List Item) (dones : List Done) (after : State) → RunsItems s trace items dones after
-    → on_board number after.board + count_by (did_free number) (flat_map answered_in (zip items dones)) ≤ on_board number s.board + count_by (gave number) (flat_map answered_in (zip items dones))
-items_move number s trace [] [] after run = rw run (omega arith)
-items_move number s trace [] (dn ∷ dones) after run = absurd run
-items_move number s trace (it ∷ items) [] after run = absurd run
-items_move number s trace (it ∷ items) (dn ∷ dones) after run =
-    let one = item_moves number s trace it dn run.0 run.1 in
-    let rest = items_move number run.0 trace items dones after run.3 in
-    let others = flat_map answered_in (zip items dones) in
-    omega (arith, one, rest, counted_append (did_free number) (answered_in (it, dn)) others, counted_append (gave number) (answered_in (it, dn)) others)
+items_move : (number : ℕ) (m : MachineState) (trace : Trace) (items : List Item) (dones : List Done) (after : MachineState) → All (IsSoundItem trace) items → RunsItems m trace items dones after
+    → RoundsMove number m.lists (rounds_among items dones) after.lists
+items_move number m trace [] [] after sound run = omega (arith, ap (λ (t : MachineState). on_board number t.lists.board) run)
+items_move number m trace [] (dn ∷ dones) after sound run = absurd run
+items_move number m trace (it ∷ items) [] after sound run = absurd run
+items_move number m trace (it ∷ items) (dn ∷ dones) after sound run =
+    let one = item_moves number m.lists it dn run.0.lists (item_effect m trace it dn run.0 (All-head (IsSoundItem trace) it items sound) run.2 run.1) in
+    let rest = items_move number run.0 trace items dones after (All-tail (IsSoundItem trace) it items sound) run.3 in
+    omega (arith, one, rest, answered_more (did_free number) (rounds_of it dn) (rounds_among items dones), answered_more (gave number) (rounds_of it dn) (rounds_among items dones))
+
+items_give : (object : ℕ) (m : MachineState) (trace : Trace) (items : List Item) (dones : List Done) (after : MachineState) → All (IsSoundItem trace) items → RunsItems m trace items dones after
+    → count_by (gave object) (flat_map answered_by (rounds_among items dones)) ≤ times object (flat_map objects_in items)
+items_give object m trace [] [] after sound run = omega arith
+items_give object m trace [] (dn ∷ dones) after sound run = absurd run
+items_give object m trace (it ∷ items) [] after sound run = absurd run
+items_give object m trace (it ∷ items) (dn ∷ dones) after sound run =
+    let one = item_gives object m.lists it dn run.0.lists (item_effect m trace it dn run.0 (All-head (IsSoundItem trace) it items sound) run.2 run.1) in
+    let rest = items_give object run.0 trace items dones after (All-tail (IsSoundItem trace) it items sound) run.3 in
+    omega (arith, one, rest, answered_more (gave object) (rounds_of it dn) (rounds_among items dones), times_append object (objects_in it) (flat_map objects_in items))
 
 -- ---- the whole
 
@@ -148,19 +182,32 @@ bare_board zero number = refl
 bare_board (suc n) zero = refl
 bare_board (suc n) (suc number) = bare_board n number
 
+-- the rounds of the items that were done
+pub rounds_done : (trace : Trace) (journal : Journal) → rounds_among (take (length journal.items) trace.items) journal.items ≡ rounds_in trace journal
+rounds_done trace journal = ap (λ pairs. flat_map (λ (one : Item × Done). rounds_of one.0 one.1) pairs) (zip_taken trace.items journal.items)
+
 -- what is freed was given
-pub freed_was_given : (trace : Trace) (journal : Journal) → IsLawful trace journal → (object : ℕ) → freed_times object trace journal ≤ given_times object trace journal
-freed_was_given trace journal lawful object =
-    let run = items_move object (opening_of trace) trace (take (length journal.items) trace.items) journal.items lawful.state lawful.run in
-    let same = zip_taken trace.items journal.items in
-    let freed = ap (λ pairs. count_by (did_free object) (flat_map answered_in pairs)) same in
-    let given = ap (λ pairs. count_by (gave object) (flat_map answered_in pairs)) same in
+pub freed_was_given : (trace : Trace) (journal : Journal) → IsSound trace → IsLawful trace journal → (object : ℕ) → freed_times object trace journal ≤ given_times object trace journal
+freed_was_given trace journal sound lawful object =
+    let front_sound = front (IsSoundItem trace) (length journal.items) trace.items sound.items in
+    let run = items_move object (machine_of trace) trace (take (length journal.items) trace.items) journal.items lawful.machine front_sound lawful.run in
+    let same = rounds_done trace journal in
+    let freed = ap (λ rounds. count_by (did_free object) (flat_map answered_by rounds)) same in
+    let given = ap (λ rounds. count_by (gave object) (flat_map answered_by rounds)) same in
     omega (arith, run, bare_board (trace.objects + 1) object, freed, given)
 
 -- and once at most
-pub given_once : (trace : Trace) (journal : Journal) → IsSound trace → (object : ℕ) → given_times object trace journal ≤ 1
-given_once trace journal sound object =
-    omega (arith, items_given object trace.items journal.items, once_times object (flat_map allocated_in trace.items) sound.distinct)
+pub given_once : (trace : Trace) (journal : Journal) → IsSound trace → IsLawful trace journal → (object : ℕ) → given_times object trace journal ≤ 1
+given_once trace journal sound lawful object =
+    let front_sound = front (IsSoundItem trace) (length journal.items) trace.items sound.items in
+    let give = items_give object (machine_of trace) trace (take (length journal.items) trace.items) journal.items lawful.machine front_sound lawful.run in
+    let given = ap (λ rounds. count_by (gave object) (flat_map answered_by rounds)) (rounds_done trace journal) in
+    omega (arith, give, given, fewer (length journal.items) trace.items, once_times object (flat_map objects_in trace.items) sound.distinct)
+  where
+    fewer : (n : ℕ) (items : List Item) → times object (flat_map objects_in (take n items)) ≤ times object (flat_map objects_in items)
+    fewer zero items = omega arith
+    fewer (suc n) [] = omega arith
+    fewer (suc n) (it ∷ items) = omega (arith, fewer n items, times_append object (objects_in it) (flat_map objects_in items), times_append object (objects_in it) (flat_map objects_in (take n items)))
 
 pub freed_once : (trace : Trace) (journal : Journal) → IsSound trace → IsLawful trace journal → (object : ℕ) → freed_times object trace journal ≤ 1
-freed_once trace journal sound lawful object = omega (arith, given_once trace journal sound object, freed_was_given trace journal lawful object)
+freed_once trace journal sound lawful object = omega (arith, given_once trace journal sound lawful object, freed_was_given trace journal sound lawful object)

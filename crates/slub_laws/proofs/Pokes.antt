@@ -1,9 +1,10 @@
 -- Each damage of a lawful journal was poked.
-use Rattle.std.proofs.Common.{◌≡◌, ◌≢◌, ℕ, zero, suc, Bool, true, false, cond, eqb, List, [], ◌∷◌, ◌++◌, length, take, get_or, set, refl, sym, ◌∙◌, ap, subst, arith, All, Option, Some, None, MatchOption, Result, Ok, Err, inl, inr, ◌⊎◌, unwrap_or, fold, is_some, append-nil, get_or-set_other, get_or-set_same}
+use Rattle.std.proofs.Common.{◌≡◌, ◌≢◌, ℕ, zero, suc, Bool, true, false, cond, eqb, List, [], ◌∷◌, ◌++◌, append_assoc, flat_map, length, take, get_or, set, refl, sym, ◌∙◌, ap, subst, arith, All, Option, Some, None, MatchOption, Result, Ok, Err, inl, inr, ◌⊎◌, unwrap_or, fold, is_some, append-nil, get_or-set_other, get_or-set_same}
 use Rattle.std.specs.List.{Contains, range_with_len}
 use Rattle.std.specs.Prelude.{slice_get}
 use Rattle.std.specs.Option.{option_map_or}
 use Rattle.std.proofs.lemmas.Bool.{cases_eq}
+use Rattle.std.proofs.lemmas.List.Elements.{All-head, All-tail}
 use Rattle.std.proofs.lemmas.Option.{slice_get_past}
 use Rattle.slub_common.proofs.Writes.{get_or-replicate_any, inside-of}
 use Rattle.slub_object_layout.specs.Layout.{address_of, is_checked}
@@ -45,23 +46,30 @@ use Rattle.slub_lists.proofs.Flushing.{rest-flushed}
 use Rattle.slub_trace_reader.specs.declared.trace.Item.{Item}
 use Rattle.slub_trace_reader.specs.declared.trace.Item.TheVariants as item
 use Rattle.slub_trace_reader.specs.declared.trace.Trace.{Trace}
-use Rattle.slub_trace_reader.specs.Sound.{IsSound, objects_of}
+use Rattle.slub_trace_reader.specs.declared.trace.Client.{Client as Asked}
+use Rattle.slub_trace_reader.specs.Sound.{IsSound, IsSoundItem, asked_objects, objects_in, objects_of}
 use Rattle.slub_journal.specs.declared.journal.Done.{Done}
 use Rattle.slub_journal.specs.declared.journal.Done.TheVariants as done
 use Rattle.slub_journal.specs.declared.journal.Journal.{Journal}
-use Rattle.slub_journal.specs.Lawful.{CreatesName, Does, IsLawful, RunsItems, opening_of}
+use Rattle.slub_journal.specs.declared.client.ClientDone.{ClientDone}
+use Rattle.slub_journal.specs.declared.client.ClientRound.{ClientRound}
+use Rattle.slub_journal.specs.Kmalloc.{CreatesClasses}
+use Rattle.slub_journal.specs.Lawful.{CreatesName, DoesPlain, opening_of}
+use Rattle.slub_journal.specs.Runs.{Does, IsLawful, MachineState, RunsItems, machine_of}
 use Rattle.slub_round_law.specs.Answered.{Answered}
-use Rattle.slub_round_law.specs.Pokes.{IsPokedReport, WasGiven, WasPoked}
+use Rattle.slub_round_law.specs.Pokes.{WasGiven, WasPoked}
 use Rattle.slub_round_law.proofs.Clean.{CleanSlab, parts_of}
 use Rattle.slub_round_law.proofs.Cleaning.{Clean, by_place, gone-clean}
 use Rattle.slub_round_law.proofs.Poked.{IsTold}
 use Rattle.slub_round_law.proofs.Runs.{gone_under}
 use Rattle.slub_round_law.proofs.Tale.{injected}
 use Rattle.slub_round_law.proofs.Telling.{round-told}
-use Rattle.slub_laws.specs.Freed.{answered_in}
-use Rattle.slub_laws.specs.Poked.{ArePoked, HasPokedDamages, RunsPoked, damages_of}
-use Rattle.slub_laws.proofs.Keeping.{match_some}
-use Rattle.slub_laws.proofs.Rounds.{Rests, Stands, creates-rest, destroys-rest, distinct-of, fits, item-stands, items-split, rests-same, shrinks-rest, stands-first, tunes-rest}
+use Rattle.slub_laws.specs.Freed.{answered_by, rounds_among, rounds_of}
+use Rattle.slub_laws.specs.Poked.{HasPokedDamages, RunsPoked}
+use Rattle.slub_laws.proofs.Keeping.{match_some, round_made}
+use Rattle.slub_laws.proofs.Made.{ClientEffect, MadeFor, MakesRounds, client_effect, made_caches, made_rounds, objects_asked}
+use Rattle.slub_laws.proofs.Moved.{rounds_done}
+use Rattle.slub_laws.proofs.Rounds.{Rests, Stands, creates-rest, destroys-rest, fits, front, item-stands, made-numbers, next-numbers, rests-same, shrinks-rest, stands-first, stands-round, tunes-rest}
 
 module _ (told : List Answered) where
   -- ---- a machine with the same board, whose checked caches have fewer slabs
@@ -316,48 +324,89 @@ module _ (told : List Answered) where
             | inr differ ↦ sym (ap (λ (l : List (Option CheckedState)). get_or l other None) is ∙ get_or-set_other empty.checked cache other None None differ) ∙ now
           ]
 
+  -- ---- the caches of classes
+
+  classes-told : (s : State) (classes : List ℕ) (answers : List (Result Created CreateRefusal)) (after : State) → ((object : ℕ) → gone_under s object ≡ None) → CreatesClasses s classes answers after → IsTold told s → IsTold told after
+  classes-told s [] [] after unknown creates is_told = subst (IsTold told) (sym creates) is_told
+  classes-told s [] (answer ∷ answers) after unknown creates is_told = absurd creates
+  classes-told s (class ∷ classes) [] after unknown creates is_told = absurd creates
+  classes-told s (class ∷ classes) (answer ∷ answers) after unknown creates is_told =
+      let mid = creates.0 in
+      let rests = creates-rest s _ _ answer mid creates.1 in
+      let first = told-fewer s mid rests unknown (creates-fewer s _ _ answer mid creates.2 creates.1 is_told) is_told in
+      classes-told mid classes answers after (λ object. ap (λ (b : List (Option Held)). get_or b object None) rests.gone ∙ unknown object) creates.3 first
+
+-- ---- rounds
+
+-- what rounds tell of is poked by what was told before, and by themselves
+abbrev GoesOn : List Answered → List ClientRound → State → Type 0
+GoesOn told rounds after = RunsPoked told rounds × IsTold (told ++ flat_map answered_by rounds) after
+
+rounds-told : (told : List Answered) (s : State) (trace : Trace) (rounds : List ClientRound) (coming : List ℕ) (after : State) → Stands s trace (flat_map objects_asked rounds ++ coming) → MakesRounds s rounds after → IsTold told s → GoesOn told rounds after
+rounds-told told s trace [] coming after stands same is_told = (tt, subst (λ (l : List Answered). IsTold l after) (sym (append-nil told)) (subst (IsTold told) (sym same) is_told))
+rounds-told told s trace (round ∷ rounds) coming after stands makes is_told =
+    let mid = makes.0 in
+    let later = flat_map objects_asked rounds ++ coming in
+    let now = next-numbers s trace round rounds coming stands in
+    let tells = round-told told s round.asked round.result mid now.coherent now.rest (fits s trace round.asked later round.result mid now makes.1.does) makes.1.does is_told in
+    let rest = rounds-told (told ++ answered_by round) mid trace rounds coming after (stands-round s trace round.asked later round.result mid now makes.1.does) makes.2 tells.then in
+    ((record { reports = tells.damages; frees = tells.frees_told }, rest.0), subst (λ (l : List Answered). IsTold l after) (append_assoc told (answered_by round) (flat_map answered_by rounds)) rest.1)
+
+-- more rounds, after these
+poked-more : (told : List Answered) (rounds others : List ClientRound) → RunsPoked told rounds → RunsPoked (told ++ flat_map answered_by rounds) others → RunsPoked told (rounds ++ others)
+poked-more told [] others first second = subst (λ (l : List Answered). RunsPoked l others) (append-nil told) second
+poked-more told (round ∷ rounds) others first second =
+    (first.0, poked-more (told ++ answered_by round) rounds others first.1 (subst (λ (l : List Answered). RunsPoked l others) (sym (append_assoc told (answered_by round) (flat_map answered_by rounds))) second))
+
 -- ---- items
 
-abbrev Goes : List Answered → Item → Done → State → Type 0
-Goes told it dn after = ArePoked (told ++ answered_in (it, dn)) it dn × IsTold (told ++ answered_in (it, dn)) after
+-- an item that makes no round tells of nothing
+quiet-told : (told : List Answered) (rounds : List ClientRound) (after : State) → rounds ≡ [] → IsTold told after → GoesOn told rounds after
+quiet-told told rounds after none is_told = subst (λ (rounds : List ClientRound). GoesOn told rounds after) (sym none) (tt, subst (λ (l : List Answered). IsTold l after) (sym (append-nil told)) is_told)
 
--- an item that is no round tells of nothing
-quiet : (told : List Answered) (s : State) (trace : Trace) (it : Item) (dn : Done) (items : List Item) (after : State) → Stands s trace (it ∷ items) → answered_in (it, dn) ≡ [] → damages_of dn ≡ [] → Rests s after → Fewer told s after → IsTold told s → Goes told it dn after
-quiet told s trace it dn items after stands none no_damage rests fewer is_told =
-    let all : told ++ answered_in (it, dn) ≡ told = ap (λ l. told ++ l) none ∙ append-nil told in (
-      record {
-        reports = subst (All (λ found. IsPokedReport (told ++ answered_in (it, dn)) found.report)) (sym no_damage) (λ k d within. absurd (omega (arith, within)));
-        frees = λ one there. absurd (let nothing : Contains [] one = subst (λ l. Contains l one) none there in omega (arith, nothing.1));
-      },
-      subst (λ l. IsTold l after) (sym all) (told-fewer told s after rests stands.rest.forgotten fewer is_told),
-    )
+quiet : (told : List Answered) (s : State) (trace : Trace) (coming : List ℕ) (after : State) → Stands s trace coming → Rests s after → Fewer told s after → IsTold told s → GoesOn told [] after
+quiet told s trace coming after stands rests fewer is_told = quiet-told told [] after refl (told-fewer told s after rests stands.rest.forgotten fewer is_told)
 
-item-told : (told : List Answered) (s : State) (trace : Trace) (it : Item) (dn : Done) (items : List Item) (after : State) → Stands s trace (it ∷ items) → IsCoherent after → Does s trace it dn after → IsTold told s → Goes told it dn after
+made-told : (told : List Answered) (s : State) (trace : Trace) (rounds : List ClientRound) (numbers coming : List ℕ) (after : State) → Stands s trace (numbers ++ coming) → MadeFor s rounds numbers after → IsTold told s → GoesOn told rounds after
+made-told told s trace rounds numbers coming after stands made is_told = rounds-told told s trace rounds coming after (made-numbers s trace rounds numbers coming made.objects stands) made.runs is_told
+
+plain-told : (told : List Answered) (s : State) (trace : Trace) (it : Item) (dn : Done) (coming : List ℕ) (after : State) → Stands s trace (objects_in it ++ coming) → IsSoundItem trace it → IsCoherent after → DoesPlain s trace it dn after → IsTold told s → GoesOn told (rounds_of it dn) after
+unfolding DoesPlain
+plain-told told s trace (item.Cache place spec) (done.Created answer) coming after stands sound coherent does is_told =
+    quiet told s trace coming after stands (creates-rest s _ spec answer after does) (creates-fewer told s _ spec answer after coherent does is_told) is_told
+plain-told told s trace (item.Round round) (done.Round result) coming after stands sound coherent does is_told =
+    made-told told s trace (record { asked = round; result = result } ∷ []) (objects_of round.events) coming after stands (round_made s trace round result after sound coherent does) is_told
+plain-told told s trace (item.Shrink place) (done.Shrunk answer) coming after stands sound coherent does is_told =
+    quiet told s trace coming after stands (shrinks-rest s _ answer after does) (shrinks-fewer told s _ answer after does is_told) is_told
+plain-told told s trace (item.Destroy place) (done.Destroyed answer) coming after stands sound coherent does is_told =
+    quiet told s trace coming after stands (destroys-rest s _ answer after does) (destroys-fewer told s _ answer after does is_told) is_told
+plain-told told s trace item.Slabinfo (done.Slabinfo rows) coming after stands sound coherent does is_told =
+    quiet told s trace coming after stands (rests-same s after does.1) (fewer-same told s after (ap (λ (t : State). t.checked) does.1) is_told) is_told
+plain-told told s trace (item.Tune place setting) (done.Tuned answer) coming after stands sound coherent does is_told =
+    quiet told s trace coming after stands (tunes-rest s _ setting answer after does) (tunes-fewer told s _ setting answer after does is_told) is_told
+plain-told told s trace _ _ coming after stands sound coherent does is_told = absurd does
+
+client-told : (told : List Answered) (s : State) (trace : Trace) (client : Asked) (outcome : ClientDone) (coming : List ℕ) (after : State) → Stands s trace (asked_objects client ++ coming) → ClientEffect s client outcome after → IsTold told s → GoesOn told outcome.rounds after
+client-told told s trace client outcome coming after stands (made_rounds rounds) is_told = made-told told s trace outcome.rounds (asked_objects client) coming after stands rounds is_told
+client-told told s trace client outcome coming after stands (made_caches answers none creates) is_told =
+    quiet-told told outcome.rounds after none (classes-told told s (range_with_len 0 13) answers after stands.rest.forgotten creates is_told)
+
+item-told : (told : List Answered) (m : MachineState) (trace : Trace) (it : Item) (dn : Done) (coming : List ℕ) (after : MachineState) → Stands m.lists trace (objects_in it ++ coming) → IsSoundItem trace it → IsCoherent after.lists → Does m trace it dn after → IsTold told m.lists
+    → GoesOn told (rounds_of it dn) after.lists
 unfolding Does
-item-told told s trace (item.Cache place spec) (done.Created answer) items after stands coherent does is_told =
-    quiet told s trace (item.Cache place spec) (done.Created answer) items after stands refl refl (creates-rest s _ spec answer after does) (creates-fewer told s _ spec answer after coherent does is_told) is_told
-item-told told s trace (item.Round round) (done.Round result) items after stands coherent does is_told =
-    let distinct = distinct-of (objects_of round.events) (λ x. omega (arith, stands.once x, items-split x (item.Round round) items)) in
-    let tells = round-told told s round result after stands.coherent stands.rest (fits s trace round items result after stands distinct does) does is_told in
-    (record { reports = tells.damages; frees = tells.frees_told }, tells.then)
-item-told told s trace (item.Shrink place) (done.Shrunk answer) items after stands coherent does is_told =
-    quiet told s trace (item.Shrink place) (done.Shrunk answer) items after stands refl refl (shrinks-rest s _ answer after does) (shrinks-fewer told s _ answer after does is_told) is_told
-item-told told s trace (item.Destroy place) (done.Destroyed answer) items after stands coherent does is_told =
-    quiet told s trace (item.Destroy place) (done.Destroyed answer) items after stands refl refl (destroys-rest s _ answer after does) (destroys-fewer told s _ answer after does is_told) is_told
-item-told told s trace item.Slabinfo (done.Slabinfo rows) items after stands coherent does is_told =
-    quiet told s trace item.Slabinfo (done.Slabinfo rows) items after stands refl refl (rests-same s after does.1) (fewer-same told s after (ap (λ (t : State). t.checked) does.1) is_told) is_told
-item-told told s trace (item.Tune place setting) (done.Tuned answer) items after stands coherent does is_told =
-    quiet told s trace (item.Tune place setting) (done.Tuned answer) items after stands refl refl (tunes-rest s _ setting answer after does) (tunes-fewer told s _ setting answer after does is_told) is_told
-item-told told s trace _ _ items after stands coherent does is_told = absurd does
+item-told told m trace (item.Client client) (done.Client outcome) coming after stands sound coherent does is_told = client-told told m.lists trace client outcome coming after.lists stands (client_effect m trace client outcome after does) is_told
+item-told told m trace it dn coming after stands sound coherent does is_told = plain-told told m.lists trace it dn coming after.lists stands sound coherent does.0 is_told
 
-all-told : (told : List Answered) (s : State) (trace : Trace) (items : List Item) (dones : List Done) (after : State) → Stands s trace items → RunsItems s trace items dones after → IsTold told s → RunsPoked told items dones
-all-told told s trace [] [] after stands run is_told = tt
-all-told told s trace [] (dn ∷ dones) after stands run is_told = tt
-all-told told s trace (it ∷ items) [] after stands run is_told = tt
-all-told told s trace (it ∷ items) (dn ∷ dones) after stands run is_told =
-    let goes = item-told told s trace it dn items run.0 stands run.2 run.1 is_told in
-    let next = item-stands s trace it dn items run.0 stands run.2 run.1 in
-    (goes.0, all-told (told ++ answered_in (it, dn)) run.0 trace items dones after next.0 run.3 goes.1)
+all-told : (told : List Answered) (m : MachineState) (trace : Trace) (items : List Item) (dones : List Done) (after : MachineState) → Stands m.lists trace (flat_map objects_in items) → All (IsSoundItem trace) items → RunsItems m trace items dones after → IsTold told m.lists
+    → RunsPoked told (rounds_among items dones)
+all-told told m trace [] [] after stands sound run is_told = tt
+all-told told m trace [] (dn ∷ dones) after stands sound run is_told = absurd run
+all-told told m trace (it ∷ items) [] after stands sound run is_told = absurd run
+all-told told m trace (it ∷ items) (dn ∷ dones) after stands sound run is_told =
+    let here = All-head (IsSoundItem trace) it items sound in
+    let goes = item-told told m trace it dn (flat_map objects_in items) run.0 stands here run.2 run.1 is_told in
+    let next = item-stands m trace it dn (flat_map objects_in items) run.0 stands here run.2 run.1 in
+    poked-more told (rounds_of it dn) (rounds_among items dones) goes.0 (all-told (told ++ flat_map answered_by (rounds_of it dn)) run.0 trace items dones after next.0 (All-tail (IsSoundItem trace) it items sound) run.3 goes.1)
 
 -- before the first item nothing is checked, and no number is known
 opened-told : (trace : Trace) → IsTold [] (opening_of trace)
@@ -368,4 +417,5 @@ opened-told trace = record {
 
 pub poked-damages : (trace : Trace) (journal : Journal) → IsSound trace → IsLawful trace journal → HasPokedDamages trace journal
 poked-damages trace journal sound lawful =
-    all-told [] (opening_of trace) trace (take (length journal.items) trace.items) journal.items lawful.state (stands-first trace (length journal.items) sound lawful.coherent) lawful.run (opened-told trace)
+    let told = all-told [] (machine_of trace) trace (take (length journal.items) trace.items) journal.items lawful.machine (stands-first trace (length journal.items) sound lawful.coherent) (front (IsSoundItem trace) (length journal.items) trace.items sound.items) lawful.run (opened-told trace) in
+    subst (RunsPoked []) (rounds_done trace journal) told

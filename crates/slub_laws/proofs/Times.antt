@@ -1,26 +1,36 @@
--- What the items of a trace give was to be allocated.
-use Rattle.std.proofs.Common.{◌≡◌, ℕ, ◌≤◌, List, [], ◌∷◌, count_by, flat_map, take, length, refl, ap, arith}
+-- What the rounds of a run give was to be allocated.
+use Rattle.std.proofs.Common.{◌≡◌, ℕ, ◌+◌, ◌≤◌, Bool, List, [], ◌∷◌, ◌++◌, count_by, flat_map, take, length, refl, ◌∙◌, ap, arith, inl, inr, ◌⊎◌}
 use Rattle.std.specs.List.{zip}
+use Rattle.std.proofs.lemmas.List.Concat.{flat_map-append}
 use Rattle.slub_common.specs.Times.{times}
 use Rattle.slub_trace_reader.specs.declared.trace.Item.{Item}
-use Rattle.slub_trace_reader.specs.declared.trace.Item.TheVariants as item
-use Rattle.slub_trace_reader.specs.Sound.{objects_in}
+use Rattle.slub_journal.specs.declared.client.ClientRound.{ClientRound}
 use Rattle.slub_journal.specs.declared.journal.Done.{Done}
-use Rattle.slub_round_law.specs.Answered.{gave}
+use Rattle.slub_round_law.specs.Answered.{Answered, gave}
 use Rattle.slub_round_law.proofs.Times.{counted_append, events_given, times_append}
-use Rattle.slub_laws.specs.Freed.{answered_in, replies_of}
+use Rattle.slub_laws.specs.Freed.{answered_by, rounds_among, rounds_of}
+use Rattle.slub_laws.proofs.Made.{objects_asked}
 
-item_given : (object : ℕ) (it : Item) (dn : Done) → count_by (gave object) (answered_in (it, dn)) ≤ times object (objects_in it)
-item_given object (item.Round round) dn = events_given object round.events (replies_of dn)
-item_given object _ dn = omega arith
+-- the events of rounds, and of more rounds
+pub answered_more : (p : Answered → Bool) (rounds others : List ClientRound) → count_by p (flat_map answered_by (rounds ++ others)) ≡ count_by p (flat_map answered_by rounds) + count_by p (flat_map answered_by others)
+answered_more p rounds others = ap (count_by p) (flat_map-append answered_by rounds others) ∙ counted_append p (flat_map answered_by rounds) (flat_map answered_by others)
 
-pub items_given : (object : ℕ) (items : List Item) (dones : List Done) → count_by (gave object) (flat_map answered_in (zip items dones)) ≤ times object (flat_map objects_in items)
-items_given object [] dones = omega arith
-items_given object (it ∷ items) [] = omega arith
-items_given object (it ∷ items) (dn ∷ dones) =
-    omega (arith, counted_append (gave object) (answered_in (it, dn)) (flat_map answered_in (zip items dones)), times_append object (objects_in it) (flat_map objects_in items), item_given object it dn, items_given object items dones)
+-- a number is given as often as rounds may allocate it at most
+pub rounds_given : (object : ℕ) (rounds : List ClientRound) → count_by (gave object) (flat_map answered_by rounds) ≤ times object (flat_map objects_asked rounds)
+rounds_given object [] = omega arith
+rounds_given object (round ∷ rounds) =
+    omega (arith, counted_append (gave object) (answered_by round) (flat_map answered_by rounds), times_append object (objects_asked round) (flat_map objects_asked rounds), events_given object round.asked.events round.result.replies, rounds_given object rounds)
+
+-- where they allocate these numbers or none, it is one of the numbers
+pub made_given : (object : ℕ) (rounds : List ClientRound) (numbers : List ℕ) → (flat_map objects_asked rounds ≡ numbers) ⊎ (flat_map objects_asked rounds ≡ []) → count_by (gave object) (flat_map answered_by rounds) ≤ times object numbers
+made_given object rounds numbers (inl all) = omega (arith, rounds_given object rounds, ap (times object) all)
+made_given object rounds numbers (inr none) = omega (arith, rounds_given object rounds, ap (times object) none)
 
 -- ---- the items that were done
+
+-- the rounds of an item, and those of the items after it
+pub rounds_next : (it : Item) (dn : Done) (items : List Item) (dones : List Done) → rounds_among (it ∷ items) (dn ∷ dones) ≡ rounds_of it dn ++ rounds_among items dones
+rounds_next it dn items dones = refl
 
 pub zip_taken : {A B : Type 0} (xs : List A) (ys : List B) → zip (take (length ys) xs) ys ≡ zip xs ys
 zip_taken [] [] = refl

@@ -1,29 +1,40 @@
--- How often the events of a run gave an object, and how often they freed it.
-use Rattle.std.specs.Prelude.{ℕ, List, [], flat_map}
+-- The rounds of a run, those of clients among them, and how often their events gave an object and
+-- freed it.
+use Rattle.std.specs.Prelude.{ℕ, List, [], ◌∷◌, flat_map}
 use Rattle.std.specs.List.{zip}
-use Rattle.slub_answers.specs.declared.reply.Reply.{Reply}
 use Rattle.slub_trace_reader.specs.declared.trace.Item.{Item}
+use Rattle.slub_trace_reader.specs.declared.trace.Item.TheVariants as item
 use Rattle.slub_trace_reader.specs.declared.trace.Trace.{Trace}
-use Rattle.slub_trace_reader.specs.Sound.{events_in}
+use Rattle.slub_journal.specs.declared.client.ClientRound.{ClientRound}
 use Rattle.slub_journal.specs.declared.journal.Done.{Done}
-use Rattle.slub_journal.specs.declared.journal.Done.TheVariants.{Round}
+use Rattle.slub_journal.specs.declared.journal.Done.TheVariants as done
 use Rattle.slub_journal.specs.declared.journal.Journal.{Journal}
 use Rattle.slub_round_law.specs.Answered.{Answered, times_freed, times_given}
 
 -- ---- a run
 
--- the replies of what was done: those of a round
-abbrev pub replies_of : Done → List Reply
-replies_of (Round result) = result.replies
-replies_of _ = []
+-- the rounds of an item that was done, in their order: that of a `round`, or those of a client's
+-- line
+abbrev pub rounds_of : Item → Done → List ClientRound
+rounds_of (item.Round round) (done.Round result) = record { asked = round; result = result } ∷ []
+rounds_of (item.Client client) (done.Client outcome) = outcome.rounds
+rounds_of _ _ = []
 
--- the events of an item, each with its reply
-abbrev pub answered_in : Item × Done → List Answered
-answered_in one = zip (events_in one.0) (replies_of one.1)
+-- those of items, one after the other
+abbrev pub rounds_among : List Item → List Done → List ClientRound
+rounds_among items dones = flat_map (λ one. rounds_of one.0 one.1) (zip items dones)
 
--- all events of the trace that were answered, each with its reply, in their order
+-- the rounds of a journal
+abbrev pub rounds_in : Trace → Journal → List ClientRound
+rounds_in trace journal = rounds_among trace.items journal.items
+
+-- the events of a round, each with its reply
+abbrev pub answered_by : ClientRound → List Answered
+answered_by round = zip round.asked.events round.result.replies
+
+-- all events that were answered, each with its reply, in their order
 abbrev pub answered : Trace → Journal → List Answered
-answered trace journal = flat_map answered_in (zip trace.items journal.items)
+answered trace journal = flat_map answered_by (rounds_in trace journal)
 
 -- how often an object was given
 abbrev pub given_times : ℕ → Trace → Journal → ℕ

@@ -2,29 +2,35 @@
 use Rattle.std.specs.Prelude.{◌≡◌, List, [], ◌∷◌, length, take, ⊤}
 use Rattle.slub_lists.specs.State.{State}
 use Rattle.slub_trace_reader.specs.declared.trace.Item.{Item}
-use Rattle.slub_trace_reader.specs.declared.trace.Item.TheVariants as item
 use Rattle.slub_trace_reader.specs.declared.trace.Trace.{Trace}
+use Rattle.slub_journal.specs.declared.client.ClientRound.{ClientRound}
 use Rattle.slub_journal.specs.declared.journal.Done.{Done}
-use Rattle.slub_journal.specs.declared.journal.Done.TheVariants as done
 use Rattle.slub_journal.specs.declared.journal.Journal.{Journal}
-use Rattle.slub_journal.specs.Lawful.{Does, opening_of}
+use Rattle.slub_journal.specs.Runs.{Does, MachineState, machine_of}
 use Rattle.slub_round_law.specs.Round.{IsRound}
+use Rattle.slub_laws.specs.Freed.{rounds_of}
 
--- a round that was done is a lawful round; nothing is said of another item
-abbrev pub IsRoundOf : State → Item → Done → State → Type 0
-IsRoundOf s (item.Round round) (done.Round result) after = IsRound s round result after
-IsRoundOf s _ _ after = ⊤
+-- rounds are made one after the other from these lists on, and each is lawful
+abbrev pub AreLawful : State → List ClientRound → State → Type 0
+AreLawful s [] after = after ≡ s
+AreLawful s (round ∷ rounds) after =
+    (mid : State) × IsRound s round.asked round.result mid × AreLawful mid rounds after
+
+-- so are the rounds of an item that was done; nothing is said of one without a round
+abbrev pub AreRounds : State → List ClientRound → State → Type 0
+AreRounds s [] after = ⊤
+AreRounds s (round ∷ rounds) after = AreLawful s (round ∷ rounds) after
 
 -- the items are done one after the other, and each round of them is lawful
-abbrev pub RunsRounds : State → Trace → List Item → List Done → State → Type 0
-RunsRounds s trace [] [] after = after ≡ s
-RunsRounds s trace (item ∷ items) (done ∷ dones) after =
-    (mid : State) × Does s trace item done mid × IsRoundOf s item done mid
-    × RunsRounds mid trace items dones after
-RunsRounds s trace _ _ after = ⊥
+abbrev pub RunsRounds : MachineState → Trace → List Item → List Done → MachineState → Type 0
+RunsRounds m trace [] [] after = after ≡ m
+RunsRounds m trace (item ∷ items) (done ∷ dones) after =
+    (mid : MachineState) × Does m trace item done mid
+    × AreRounds m.lists (rounds_of item done) mid.lists × RunsRounds mid trace items dones after
+RunsRounds m trace _ _ after = ⊥
 
 -- from the opening machine on, each round of the journal is lawful
 abbrev pub HasLawfulRounds : Trace → Journal → Type 0
 HasLawfulRounds trace journal =
-    (last : State) × RunsRounds (opening_of trace) trace
+    (last : MachineState) × RunsRounds (machine_of trace) trace
     (take (length journal.items) trace.items) journal.items last

@@ -10,7 +10,8 @@ ghost use Rattle.slub_object_layout.specs.declared.event.Round.{Round as Events}
 ghost use Rattle.slub_journal.specs.declared.journal.RoundResult.{RoundResult as Outcome};
 ghost use Rattle.slub_slabinfo_text.specs.Counts.{counts_of};
 ghost use Rattle.slub_trace_reader.specs.Sound.{IsSound};
-ghost use Rattle.slub_journal.specs.Lawful.{IsLawful, IsReady, opening_of};
+ghost use Rattle.slub_journal.specs.Lawful.{opening_of};
+ghost use Rattle.slub_journal.specs.Runs.{IsLawful, IsReadyMachine, machine_of};
 ghost use Rattle.slub_laws.specs.Freed.{freed_times, given_times};
 ghost use Rattle.slub_laws.specs.Trimmed.{EndsTrimmed};
 ghost use Rattle.slub_laws.specs.Poked.{HasPokedDamages};
@@ -21,7 +22,7 @@ use slub_journal::journal::Journal;
 use slub_trace_reader::trace::Trace;
 
 /// Over a whole run no object number is freed twice, and none is given twice: a number is freed at
-/// most as often as it was given, and given at most once.
+/// most as often as it was given, and given at most once. The events of clients' rounds count.
 pub fn no_number_is_freed_twice(trace: &Trace, journal: &Journal)
     requires sound { IsSound trace.now }
     requires lawful { IsLawful trace.now journal.now }
@@ -31,8 +32,8 @@ pub fn no_number_is_freed_twice(trace: &Trace, journal: &Journal)
     ensures given_once { (object : ℕ) → given_times object trace.now journal.now ≤ 1 }
 {}
 
-/// Each round of a lawful journal is a lawful round (`IsRound` of `slub_round_law`), for the
-/// machine before it.
+/// Each round of a lawful journal, also one that a client's line makes, is a lawful round (`IsRound` of
+/// `slub_round_law`), for the machine before it.
 pub fn rounds_of_a_journal_are_lawful(trace: &Trace, journal: &Journal)
     requires sound { IsSound trace.now }
     requires lawful { IsLawful trace.now journal.now }
@@ -57,7 +58,7 @@ pub fn given_is_freed_or_live(trace: &Trace, journal: &Journal)
 /// The machine that is opened for a trace stands before its first item.
 pub fn opening_is_ready(trace: &Trace)
     requires { IsCoherent (opening_of trace.now) }
-    ensures { IsReady (opening_of trace.now) trace.now 0 }
+    ensures { IsReadyMachine (machine_of trace.now) trace.now 0 }
 {}
 
 /// Every object of a live cache's slabs is given, free or set aside: `num_objs` counts each of them

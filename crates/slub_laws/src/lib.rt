@@ -2,7 +2,8 @@
 //! `slub_lists`, `specs/Lawful.antt` of `slub_journal`). Each is the contract of a function that does
 //! nothing, and speaks of states, traces and journals: it holds whoever did the work.
 //!
-//! `specs/Freed.antt` says how often the events of a run gave an object, and how often they freed it.
+//! `specs/Freed.antt` says which rounds a run has, those of clients among them, how often their events gave
+//! an object, and how often they freed it.
 //!
 //! # What it promises
 //!

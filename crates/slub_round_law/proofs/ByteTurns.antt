@@ -445,12 +445,12 @@ module _ (s : State) (one : Answered) (after : State) (coherent : IsCoherent s) 
       by : Kind s one after → Turned
       by (puts_none same no_put) = unchanged (no-put no_put) same
       by (asks_one at other asks no_put) =
-          spared (no-put no_put) (slots-of-it s one.0 one.1 after coherent object held live.layout names word within slabs rest was now
-          (spares-it s one.0 one.1 after coherent object held live.layout names word within (event-slabs s one.0 one.1 after answers)
+          spared (no-put no_put) (slots-of-it s one.0 one.1 after coherent object held names.here slabs rest was now
+          (spares-it s one.0 one.1 after coherent object held names.here (event-slabs s one.0 one.1 after answers)
           (λ o e. absurd (let never : Alloc at other ≡ Free o = sym asks ∙ e in cc)) (λ o f b e. absurd (let never : Alloc at other ≡ Poke o f b = sym asks ∙ e in cc)) (λ o p v e. (let never : Alloc at other ≡ Write o p v = sym asks ∙ e in cc))))
       by (frees_one other asks is no_put) =
-          spared (no-put no_put) (slots-of-it s one.0 one.1 after coherent object held live.layout names word within slabs rest was now
-          (spares-it s one.0 one.1 after coherent object held live.layout names word within (event-slabs s one.0 one.1 after answers)
+          spared (no-put no_put) (slots-of-it s one.0 one.1 after coherent object held names.here slabs rest was now
+          (spares-it s one.0 one.1 after coherent object held names.here (event-slabs s one.0 one.1 after answers)
           (λ o e same. freed-other o e same) (λ o f b e. absurd (let never : Free other ≡ Poke o f b = sym asks ∙ e in cc)) (λ o p v e. (let never : Free other ≡ Write o p v = sym asks ∙ e in cc))))
         where
           freed-other : (o : ℕ) → one.0.act ≡ Free o → object ≡ o → ⊥

@@ -39,7 +39,7 @@ use Rattle.slub_lists.specs.declared.lists.Slab.{Slab}
 use Rattle.slub_lists.specs.State.{State}
 use Rattle.slub_lists.specs.Alloc.{checked_of, slab_of}
 use Rattle.slub_lists.specs.Checked.{slot_of_held}
-use Rattle.slub_lists.specs.Coherent.{IsCoherent, IsConsistent, covered_from, covers}
+use Rattle.slub_lists.specs.Coherent.{IsCoherent, IsConsistent, covered_from, covers, held_under}
 use Rattle.slub_lists.specs.Laws.{Names}
 use Rattle.slub_lists.specs.Words.{is_word, word_at, word_of}
 use Rattle.slub_lists.proofs.Apart.{one-number}
@@ -104,14 +104,16 @@ aside-spares size slab j = record { used = used slab.states j; long = refl; byte
 -- the used object of a slot is used after, with the same bytes
 pub record SparesSlot (old new : CheckedState) (slot : Slot) : Type 0 where
   pub layout : new.layout ≡ old.layout
+  pub flags : new.flags ≡ old.flags
   pub slab : Spares old.layout.size (checked_slab old slot.frame) (checked_slab new slot.frame) slot.index
 
 slot-same : (s : CheckedState) (slot : Slot) → SparesSlot s s slot
-slot-same s slot = record { layout = refl; slab = spares-same s.layout.size (checked_slab s slot.frame) slot.index }
+slot-same s slot = record { layout = refl; flags = refl; slab = spares-same s.layout.size (checked_slab s slot.frame) slot.index }
 
 slot-then : (a b c : CheckedState) (slot : Slot) → SparesSlot a b slot → SparesSlot b c slot → SparesSlot a c slot
 slot-then a b c slot first second = record {
   layout = second.layout ∙ first.layout;
+  flags = second.flags ∙ first.flags;
   slab = record {
     used = λ used. second.slab.used (first.slab.used used);
     long = second.slab.long ∙ first.slab.long;
@@ -131,6 +133,7 @@ pub slot-with : (s : CheckedState) (frame : ℕ) (new : SlabState) (listed : Lis
     → SparesSlot s (record s { slabs = set s.slabs frame (Some new); listed = listed; reports = reports }) slot
 slot-with s frame new listed reports slot spares = record {
   layout = refl;
+  flags = refl;
   slab = at_written (λ y. Spares s.layout.size (checked_slab s slot.frame) (unwrap_or y no_slab) slot.index) s.slabs frame slot.frame (Some new) None
       (λ same. subst (λ n. Spares s.layout.size (checked_slab s n) new slot.index) (sym same) (spares same))
       (spares-same s.layout.size (checked_slab s slot.frame) slot.index);
@@ -222,37 +225,15 @@ covered-some s frame slab is =
     let one : covers frame (0 + frame) (Some slab) ≡ 1 = grind (arith, nat_tests, low, high, zero-add frame) in
     omega (arith, covered-set frame 0 s.slabs frame None (inside-of s.slabs frame slab is), nothing, ap (covers frame (0 + frame)) is, one)
 
-module _ (s : State) (event : Event) (answer : Reply) (after : State) (coherent : IsCoherent s) (other : ℕ) (held : Held) (layout : Layout) (names : Names s other held layout) (word : ℕ) (inside : is_word layout word ≡ true) where
+module _ (s : State) (event : Event) (answer : Reply) (after : State) (coherent : IsCoherent s) (other : ℕ) (held : Held) (there_held : held_under s other ≡ Some held) where
   consistent : IsConsistent s
   consistent = consistent-of s coherent
 
-  slot : Slot
-  slot = slot_of_held held
+  mine-sound : (slabs : CheckedState) → checked_of s held.cache ≡ Some slabs → IsSound slabs
+  mine-sound slabs was = (slabs-sound s held.cache slabs coherent was).sound
 
-  -- the words of a checked cache
-  module _ (slabs : CheckedState) (was : checked_of s held.cache ≡ Some slabs) where
-    mine-used : IsUsed slabs (slot_of_held held) × (8 * (word + 1) ≤ slabs.layout.object_size)
-    mine-used = used-word s held layout (record { object = other; here = names.here }) names.live coherent word inside slabs was
-
-    mine-sound : IsSound slabs
-    mine-sound = (slabs-sound s held.cache slabs coherent was).sound
-
-    -- the slabs of its cache are others, and spare it
-    spared-word : (rest : CheckedState) → checked_of after held.cache ≡ Some rest → SparesSlot slabs rest (slot_of_held held) → word_of after layout held word ≡ word_of s layout held word
-    spared-word rest now spares =
-        ap (λ x. option_map_or (λ slabs. slab_word_of slabs (slot_of_held held) word) x (get_or after.memory (word_at layout held word) 0)) now
-        ∙ word-spared slabs rest (slot_of_held held) word mine-sound.layout spares (used-inside slabs (slot_of_held held) mine-sound mine-used.0) mine-used.1
-        ∙ sym (ap (λ x. option_map_or (λ slabs. slab_word_of slabs (slot_of_held held) word) x (get_or s.memory (word_at layout held word) 0)) was)
-
-  -- the cache is as before
-  same-word : (x : Option CheckedState) → checked_of s held.cache ≡ x → checked_of after held.cache ≡ x → (x ≡ None → after.memory ≡ s.memory) → word_of after layout held word ≡ word_of s layout held word
-  same-word None was now memory =
-      ap (λ x. option_map_or (λ slabs. slab_word_of slabs (slot_of_held held) word) x (get_or after.memory (word_at layout held word) 0)) now
-      ∙ ap (λ m. get_or m (word_at layout held word) 0) (memory refl)
-      ∙ sym (ap (λ x. option_map_or (λ slabs. slab_word_of slabs (slot_of_held held) word) x (get_or s.memory (word_at layout held word) 0)) was)
-  same-word (Some slabs) was now memory =
-      ap (λ x. option_map_or (λ slabs. slab_word_of slabs (slot_of_held held) word) x (get_or after.memory (word_at layout held word) 0)) now
-      ∙ sym (ap (λ x. option_map_or (λ slabs. slab_word_of slabs (slot_of_held held) word) x (get_or s.memory (word_at layout held word) 0)) was)
+  mine-used : (slabs : CheckedState) → checked_of s held.cache ≡ Some slabs → IsUsed slabs (slot_of_held held)
+  mine-used slabs was = held-used s other held slabs there_held was consistent
 
   -- the object's cache is as before, or its slabs are others, which spare the object
   pub data SparesIt : Type 0 where
@@ -304,6 +285,7 @@ module _ (s : State) (event : Event) (answer : Reply) (after : State) (coherent 
         | inr away ↦
             let second : SparesSlot mid (without_slab mid taken.frame) (slot_of_held held) = record {
               layout = refl;
+              flags = refl;
               slab = subst (λ (x : SlabState). Spares mid.layout.size (checked_slab mid held.frame) x held.index) (sym (slab-other mid taken.frame None held.frame away)) (spares-same mid.layout.size (checked_slab mid held.frame) held.index);
             } in
             subst (λ (c : CheckedState). SparesSlot slabs c (slot_of_held held)) (sym out.2) (slot-then slabs mid (without_slab mid taken.frame) (slot_of_held held) first second)
@@ -313,10 +295,10 @@ module _ (s : State) (event : Event) (answer : Reply) (after : State) (coherent 
       → ((object place value : ℕ) → event.act ≡ act.Write object place value → ⊥) → SparesIt
   spares-it (same is) free poke write = kept (ap (λ (l : List (Option CheckedState)). get_or l held.cache None) is)
   spares-it (gave cache slabs rest found swaps asked) free poke write =
-      swapped-it cache slabs rest swaps (λ mine was. gives-spares slabs found rest (slot_of_held held) (mine-sound slabs was) asked (mine-used slabs was).0)
+      swapped-it cache slabs rest swaps (λ mine was. gives-spares slabs found rest (slot_of_held held) (mine-sound slabs was) asked (mine-used slabs was))
   spares-it (made cache slabs rest run pool live is_live swaps asked finds) free poke write =
       swapped-it cache slabs _ swaps (λ mine was.
-      let first = gives-spares slabs give.Empty rest (slot_of_held held) (mine-sound slabs was) asked (mine-used slabs was).0 in
+      let first = gives-spares slabs give.Empty rest (slot_of_held held) (mine-sound slabs was) asked (mine-used slabs was) in
       let frame_run : SlabRun = record { frame = run.frame; order = run.order } in
       let mid : CheckedState = with_new_slab rest frame_run run.objects in
       let second : SparesSlot rest mid (slot_of_held held) = coming-spares rest frame_run run.objects (slot_of_held held) away in
@@ -325,30 +307,56 @@ module _ (s : State) (event : Event) (answer : Reply) (after : State) (coherent 
     where
       away : held.frame ≢ run.frame
       away e =
-          let slab = held-slab s other held names.here consistent in
+          let slab = held-slab s other held there_held consistent in
           let covered : 0 < covered_from held.frame 0 s.slabs = covered-some s held.frame slab.0 slab.1 in
           let free_too : 0 < times run.frame s.pool.free = times-contained run.frame s.pool.free (run-free s.pool live.layout run pool finds) in
           let here : 0 < times held.frame s.pool.free = subst (λ f. 0 < times f s.pool.free) (sym e) free_too in
           omega (arith, covered, here, framed-most s held.frame coherent.framed)
   spares-it (took object mine slabs mid rest limit run asks there swaps takes out) free poke write =
       swapped-it mine.cache slabs rest swaps (λ one was.
-      out-spares slabs mid rest (slot_of_held mine) limit run (mine-sound slabs was) (held-used s object mine slabs there swaps.was consistent) (mine-used slabs was).0
-      (λ frame index. free object asks (one-number s other object held mine names.here there frame index consistent)) takes.1 out)
+      out-spares slabs mid rest (slot_of_held mine) limit run (mine-sound slabs was) (held-used s object mine slabs there swaps.was consistent) (mine-used slabs was)
+      (λ frame index. free object asks (one-number s other object held mine there_held there frame index consistent)) takes.1 out)
   spares-it (wrote object place value mine live slabs asks holds within swaps) free poke write = absurd (write object place value asks)
   spares-it (poked_byte object offset byte mine slabs asks is knows within swaps) free poke write =
       swapped-it mine.cache slabs _ swaps (λ one was.
       byte-spares slabs (slot_of_held mine) (slot_of_held held) (nat_abs (place_of slabs.layout offset)) byte (offset-place slabs.layout offset within).0
       (λ frame index. poke object offset byte asks (subst (λ x. MatchOption x ⊥ (λ known. (known.frame ≡ held.frame) × (known.index ≡ held.index))) (sym knows) (sym frame, sym index))))
 
-  words-of-it : after.memory ≡ s.memory → SparesIt → word_of after layout held word ≡ word_of s layout held word
-  words-of-it memory (kept still) = same-word (checked_of s held.cache) refl still (λ none. memory)
-  words-of-it memory (swapped slabs rest was now spares) = spared-word slabs was rest now spares
-
   -- its slabs before and after, where its cache is checked
   pub slots-of-it : (slabs rest : CheckedState) → checked_of s held.cache ≡ Some slabs → checked_of after held.cache ≡ Some rest → SparesIt → SparesSlot slabs rest (slot_of_held held)
   slots-of-it slabs rest was now (kept still) = subst (λ (c : CheckedState). SparesSlot slabs c (slot_of_held held)) (injected (sym was ∙ sym still ∙ now)) (slot-same slabs (slot_of_held held))
   slots-of-it slabs rest was now (swapped old new was_too now_too spares) =
       subst (λ (c : CheckedState). SparesSlot slabs c (slot_of_held held)) (injected (sym now_too ∙ now)) (subst (λ (c : CheckedState). SparesSlot c new (slot_of_held held)) (injected (sym was_too ∙ was)) spares)
+
+module _ (s : State) (event : Event) (answer : Reply) (after : State) (coherent : IsCoherent s) (other : ℕ) (held : Held) (layout : Layout) (names : Names s other held layout) (word : ℕ) (inside : is_word layout word ≡ true) where
+  -- the words of a checked cache
+  module _ (slabs : CheckedState) (was : checked_of s held.cache ≡ Some slabs) where
+    its-word : IsUsed slabs (slot_of_held held) × (8 * (word + 1) ≤ slabs.layout.object_size)
+    its-word = used-word s held layout (record { object = other; here = names.here }) names.live coherent word inside slabs was
+
+    its-sound : IsSound slabs
+    its-sound = (slabs-sound s held.cache slabs coherent was).sound
+
+    -- the slabs of its cache are others, and spare it
+    spared-word : (rest : CheckedState) → checked_of after held.cache ≡ Some rest → SparesSlot slabs rest (slot_of_held held) → word_of after layout held word ≡ word_of s layout held word
+    spared-word rest now spares =
+        ap (λ x. option_map_or (λ slabs. slab_word_of slabs (slot_of_held held) word) x (get_or after.memory (word_at layout held word) 0)) now
+        ∙ word-spared slabs rest (slot_of_held held) word its-sound.layout spares (used-inside slabs (slot_of_held held) its-sound its-word.0) its-word.1
+        ∙ sym (ap (λ x. option_map_or (λ slabs. slab_word_of slabs (slot_of_held held) word) x (get_or s.memory (word_at layout held word) 0)) was)
+
+  -- the cache is as before
+  same-word : (x : Option CheckedState) → checked_of s held.cache ≡ x → checked_of after held.cache ≡ x → (x ≡ None → after.memory ≡ s.memory) → word_of after layout held word ≡ word_of s layout held word
+  same-word None was now memory =
+      ap (λ x. option_map_or (λ slabs. slab_word_of slabs (slot_of_held held) word) x (get_or after.memory (word_at layout held word) 0)) now
+      ∙ ap (λ m. get_or m (word_at layout held word) 0) (memory refl)
+      ∙ sym (ap (λ x. option_map_or (λ slabs. slab_word_of slabs (slot_of_held held) word) x (get_or s.memory (word_at layout held word) 0)) was)
+  same-word (Some slabs) was now memory =
+      ap (λ x. option_map_or (λ slabs. slab_word_of slabs (slot_of_held held) word) x (get_or after.memory (word_at layout held word) 0)) now
+      ∙ sym (ap (λ x. option_map_or (λ slabs. slab_word_of slabs (slot_of_held held) word) x (get_or s.memory (word_at layout held word) 0)) was)
+
+  words-of-it : after.memory ≡ s.memory → SparesIt s event answer after coherent other held names.here → word_of after layout held word ≡ word_of s layout held word
+  words-of-it memory (kept still) = same-word (checked_of s held.cache) refl still (λ none. memory)
+  words-of-it memory (swapped slabs rest was now spares) = spared-word slabs was rest now spares
 
 -- ---- an event
 
@@ -367,7 +375,7 @@ module _ (s : State) (event : Event) (answer : Reply) (after : State) (coherent 
       → word_of after layout held word ≡ word_of s layout held word
   spared-by no_write other word held layout names inside free poke =
       words-of-it s event answer after coherent other held layout names word inside (memory-kept s event answer after no_write answers)
-      (spares-it s event answer after coherent other held layout names word inside (event-slabs s event answer after answers) free poke no_write)
+      (spares-it s event answer after coherent other held names.here (event-slabs s event answer after answers) free poke no_write)
 
   pub spares-by : (a : Act) → event.act ≡ a → SparesWords s event.worker a after
   spares-by (act.Alloc place object) is = λ other word held layout apart names inside.

@@ -102,12 +102,19 @@ pub record IsSpare (before : State) (answers own : List Answered) (address : ℕ
   pub off_board : (object : ℕ) → IfSome (spot_under before object)
       (λ spot. spot.address ≡ address → 0 < times_freed object answers)
 
--- the name is live, but where it is answered that it isn't; memory lacks for a checked cache alone
+-- a transaction id at which no two more changes are sure to fit; a change adds 16 at most
+abbrev pub IsNearEnd : ℕ → Type 0
+IsNearEnd tid = 2 ^ 32 ≤ tid + 2 * 16
+
+-- the name is live, but where it is answered that it isn't; memory lacks for a checked cache alone,
+-- and transaction ids for one that isn't, near their end
 abbrev pub AllocCause : State → List Answered → List Answered → ℕ → Reply → Type 0
 AllocCause before answers own place (reply.Given address) =
     IsSome (named before place) × IsSpare before answers own address
 AllocCause before answers own place reply.NoFrames = IsSome (named before place)
 AllocCause before answers own place reply.NoMemory = NamesChecked before place
+AllocCause before answers own place (reply.IdsSpent tid) =
+    NamesUnchecked before place × IsNearEnd tid
 AllocCause before answers own place reply.NoSuchCache = named before place ≡ None
 AllocCause before answers own place _ = ⊥
 

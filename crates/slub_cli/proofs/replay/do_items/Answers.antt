@@ -6,7 +6,7 @@ use Rattle.slub_cli.proofs.replay.do_items.Goals as goal
 
 pub loop-number-init : goal.loop-number-init
 loop-number-init g c = record {
-  reached = Reached-begins c.args.trace.now c.args.lists.now c.args.journal.now c.requires.coherent c.requires.opened c.requires.machine c.requires.no_items c.requires.no_total;
+  reached = Reached-begins c.args.trace.now c.args.machine.now c.args.journal.now c.requires.coherent c.requires.opened c.requires.begun c.requires.no_items c.requires.no_total;
   told = λ start h. h;
   still = refl;
   counts = le_refl _;
@@ -15,13 +15,13 @@ loop-number-init g c = record {
 pub returns-in_err-do_item-clause-lawful : goal.returns-in_err-do_item-clause-lawful
 returns-in_err-do_item-clause-lawful g c =
     let at = c.loop-number in
-    stopped_lawful c.args.trace.now at.number at.lists c.do_item.new.lists at.journal c.do_item.new.journal _ c.requires.coherent (omega (arith, c.len-number-end.ensures)) at.invariant.reached c.in_err-do_item.ensures.done
+    stopped_lawful c.args.trace.now at.number at.machine c.do_item.new.machine at.journal c.do_item.new.journal _ c.requires.coherent (omega (arith, c.len-number-end.ensures)) at.invariant.reached c.in_err-do_item.ensures.done
 
 pub loop-number-preserved : goal.loop-number-preserved
 loop-number-preserved g c =
     let at = c.loop-number in
     record {
-      reached = Reached-more c.args.trace.now at.number at.lists c.do_item.new.lists at.journal c.do_item.new.journal (omega (arith, c.len-number-end.ensures)) at.invariant.reached c.in_ok-do_item.ensures.done;
+      reached = Reached-more c.args.trace.now at.number at.machine c.do_item.new.machine at.journal c.do_item.new.journal (omega (arith, c.len-number-end.ensures)) at.invariant.reached c.in_ok-do_item.ensures.done;
       told = λ start h. c.in_ok-do_item.ensures.told start (at.invariant.told start h);
       still = c.in_ok-do_item.ensures.write_faults ∙ at.invariant.still;
       counts = le_trans at.invariant.counts c.do_item.ensures.counts;
@@ -29,11 +29,11 @@ loop-number-preserved g c =
 
 pub returns-clause-lawful : goal.returns-clause-lawful
 returns-clause-lawful g c =
-    Reached-lawful c.args.trace.now c.loop-number.number c.loop-number.lists c.loop-number.journal c.requires.coherent (omega (arith, c.len-number-end.ensures)) c.loop-number.invariant.reached
+    Reached-lawful c.args.trace.now c.loop-number.number c.loop-number.machine c.loop-number.journal c.requires.coherent (omega (arith, c.len-number-end.ensures)) c.loop-number.invariant.reached
 
 pub returns-clause-run : goal.returns-clause-run
 returns-clause-run g c =
-    Reached-whole c.args.trace.now c.loop-number.number c.loop-number.lists c.loop-number.journal (omega (arith, c.len-number-end.ensures, c.loop-number-test.false)) c.loop-number.invariant.reached
+    Reached-whole c.args.trace.now c.loop-number.number c.loop-number.machine c.loop-number.journal (omega (arith, c.len-number-end.ensures, c.loop-number-test.false)) c.loop-number.invariant.reached
 
 pub returns-in_err-do_item-clause-told : goal.returns-in_err-do_item-clause-told
 returns-in_err-do_item-clause-told g c =

@@ -6,12 +6,12 @@ use Rattle.slub_cli.proofs.Laws.{no_items_lawful, totals_lawful, totals_some}
 use Rattle.slub_cli.proofs.Texts.{empty_text, tells_then, took_of}
 use Rattle.slub_cli.proofs.replay.do_trace.Goals as goal
 
-pub returns-in_err-lists-clause-lawful : goal.returns-in_err-lists-clause-lawful
-returns-in_err-lists-clause-lawful g c =
-    no_items_lawful c.args.trace.now c.begin.new.journal c.in_err-lists.ensures.coherent c.begin.ensures.machine (c.begin.ensures.items ∙ c.requires.empty.items) (c.begin.ensures.total ∙ c.requires.empty.total)
+pub returns-in_err-machine-clause-lawful : goal.returns-in_err-machine-clause-lawful
+returns-in_err-machine-clause-lawful g c =
+    no_items_lawful c.args.trace.now c.begin.new.journal c.in_err-machine.ensures.coherent c.begin.ensures.machine (c.begin.ensures.items ∙ c.requires.empty.items) (c.begin.ensures.total ∙ c.requires.empty.total)
 
-pub returns-in_err-lists-clause-told : goal.returns-in_err-lists-clause-told
-returns-in_err-lists-clause-told g c =
+pub returns-in_err-machine-clause-told : goal.returns-in_err-machine-clause-told
+returns-in_err-machine-clause-told g c =
     let p = err_from_is_err_and c.from_residual.result c.from_residual.ensures.1 in
     rw (p.1, p.2, empty_text c.args.replies c.args.trace.now c.begin.new.journal (c.begin.ensures.items ∙ c.requires.empty.items) (c.begin.ensures.total ∙ c.requires.empty.total)) (Appends-nil (g.K.Sink.taken c.args.sink.now))
 
@@ -33,3 +33,8 @@ returns-clause-stops g c =
 
 pub returns-clause-all : goal.returns-clause-all
 returns-clause-all g c = totals_some _ _ _ c.do_total.result c.do_total.ensures.done
+
+pub returns-in_err-do_items-clause-stops : goal.returns-in_err-do_items-clause-stops
+returns-in_err-do_items-clause-stops g c =
+    let p = err_from_is_err_and c.from_residual-in_err-do_items.result c.from_residual-in_err-do_items.ensures.1 in
+    rw (p.1, p.2) c.in_err-do_items.ensures.stops

@@ -1,5 +1,5 @@
 use Rattle.std.proofs.Common.{◌≡◌, take, flat_map}
-use Rattle.slub_journal.specs.Text.{found_text}
+use Rattle.slub_journal.specs.Lines.{found_text}
 use Rattle.slub_journal.proofs.client_text.rounds_text.Given as goal
 
 abbrev pub invariant-loop-round : goal.invariant-loop-round

@@ -1,5 +1,5 @@
 use Rattle.std.proofs.Common.{◌≡◌, ◌++◌, flat_map, take}
-use Rattle.slub_journal.specs.Text.{found_text}
+use Rattle.slub_journal.specs.Lines.{found_text}
 use Rattle.slub_journal.proofs.text.push_damages.Given as goal
 
 abbrev pub invariant-loop-found : goal.invariant-loop-found

@@ -4,7 +4,7 @@ use Rattle.std.specs.Iterator.Adapters.{zip_first, zip_second}
 use Rattle.std.proofs.lemmas.List.Elements.{All-get_or}
 use Rattle.std.proofs.lemmas.Slice.Zip.{zip_turn, zip_end}
 use Rattle.slub_slabinfo_text.specs.Texts.{IsNamed}
-use Rattle.slub_journal.specs.Text.{event_text}
+use Rattle.slub_journal.specs.Lines.{event_text}
 use Rattle.slub_journal.proofs.Zips.{length-snoc, pieces_more, pieces_whole}
 use Rattle.slub_journal.proofs.text.push_events.Goals as goal
 

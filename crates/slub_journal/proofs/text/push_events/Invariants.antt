@@ -1,6 +1,6 @@
 use Rattle.std.proofs.Common.{◌≡◌, ◌++◌, length, take, flat_map}
 use Rattle.std.specs.List.{zip}
-use Rattle.slub_journal.specs.Text.{event_text}
+use Rattle.slub_journal.specs.Lines.{event_text}
 use Rattle.slub_journal.proofs.text.push_events.Given as goal
 
 abbrev pub invariant-loop-event : goal.invariant-loop-event

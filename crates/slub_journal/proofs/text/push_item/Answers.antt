@@ -1,8 +1,10 @@
 use Rattle.std.proofs.Common.{◌≡◌, get_or, ℕ, List, [], OnOk, ◌++◌, subst, sym, ◌∙◌}
 use Rattle.slub_slabinfo_text.specs.declared.text.ItemWord.TheVariants as word
 use Rattle.slub_slabinfo_text.specs.Texts.{info_text}
-use Rattle.slub_journal.specs.Text.{answer_line, done_text, round_text}
-use Rattle.slub_journal.proofs.Items.{creation_text, destroy_text, events_text, no_creation_text, no_destroy_text, no_events_text, no_shrink_text, no_slabinfo_text, no_tune_text, put_nothing, shrink_text, slabinfo_text, text_at_is, tune_text}
+use Rattle.slub_journal.specs.ClientText.{client_text}
+use Rattle.slub_journal.specs.Lines.{answer_line, round_text}
+use Rattle.slub_journal.specs.Text.{done_text}
+use Rattle.slub_journal.proofs.Items.{client_lines, creation_text, no_client_text, destroy_text, events_text, no_creation_text, no_destroy_text, no_events_text, no_shrink_text, no_slabinfo_text, no_tune_text, put_nothing, shrink_text, slabinfo_text, text_at_is, tune_text}
 use Rattle.slub_journal.proofs.text.push_item.Goals as goal
 
 pub returns-in_default : goal.returns-in_default
@@ -100,3 +102,19 @@ returns-in-Tune-Tuned c =
     let line : done_text c.args.replies c.args.trace.now c.index-as_slice-number.result c.args.done.now ≡ answer_line c.args.replies word.Tune c.name_of-in-Tune-Tuned.result.now c.tuned_answer-answer.result =
     rw (c.in-Tune-Tuned.is-0, c.in-Tune-Tuned.is-1, c.name_of-in-Tune-Tuned.ensures, c.tuned_answer-answer.ensures) (tune_text c.args.replies c.args.trace.now _ _ _) in
     subst (λ (lines : List ℕ). OnOk c.push_answer-in-Tune-Tuned.result (c.push_answer-in-Tune-Tuned.new.text.items ≡ c.args.text.now.items ++ lines)) (sym (text ∙ line)) c.push_answer-in-Tune-Tuned.ensures
+
+pub returns-in-Client-Client : goal.returns-in-Client-Client
+returns-in-Client-Client c =
+    let at : c.index-as_slice-number.result ≡ get_or c.args.trace.now.items c.args.number c.index-as_slice-number.result = rw (← c.as_slice.ensures) c.index-as_slice-number.is in
+    let text = text_at_is c.args.replies c.args.trace.now c.args.number c.index-as_slice-number.result c.args.done.now c.requires.within at in
+    let lines : done_text c.args.replies c.args.trace.now c.index-as_slice-number.result c.args.done.now ≡ client_text c.args.replies c.in-Client-Client.client c.in-Client-Client.outcome =
+    rw (c.in-Client-Client.is-0, c.in-Client-Client.is-1) (client_lines c.args.replies c.args.trace.now _ _) in
+    subst (λ (lines : List ℕ). OnOk c.push_client.result (c.push_client.new.text.items ≡ c.args.text.now.items ++ lines)) (sym (text ∙ lines)) c.push_client.ensures
+
+pub returns-in_default-7 : goal.returns-in_default-7
+returns-in_default-7 c =
+    let at : c.index-as_slice-number.result ≡ get_or c.args.trace.now.items c.args.number c.index-as_slice-number.result = rw (← c.as_slice.ensures) c.index-as_slice-number.is in
+    let text = text_at_is c.args.replies c.args.trace.now c.args.number c.index-as_slice-number.result c.args.done.now c.requires.within at in
+    let none : done_text c.args.replies c.args.trace.now c.index-as_slice-number.result c.args.done.now ≡ [] =
+    rw c.in_default.is-0 (no_client_text c.args.replies c.args.trace.now _ c.args.done.now c.in_default.not-Client-1) in
+    put_nothing c.args.text.now.items _ (text ∙ none)

@@ -7,6 +7,6 @@ returns c =
     let journal = c.args.journal.now in
     record {
       once = λ object. freed_once trace journal c.requires.sound c.requires.lawful object;
-      given_first = λ object. freed_was_given trace journal c.requires.lawful object;
-      given_once = λ object. given_once trace journal c.requires.sound object;
+      given_first = λ object. freed_was_given trace journal c.requires.sound c.requires.lawful object;
+      given_once = λ object. given_once trace journal c.requires.sound c.requires.lawful object;
     }

@@ -1,6 +1,6 @@
 use Rattle.std.proofs.Common.{ℕ, List, subst}
 use Rattle.slub_lists.specs.Coherent.{IsCoherent, opening}
-use Rattle.slub_cli.proofs.replay.open.Goals as goal
+use Rattle.slub_items.proofs.machine.open_lists.Goals as goal
 
 pub returns-clause-coherent : goal.returns-clause-coherent
 returns-clause-coherent c =

@@ -1,0 +1,164 @@
+-- The acts of a bulk round, and the numbers among them.
+use Rattle.std.proofs.Common.{◌≡◌, ℕ, ◌+◌, ◌<◌, ◌≤◌, Bool, true, false, eqb, min, List, [], ◌∷◌, ◌++◌, length, take, drop, filter, flat_map, get_or, refl, sym, ◌∙◌, ap, All, arith}
+use Rattle.std.specs.List.{Contains, IsDistinct, cons_option, filter_map, range_with_len, zip}
+use Rattle.std.specs.Prelude.{Option, Some, None, nat_eq, slice_get, slice_index_or, if◌then◌else◌}
+use Rattle.std.proofs.lemmas.List.Elements.{All-append, All-cons, All-filter, All-head, All-map, All-nil, All-tail, filter-append, filter_map-append}
+use Rattle.std.proofs.lemmas.List.{append-nil, drop_more, length-map, take-append-drop, take_all, take_more}
+use Rattle.std.proofs.lemmas.Slice.Zip.{get_or-zip, length-zip}
+use Rattle.std.proofs.lemmas.List.FromFn.{get_or-range_with_len, length-range_with_len}
+use Rattle.std.proofs.lemmas.Map.Keys.{IsDistinct-from_apart}
+use Rattle.slub_common.proofs.Lists.{range_with_len-append}
+use Rattle.slub_object_layout.specs.declared.event.Act.TheVariants.{Alloc, Free}
+use Rattle.slub_answers.specs.declared.reply.Reply.{Reply}
+use Rattle.slub_answers.specs.Kinds.{is_given}
+use Rattle.slub_lists.specs.State.{State}
+use Rattle.slub_trace_reader.specs.Sound.{objects_of}
+use Rattle.slub_journal.specs.declared.client.CacheRefusal.{CacheRefusal}
+use Rattle.slub_journal.specs.Asked.{first_refusal, frees_of, refusal_of, round_of}
+use Rattle.slub_journal.specs.Bulk.{free_order, objects_of_slab, slabs_among}
+use Rattle.slub_journal.specs.BulkLines.{allocs_of, frame_under, places_under, replied}
+use Rattle.slub_engine.specs.Steps.{IsKnownAct, KeepsSizes, KeepsUnheld}
+use Rattle.slub_bulk.specs.Numbers.{IsNumber}
+use Rattle.slub_bulk.proofs.Counting.{total_whole}
+
+-- ---- what acts allocate
+
+pub allocs_objects : (cpu place : ℕ) (numbers : List ℕ) → objects_of (round_of cpu (allocs_of place numbers)).events ≡ numbers
+allocs_objects cpu place [] = refl
+allocs_objects cpu place (number ∷ numbers) = ap (λ (rest : List ℕ). number ∷ rest) (allocs_objects cpu place numbers)
+
+pub frees_objects : (cpu : ℕ) (numbers : List ℕ) → objects_of (round_of cpu (frees_of numbers)).events ≡ []
+frees_objects cpu [] = refl
+frees_objects cpu (number ∷ numbers) = frees_objects cpu numbers
+
+-- ---- known acts
+
+pub allocs_known : (s : State) (place : ℕ) (numbers : List ℕ) → place < length s.table.kept → All (IsNumber s) numbers → All (IsKnownAct s) (allocs_of place numbers)
+allocs_known s place numbers within known = All-map (IsKnownAct s) (Alloc place) numbers (λ k d inside. (within, (known k d inside).0, (known k d inside).1))
+
+pub frees_known : (s : State) (numbers : List ℕ) → All (IsNumber s) numbers → All (IsKnownAct s) (frees_of numbers)
+frees_known s numbers known = All-map (IsKnownAct s) Free numbers (λ k d inside. (known k d inside).1)
+
+pub numbers_kept : (s after : State) (numbers : List ℕ) → KeepsSizes s after → All (IsNumber s) numbers → All (IsNumber after) numbers
+numbers_kept s after numbers sizes known = λ k d inside. ((known k d inside).0, (let more = (known k d inside).1 in omega (arith, more, sizes.board)))
+
+-- ---- numbers that differ
+
+pub none_differ : IsDistinct nat_eq []
+none_differ = IsDistinct-from_apart nat_eq [] (λ i j d before within. absurd (let never : ⊥ = omega (arith, within) in never))
+
+pub one_differs : (object : ℕ) → IsDistinct nat_eq (object ∷ [])
+one_differs object = IsDistinct-from_apart nat_eq (object ∷ []) (λ i j d before within. absurd (let never : ⊥ = omega (arith, before, within) in never))
+
+-- numbers that follow one another
+pub range_differs : (first count : ℕ) → IsDistinct nat_eq (range_with_len first count)
+range_differs first count = IsDistinct-from_apart nat_eq (range_with_len first count) (λ i j d before within.
+    let long = length-range_with_len first count in
+    let one : slice_index_or (range_with_len first count) i d ≡ first + i = get_or-range_with_len first count i d (omega (arith, before, within, long)) in
+    let other : slice_index_or (range_with_len first count) j d ≡ first + j = get_or-range_with_len first count j d (omega (arith, within, long)) in
+    rw (one, other) (grind (arith, before)))
+
+pub range_known : (s : State) (first count : ℕ) → 1 ≤ first → first + count ≤ length s.board → All (IsNumber s) (range_with_len first count)
+range_known s first count from within k d inside =
+    let long = length-range_with_len first count in
+    let at = get_or-range_with_len first count k d (omega (arith, inside, long)) in
+    rw at (omega (arith, from), omega (arith, within, inside, long))
+
+-- one more of them
+pub range_next : (first at : ℕ) → range_with_len first (at + 1) ≡ range_with_len first at ++ (first + at) ∷ []
+range_next first at = range_with_len-append first at 1
+
+-- ---- the first of a list
+
+-- none of the first so many passes, and the next one does
+pub first_passes : (p : ℕ → Bool) (xs : List ℕ) (i : ℕ) → i < length xs → filter p (take i xs) ≡ [] → p (get_or xs i 0) ≡ true → Some (get_or xs i 0) ≡ slice_get (filter p xs) 0
+first_passes p xs i within none passes =
+    let split : filter p xs ≡ filter p (take i xs) ++ filter p (get_or xs i 0 ∷ drop (i + 1) xs) =
+    ap (filter p) (sym (take-append-drop i xs) ∙ ap (λ (l : List ℕ). take i xs ++ l) (drop_more xs i 0 within)) ∙ filter-append p (take i xs) (get_or xs i 0 ∷ drop (i + 1) xs) in
+    let here : filter p (get_or xs i 0 ∷ drop (i + 1) xs) ≡ get_or xs i 0 ∷ filter p (drop (i + 1) xs) = rw passes refl in
+    sym (ap (λ (l : List ℕ). slice_get l 0) (split ∙ ap (λ (l : List ℕ). l ++ filter p (get_or xs i 0 ∷ drop (i + 1) xs)) none ∙ here))
+
+-- none of the first so many replies is a refusal, and the next one is
+pub first_refused : (replies : List Reply) (i : ℕ) (told : Reply) (why : CacheRefusal) → i < length replies → told ≡ get_or replies i told → filter_map refusal_of (take i replies) ≡ [] → Some why ≡ refusal_of told → Some why ≡ first_refusal replies
+first_refused replies i told why within at none refuses =
+    let split : filter_map refusal_of replies ≡ filter_map refusal_of (take i replies) ++ filter_map refusal_of (get_or replies i told ∷ drop (i + 1) replies) =
+    ap (filter_map refusal_of) (sym (take-append-drop i replies) ∙ ap (λ (l : List Reply). take i replies ++ l) (drop_more replies i told within)) ∙ filter_map-append refusal_of (take i replies) (get_or replies i told ∷ drop (i + 1) replies) in
+    let here : refusal_of (get_or replies i told) ≡ Some why = ap refusal_of (sym at) ∙ sym refuses in
+    let first : filter_map refusal_of (get_or replies i told ∷ drop (i + 1) replies) ≡ why ∷ filter_map refusal_of (drop (i + 1) replies) = ap (λ x. cons_option x (filter_map refusal_of (drop (i + 1) replies))) here in
+    sym (ap (λ (l : List CacheRefusal). slice_get l 0) (split ∙ ap (λ (l : List CacheRefusal). l ++ filter_map refusal_of (get_or replies i told ∷ drop (i + 1) replies)) none ∙ first))
+
+pub none_refused : (replies : List Reply) (i : ℕ) (told : Reply) → i < length replies → told ≡ get_or replies i told → filter_map refusal_of (take i replies) ≡ [] → None ≡ refusal_of told → filter_map refusal_of (take (i + 1) replies) ≡ []
+none_refused replies i told within at none gives =
+    let next : take (i + 1) replies ≡ take i replies ++ told ∷ [] = take_more replies i told within ∙ ap (λ (one : Reply). take i replies ++ one ∷ []) (sym at) in
+    ap (filter_map refusal_of) next ∙ filter_map-append refusal_of (take i replies) (told ∷ []) ∙ ap (λ (l : List CacheRefusal). l ++ filter_map refusal_of (told ∷ [])) none ∙ ap (λ x. cons_option x []) (sym gives)
+
+-- ---- numbers among others
+
+-- a number where its reply gives an object
+abbrev pub number_given : ℕ × Reply → Option ℕ
+number_given one = if is_given one.1 then Some one.0 else None
+
+-- one more number and its reply
+pub given_more : (numbers : List ℕ) (replies : List Reply) (i number : ℕ) (told : Reply) (given all : List ℕ) → i < length numbers → i < length replies → number ≡ get_or numbers i number → told ≡ get_or replies i told
+    → given ≡ filter_map number_given (take i (zip numbers replies)) → all ≡ (if is_given told then given ++ number ∷ [] else given) → all ≡ filter_map number_given (take (i + 1) (zip numbers replies))
+given_more numbers replies i number told given all in_numbers in_replies at_number at_reply so_far grown =
+    let within : i < length (zip numbers replies) = omega (arith, length-zip numbers replies) in
+    let here : get_or (zip numbers replies) i (number, told) ≡ (number, told) = get_or-zip numbers replies i (number, told) in_numbers in_replies ∙ cc in
+    let next : take (i + 1) (zip numbers replies) ≡ take i (zip numbers replies) ++ (number, told) ∷ [] = take_more (zip numbers replies) i (number, told) within ∙ ap (λ (one : ℕ × Reply). take i (zip numbers replies) ++ one ∷ []) here in
+    grown ∙ by (is_given told) refl ∙ ap (λ (l : List ℕ). l ++ filter_map number_given ((number, told) ∷ [])) so_far
+    ∙ sym (filter_map-append number_given (take i (zip numbers replies)) ((number, told) ∷ [])) ∙ sym (ap (filter_map number_given) next)
+  where
+    by : (b : Bool) → is_given told ≡ b → (if is_given told then given ++ number ∷ [] else given) ≡ given ++ filter_map number_given ((number, told) ∷ [])
+    by true is = rw is refl
+    by false is = rw is (sym (append-nil given))
+
+pub given_whole : (numbers : List ℕ) (replies : List Reply) (i : ℕ) (given : List ℕ) → i ≡ min (length numbers) (length replies) → given ≡ filter_map number_given (take i (zip numbers replies)) → given ≡ replied is_given numbers replies
+given_whole numbers replies i given whole so_far = so_far ∙ ap (filter_map number_given) (take_all i (zip numbers replies) (omega (arith, length-zip numbers replies)))
+
+pub replied_all : (P : ℕ → Type 0) (is : Reply → Bool) (numbers : List ℕ) (replies : List Reply) → All P numbers → All P (replied is numbers replies)
+replied_all P is [] replies all = All-nil P
+replied_all P is (number ∷ numbers) [] all = All-nil P
+replied_all P is (number ∷ numbers) (reply ∷ replies) all = by (is reply) (replied_all P is numbers replies (All-tail P number numbers all)) refl
+  where
+    by : (b : Bool) → All P (replied is numbers replies) → is reply ≡ b → All P (replied is (number ∷ numbers) (reply ∷ replies))
+    by true rest e = rw e (All-cons P number (replied is numbers replies) (All-head P number numbers all) rest)
+    by false rest e = rw e rest
+
+slab_all : (P : ℕ → Type 0) (places : List (ℕ × ℕ)) (frame : ℕ) → All (λ place. P place.0) places → All P (objects_of_slab places frame)
+slab_all P places frame all = All-map P (λ (place : ℕ × ℕ). place.0) (filter (λ place. eqb place.1 frame) places) (All-filter (λ place. eqb place.1 frame) (λ place. P place.0) places all)
+
+slabs_all : (P : ℕ → Type 0) (places : List (ℕ × ℕ)) (frames : List ℕ) → All (λ place. P place.0) places → All P (flat_map (objects_of_slab places) frames)
+slabs_all P places [] all = All-nil P
+slabs_all P places (frame ∷ frames) all = All-append P (objects_of_slab places frame) (flat_map (objects_of_slab places) frames) (slab_all P places frame all) (slabs_all P places frames all)
+
+-- what a bulk free frees is among the numbers
+pub order_all : (P : ℕ → Type 0) (places : List (ℕ × ℕ)) → All (λ place. P place.0) places → All P (free_order places)
+order_all P places all = slabs_all P places (slabs_among places) all
+
+pub order_known : (s : State) (numbers : List ℕ) → All (IsNumber s) numbers → All (IsNumber s) (free_order (places_under s numbers))
+order_known s numbers known = order_all (IsNumber s) (places_under s numbers) (All-map (λ (place : ℕ × ℕ). IsNumber s place.0) (λ number. (number, frame_under s number)) numbers known)
+
+pub order_long : (s : State) (numbers : List ℕ) → length (free_order (places_under s numbers)) ≡ length numbers
+order_long s numbers = total_whole (places_under s numbers) ∙ length-map numbers (λ number. (number, frame_under s number))
+
+-- ---- what rounds keep
+
+pub sizes_kept : (s mid after : State) → KeepsSizes s mid → KeepsSizes mid after → KeepsSizes s after
+sizes_kept s mid after first second = record {
+  frames = second.frames ∙ first.frames;
+  cpus = second.cpus ∙ first.cpus;
+  kept = second.kept ∙ first.kept;
+  board = second.board ∙ first.board;
+}
+
+pub sizes_same : (s : State) → KeepsSizes s s
+sizes_same s = record { frames = refl; cpus = refl; kept = refl; board = refl }
+
+pub unheld_same : (s : State) (objects : List ℕ) → KeepsUnheld s objects s
+unheld_same s objects object unheld out = unheld
+
+pub unheld_after : (s mid after : State) (objects : List ℕ) → KeepsUnheld s objects mid → KeepsUnheld mid [] after → KeepsUnheld s objects after
+unheld_after s mid after objects first second object unheld out = second object (first object unheld out) (λ mine. none_of object mine)
+  where
+    none_of : (object : ℕ) → Contains [] object → ⊥
+    none_of object mine = absurd (let never : ⊥ = omega (arith, mine.1) in never)

@@ -1,0 +1,6 @@
+use Rattle.std.proofs.Common.{◌≡◌, take}
+use Rattle.slub_journal.specs.Lawful.{freed_by}
+use Rattle.slub_engine.proofs.sums.freed_by.Given as goal
+
+abbrev pub invariant-loop-round : goal.invariant-loop-round
+invariant-loop-round l = l.freed ≡ freed_by (take l.round-index l.rounds)

@@ -1,0 +1,28 @@
+use Rattle.std.proofs.Common.{◌≡◌, [], ◌∷◌, refl, subst, All, arith}
+use Rattle.slub_trace_reader.specs.Sound.{asked_objects}
+use Rattle.slub_journal.specs.Lawful.{IsUnheld}
+use Rattle.slub_mempool.proofs.Keeping.{known-of, usable-of}
+use Rattle.slub_mempool.proofs.reserves.Reserves.serve_kept.Goals as goal
+
+pub mget-requires-clause-unheld : goal.mget-requires-clause-unheld
+mget-requires-clause-unheld c =
+    let mine : asked_objects c.args.client.now ≡ c.in-Mget.object ∷ [] = rw c.in-Mget.is refl in
+    subst (All (IsUnheld c.args.lists.now)) mine c.requires.servable.unheld 0 c.in-Mget.object (omega arith)
+
+pub mget-requires-clause-known : goal.mget-requires-clause-known
+mget-requires-clause-known c = known-of c.args.lists.now c.args.trace.now c.args.self.now c.requires.reserves
+
+pub mget-requires-clause-usable : goal.mget-requires-clause-usable
+mget-requires-clause-usable c = usable-of c.args.lists.now c.args.trace.now c.args.self.now c.requires.servable.names c.requires.reserves
+
+pub mput-requires-clause-usable : goal.mput-requires-clause-usable
+mput-requires-clause-usable c = usable-of c.args.lists.now c.args.trace.now c.args.self.now c.requires.servable.names c.requires.reserves
+
+pub returns-in-Mempool-clause-served : goal.returns-in-Mempool-clause-served
+returns-in-Mempool-clause-served c = rw c.in-Mempool.is c.mempool.ensures.served
+
+pub returns-in-Mempool-clause-unheld : goal.returns-in-Mempool-clause-unheld
+returns-in-Mempool-clause-unheld c = rw c.in-Mempool.is c.mempool.ensures.unheld
+
+pub returns-in-Mget-clause-unheld : goal.returns-in-Mget-clause-unheld
+returns-in-Mget-clause-unheld c = rw c.in-Mget.is c.mget.ensures.unheld

@@ -1,0 +1,14 @@
+pub mod Moves
+pub mod Grows
+pub mod Acts
+pub mod Mild
+pub mod Words
+pub mod Own
+pub mod Puts
+pub mod Stores
+pub mod Gifts
+pub mod Boards
+pub mod Holders
+pub mod Shelves
+pub mod Does
+pub mod Turns

@@ -1,0 +1,14 @@
+pub mod Board
+pub mod Bytes
+pub mod Causes
+pub mod Counting
+pub mod Counts
+pub mod Damages
+pub mod Ended
+pub mod Meeting
+pub mod Places
+pub mod Split
+pub mod Sums
+pub mod Taking
+pub mod Telling
+pub mod Whole

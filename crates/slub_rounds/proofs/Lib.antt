@@ -1,0 +1,6 @@
+pub mod Replies
+pub mod Found
+pub mod Orders
+pub mod Ended
+pub mod Weights
+pub mod Machines

@@ -1,0 +1,6 @@
+pub mod Answers
+pub mod Rounds
+pub mod Room
+pub mod Machine
+pub mod Scheduled
+pub mod Laws

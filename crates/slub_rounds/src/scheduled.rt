@@ -1,0 +1,166 @@
+//! A round of several workers by a seed.
+
+ghost use Rattle.std.specs.Prelude.{◌≡◌, ◌≤◌, ℕ, List, IfErr, IfOk, MatchOption, OnErr, OnOk, length};
+ghost use Rattle.slub_object_layout.specs.declared.event.Round.{Round as Events};
+ghost use Rattle.slub_trace_reader.specs.declared.trace.Trace.{Trace};
+ghost use Rattle.slub_lists.specs.State.{State};
+ghost use Rattle.slub_lists.specs.Coherent.{IsCoherent};
+ghost use Rattle.slub_core.specs.Run.{Pick};
+ghost use Rattle.slub_local.specs.Facts.{setup_of};
+ghost use Rattle.slub_schedule.specs.Rounds.{Ends, IsSpent};
+ghost use Rattle.slub_schedule.specs.Turns.{turns_of};
+ghost use Rattle.slub_opening.specs.Opening.{IsLaidDown};
+ghost use Rattle.slub_calls.specs.Calls.{workers_of};
+ghost use Rattle.slub_calls.specs.Laws.{MayDo};
+ghost use Rattle.slub_into_words.specs.declared.beside.Beside.{Beside};
+ghost use Rattle.slub_into_words.specs.Opened.{IsOpened};
+ghost use Rattle.slub_round_law.specs.Round.{IsRound};
+ghost use Rattle.slub_turns.specs.Means.{the_means};
+ghost use Rattle.slub_turns.specs.Ready.{IsReady};
+ghost use Rattle.slub_rounds.specs.Rounds.{DoesRoundBySeed, SpendsTurns};
+ghost use Rattle.slub_rounds.specs.Room.{all_workers};
+ghost use Rattle.slub_rounds.specs.Machine.{HasClosed, HasEnded, IsBegun, IsDone, IsSet, beside_in, system_in};
+ghost use Rattle.slub_rounds.specs.Scheduled.{IsStopped};
+
+use crate::answers::{Answers, result_of};
+use crate::laws::rounds_by_seed_are_lawful;
+use crate::room::{Room, leave_finished, take_room};
+use slub_common::no_memory::NoMemory;
+use slub_into_lists::closing::close;
+use slub_into_words::opened::{Opened, Rest};
+use slub_into_words::opening::open;
+use slub_journal::journal::RoundResult;
+use slub_list_machine::lists::Lists;
+use slub_local::local::Local;
+use slub_object_layout::event::Round;
+use slub_schedule::machine as rounds;
+use slub_schedule::machine::TurnsSpent;
+use slub_schedule::order::Order;
+use slub_turns::machine::Machine;
+use std::alloc::Global;
+
+/// Why a round wasn't done.
+#[derive(Debug, Drop)]
+pub enum Stopped {
+    /// There was no memory for it: the machine is as it was.
+    NoMemory(Lists),
+    /// All its turns are made, and an event has no reply.
+    TurnsSpent,
+}
+
+/// Does a round of several workers: the turns are made in the order that the seed draws.
+///
+/// All memory is taken before the first turn, but the bytes of new checked slabs. The cost is in proportion to the words
+/// of the machine and to the turns.
+pub fn scheduled(
+    alloc: Global,
+    lists: Lists,
+    round: &Round,
+    seed: u64,
+) -> Result<(Lists, RoundResult), Stopped>
+    requires coherent { IsCoherent lists }
+    requires laid_down { IsLaidDown lists }
+    requires objects { length lists.board ≤ 1048577 }
+    requires may_do { (trace : Trace) × MayDo lists trace round.now }
+    ensures does { IfOk result (λ done. DoesRoundBySeed lists seed round.now done.1 done.0) }
+    ensures lawful { IfOk result (λ done. IsRound lists round.now done.1 done.0) }
+    ensures coherent { IfOk result (λ done. IsCoherent done.0) }
+    ensures laid_down { IfOk result (λ done. IsLaidDown done.0) }
+    ensures stopped { IfErr result (IsStopped lists seed round.now) }
+{
+    rounds_by_seed_are_lawful();
+    let room = match take_room(alloc, &lists, round) {
+        Ok(room) => room,
+        Err(NoMemory) => return Err(Stopped::NoMemory(lists)),
+    };
+    let Room {
+        beside,
+        workers,
+        order,
+        turns,
+        answers,
+    } = room;
+    match open(alloc, lists, beside) {
+        Ok(opened) => match in_words(opened, workers, order, turns, answers, round, seed) {
+            Some(done) => Ok(done),
+            None => Err(Stopped::TurnsSpent),
+        },
+        Err(unopened) => Err(Stopped::NoMemory(unopened.lists)),
+    }
+}
+
+/// Does the round on the machine in words, and closes it; None where all turns are made before.
+fn in_words(
+    opened: Opened,
+    locals: Vec<Local>,
+    order: Order,
+    turns: u64,
+    answers: Answers,
+    round: &Round,
+    seed: u64,
+) -> Option<(Lists, RoundResult)>
+    requires { (s : State) × (b : Beside) × (trace : Trace) × IsSet s b trace round.now opened locals.items order turns answers }
+    ensures { (s : State) (b : Beside) (trace : Trace) → IsSet s b trace round.now opened locals.items order turns answers → MatchOption result (SpendsTurns s seed round.now) (λ done. IsDone s seed round.now done.0 done.1) }
+{
+    let (mut machine, rest) = begun(opened, locals);
+    match run_turns(&mut machine, order, seed, turns) {
+        Ok(()) => Some(closed(machine, rest, round, answers)),
+        Err(TurnsSpent) => None,
+    }
+}
+
+/// The machine in words with its workers, each of which has the replies that take no step.
+fn begun(opened: Opened, locals: Vec<Local>) -> (Machine, Rest)
+    ensures { (s : State) (b : Beside) (round : Events) → IsOpened s b opened → locals.items ≡ workers_of s.table round → IsBegun s b round result.0 result.1 }
+{
+    let Opened {
+        setup,
+        table,
+        values,
+        rest,
+    } = opened;
+    let mut machine = Machine {
+        setup,
+        table,
+        values,
+        locals,
+    };
+    machine.open();
+    (machine, rest)
+}
+
+/// The workers make their turns, in the order that the seed draws. `order` has all of them.
+fn run_turns(
+    machine: &mut Machine,
+    mut order: Order,
+    seed: u64,
+    turns: u64,
+) -> Result<(), TurnsSpent>
+    requires ready { IsReady machine.old.setup machine.old.table machine.old.values.items machine.old.locals.items }
+    requires order { order ≡ all_workers (length machine.old.locals.items) }
+    requires turns { turns ≡ turns_of (system_in machine.old) }
+    ensures setup { setup_of machine.new.setup the_means ≡ setup_of machine.old.setup the_means }
+    ensures ready { IsReady machine.new.setup machine.new.table machine.new.values.items machine.new.locals.items }
+    ensures ends { OnOk result ((picks : List Pick) × Ends (setup_of machine.old.setup the_means) seed (system_in machine.old) picks (system_in machine.new)) }
+    ensures spent { OnErr result ((picks : List Pick) × IsSpent (setup_of machine.old.setup the_means) seed (system_in machine.old) picks (system_in machine.new)) }
+{
+    leave_finished(&machine.locals, &mut order);
+    rounds::scheduled(machine, order, seed, turns)
+}
+
+/// Closes the machine, whose workers have all their replies, and tells what came of the round.
+fn closed(machine: Machine, rest: Rest, round: &Round, answers: Answers) -> (Lists, RoundResult)
+    requires { (s : State) × (b : Beside) × (trace : Trace) × HasEnded s b trace round.now machine rest answers }
+    ensures { (s : State) (b : Beside) (trace : Trace) → HasEnded s b trace round.now machine rest answers → HasClosed s (beside_in b) round.now (system_in machine) result.0 result.1 }
+{
+    let Machine {
+        setup,
+        table,
+        values,
+        locals,
+    } = machine;
+    let (mut lists, _beside) = close(&setup, table, values, rest, &locals);
+    let result = result_of(&lists, round, &locals, answers);
+    lists.end_round();
+    (lists, result)
+}

@@ -4,3 +4,5 @@ pub mod Orders
 pub mod Ended
 pub mod Weights
 pub mod Machines
+pub mod Following
+pub mod One

@@ -145,6 +145,7 @@ is-done s b trace round m n rest seed picks after result may begun ends closed =
   does = record {
     beside = beside_in b;
     new = may.new;
+    means = refl;
     picks = picks;
     last = system_in n;
     coherent = coherent-run s b trace round picks may;
@@ -166,6 +167,7 @@ pub is-spent : (s : State) (b : Beside) (trace : Trace) (round : Round) (m n : M
 is-spent s b trace round m n rest seed picks may begun spent = record {
   beside = beside_in b;
   new = may.new;
+  means = refl;
   picks = picks;
   last = system_in n;
   coherent = coherent-run s b trace round picks may;

@@ -1,14 +1,18 @@
 -- What holds of rounds by a seed.
-use Rattle.std.specs.Prelude.{ℕ}
+use Rattle.std.specs.Prelude.{◌≡◌, ℕ, ◌+◌, ◌^◌, ◌≤◌, length, slice_index, All, Contains, None, nat_eq}
+use Rattle.std.specs.List.{IsDistinct}
 use Rattle.slub_object_layout.specs.declared.event.Round.{Round}
 use Rattle.slub_trace_reader.specs.declared.trace.Trace.{Trace}
+use Rattle.slub_trace_reader.specs.Sound.{IsSoundRound, objects_of}
 use Rattle.slub_lists.specs.State.{State}
-use Rattle.slub_lists.specs.Coherent.{IsCoherent}
+use Rattle.slub_lists.specs.Coherent.{IsCoherent, held_under}
 use Rattle.slub_opening.specs.Opening.{IsLaidDown}
+use Rattle.slub_opening.specs.Closing.{AreAlike}
+use Rattle.slub_schedule.specs.Schedule.{AreRefusedAlike}
 use Rattle.slub_calls.specs.Laws.{MayDo}
 use Rattle.slub_journal.specs.declared.journal.RoundResult.{RoundResult}
 use Rattle.slub_round_law.specs.Round.{IsRound}
-use Rattle.slub_rounds.specs.Rounds.{DoesRoundBySeed}
+use Rattle.slub_rounds.specs.Rounds.{DoesRoundBySeed, SpendsTurns}
 
 -- a round that a seed draws is lawful in the words of the text, without a step
 abbrev pub RoundsBySeedAreLawful : Type 0
@@ -16,3 +20,36 @@ RoundsBySeedAreLawful =
     (s : State) (seed : ℕ) (trace : Trace) (round : Round) (result : RoundResult) (after : State)
     → IsCoherent s → IsLaidDown s → MayDo s trace round
     → DoesRoundBySeed s seed round result after → IsRound s round result after
+
+-- two rounds are one: the same replies and damages, and machines that are alike
+pub record AreOneRound (one other : RoundResult) (t u : State) : Type 0 where
+  pub replies : one.replies ≡ other.replies
+  pub damages : one.damages ≡ other.damages
+  pub left : AreAlike t u
+
+-- a seed has one round, want of memory aside, and where it ends the turns aren't spent
+abbrev pub RoundsBySeedAreOne : Type 0
+RoundsBySeedAreOne =
+    (s : State) (seed : ℕ) (round : Round) (one other : RoundResult) (t u : State)
+    (does : DoesRoundBySeed s seed round one t)
+    → ((also : DoesRoundBySeed s seed round other u) → AreRefusedAlike does.picks also.picks
+    → AreOneRound one other t u)
+    × ((spends : SpendsTurns s seed round) → AreRefusedAlike does.picks spends.picks → ⊥)
+
+-- a round that stands behind this one in its trace: each number that it allocates is allocated once,
+-- and neither by this one nor on the board before
+pub record MayFollow (s : State) (trace : Trace) (round next : Round) : Type 0 where
+  pub sound : IsSoundRound trace next
+  pub unheld : All (λ object. held_under s object ≡ None) (objects_of next.events)
+  pub new : All (λ object. ¬ Contains (objects_of round.events) object) (objects_of next.events)
+  pub distinct : IsDistinct nat_eq (objects_of next.events)
+  -- no counter comes to its end
+  pub few : length next.events ≤ 2 ^ 32
+  pub dry : (order : ℕ) → slice_index s.pool.dry order + length round.events ≤ 2 ^ 62
+
+-- a lawful round leaves a machine that can do the next one
+abbrev pub RoundsLeadOn : Type 0
+RoundsLeadOn =
+    (s : State) (trace : Trace) (round next : Round) (result : RoundResult) (after : State)
+    → MayDo s trace round → MayFollow s trace round next → IsRound s round result after
+    → MayDo after trace next

@@ -15,6 +15,7 @@ use Rattle.slub_opening.specs.Table.{system_of}
 use Rattle.slub_opening.specs.Closing.{Closes}
 use Rattle.slub_calls.specs.Calls.{workers_of}
 use Rattle.slub_into_words.specs.Beside.{first_tids, first_links}
+use Rattle.slub_turns.specs.Means.{the_means}
 use Rattle.slub_journal.specs.Lawful.{AreLedgers, found_in}
 use Rattle.slub_journal.specs.declared.journal.RoundResult.{RoundResult}
 use Rattle.slub_round_causes.specs.Ran.{AreReplies}
@@ -53,6 +54,8 @@ pub record DoesRoundBySeed (s : State) (seed : ℕ) (round : Round) (result : Ro
     (after : State) : Type 0 where
   pub beside : Beside
   pub new : IsNewBeside s beside
+  -- takes, gifts and orders are functions of what stands there
+  pub means : beside.means ≡ the_means
   pub picks : List Pick
   pub last : System
   pub coherent : IsCoherentRun s beside round picks
@@ -69,6 +72,8 @@ pub record DoesRoundBySeed (s : State) (seed : ℕ) (round : Round) (result : Ro
 pub record SpendsTurns (s : State) (seed : ℕ) (round : Round) : Type 0 where
   pub beside : Beside
   pub new : IsNewBeside s beside
+  -- takes, gifts and orders are functions of what stands there
+  pub means : beside.means ≡ the_means
   pub picks : List Pick
   pub last : System
   pub coherent : IsCoherentRun s beside round picks

@@ -1,6 +1,6 @@
 //! What follows from the definitions. None of these does anything.
 
-ghost use Rattle.slub_rounds.specs.Laws.{RoundsBySeedAreLawful};
+ghost use Rattle.slub_rounds.specs.Laws.{RoundsBySeedAreLawful, RoundsBySeedAreOne, RoundsLeadOn};
 
 use slub_round_causes::laws::drawn_rounds_are_lawful;
 
@@ -11,3 +11,15 @@ pub fn rounds_by_seed_are_lawful()
 {
     drawn_rounds_are_lawful();
 }
+
+/// Want of memory aside, the replies and damages of a round by a seed are a function of the machine, the round and the
+/// seed, and so is whether it ends or its turns are spent; the machines that it can leave are alike.
+pub fn rounds_by_seed_are_one()
+    ensures { RoundsBySeedAreOne }
+{}
+
+/// A lawful round leaves a machine that can do the next one of its trace: with the same sizes and names, none of the
+/// numbers on the board that the next one allocates, and counts of wanted frames that rose by its events at most.
+pub fn rounds_lead_on()
+    ensures { RoundsLeadOn }
+{}

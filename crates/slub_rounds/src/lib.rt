@@ -10,7 +10,9 @@
 //!
 //! `scheduled`: what it answers is a round by this seed (`DoesRoundBySeed`), with the machine coherent before each turn
 //! and after the last one, which is lawful (`IsRound` of `slub_round_law`), and leaves coherent lists with all objects on
-//! the board; or the turns of the round are spent (`SpendsTurns`). `laws`: a round by a seed is lawful.
+//! the board; or the turns of the round are spent (`SpendsTurns`). `laws`: a round by a seed is lawful, and there is one
+//! of each machine, round and seed, want of memory aside; on the machine that a lawful round leaves the next one of its
+//! trace can be done.
 #![tactic(auto)]
 
 mod answers;

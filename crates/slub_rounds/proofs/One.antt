@@ -1,0 +1,160 @@
+-- A seed has one round.
+use Rattle.std.proofs.Common.{◌≡◌, ◌≢◌, ℕ, suc, ◌+◌, ◌*◌, ◌^◌, ◌<◌, ◌≤◌, List, [], ◌∷◌, length, drop, map, Option, None, refl, sym, ap, ◌∙◌, subst, arith, inl, inr, pow_mono}
+use Rattle.std.specs.Int.{IsPowerOfTwo}
+use Rattle.std.specs.List.{flat_map, zip}
+use Rattle.std.specs.Option.{option_map, option_map_or}
+use Rattle.std.proofs.lemmas.Bool.{cases_eq, cases_lt, eq-eqb, ne_eqb}
+use Rattle.std.proofs.Math.ListN.{get_or-map}
+use Rattle.std.proofs.Math.Nat.{pow-suc}
+use Rattle.slub_object_layout.specs.declared.event.Event.{Event}
+use Rattle.slub_object_layout.specs.declared.event.Round.{Round}
+use Rattle.slub_cache_create.specs.Table.{Table, cache_of as live_cache}
+use Rattle.slub_red_zone.specs.State.{CheckedState}
+use Rattle.slub_answers.specs.declared.reply.Reply.{Reply}
+use Rattle.slub_lists.specs.State.{State}
+use Rattle.slub_lists.specs.Alloc.{checked_of}
+use Rattle.slub_lists.specs.Coherent.{all_on_board, held_under, laid_down}
+use Rattle.slub_core.specs.Law.{replies_of}
+use Rattle.slub_core.specs.Run.{System, Pick}
+use Rattle.slub_schedule.specs.Schedule.{AreRefusedAlike}
+use Rattle.slub_schedule.specs.Rounds.{Ends, IsSpent}
+use Rattle.slub_schedule.proofs.Picks.{rounds_unique}
+use Rattle.slub_opening.specs.Opening.{Beside, setup_of}
+use Rattle.slub_opening.specs.Table.{RestsIn}
+use Rattle.slub_opening.specs.Closing.{AreAlike}
+use Rattle.slub_opening.proofs.Telling.{words-tell}
+use Rattle.slub_bounds.proofs.Turns.{get_or-beyond}
+use Rattle.slub_journal.specs.Lawful.{cache_numbers, found_in, reports_of, title_of}
+use Rattle.slub_turns.specs.Means.{the_means}
+use Rattle.slub_round_causes.specs.Ran.{replies_by, told_to}
+use Rattle.slub_rounds.specs.Rounds.{IsNewBeside, system_begun}
+use Rattle.slub_rounds.specs.Laws.{RoundsBySeedAreOne}
+
+-- ---- what stands beside the lists
+
+less-step : (n j k : ℕ) → n ≤ 2 ^ j → 2 ^ k < 2 * n → j < k → ⊥
+less-step n j k low high less =
+    let more : 2 ^ suc j ≤ 2 ^ k = pow_mono less in
+    let twice : 2 ^ suc j ≡ 2 ^ j * 2 ^ 1 + 0 = omega (arith, pow-suc 2 j) in
+    omega (arith, low, high, more, twice)
+
+same-step : (n x y : ℕ) → IsPowerOfTwo x → IsPowerOfTwo y → n ≤ x → x < 2 * n → n ≤ y → y < 2 * n → x ≡ y
+same-step n x y (j, is) (k, also) low high lower higher = elim (cases_lt j k) [
+  | inl less ↦ absurd (less-step n j k (omega (arith, is, low)) (omega (arith, also, higher)) less)
+  | inr most ↦ elim (cases_lt k j) [
+    | inl less ↦ absurd (less-step n k j (omega (arith, also, lower)) (omega (arith, is, high)) less)
+    | inr least ↦ let same : j ≡ k = omega (arith, most, least) in is ∙ ap (λ (i : ℕ). 2 ^ i) same ∙ sym also
+  ]
+]
+
+same-beside : (s : State) (b d : Beside) → IsNewBeside s b → IsNewBeside s d → b.means ≡ the_means → d.means ≡ the_means → b ≡ d
+same-beside s b d one other means also =
+    let step : b.step ≡ d.step = same-step s.cpus b.step d.step one.step.0 other.step.0 one.fits.step.0 one.step.1 other.fits.step.0 other.step.1 in
+    λ i. record {
+      tids = (one.tids ∙ sym other.tids) i;
+      links = (one.links ∙ sym other.links) i;
+      step = step i;
+      means = (means ∙ sym also) i;
+    }
+
+-- ---- the last turn
+
+module _ (s : State) (seed : ℕ) (round : Round) (b d : Beside) (ps qs : List Pick) (x y : System) (same : b ≡ d) (alike : AreRefusedAlike ps qs)
+    (ends : Ends (setup_of s b) seed (system_begun s b round) ps x) where
+  moved : Ends (setup_of s d) seed (system_begun s d round) ps x
+  moved = subst (λ (b : Beside). Ends (setup_of s b) seed (system_begun s b round) ps x) same ends
+
+  same-last : Ends (setup_of s d) seed (system_begun s d round) qs y → x ≡ y
+  same-last other = ((rounds_unique (setup_of s d) seed (system_begun s d round) ps qs x y alike).0 moved other).1
+
+  not-spent : IsSpent (setup_of s d) seed (system_begun s d round) qs y → ⊥
+  not-spent spent = (rounds_unique (setup_of s d) seed (system_begun s d round) ps qs x y alike).2 moved spent
+
+-- ---- replies
+
+abbrev first_or : Reply → List Reply → Reply
+first_or other [] = other
+first_or other (x ∷ xs) = x
+
+abbrev behind : List Reply → List Reply
+behind [] = []
+behind (x ∷ xs) = xs
+
+own-reply : (e : Event) (x : Reply) (answers : List (Event × Reply)) → replies_by e.worker ((e, x) ∷ answers) ≡ x ∷ replies_by e.worker answers
+own-reply e x answers = rw (eq-eqb e.worker e.worker refl) refl
+
+other-reply : (worker : ℕ) (e : Event) (x : Reply) (answers : List (Event × Reply)) → e.worker ≢ worker → replies_by worker ((e, x) ∷ answers) ≡ replies_by worker answers
+other-reply worker e x answers other = rw (ne_eqb e.worker worker other) refl
+
+-- the replies to each worker in their order are all replies in theirs
+same-replies : (es : List Event) (xs ys : List Reply) → length xs ≡ length es → length ys ≡ length es → ((worker : ℕ) → replies_by worker (zip es xs) ≡ replies_by worker (zip es ys)) → xs ≡ ys
+same-replies [] [] [] long also same = refl
+same-replies [] (x ∷ xs) ys long also same = absurd (omega (arith, long))
+same-replies [] [] (y ∷ ys) long also same = absurd (omega (arith, also))
+same-replies (e ∷ es) [] ys long also same = absurd (omega (arith, long))
+same-replies (e ∷ es) (x ∷ xs) [] long also same = absurd (omega (arith, also))
+same-replies (e ∷ es) (x ∷ xs) (y ∷ ys) long also same =
+    let own : x ∷ replies_by e.worker (zip es xs) ≡ y ∷ replies_by e.worker (zip es ys) = sym (own-reply e x (zip es xs)) ∙ same e.worker ∙ own-reply e y (zip es ys) in
+    let first : x ≡ y = ap (first_or x) own in
+    let rest : xs ≡ ys = same-replies es xs ys (omega (arith, long)) (omega (arith, also)) (λ worker. elim (cases_eq e.worker worker) [
+      | inl mine ↦ subst (λ (w : ℕ). replies_by w (zip es xs) ≡ replies_by w (zip es ys)) mine (ap behind own)
+      | inr other ↦ sym (other-reply worker e x (zip es xs) other) ∙ same worker ∙ other-reply worker e y (zip es ys) other
+    ]) in
+    λ i. first i ∷ rest i
+
+-- ---- the lists
+
+on-board : (s : State) (o : ℕ) → held_under (all_on_board s) o ≡ option_map laid_down (held_under s o)
+on-board s o = get_or-map (option_map laid_down) s.board o None
+
+-- machines that are alike are so with all objects on the board
+alike-on-board : (t u : State) → AreAlike t u → AreAlike (all_on_board t) (all_on_board u)
+alike-on-board t u alike = record {
+  pool = alike.pool;
+  slab = alike.slab;
+  own = alike.own;
+  cpu = alike.cpu;
+  node = alike.node;
+  checked = alike.checked;
+  board = λ o. on-board t o ∙ ap (option_map laid_down) (alike.board o) ∙ sym (on-board u o);
+}
+
+module _ (s t u : State) (table : t.table ≡ u.table) (alike : AreAlike t u) (long : length t.checked ≡ 32) (also : length u.checked ≡ 32) where
+  same-checked : (cache : ℕ) → checked_of t cache ≡ checked_of u cache
+  same-checked cache = elim (cases_lt cache 32) [
+    | inl below ↦ alike.checked cache below
+    | inr past ↦ get_or-beyond t.checked cache None (omega (arith, long, past)) ∙ sym (get_or-beyond u.checked cache None (omega (arith, also, past)))
+  ]
+
+  -- what is told of damages
+  same-found : found_in s t ≡ found_in s u
+  same-found = λ i. flat_map (λ cache. map (λ report. record { title = title cache i; report = report }) (drop (length (reports_of s cache)) (reports cache i))) cache_numbers
+    where
+      title : (cache : ℕ) → title_of t cache ≡ title_of u cache
+      title cache = ap (λ (x : Table). option_map_or (λ live. live.title) (live_cache x cache) []) table
+
+      reports : (cache : ℕ) → reports_of t cache ≡ reports_of u cache
+      reports cache = ap (λ (x : Option CheckedState). option_map_or (λ slabs. slabs.reports) x []) (same-checked cache)
+
+-- ---- the round
+
+pub are-one : RoundsBySeedAreOne
+are-one s seed round one other t u does = (
+  λ also refused.
+      let beside = same-beside s does.beside also.beside does.new also.new does.means also.means in
+      let last = same-last s seed round does.beside also.beside does.picks also.picks does.last also.last beside refused does.ends also.ends in
+      let alike = words-tell does.lists also.lists does.left also.left does.last (does.closes.stays ∙ ap (setup_of s) beside ∙ sym also.closes.stays) does.closes.rests
+      (subst (RestsIn also.lists also.left) (sym last) also.closes.rests) in
+      record {
+        replies = same-replies round.events one.replies other.replies does.replies.each also.replies.each
+            (λ worker. does.replies.own worker ∙ ap (λ (x : System). told_to worker (replies_of x)) last ∙ sym (also.replies.own worker));
+        damages = does.damages
+            ∙ same-found s does.lists also.lists (does.closes.table ∙ sym also.closes.table) alike does.closes.lengths.checked also.closes.lengths.checked
+            ∙ sym also.damages;
+        left = subst (λ (x : State). AreAlike x u) (sym does.after_is)
+            (subst (AreAlike (all_on_board does.lists)) (sym also.after_is) (alike-on-board does.lists also.lists alike));
+      },
+  λ spends alike.
+      let beside = same-beside s does.beside spends.beside does.new spends.new does.means spends.means in
+      not-spent s seed round does.beside spends.beside does.picks spends.picks does.last spends.last beside alike does.ends spends.spent,
+)

@@ -136,7 +136,8 @@ IsPut m before dones cache object at put byte =
 
 -- a byte that is read, by what its worker put there last: that one; or where it put nothing there
 -- since it took the object from the board, one that came there
-abbrev pub IsReadByte : Setup → World → List (List Answered) → ℕ → ℕ → ℤ → Option ℕ → ℕ → Type 0
+abbrev pub IsReadByte
+    : Setup → World → List (List Answered) → ℕ → ℕ → ℤ → Option ℕ → ℕ → Type 0
 IsReadByte m before dones cache object at (Some put) byte =
     IsPut m before dones cache object at put byte
 IsReadByte m before dones cache object at None byte =

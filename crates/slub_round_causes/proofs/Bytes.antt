@@ -27,9 +27,8 @@ use Rattle.slub_core.specs.Replies as core
 use Rattle.slub_core.specs.Round.{outcome}
 use Rattle.slub_opening.specs.Opening.{Beside, setup_of}
 use Rattle.slub_calls.specs.Calls.{call_for, events_by, rooms_for}
-use Rattle.slub_contents.specs.Contents.{WasPoked}
 use Rattle.slub_round_law.specs.Answered as law
-use Rattle.slub_round_law.specs.Answered.{Answered, IsAfter, is_alloc_of, of_worker}
+use Rattle.slub_round_law.specs.Answered.{Answered, IsAfter, of_worker}
 use Rattle.slub_round_law.specs.Round.{IsByteAt, IsOfChecked, IsOwnBytes, IsPokedUnder, Spot, spot_by}
 use Rattle.slub_round_causes.specs.Ran.{AreReplies}
 use Rattle.slub_contents.specs.Contents as contents

@@ -1,5 +1,5 @@
 -- What a worker took from the board in a round it holds where it stood there.
-use Rattle.std.proofs.Common.{◌≡◌, ℕ, zero, suc, ◌+◌, ◌≤◌, ◌<◌, ◌++◌, eqb, Bool, true, false, List, [], ◌∷◌, length, get_or, set, map, refl, sym, ap, subst, ◌∙◌, arith, All, Option, Some, None, inl, inr, ◌⊎◌}
+use Rattle.std.proofs.Common.{◌≡◌, ℕ, zero, suc, ◌+◌, ◌≤◌, ◌<◌, eqb, Bool, true, false, List, [], ◌∷◌, length, get_or, set, map, refl, sym, ap, subst, ◌∙◌, arith, All, Option, Some, None, inl, inr, ◌⊎◌}
 use Rattle.std.proofs.lemmas.Bool.{cases_lt, eq-eqb, eqb-true, false≢true}
 use Rattle.std.proofs.lemmas.Option.{none-some, same_Some}
 use Rattle.std.proofs.lemmas.List.Elements.{All-cons, All-head, All-map, All-set, All-tail, All-weaker}
@@ -16,7 +16,7 @@ use Rattle.slub_core.specs.declared.step.Answer.TheVariants.{Word}
 use Rattle.slub_core.specs.Setup.{Setup}
 use Rattle.slub_core.specs.Words.{after_op, answer_of, board_in, number_of, word_count}
 use Rattle.slub_core.specs.World.{World, LockValue, world_from, world_of}
-use Rattle.slub_core.specs.Local.{Local, Worker, answered, here, no_call, nobody, noted}
+use Rattle.slub_core.specs.Local.{Local, Worker, here, no_call, noted}
 use Rattle.slub_core.specs.Accounted.{IsAccounted, boarded, known_of}
 use Rattle.slub_core.specs.Coherent.{Stands}
 use Rattle.slub_core.specs.Opening.{IsNew, IsOpening, IsRoom, opened}
@@ -37,14 +37,8 @@ use Rattle.slub_core.proofs.Tells.{turn-tells}
 use Rattle.slub_core.proofs.Turns.{turn_keeps}
 use Rattle.slub_core.proofs.Words.{board-read}
 use Rattle.slub_schedule.specs.Closed.{word_of}
-use Rattle.slub_core.specs.Law.{TakesStep}
-use Rattle.slub_core.specs.Steps.{or_step, rested_at, rested_with, told_at_once}
-use Rattle.slub_core.proofs.Among.{to_front}
-use Rattle.slub_core.proofs.Begin.{begin}
-use Rattle.slub_core.proofs.MayBegin.{may_begin}
-use Rattle.slub_core.proofs.TaleBegin.{told_begin, accounted_to_front}
-use Rattle.slub_core.proofs.Turns.{split}
-use Rattle.std.proofs.lemmas.List.{length-map}
+use Rattle.slub_bounds.proofs.Carried.{rested-keeps}
+use Rattle.slub_bounds.proofs.Turns.{has-begun}
 use Rattle.slub_round_causes.proofs.Taking.{KeepsLocal, turn-keeps, once-keeps}
 
 -- what it holds under a number that was on the board stands where it stood there
@@ -53,25 +47,6 @@ IsFrom before k = k.held ≡ true → (b : BoardWord) → before k.object ≡ So
 
 abbrev pub HoldsFrom : (ℕ → Option BoardWord) → Local → Type 0
 HoldsFrom before l = All (IsFrom before) l.known
-
--- ---- replies that take no step
-
-or-so : (P : Local → Type 0) (l : Local) (more : Reply → Local) (r : Option Reply) → P l → ((reply : Reply) → P (more reply)) → P (or_step l more r)
-or-so P l more None p q = p
-or-so P l more (Some reply) p q = q reply
-
-rested-so : (P : Local → Type 0) → ((l : Local) (r : Reply) → P l → P (answered l r)) → (m : Setup) (calls : List Call) (l : Local) → P l → P (rested_with m calls l)
-rested-so P keeps m [] l p = p
-rested-so P keeps m (call ∷ calls) l p =
-    or-so P l (λ reply. rested_with m calls (answered l reply)) (told_at_once m (get_or l.known call.place nobody) call call.kind) p
-    (λ reply. rested-so P keeps m calls (answered l reply) (keeps l reply p))
-
-rested_at-so : (P : Local → Type 0) → ((l : Local) (r : Reply) → P l → P (answered l r)) → (m : Setup) (l : Local) (spot : Spot) → P l → P (rested_at m l spot)
-rested_at-so P keeps m l Between p = rested-so P keeps m l.todo l p
-rested_at-so P keeps m l _ p = p
-
-rested-keeps : (P : Local → Type 0) → ((l : Local) (r : Reply) → P l → P (answered l r)) → (m : Setup) (l : Local) → P l → P (rested m l)
-rested-keeps P keeps m l p = rested_at-so P keeps m l l.spot p
 
 -- ---- a step
 
@@ -182,45 +157,6 @@ steps-from opening m value words refused x others long s ac ok =
     rested-keeps (HoldsFrom opening.board) (λ l r ok. ok) m (noted second.local second.reply) twice
 
 -- ---- a turn
-
-map-get_or : {X Y : Type 0} (f : X → Y) (front back : List X) (x : X) (d : Y) → get_or (map f (front ++ x ∷ back)) (length front) d ≡ f x
-map-get_or f [] back x d = refl
-map-get_or f (y ∷ front) back x d = map-get_or f front back x d
-
--- the machine as its turn begins: the worker in its call, among the others
-record Begun (m : Setup) (opening : World) (s : System) (pick : Pick) : Type 0 where
-  front : List Worker
-  back : List Worker
-  was : Worker
-  x : Worker
-  at : length front ≡ pick.worker
-  locals : map (λ (x : Worker). x.local) (front ++ was ∷ back) ≡ s.locals
-  local : x.local ≡ begun m false (get_or s.locals pick.worker idle)
-  stands : Stands (world_of m s.value s.words) (x ∷ (front ++ back))
-  accounted : IsAccounted opening (world_of m s.value s.words) (x ∷ (front ++ back))
-
-has-begun : (m : Setup) (opening : World) (s : System) (pick : Pick) → pick.worker < length s.locals → IsCoherentSystem m opening s → Begun m opening s pick
-unfolding world_of world_from
-has-begun m opening s pick below is =
-    let r = split is.workers pick.worker (let e = ap (λ ls. length ls) is.locals in let g = length-map is.workers (λ (x : Worker). x.local) in omega arith) in
-    let w = world_of m s.value s.words in
-    let all : Stands w is.workers = record { chains = is.chains; placed = is.coherent.placed; listed = is.coherent.listed; fresh = is.coherent.fresh } in
-    by_split r.0 r.2 r.1 r.4 (sym (ap (map (λ (x : Worker). x.local)) r.3) ∙ is.locals) (subst (Stands w) r.3 all) (subst (IsAccounted opening w) r.3 is.coherent.accounted)
-  where
-    by_split : (front back : List Worker) (x : Worker) → length front ≡ pick.worker → map (λ (x : Worker). x.local) (front ++ x ∷ back) ≡ s.locals → Stands (world_of m s.value s.words) (front ++ x ∷ back) → IsAccounted opening (world_of m s.value s.words) (front ++ x ∷ back)
-        → Begun m opening s pick
-    by_split front back x at locals all ac =
-        let w = world_of m s.value s.words in
-        let k = pick.worker in
-        let l = get_or s.locals k idle in
-        let others = front ++ back in
-        let mine : x.local ≡ l = sym (map-get_or (λ (x : Worker). x.local) front back x idle) ∙ ap (λ ls. get_or ls (length front) idle) locals ∙ ap (λ n. get_or s.locals n idle) at in
-        let rest = subst (λ l. l.spot ≡ Between → TakesStep m l l.todo) (sym mine) (is.rested k idle below) in
-        let stood = to_front w front back x all in
-        let agrees = accounted_to_front opening w front back x ac in
-        let began = subst (λ l. Comes opening w others (begun m false l)) mine (begin w x others stood (λ _. may_begin opening w x others agrees) rest, told_begin opening w x others rest agrees) in
-        let y = joined opening w others (begun m false l) began in
-        record { front = front; back = back; was = x; x = y.0; at = at; locals = locals; local = y.1; stands = y.2; accounted = y.3 }
 
 begun_with-from : (before : ℕ → Option BoardWord) (m : Setup) (l : Local) (calls : List Call) → HoldsFrom before l → HoldsFrom before (begun_with m false l calls)
 begun_with-from before m l [] ok = ok

@@ -76,12 +76,6 @@ ready_next s after trace number it sound ready within is coherent sizes rest kee
       (All-back (IsUnheld s) (objects_in it) (coming trace (number + 1)) (coming_unheld s trace number it ready within is));
 }
 
--- after a round
-pub ready_round : (s after : State) (trace : Trace) (number : ℕ) (it : Item) (round : Round) (outcome : RoundResult) → IsSound trace → IsReady s trace number → number < length trace.items → it ≡ get_or trace.items number it
-    → it ≡ item.Round round → IsCoherent after → KeepsSizes s after → DoesRound s round outcome after → KeepsUnheld s (objects_of round.events) after → IsReady after trace (number + 1)
-ready_round s after trace number it round outcome sound ready within at is coherent sizes does keeps =
-    ready_next s after trace number it sound ready within at coherent sizes (rest_on_board does.last after does.after_is) (subst (λ (objects : List ℕ). KeepsUnheld s objects after) (sym (ap objects_in is)) keeps)
-
 -- after an item that allocates nothing
 pub ready_kept : (s after : State) (trace : Trace) (number : ℕ) (it : Item) → IsSound trace → IsReady s trace number → number < length trace.items → it ≡ get_or trace.items number it
     → IsCoherent after → KeepsMachine s after → after.board ≡ s.board → IsReady after trace (number + 1)

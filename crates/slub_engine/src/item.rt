@@ -26,7 +26,7 @@ use slub_object_layout::name::Name;
 use slub_trace_reader::trace::{Item, Trace};
 use std::alloc::Global;
 
-/// Does the item of this number, which isn't a client's line. Only a creation, a round and slabinfo take
+/// Does the item of this number, which is neither a round nor a client's line. Only a creation and slabinfo take
 /// memory; where none is found, the machine is as it was given.
 pub fn item(
     alloc: Global,
@@ -47,14 +47,13 @@ pub fn item(
         Item::Cache { name, spec } => {
             Ok(Done::Created(create(lists, name_of(trace, *name), spec)?))
         }
-        Item::Round(round) => Ok(Done::Round(serial(alloc, lists, round)?)),
         Item::Shrink { name } => Ok(Done::Shrunk(lists.shrink(name_of(trace, *name)))),
         Item::Destroy { name } => Ok(Done::Destroyed(lists.destroy(name_of(trace, *name)))),
         Item::Slabinfo => Ok(Done::Slabinfo(Sequence::from_vec(info_rows(alloc, lists)?))),
         Item::Tune { name, setting } => {
             Ok(Done::Tuned(lists.tune(name_of(trace, *name), *setting)))
         }
-        Item::Client(_) => unreachable!(),
+        Item::Round(_) | Item::Client(_) => unreachable!(),
     }
 }
 

@@ -30,7 +30,7 @@ use Rattle.slub_journal.specs.declared.journal.Done.{Done}
 use Rattle.slub_journal.specs.declared.journal.Done.TheVariants as done
 use Rattle.slub_journal.specs.declared.client.ClientDone.{ClientDone}
 use Rattle.slub_journal.specs.ClientText.{client_text}
-use Rattle.slub_journal.specs.Lawful.{CreatesName, DoesPlain, DoesPlainAt, DoesRound, TakesMemory, TakesMemoryAt, name_at}
+use Rattle.slub_journal.specs.Lawful.{CreatesName, DoesPlain, DoesPlainAt, TakesMemory, TakesMemoryAt, name_at}
 use Rattle.slub_journal.specs.Lines.{answer_line, created_answer, destroyed_answer, round_text, shrunk_answer, tuned_answer}
 use Rattle.slub_journal.specs.Text.{done_text, text_at}
 
@@ -140,13 +140,6 @@ pub does_creation : (s : State) (trace : Trace) (number : ℕ) (it : Item) (plac
 unfolding DoesPlain
 does_creation s trace number it place spec answer after within at is creates =
     does_at s trace number it (done.Created answer) after within at (subst (λ (it : Item). DoesPlain s trace it (done.Created answer) after) (sym is) creates)
-
-pub does_round : (s : State) (trace : Trace) (number : ℕ) (it : Item) (round : Round) (outcome : RoundResult) (after : State)
-    → number < length trace.items → it ≡ get_or trace.items number it → it ≡ item.Round round
-    → DoesRound s round outcome after → DoesPlainAt s trace number (done.Round outcome) after
-unfolding DoesPlain
-does_round s trace number it round outcome after within at is does =
-    does_at s trace number it (done.Round outcome) after within at (subst (λ (it : Item). DoesPlain s trace it (done.Round outcome) after) (sym is) does)
 
 pub does_slabinfo : (s : State) (trace : Trace) (number : ℕ) (it : Item) (rows : List InfoRow)
     → number < length trace.items → it ≡ get_or trace.items number it → it ≡ item.Slabinfo

@@ -1,4 +1,5 @@
--- What is done lawfully on the lists: a creation, a round, each item but a client's line.
+-- What is done lawfully on the lists: a creation, a round in the order of the text, each item but a
+-- round and a client's line.
 use Rattle.std.specs.Prelude.{◌≡◌, ℕ, ◌+◌, ◌<◌, ◌&&◌, Bool, false, ◌==◌, List, [], ◌∷◌, length, map, drop, reverse, sum_by, count_by, flat_map, Option, Some, None, IfSome, MatchOption, ⊤, Result, Ok, Err, slice_index, slice_index_or, slice_get, All}
 use Rattle.std.specs.List.{filter_map, range_with_len, zip}
 use Rattle.std.specs.Option.{option_map, option_map_or, option_and_then}
@@ -162,7 +163,8 @@ found_in before after = flat_map (found_of before after) cache_numbers
 
 -- ---- a round
 
--- its events are answered in their order, and then what the workers hold is put on the board
+-- by the order of the text its events are answered one after the other, and then what the workers
+-- hold is put on the board
 pub record DoesRound (s : State) (round : Round) (result : RoundResult)
     (after : State) : Type 0 where
   pub last : State
@@ -173,11 +175,11 @@ pub record DoesRound (s : State) (round : Round) (result : RoundResult)
 
 -- ---- items
 
--- an item that isn't a client's line is done on the machine's lists, by an answer of its kind
+-- an item that is neither a round nor a client's line is done on the machine's lists, by an answer
+-- of its kind
 unfoldable pub DoesPlain : State → Trace → Item → Done → State → Type 0
 DoesPlain s trace (item.Cache place spec) (done.Created answer) after =
     CreatesName s (name_at trace place) spec answer after
-DoesPlain s trace (item.Round round) (done.Round result) after = DoesRound s round result after
 DoesPlain s trace (item.Shrink place) (done.Shrunk answer) after =
     Shrinks s (name_at trace place) answer after
 DoesPlain s trace (item.Destroy place) (done.Destroyed answer) after =
@@ -192,8 +194,9 @@ abbrev pub DoesPlainAt : State → Trace → ℕ → Done → State → Type 0
 DoesPlainAt s trace number done after =
     MatchOption (slice_get trace.items number) ⊥ (λ item. DoesPlain s trace item done after)
 
--- the item of this number isn't a client's line
+-- the item of this number is neither a round nor a client's line
 abbrev pub IsPlain : Item → Type 0
+IsPlain (item.Round round) = ⊥
 IsPlain (item.Client client) = ⊥
 IsPlain _ = ⊤
 

@@ -8,5 +8,4 @@ pub mod Kmalloc
 pub mod Lawful
 pub mod Lines
 pub mod Reserves
-pub mod Runs
 pub mod Text

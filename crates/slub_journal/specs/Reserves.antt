@@ -150,7 +150,8 @@ Gets s reserves at (Err why) told left =
 
 -- one allocation on a CPU from the cache that the name at a place names: the address, or why the
 -- cache gave none
-abbrev pub TakesOne : State → ℕ → ℕ → ℕ → List ClientRound → Result ℕ CacheRefusal → State → Type 0
+abbrev pub TakesOne
+    : State → ℕ → ℕ → ℕ → List ClientRound → Result ℕ CacheRefusal → State → Type 0
 TakesOne s cpu place object rounds told after =
     (round : ClientRound) × (reply : Reply) × DoesAsked s cpu (Alloc place object ∷ []) round after
     × (round.result.replies ≡ reply ∷ []) × Tells reply told × (rounds ≡ round ∷ [])

@@ -1,11 +1,10 @@
-//! The journal of what was done: what came of each item of a trace, which journals are lawful for a
-//! trace, and the text that a journal has.
+//! The journal of what was done: what came of each item of a trace, what an item lawfully does to the lists,
+//! and the text that a journal has.
 //!
-//! `journal` has the types. `specs/Runs.antt` says which journals are lawful for a trace: the items
-//! answer the trace's first items, one each, by the sequential semantics from the opening machine, and
-//! between any two steps the machine is coherent. The machine is its lists and, beside them, the reserves
-//! of its clients (`MachineState`). `specs/Lawful.antt` says what is done on the lists alone, which traces are
-//! built, that is, replayed today (`is_built` decides it), and where the lists stand before an item.
+//! `journal` has the types. `specs/Lawful.antt` says what is done on the lists: a creation, a round in the
+//! order of the text, each item that isn't a client's line; which traces are built, that is, replayed today
+//! (`is_built` decides it); and where the lists stand before an item. `slub_ways` says which journals are
+//! lawful for a trace.
 //! `specs/Text.antt` says which text a journal has, and `text` makes it, an item at a time. Nothing here
 //! knows a machine's bodies: an answer is made into text whoever gave it.
 //!
@@ -16,9 +15,8 @@
 //!
 //! # What it promises
 //!
-//! Which journals are lawful (`IsLawful`), exactly which traces are replayed today (`is_built`),
-//! and the text of what was done, with or without the lines that `--replies` asks for, clients' lines
-//! among it.
+//! Exactly which traces are replayed today (`is_built`), and the text of what was done, with or without the
+//! lines that `--replies` asks for, clients' lines among it.
 #![tactic(auto)]
 
 pub mod built;

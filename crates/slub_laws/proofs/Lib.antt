@@ -1,11 +1,9 @@
-pub mod Made
-pub mod Keeping
-pub mod Few
-pub mod Effects
-pub mod Balance
-pub mod Tally
-pub mod Totals
 pub mod Adding
+pub mod Balanced
+pub mod Counted
+pub mod Totals
+pub mod Few
+pub mod Tally
 pub mod Places
 pub mod AddsUp
 pub mod Times

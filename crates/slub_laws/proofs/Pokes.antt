@@ -1,4 +1,4 @@
--- Each damage of a lawful journal was poked.
+-- Each damage of a journal that is lawful by the order of the text was poked.
 use Rattle.std.proofs.Common.{◌≡◌, ◌≢◌, ℕ, zero, suc, Bool, true, false, cond, eqb, List, [], ◌∷◌, ◌++◌, append_assoc, flat_map, length, take, get_or, set, refl, sym, ◌∙◌, ap, subst, arith, All, Option, Some, None, MatchOption, Result, Ok, Err, inl, inr, ◌⊎◌, unwrap_or, fold, is_some, append-nil, get_or-set_other, get_or-set_same}
 use Rattle.std.specs.List.{Contains, range_with_len}
 use Rattle.std.specs.Prelude.{slice_get}
@@ -11,6 +11,7 @@ use Rattle.slub_object_layout.specs.Layout.{address_of, is_checked}
 use Rattle.slub_object_layout.specs.declared.layout.Setting.{Setting}
 use Rattle.slub_object_layout.specs.declared.layout.Setting.TheVariants.{MinPartial, CpuPartial}
 use Rattle.slub_object_layout.specs.declared.layout.Spec.{Spec}
+use Rattle.slub_object_layout.specs.declared.event.Round.{Round}
 use Rattle.slub_common.specs.declared.no_such_cache.NoSuchCache.{NoSuchCache}
 use Rattle.slub_cache_create.specs.declared.caches.Cache.{Cache}
 use Rattle.slub_cache_create.specs.declared.caches.Created.{Created as CreatedCache}
@@ -54,8 +55,8 @@ use Rattle.slub_journal.specs.declared.journal.Journal.{Journal}
 use Rattle.slub_journal.specs.declared.client.ClientDone.{ClientDone}
 use Rattle.slub_journal.specs.declared.client.ClientRound.{ClientRound}
 use Rattle.slub_journal.specs.Kmalloc.{CreatesClasses}
-use Rattle.slub_journal.specs.Lawful.{CreatesName, DoesPlain, opening_of}
-use Rattle.slub_journal.specs.Runs.{Does, IsLawful, MachineState, RunsItems, machine_of}
+use Rattle.slub_journal.specs.declared.journal.RoundResult.{RoundResult}
+use Rattle.slub_journal.specs.Lawful.{CreatesName, DoesPlain, DoesRound, opening_of}
 use Rattle.slub_round_law.specs.Answered.{Answered}
 use Rattle.slub_round_law.specs.Pokes.{WasGiven, WasPoked}
 use Rattle.slub_round_law.proofs.Clean.{CleanSlab, parts_of}
@@ -66,10 +67,15 @@ use Rattle.slub_round_law.proofs.Tale.{injected}
 use Rattle.slub_round_law.proofs.Telling.{round-told}
 use Rattle.slub_laws.specs.Freed.{answered_by, rounds_among, rounds_of}
 use Rattle.slub_laws.specs.Poked.{HasPokedDamages, RunsPoked}
-use Rattle.slub_laws.proofs.Keeping.{match_some, round_made}
-use Rattle.slub_laws.proofs.Made.{ClientEffect, MadeFor, MakesRounds, client_effect, made_caches, made_rounds, objects_asked}
+use Rattle.slub_ways.specs.declared.way.Way.TheVariants.{Serial}
+use Rattle.slub_ways.specs.Runs.{Does, IsLawful, MachineState, RunsItems, machine_of}
+use Rattle.slub_ways.proofs.Dry.{match_some}
+use Rattle.slub_ways.proofs.Made.{ClientEffect, MadeFor, MakesRounds, client_effect, made_caches, made_rounds, objects_asked}
+use Rattle.slub_ways.proofs.Numbers.{IsBrief, front, items-brief}
+use Rattle.slub_ways.proofs.Ready.{stands-first}
+use Rattle.slub_ways.proofs.Rests.{Rests, creates-rest, destroys-rest, rests-same, shrinks-rest, tunes-rest}
+use Rattle.slub_ways.proofs.Standing.{Stands, fits, made-numbers, next-numbers, stands-next, stands-round}
 use Rattle.slub_laws.proofs.Moved.{rounds_done}
-use Rattle.slub_laws.proofs.Rounds.{Rests, Stands, creates-rest, destroys-rest, fits, front, item-stands, made-numbers, next-numbers, rests-same, shrinks-rest, stands-first, stands-round, tunes-rest}
 
 module _ (told : List Answered) where
   -- ---- a machine with the same board, whose checked caches have fewer slabs
@@ -370,43 +376,51 @@ quiet told s trace coming after stands rests fewer is_told = quiet-told told [] 
 made-told : (told : List Answered) (s : State) (trace : Trace) (rounds : List ClientRound) (numbers coming : List ℕ) (after : State) → Stands s trace (numbers ++ coming) → MadeFor s rounds numbers after → IsTold told s → GoesOn told rounds after
 made-told told s trace rounds numbers coming after stands made is_told = rounds-told told s trace rounds coming after (made-numbers s trace rounds numbers coming made.objects stands) made.runs is_told
 
-plain-told : (told : List Answered) (s : State) (trace : Trace) (it : Item) (dn : Done) (coming : List ℕ) (after : State) → Stands s trace (objects_in it ++ coming) → IsSoundItem trace it → IsCoherent after → DoesPlain s trace it dn after → IsTold told s → GoesOn told (rounds_of it dn) after
+-- a round is one that was made, each event of it by one of its workers
+round-made : (s : State) (trace : Trace) (round : Round) (result : RoundResult) (after : State) → IsSoundItem trace (item.Round round) → IsCoherent after → DoesRound s round result after
+    → MadeFor s (record { asked = round; result = result } ∷ []) (objects_of round.events) after
+round-made s trace round result after sound coherent does = record {
+  runs = (after, record { does = does; coherent = coherent; workers = λ k d within. (sound.events k d within).worker }, refl);
+  objects = inl (append-nil (objects_of round.events));
+}
+
+plain-told : (told : List Answered) (s : State) (trace : Trace) (it : Item) (dn : Done) (coming : List ℕ) (after : State) → Stands s trace (objects_in it ++ coming) → IsCoherent after → DoesPlain s trace it dn after → IsTold told s → GoesOn told (rounds_of it dn) after
 unfolding DoesPlain
-plain-told told s trace (item.Cache place spec) (done.Created answer) coming after stands sound coherent does is_told =
+plain-told told s trace (item.Cache place spec) (done.Created answer) coming after stands coherent does is_told =
     quiet told s trace coming after stands (creates-rest s _ spec answer after does) (creates-fewer told s _ spec answer after coherent does is_told) is_told
-plain-told told s trace (item.Round round) (done.Round result) coming after stands sound coherent does is_told =
-    made-told told s trace (record { asked = round; result = result } ∷ []) (objects_of round.events) coming after stands (round_made s trace round result after sound coherent does) is_told
-plain-told told s trace (item.Shrink place) (done.Shrunk answer) coming after stands sound coherent does is_told =
+plain-told told s trace (item.Shrink place) (done.Shrunk answer) coming after stands coherent does is_told =
     quiet told s trace coming after stands (shrinks-rest s _ answer after does) (shrinks-fewer told s _ answer after does is_told) is_told
-plain-told told s trace (item.Destroy place) (done.Destroyed answer) coming after stands sound coherent does is_told =
+plain-told told s trace (item.Destroy place) (done.Destroyed answer) coming after stands coherent does is_told =
     quiet told s trace coming after stands (destroys-rest s _ answer after does) (destroys-fewer told s _ answer after does is_told) is_told
-plain-told told s trace item.Slabinfo (done.Slabinfo rows) coming after stands sound coherent does is_told =
+plain-told told s trace item.Slabinfo (done.Slabinfo rows) coming after stands coherent does is_told =
     quiet told s trace coming after stands (rests-same s after does.1) (fewer-same told s after (ap (λ (t : State). t.checked) does.1) is_told) is_told
-plain-told told s trace (item.Tune place setting) (done.Tuned answer) coming after stands sound coherent does is_told =
+plain-told told s trace (item.Tune place setting) (done.Tuned answer) coming after stands coherent does is_told =
     quiet told s trace coming after stands (tunes-rest s _ setting answer after does) (tunes-fewer told s _ setting answer after does is_told) is_told
-plain-told told s trace _ _ coming after stands sound coherent does is_told = absurd does
+plain-told told s trace _ _ coming after stands coherent does is_told = absurd does
 
 client-told : (told : List Answered) (s : State) (trace : Trace) (client : Asked) (outcome : ClientDone) (coming : List ℕ) (after : State) → Stands s trace (asked_objects client ++ coming) → ClientEffect s client outcome after → IsTold told s → GoesOn told outcome.rounds after
 client-told told s trace client outcome coming after stands (made_rounds rounds) is_told = made-told told s trace outcome.rounds (asked_objects client) coming after stands rounds is_told
 client-told told s trace client outcome coming after stands (made_caches answers none creates) is_told =
     quiet-told told outcome.rounds after none (classes-told told s (range_with_len 0 13) answers after stands.rest.forgotten creates is_told)
 
-item-told : (told : List Answered) (m : MachineState) (trace : Trace) (it : Item) (dn : Done) (coming : List ℕ) (after : MachineState) → Stands m.lists trace (objects_in it ++ coming) → IsSoundItem trace it → IsCoherent after.lists → Does m trace it dn after → IsTold told m.lists
+item-told : (told : List Answered) (m : MachineState) (trace : Trace) (it : Item) (dn : Done) (coming : List ℕ) (after : MachineState) → Stands m.lists trace (objects_in it ++ coming) → IsSoundItem trace it → IsCoherent after.lists → Does Serial m trace it dn after → IsTold told m.lists
     → GoesOn told (rounds_of it dn) after.lists
 unfolding Does
-item-told told m trace (item.Client client) (done.Client outcome) coming after stands sound coherent does is_told = client-told told m.lists trace client outcome coming after.lists stands (client_effect m trace client outcome after does) is_told
-item-told told m trace it dn coming after stands sound coherent does is_told = plain-told told m.lists trace it dn coming after.lists stands sound coherent does.0 is_told
+item-told told m trace (item.Round round) (done.Round result) coming after stands sound coherent does is_told =
+    made-told told m.lists trace (record { asked = round; result = result } ∷ []) (objects_of round.events) coming after.lists stands (round-made m.lists trace round result after.lists sound coherent does.0) is_told
+item-told told m trace (item.Client client) (done.Client outcome) coming after stands sound coherent does is_told = client-told told m.lists trace client outcome coming after.lists stands (client_effect m trace client outcome after does.0) is_told
+item-told told m trace it dn coming after stands sound coherent does is_told = plain-told told m.lists trace it dn coming after.lists stands coherent does.0 is_told
 
-all-told : (told : List Answered) (m : MachineState) (trace : Trace) (items : List Item) (dones : List Done) (after : MachineState) → Stands m.lists trace (flat_map objects_in items) → All (IsSoundItem trace) items → RunsItems m trace items dones after → IsTold told m.lists
+all-told : (told : List Answered) (m : MachineState) (trace : Trace) (items : List Item) (dones : List Done) (after : MachineState) → Stands m.lists trace (flat_map objects_in items) → All (IsSoundItem trace) items → All IsBrief items → RunsItems Serial m trace items dones after → IsTold told m.lists
     → RunsPoked told (rounds_among items dones)
-all-told told m trace [] [] after stands sound run is_told = tt
-all-told told m trace [] (dn ∷ dones) after stands sound run is_told = absurd run
-all-told told m trace (it ∷ items) [] after stands sound run is_told = absurd run
-all-told told m trace (it ∷ items) (dn ∷ dones) after stands sound run is_told =
+all-told told m trace [] [] after stands sound brief run is_told = tt
+all-told told m trace [] (dn ∷ dones) after stands sound brief run is_told = absurd run
+all-told told m trace (it ∷ items) [] after stands sound brief run is_told = absurd run
+all-told told m trace (it ∷ items) (dn ∷ dones) after stands sound brief run is_told =
     let here = All-head (IsSoundItem trace) it items sound in
     let goes = item-told told m trace it dn (flat_map objects_in items) run.0 stands here run.2 run.1 is_told in
-    let next = item-stands m trace it dn (flat_map objects_in items) run.0 stands here run.2 run.1 in
-    poked-more told (rounds_of it dn) (rounds_among items dones) goes.0 (all-told (told ++ flat_map answered_by (rounds_of it dn)) run.0 trace items dones after next.0 (All-tail (IsSoundItem trace) it items sound) run.3 goes.1)
+    let next = stands-next Serial m trace it dn (flat_map objects_in items) run.0 stands here (All-head IsBrief it items brief) run.2 run.1 in
+    poked-more told (rounds_of it dn) (rounds_among items dones) goes.0 (all-told (told ++ flat_map answered_by (rounds_of it dn)) run.0 trace items dones after next (All-tail (IsSoundItem trace) it items sound) (All-tail IsBrief it items brief) run.3 goes.1)
 
 -- before the first item nothing is checked, and no number is known
 opened-told : (trace : Trace) → IsTold [] (opening_of trace)
@@ -415,7 +429,8 @@ opened-told trace = record {
   clean = λ cache slabs now. absurd (let never : None ≡ Some slabs = sym (get_or-replicate_any 32 cache None) ∙ now in cc);
 }
 
-pub poked-damages : (trace : Trace) (journal : Journal) → IsSound trace → IsLawful trace journal → HasPokedDamages trace journal
+pub poked-damages : (trace : Trace) (journal : Journal) → IsSound trace → IsLawful Serial trace journal → HasPokedDamages trace journal
 poked-damages trace journal sound lawful =
-    let told = all-told [] (machine_of trace) trace (take (length journal.items) trace.items) journal.items lawful.machine (stands-first trace (length journal.items) sound lawful.coherent) (front (IsSoundItem trace) (length journal.items) trace.items sound.items) lawful.run (opened-told trace) in
+    let some = length journal.items in
+    let told = all-told [] (machine_of trace) trace (take some trace.items) journal.items lawful.machine (stands-first trace some sound lawful.coherent) (front (IsSoundItem trace) some trace.items sound.items) (front IsBrief some trace.items (items-brief trace sound)) lawful.run (opened-told trace) in
     subst (RunsPoked []) (rounds_done trace journal) told

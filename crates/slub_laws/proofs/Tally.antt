@@ -1,29 +1,12 @@
--- What was given less what was freed is held.
+-- Sums over workers, and over caches.
 use Rattle.std.proofs.Common.{◌≡◌, ℕ, zero, suc, ◌+◌, ◌<◌, ◌≤◌, ◌&&◌, Bool, true, false, cond, eqb, List, [], ◌∷◌, sum_by, count_by, refl, sym, ◌∙◌, arith}
 use Rattle.std.specs.Prelude.{⊤}
-use Rattle.std.specs.List.{range_with_len, zip}
+use Rattle.std.specs.List.{range_with_len}
 use Rattle.std.proofs.lemmas.Bool.Decides.{nat_tests}
 use Rattle.std.proofs.lemmas.List.Sums.{sum_by-cons}
 use Rattle.slub_object_layout.specs.declared.event.Event.{Event}
 use Rattle.slub_answers.specs.declared.reply.Reply.{Reply}
-use Rattle.slub_lists.specs.State.{State}
-use Rattle.slub_lists.specs.Coherent.{IsCoherent}
-use Rattle.slub_journal.specs.Lawful.{RunsEvents, is_by}
-use Rattle.slub_answers.specs.Kinds.{is_freed, is_given}
-use Rattle.slub_laws.proofs.Balance.{effect_balanced, live_in}
-use Rattle.slub_laws.proofs.Effects.{event_effect}
-
--- ---- events
-
-pub runs_balanced : (s : State) (events : List Event) (replies : List Reply) (after : State) → IsCoherent s → RunsEvents s events replies after
-    → live_in after + count_by (λ one. is_freed one.1) (zip events replies) ≡ live_in s + count_by (λ one. is_given one.1) (zip events replies)
-runs_balanced s [] [] after coherent runs = rw runs refl
-runs_balanced s [] (answer ∷ replies) after coherent runs = absurd runs
-runs_balanced s (event ∷ events) [] after coherent runs = absurd runs
-runs_balanced s (event ∷ events) (answer ∷ replies) after coherent runs =
-    let one = effect_balanced s event.act answer runs.0 coherent (event_effect s event event.act answer runs.0 runs.1) in
-    let rest = runs_balanced runs.0 events replies after runs.2 runs.3 in
-    omega (arith, one, rest, sum_by-cons (λ (one : Event × Reply). cond (is_freed one.1) 1 0) (event, answer) (zip events replies), sum_by-cons (λ (one : Event × Reply). cond (is_given one.1) 1 0) (event, answer) (zip events replies))
+use Rattle.slub_journal.specs.Lawful.{is_by}
 
 -- ---- ledgers
 

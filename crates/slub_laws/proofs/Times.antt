@@ -3,13 +3,11 @@ use Rattle.std.proofs.Common.{◌≡◌, ℕ, ◌+◌, ◌≤◌, Bool, List, []
 use Rattle.std.specs.List.{zip}
 use Rattle.std.proofs.lemmas.List.Concat.{flat_map-append}
 use Rattle.slub_common.specs.Times.{times}
-use Rattle.slub_trace_reader.specs.declared.trace.Item.{Item}
 use Rattle.slub_journal.specs.declared.client.ClientRound.{ClientRound}
-use Rattle.slub_journal.specs.declared.journal.Done.{Done}
 use Rattle.slub_round_law.specs.Answered.{Answered, gave}
 use Rattle.slub_round_law.proofs.Times.{counted_append, events_given, times_append}
-use Rattle.slub_laws.specs.Freed.{answered_by, rounds_among, rounds_of}
-use Rattle.slub_laws.proofs.Made.{objects_asked}
+use Rattle.slub_laws.specs.Freed.{answered_by}
+use Rattle.slub_ways.proofs.Made.{objects_asked}
 
 -- the events of rounds, and of more rounds
 pub answered_more : (p : Answered → Bool) (rounds others : List ClientRound) → count_by p (flat_map answered_by (rounds ++ others)) ≡ count_by p (flat_map answered_by rounds) + count_by p (flat_map answered_by others)
@@ -28,10 +26,7 @@ made_given object rounds numbers (inr none) = omega (arith, rounds_given object 
 
 -- ---- the items that were done
 
--- the rounds of an item, and those of the items after it
-pub rounds_next : (it : Item) (dn : Done) (items : List Item) (dones : List Done) → rounds_among (it ∷ items) (dn ∷ dones) ≡ rounds_of it dn ++ rounds_among items dones
-rounds_next it dn items dones = refl
-
+-- items without an answer count for nothing
 pub zip_taken : {A B : Type 0} (xs : List A) (ys : List B) → zip (take (length ys) xs) ys ≡ zip xs ys
 zip_taken [] [] = refl
 zip_taken [] (y ∷ ys) = refl

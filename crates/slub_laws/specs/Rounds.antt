@@ -6,8 +6,9 @@ use Rattle.slub_trace_reader.specs.declared.trace.Trace.{Trace}
 use Rattle.slub_journal.specs.declared.client.ClientRound.{ClientRound}
 use Rattle.slub_journal.specs.declared.journal.Done.{Done}
 use Rattle.slub_journal.specs.declared.journal.Journal.{Journal}
-use Rattle.slub_journal.specs.Runs.{Does, MachineState, machine_of}
 use Rattle.slub_round_law.specs.Round.{IsRound}
+use Rattle.slub_ways.specs.declared.way.Way.{Way}
+use Rattle.slub_ways.specs.Runs.{Does, MachineState, machine_of}
 use Rattle.slub_laws.specs.Freed.{rounds_of}
 
 -- rounds are made one after the other from these lists on, and each is lawful
@@ -21,16 +22,18 @@ abbrev pub AreRounds : State → List ClientRound → State → Type 0
 AreRounds s [] after = ⊤
 AreRounds s (round ∷ rounds) after = AreLawful s (round ∷ rounds) after
 
--- the items are done one after the other, and each round of them is lawful
-abbrev pub RunsRounds : MachineState → Trace → List Item → List Done → MachineState → Type 0
-RunsRounds m trace [] [] after = after ≡ m
-RunsRounds m trace (item ∷ items) (done ∷ dones) after =
-    (mid : MachineState) × Does m trace item done mid
-    × AreRounds m.lists (rounds_of item done) mid.lists × RunsRounds mid trace items dones after
-RunsRounds m trace _ _ after = ⊥
+-- the items are done one after the other by a way, and each round of them is lawful
+abbrev pub RunsRounds
+    : Way → MachineState → Trace → List Item → List Done → MachineState → Type 0
+RunsRounds way m trace [] [] after = after ≡ m
+RunsRounds way m trace (item ∷ items) (done ∷ dones) after =
+    (mid : MachineState) × Does way m trace item done mid
+    × AreRounds m.lists (rounds_of item done) mid.lists
+    × RunsRounds way mid trace items dones after
+RunsRounds way m trace _ _ after = ⊥
 
 -- from the opening machine on, each round of the journal is lawful
-abbrev pub HasLawfulRounds : Trace → Journal → Type 0
-HasLawfulRounds trace journal =
-    (last : MachineState) × RunsRounds (machine_of trace) trace
+abbrev pub HasLawfulRounds : Way → Trace → Journal → Type 0
+HasLawfulRounds way trace journal =
+    (last : MachineState) × RunsRounds way (machine_of trace) trace
     (take (length journal.items) trace.items) journal.items last

@@ -1,5 +1,5 @@
-//! What holds of every lawful journal of a sound trace, and of every coherent machine. None of
-//! these does anything.
+//! What holds of every lawful journal of a sound trace, by any way where nothing else is said, and of every coherent
+//! machine. None of these does anything.
 
 ghost use Rattle.std.specs.Prelude.{◌≡◌, ℕ, ◌+◌, ◌≤◌, false, IfSome, IsSome};
 ghost use Rattle.slub_lists.specs.Alloc.{cache_of};
@@ -11,7 +11,7 @@ ghost use Rattle.slub_journal.specs.declared.journal.RoundResult.{RoundResult as
 ghost use Rattle.slub_slabinfo_text.specs.Counts.{counts_of};
 ghost use Rattle.slub_trace_reader.specs.Sound.{IsSound};
 ghost use Rattle.slub_journal.specs.Lawful.{opening_of};
-ghost use Rattle.slub_journal.specs.Runs.{IsLawful, IsReadyMachine, machine_of};
+ghost use Rattle.slub_ways.specs.Runs.{AreByText, IsLawful, IsReadyMachine, machine_of};
 ghost use Rattle.slub_laws.specs.Freed.{freed_times, given_times};
 ghost use Rattle.slub_laws.specs.Trimmed.{EndsTrimmed};
 ghost use Rattle.slub_laws.specs.Poked.{HasPokedDamages};
@@ -20,44 +20,48 @@ ghost use Rattle.slub_laws.specs.Shrinking.{LeavesUsedSlabs};
 
 use slub_journal::journal::Journal;
 use slub_trace_reader::trace::Trace;
+use slub_ways::way::Way;
 
-/// Over a whole run no object number is freed twice, and none is given twice: a number is freed at
-/// most as often as it was given, and given at most once. The events of clients' rounds count.
-pub fn no_number_is_freed_twice(trace: &Trace, journal: &Journal)
+/// Over a whole run, by any way, no object number is freed twice, and none is given twice: a number is freed at most as
+/// often as it was given, and given at most once. The events of clients' rounds count.
+pub fn no_number_is_freed_twice(way: Way, trace: &Trace, journal: &Journal)
     requires sound { IsSound trace.now }
-    requires lawful { IsLawful trace.now journal.now }
+    requires lawful { IsLawful way trace.now journal.now }
     ensures once { (object : ℕ) → freed_times object trace.now journal.now ≤ 1 }
     ensures given_first { (object : ℕ) →
         freed_times object trace.now journal.now ≤ given_times object trace.now journal.now }
     ensures given_once { (object : ℕ) → given_times object trace.now journal.now ≤ 1 }
 {}
 
-/// Each round of a lawful journal, also one that a client's line makes, is a lawful round (`IsRound` of
-/// `slub_round_law`), for the machine before it.
-pub fn rounds_of_a_journal_are_lawful(trace: &Trace, journal: &Journal)
+/// Each round of a journal that is lawful by any way, also one that a client's line makes, is a lawful round (`IsRound`
+/// of `slub_round_law`), for the machine before it.
+pub fn rounds_of_a_journal_are_lawful(way: Way, trace: &Trace, journal: &Journal)
     requires sound { IsSound trace.now }
-    requires lawful { IsLawful trace.now journal.now }
-    ensures { HasLawfulRounds trace.now journal.now }
+    requires lawful { IsLawful way trace.now journal.now }
+    ensures { HasLawfulRounds way trace.now journal.now }
 {}
 
-/// Each damage that a lawful journal tells of, in a report or as a free's answer, is a byte that
-/// was poked there in the same round or an earlier one, with the answer that it was.
-pub fn damages_of_a_journal_were_poked(trace: &Trace, journal: &Journal)
+/// Each damage that a journal tells of, in a report or as a free's answer, is a byte that was poked there in the same
+/// round or an earlier one, with the answer that it was. Every item of the trace is one that the way does in the order of
+/// the text.
+pub fn damages_of_a_journal_were_poked(way: Way, trace: &Trace, journal: &Journal)
     requires sound { IsSound trace.now }
-    requires lawful { IsLawful trace.now journal.now }
+    requires by_text { AreByText way trace.now.items }
+    requires lawful { IsLawful way trace.now journal.now }
     ensures { HasPokedDamages trace.now journal.now }
 {}
 
-/// What was given less what was freed is live.
-pub fn given_is_freed_or_live(trace: &Trace, journal: &Journal)
+/// What was given less what was freed is live, by any way.
+pub fn given_is_freed_or_live(way: Way, trace: &Trace, journal: &Journal)
     requires sound { IsSound trace.now }
-    requires lawful { IsLawful trace.now journal.now }
+    requires lawful { IsLawful way trace.now journal.now }
     ensures { IfSome journal.now.total (λ total. total.given ≡ total.freed + total.live) }
 {}
 
-/// The machine that is opened for a trace stands before its first item.
+/// The machine that is opened for a sound trace stands before its first item.
 pub fn opening_is_ready(trace: &Trace)
-    requires { IsCoherent (opening_of trace.now) }
+    requires sound { IsSound trace.now }
+    requires coherent { IsCoherent (opening_of trace.now) }
     ensures { IsReadyMachine (machine_of trace.now) trace.now 0 }
 {}
 

@@ -36,7 +36,7 @@ RoundsBySeedAreOne =
     → AreOneRound one other t u)
     × ((spends : SpendsTurns s seed round) → AreRefusedAlike does.picks spends.picks → ⊥)
 
--- a round that stands behind this one in its trace: each number that it allocates is allocated
+-- a round that stands after this one in its trace: each number that it allocates is allocated
 -- once, and neither by this one nor on the board before
 pub record MayFollow (s : State) (trace : Trace) (round next : Round) : Type 0 where
   pub sound : IsSoundRound trace next

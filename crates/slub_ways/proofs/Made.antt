@@ -27,7 +27,7 @@ use Rattle.slub_journal.specs.Classes.{class_place}
 use Rattle.slub_journal.specs.Kmalloc.{CreatesClasses, Moves, MovesOn, ServesClasses, ServesHeld, TakesOfClass, is_enough, is_kmalloc, place_of_class}
 use Rattle.slub_journal.specs.Lawful.{DoesRound}
 use Rattle.slub_journal.specs.Reserves.{AnswersLeaving, Asks, Fills, Puts, PutsBack, Refills, Reserve, ServesKept, fresh_reserve, has_number, is_of_cache, kept_in, place_of, reserve_at, with_numbers}
-use Rattle.slub_journal.specs.Runs.{MachineState, Serves}
+use Rattle.slub_ways.specs.Runs.{MachineState, Serves}
 
 -- ---- rounds
 

@@ -1,0 +1,9 @@
+pub mod Fitting
+pub mod Runs
+pub mod Made
+pub mod Wanted
+pub mod Numbers
+pub mod Dry
+pub mod Rests
+pub mod Standing
+pub mod Ready

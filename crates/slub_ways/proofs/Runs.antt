@@ -1,0 +1,121 @@
+-- What the crates above stand on: an item of a number is done, a run of items grows by one, and which runs are serial.
+use Rattle.std.proofs.Common.{◌≡◌, ℕ, ◌+◌, ◌<◌, List, [], ◌∷◌, ◌++◌, length, take, get_or, refl, sym, subst, arith, Some, None, Option, MatchOption, inl, inr, slice_get}
+use Rattle.std.proofs.lemmas.List.{take_more}
+use Rattle.std.proofs.lemmas.List.Elements.{All-head, All-tail}
+use Rattle.std.proofs.lemmas.Option.{slice_get-get_or, slice_get_read}
+use Rattle.slub_object_layout.specs.declared.event.Round.{Round}
+use Rattle.slub_lists.specs.Coherent.{IsCoherent}
+use Rattle.slub_trace_reader.specs.declared.trace.Client.{Client as Asked}
+use Rattle.slub_trace_reader.specs.declared.trace.Item.{Item}
+use Rattle.slub_trace_reader.specs.declared.trace.Item.TheVariants as item
+use Rattle.slub_trace_reader.specs.declared.trace.Trace.{Trace}
+use Rattle.slub_journal.specs.declared.client.ClientDone.{ClientDone}
+use Rattle.slub_journal.specs.declared.journal.Done.{Done}
+use Rattle.slub_journal.specs.declared.journal.Done.TheVariants as done
+use Rattle.slub_journal.specs.declared.journal.Journal.{Journal}
+use Rattle.slub_journal.specs.declared.journal.RoundResult.{RoundResult}
+use Rattle.slub_journal.specs.Lawful.{DoesPlain, DoesPlainAt}
+use Rattle.slub_ways.specs.declared.way.Way.{Way}
+use Rattle.slub_ways.specs.declared.way.Way.TheVariants.{Serial, Schedule}
+use Rattle.slub_ways.specs.Ways.{DoesRoundBy}
+use Rattle.slub_ways.specs.Runs.{AreByText, Does, DoesAt, IsAlone, IsLawful, KeepsReserves, KeepsRounds, MachineState, RunsItems, Serves, machine_of}
+use Rattle.slub_ways.proofs.Numbers.{front}
+
+-- ---- items done one after the other
+
+items_more : (way : Way) (m : MachineState) (trace : Trace) (items : List Item) (dones : List Done) (mid after : MachineState) (it : Item) (dn : Done)
+    → RunsItems way m trace items dones mid → Does way mid trace it dn after → IsCoherent after.lists → RunsItems way m trace (items ++ it ∷ []) (dones ++ dn ∷ []) after
+items_more way m trace [] [] mid after it dn run does coherent = (after, subst (λ (now : MachineState). Does way now trace it dn after) run does, coherent, refl)
+items_more way m trace [] (first ∷ dones) mid after it dn run does coherent = absurd run
+items_more way m trace (first ∷ items) [] mid after it dn run does coherent = absurd run
+items_more way m trace (first ∷ items) (answer ∷ dones) mid after it dn run does coherent =
+    (run.0, run.1, run.2, items_more way run.0 trace items dones mid after it dn run.3 does coherent)
+
+-- the next item of a trace is done after those before it
+pub run_more : (way : Way) (m : MachineState) (trace : Trace) (number : ℕ) (dones : List Done) (mid after : MachineState) (dn : Done) → number < length trace.items
+    → RunsItems way m trace (take number trace.items) dones mid → DoesAt way mid trace number dn after → IsCoherent after.lists
+    → RunsItems way m trace (take (number + 1) trace.items) (dones ++ dn ∷ []) after
+run_more way m trace number dones mid after dn within run does coherent =
+    let here = subst (λ (found : Option Item). MatchOption found ⊥ (λ it. Does way mid trace it dn after)) (slice_get-get_or trace.items number item.Slabinfo within) does in
+    let more = take_more trace.items number item.Slabinfo within in
+    subst (λ (items : List Item). RunsItems way m trace items (dones ++ dn ∷ []) after) (sym more) (items_more way m trace (take number trace.items) dones mid after (get_or trace.items number item.Slabinfo) dn run here coherent)
+
+-- ---- the item of a number
+
+-- one that was read is done
+does_found : (way : Way) (m : MachineState) (trace : Trace) (number : ℕ) (it : Item) (dn : Done) (after : MachineState) → number < length trace.items → it ≡ get_or trace.items number it
+    → Does way m trace it dn after → DoesAt way m trace number dn after
+does_found way m trace number it dn after within at does =
+    let found : slice_get trace.items number ≡ Some it = slice_get_read trace.items (length trace.items) number it refl within at in
+    subst (λ (found : Option Item). MatchOption found ⊥ (λ it. Does way m trace it dn after)) (sym found) does
+
+-- a round
+pub does_round_at : (way : Way) (m : MachineState) (trace : Trace) (number : ℕ) (it : Item) (round : Round) (result : RoundResult) (after : MachineState) → number < length trace.items → it ≡ get_or trace.items number it → it ≡ item.Round round
+    → DoesRoundBy way m.rounds m.lists round result after.lists → KeepsReserves m after → after.rounds ≡ m.rounds + 1 → DoesAt way m trace number (done.Round result) after
+unfolding Does
+does_round_at way m trace number it round result after within at is does kept more =
+    does_found way m trace number it (done.Round result) after within at (subst (λ (it : Item). Does way m trace it (done.Round result) after) (sym is) (does, kept, more))
+
+-- a client's line
+pub does_client_at : (way : Way) (m : MachineState) (trace : Trace) (number : ℕ) (it : Item) (client : Asked) (outcome : ClientDone) (after : MachineState) → number < length trace.items → it ≡ get_or trace.items number it → it ≡ item.Client client
+    → Serves m trace client outcome after → KeepsRounds m after → DoesAt way m trace number (done.Client outcome) after
+unfolding Does
+does_client_at way m trace number it client outcome after within at is serves kept =
+    does_found way m trace number it (done.Client outcome) after within at (subst (λ (it : Item). Does way m trace it (done.Client outcome) after) (sym is) (serves, kept))
+
+-- ---- an item that is neither
+
+does_plain : (way : Way) (m : MachineState) (trace : Trace) (it : Item) (dn : Done) (after : MachineState) → DoesPlain m.lists trace it dn after.lists → KeepsReserves m after → KeepsRounds m after → Does way m trace it dn after
+unfolding Does DoesPlain
+does_plain way m trace (item.Round round) (done.Round result) after does kept same = absurd does
+does_plain way m trace (item.Round round) _ after does kept same = absurd does
+does_plain way m trace (item.Client client) (done.Client outcome) after does kept same = absurd does
+does_plain way m trace (item.Client client) _ after does kept same = absurd does
+does_plain way m trace _ dn after does kept same = (does, kept, same)
+
+pub does_plain_at : (way : Way) (m : MachineState) (trace : Trace) (number : ℕ) (dn : Done) (after : MachineState) → DoesPlainAt m.lists trace number dn after.lists → KeepsReserves m after → KeepsRounds m after → DoesAt way m trace number dn after
+does_plain_at way m trace number dn after does kept same = by (slice_get trace.items number) does
+  where
+    by : (found : Option Item) → MatchOption found ⊥ (λ it. DoesPlain m.lists trace it dn after.lists) → MatchOption found ⊥ (λ it. Does way m trace it dn after)
+    by None does = absurd does
+    by (Some it) does = does_plain way m trace it dn after does kept same
+
+-- ---- items that are done in the order of the text
+
+-- by schedule, too, an item that is no round of several workers
+serially : (seed : ℕ) (m : MachineState) (trace : Trace) (it : Item) (dn : Done) (after : MachineState) → IsAlone it → Does (Schedule seed) m trace it dn after → Does Serial m trace it dn after
+unfolding Does
+serially seed m trace (item.Round round) (done.Round result) after alone does = (by does.0, does.1, does.2)
+  where
+    by : DoesRoundBy (Schedule seed) m.rounds m.lists round result after.lists → DoesRoundBy Serial m.rounds m.lists round result after.lists
+    by (inl (few, serial)) = serial
+    by (inr (several, drawn)) = absurd (let never : ⊥ = omega (arith, several, alone) in never)
+serially seed m trace (item.Round round) _ after alone does = does
+serially seed m trace (item.Client client) (done.Client outcome) after alone does = does
+serially seed m trace (item.Client client) _ after alone does = does
+serially seed m trace _ dn after alone does = does
+
+items-serially : (way : Way) (m : MachineState) (trace : Trace) (items : List Item) (dones : List Done) (after : MachineState) → AreByText way items → RunsItems way m trace items dones after → RunsItems Serial m trace items dones after
+items-serially Serial m trace items dones after by_text run = run
+items-serially (Schedule seed) m trace [] [] after by_text run = run
+items-serially (Schedule seed) m trace [] (dn ∷ dones) after by_text run = absurd run
+items-serially (Schedule seed) m trace (it ∷ items) [] after by_text run = absurd run
+items-serially (Schedule seed) m trace (it ∷ items) (dn ∷ dones) after by_text run =
+    (run.0, serially seed m trace it dn run.0 (All-head IsAlone it items by_text) run.1, run.2, items-serially (Schedule seed) run.0 trace items dones after (All-tail IsAlone it items by_text) run.3)
+
+first-by-text : (way : Way) (n : ℕ) (items : List Item) → AreByText way items → AreByText way (take n items)
+first-by-text Serial n items by_text = tt
+first-by-text (Schedule seed) n items by_text = front IsAlone n items by_text
+
+-- so is a journal that is lawful by any way, where every item is done so
+pub lawful-serially : (way : Way) (trace : Trace) (journal : Journal) → AreByText way trace.items → IsLawful way trace journal → IsLawful Serial trace journal
+lawful-serially way trace journal by_text lawful = record {
+  frames = lawful.frames;
+  cpus = lawful.cpus;
+  tid = lawful.tid;
+  machine = lawful.machine;
+  coherent = lawful.coherent;
+  within = lawful.within;
+  run = items-serially way (machine_of trace) trace (take (length journal.items) trace.items) journal.items lawful.machine (first-by-text way (length journal.items) trace.items by_text) lawful.run;
+  total = lawful.total;
+}

@@ -1,0 +1,39 @@
+-- What holds of rounds of every way, and of machines before an item and after it.
+use Rattle.std.specs.Prelude.{◌≡◌, ℕ, ◌+◌, ◌^◌, ◌≤◌, length, Some, slice_get, slice_index}
+use Rattle.slub_object_layout.specs.declared.event.Round.{Round as Events}
+use Rattle.slub_trace_reader.specs.declared.trace.Item.TheVariants.{Round}
+use Rattle.slub_trace_reader.specs.declared.trace.Trace.{Trace}
+use Rattle.slub_trace_reader.specs.Sound.{IsSound}
+use Rattle.slub_lists.specs.State.{State}
+use Rattle.slub_lists.specs.Coherent.{IsCoherent}
+use Rattle.slub_calls.specs.Laws.{MayDo}
+use Rattle.slub_journal.specs.declared.journal.Done.{Done}
+use Rattle.slub_journal.specs.declared.journal.RoundResult.{RoundResult}
+use Rattle.slub_journal.specs.Lawful.{IsAtRest, coming}
+use Rattle.slub_round_law.specs.Round.{IsRound}
+use Rattle.slub_ways.specs.declared.way.Way.{Way}
+use Rattle.slub_ways.specs.Ways.{DoesRoundBy}
+use Rattle.slub_ways.specs.Runs.{DoesAt, IsReadyMachine, MachineState}
+
+-- a round of a trace that is done on a coherent machine at rest is lawful, whatever the way
+abbrev pub RoundsOfAnyWayAreLawful : Type 0
+RoundsOfAnyWayAreLawful =
+    (way : Way) (rounds : ℕ) (s : State) (trace : Trace) (round : Events) (result : RoundResult)
+    (after : State) → IsCoherent s → IsAtRest s → MayDo s trace round
+    → DoesRoundBy way rounds s round result after → IsRound s round result after
+
+-- a machine that stands before a round of a sound trace can do it
+abbrev pub ReadyRoundsMayBeDone : Type 0
+ReadyRoundsMayBeDone =
+    (m : MachineState) (trace : Trace) (number : ℕ) (round : Events) → IsSound trace
+    → IsReadyMachine m trace number → slice_get trace.items number ≡ Some (Round round)
+    → MayDo m.lists trace round
+
+-- after an item, too, each count of wanted frames stays below 2^62, even if every number that is
+-- still to be allocated wants frames
+abbrev pub ItemsLeaveRoom : Type 0
+ItemsLeaveRoom =
+    (way : Way) (m : MachineState) (trace : Trace) (number : ℕ) (done : Done)
+    (after : MachineState) → IsSound trace → IsReadyMachine m trace number
+    → DoesAt way m trace number done after → IsCoherent after.lists → (order : ℕ)
+    → slice_index after.lists.pool.dry order + length (coming trace (number + 1)) ≤ 2 ^ 62

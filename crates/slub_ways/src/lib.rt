@@ -1,0 +1,18 @@
+//! How the rounds of a replay are done, and which journals are lawful for a trace and a way.
+//!
+//! `way` has the ways. `specs/Ways.antt` says what each makes of a round: by `Serial` its events are answered one
+//! after the other, in the order of the text; by `Schedule` the workers of a round make turns as a number draws
+//! them, and a round of one worker is as by `Serial`. `specs/Runs.antt` has the machine between two items, which is
+//! the lists, the reserves of clients and how many `round` lines were done; what each item does to it; and which
+//! journals are lawful: the items answer the trace's first items, one each, from the opening machine on, and the
+//! machine is coherent between any two steps, those of a scheduled round among them.
+//!
+//! # What it promises
+//!
+//! `laws`: a round that is done by any way is lawful in the words of the text (`IsRound` of `slub_round_law`), so
+//! that what follows from that record alone holds of every way. A machine that stands before a round of a sound trace
+//! can do it, and no item brings a count of wanted frames to its end.
+#![tactic(auto)]
+
+pub mod laws;
+pub mod way;

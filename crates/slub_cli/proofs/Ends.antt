@@ -1,5 +1,5 @@
 -- From the parts of a run to its clauses.
-use Rattle.std.proofs.Common.{◌≡◌, ◌≢◌, ℕ, ◌<◌, ◌≤◌, List, [], ◌++◌, Bool, true, false, cond, Some, None, Ok, Err, Result, refl, sym, subst, ◌∙◌, length, arith, append-nil, inl, inr}
+use Rattle.std.proofs.Common.{◌≡◌, ◌≢◌, ℕ, ◌<◌, ◌≤◌, MatchOption, slice_get, List, [], ◌++◌, Bool, true, false, cond, Some, None, Ok, Err, Result, refl, sym, subst, ◌∙◌, length, arith, append-nil, inl, inr}
 use Rattle.std.specs.Prelude.{IfSome, Option, ◌⊎◌, IsSomeAnd, IsSome}
 use Rattle.std.specs.List.{list_any}
 use Rattle.std.proofs.lemmas.Bool.{false≢true, cases_lt}
@@ -10,15 +10,22 @@ use Rattle.slub_edges.proofs.Told.{AppendsFront-after, AppendsFront-then, Append
 use Rattle.slub_object_layout.specs.declared.layout.Layout.{Layout as SlabLayout}
 use Rattle.slub_object_layout.specs.declared.layout.LayoutRefusal.{LayoutRefusal}
 use Rattle.slub_object_layout.specs.declared.layout.Spec.{Spec}
-use Rattle.slub_command.specs.declared.command.How.TheVariants.{Serial}
+use Rattle.slub_command.specs.declared.command.How.TheVariants as hows
 use Rattle.slub_command.specs.declared.command.Command.{Command}
 use Rattle.slub_command.specs.declared.command.Command.TheVariants.{Replay, Layout, Load}
 use Rattle.slub_command.specs.Command.{IsCommand}
 use Rattle.slub_slabinfo_text.specs.Texts.{layout_lines}
+use Rattle.slub_trace_reader.specs.declared.trace.Item.{Item}
+use Rattle.slub_trace_reader.specs.declared.trace.Item.TheVariants as item
 use Rattle.slub_trace_reader.specs.declared.trace.Trace.{Trace}
 use Rattle.slub_trace_reader.specs.declared.reading.Why.{Why}
 use Rattle.slub_trace_reader.specs.Grammar.{IsTrace}
 use Rattle.slub_trace_reader.specs.Reads.{IsBadIn, Spells}
+use Rattle.slub_trace_reader.specs.Sound.{IsSound}
+use Rattle.slub_ways.specs.declared.way.Way.{Way}
+use Rattle.slub_ways.specs.declared.way.Way.TheVariants.{Serial, Schedule}
+use Rattle.slub_ways.specs.Runs.{EndsSpent, IsLawful, ItemSpendsTurns, MachineState}
+use Rattle.slub_ways.proofs.Runs.{lawful-serially}
 use Rattle.slub_journal.specs.Lawful.{IsBuilt}
 use Rattle.slub_journal.specs.declared.journal.Journal.{Journal}
 use Rattle.slub_cli.specs.declared.stop.Stop.{Stop}
@@ -30,11 +37,11 @@ use Rattle.slub_laws.proofs.Moved.{freed_was_given, given_once}
 use Rattle.slub_laws.proofs.Totals.{given_is_live}
 use Rattle.slub_laws.proofs.Rounds.{lawful-rounds}
 use Rattle.slub_laws.proofs.Pokes.{poked-damages}
-use Rattle.slub_cli.specs.Run.{AreBadWords, AsksReplay, Call, Ends, IsAsked, IsBadInput, IsBadBytes, IsCauseOf, IsDone, IsFaultLine, IsJournalOf, IsLayoutAnswer, IsLayoutCause, IsLayoutText, IsReplayCause, HoldsOver, IsRunOf, IsSomeTrace, IsTextOf, IsWant, NoFault, TellsReads, TookAll, TookFront, Wrote, answer_status, done_status, is_refused, lacks_memory, last_in, text_in}
+use Rattle.slub_cli.specs.Run.{AreBadWords, AsksReplay, Call, Ends, IsAsked, IsBadInput, IsBadBytes, IsCauseOf, IsDone, IsFaultLine, IsJournalOf, IsLayoutAnswer, IsLayoutCause, IsLayoutText, IsReplayCause, HoldsOver, IsLoadCause, IsReplayJournal, IsRunOf, SpendsNextRound, IsSomeTrace, IsTextOf, IsWant, NoFault, TellsReads, TookAll, TookFront, Wrote, answer_status, done_status, is_refused, lacks_memory, last_in, text_in, way_asked, way_of}
 use Rattle.slub_cli.specs.Inner.{Finishes, StopsAtReadFault, StopsAtWriteFault, Worked, Works, stop_line, stop_status}
-use Rattle.slub_cli.proofs.Words.{one_layout, replay_apart}
+use Rattle.slub_cli.proofs.Words.{layout_apart, load_apart, one_layout, replay_apart, same_replay}
 
--- ---- the status of a replay that did everything
+-- ---- the status of a run that did every item
 
 -- it has no line of its own
 done_line : (c : Call) (j : Journal) (lacks refused : Bool) → IsSome j.total → IsFaultLine c j (cond lacks NoMemory (cond refused Refused Fine)) []
@@ -48,11 +55,20 @@ done_apart true refused h = cc
 done_apart false true h = cc
 done_apart false false h = cc
 
--- and has its row
-done_cause : (c : Call) (trace : Option Trace) (j : Journal) (lacks refused : Bool) → done_status trace j ≡ cond lacks NoMemory (cond refused Refused Fine) → IsDone trace j → IsReplayCause c trace j (cond lacks NoMemory (cond refused Refused Fine))
-done_cause c trace j true refused is done = inr (done, is)
-done_cause c trace j false true is done = (done, is)
-done_cause c trace j false false is done = (done, is)
+-- and has its row, of a load
+done_cause : (c : Call) (way : Way) (trace : Option Trace) (j : Journal) (lacks refused : Bool) → done_status trace j ≡ cond lacks NoMemory (cond refused Refused Fine) → IsDone trace j → IsLoadCause c way trace j (cond lacks NoMemory (cond refused Refused Fine))
+done_cause c way trace j true refused is done = inr (done, is)
+done_cause c way trace j false true is done = (done, is)
+done_cause c way trace j false false is done = (done, is)
+
+-- which is one of a replay, too
+replay_cause : (c : Call) (way : Way) (trace : Option Trace) (j : Journal) (status : Status) → IsLoadCause c way trace j status → IsReplayCause c way trace j status
+replay_cause c way trace j Fine cause = cause
+replay_cause c way trace j Refused cause = cause
+replay_cause c way trace j WriteFault cause = cause
+replay_cause c way trace j NoMemory cause = cause
+replay_cause c way trace j TurnsSpent cause = cause
+replay_cause c way trace j _ cause = absurd cause
 
 -- ---- the status of a layout
 
@@ -109,6 +125,7 @@ only_write_fault stop.NotBuilt h = cc
 only_write_fault stop.TooLong h = cc
 only_write_fault stop.ReadFault h = cc
 only_write_fault stop.NoMemory h = cc
+only_write_fault stop.TurnsSpent h = cc
 
 -- what was written where no write failed
 whole : (c : Call) (asked : Option Command) (trace : Option Trace) (j : Journal) (status : Status) → status ≢ WriteFault → TookAll c asked trace j status → Wrote c asked trace j status
@@ -120,6 +137,28 @@ whole c asked trace j BadTrace apart took = took
 whole c asked trace j ReadFault apart took = took
 whole c asked trace j NoMemory apart took = took
 whole c asked trace j TurnsSpent apart took = took
+
+-- ---- what holds over the whole run
+
+holds : (way : Way) (trace : Trace) (journal : Journal) → IsSound trace → IsLawful way trace journal → HoldsOver way trace journal
+holds way trace journal sound lawful = record {
+  given_once = λ object. given_once way trace journal sound lawful object;
+  freed_once = λ object. freed_was_given way trace journal sound lawful object;
+  balance = given_is_live way trace journal sound lawful;
+  rounds = lawful-rounds way trace journal sound lawful;
+  damages = λ by_text. poked-damages trace journal sound (lawful-serially way trace journal by_text lawful);
+}
+
+holds_none : (way : Way) (trace : Option Trace) (journal : Journal) → trace ≡ None → IfSome trace (λ trace. HoldsOver way trace journal)
+holds_none way trace journal none = rw none tt
+
+over : (c : Call) (asked : Option Command) (trace : Option Trace) (journal : Journal) → IsJournalOf c asked trace journal → IfSome trace (λ trace. HoldsOver (way_asked asked) trace journal)
+over c None trace journal law = holds_none Serial trace journal law.0
+over c (Some (Replay how seed replies)) None journal law = tt
+over c (Some (Replay how seed replies)) (Some trace) journal law = holds (way_of how seed) trace journal law.sound law.lawful
+over c (Some (Layout spec cpus)) trace journal law = holds_none Serial trace journal law.0
+over c (Some (Load seed events workers)) None journal law = tt
+over c (Some (Load seed events workers)) (Some trace) journal law = holds (Schedule seed) trace journal law.sound law.lawful
 
 -- ---- at the end of the work, and at the end of the run
 module _ (words : List (List ℕ)) (told left old mid new : Option (List ℕ)) (read write after : ℕ × ℕ) (trace : Option Trace) (j : Journal) where
@@ -140,10 +179,13 @@ module _ (words : List (List ℕ)) (told left old mid new : Option (List ℕ)) (
   stop_has_line (Some (Replay how seed replies)) stop.TooLong apart h = inr (inl (refl, h.0.1))
   stop_has_line (Some (Replay how seed replies)) stop.ReadFault apart h = refl
   stop_has_line (Some (Replay how seed replies)) stop.NoMemory apart h = inl (h.0, refl)
+  stop_has_line (Some (Replay how seed replies)) stop.TurnsSpent apart h = refl
   stop_has_line (Some (Replay how seed replies)) _ apart h = absurd h.0
   stop_has_line (Some (Layout spec cpus)) stop.NoMemory apart h = inl (h.2, refl)
   stop_has_line (Some (Layout spec cpus)) _ apart h = absurd h.0
-  stop_has_line (Some (Load m events workers)) _ apart h = absurd h
+  stop_has_line (Some (Load m events workers)) stop.NoMemory apart h = inl (h.0, refl)
+  stop_has_line (Some (Load m events workers)) stop.TurnsSpent apart h = refl
+  stop_has_line (Some (Load m events workers)) _ apart h = absurd h.0
 
   -- the text before the line of a stop was taken
   stop_text : (asked : Option Command) (e : Stop) → stop_status e ≢ WriteFault → Works worked asked trace j (Err e) → (text : List ℕ) × IsTextOf asked trace j (stop_status e) text × Appends old mid text
@@ -155,7 +197,7 @@ module _ (words : List (List ℕ)) (told left old mid new : Option (List ℕ)) (
   stop_text (Some (Replay how seed replies)) _ apart h = (text_in replies trace j, refl, h.1)
   stop_text (Some (Layout spec cpus)) stop.NoMemory apart h = ([], refl, rw h.0 (Appends-nil old))
   stop_text (Some (Layout spec cpus)) _ apart h = absurd h.0
-  stop_text (Some (Load m events workers)) _ apart h = absurd h
+  stop_text (Some (Load m events workers)) _ apart h = (text_in false trace j, refl, h.1)
 
   -- the status that a stop means has its cause
   stop_cause : (asked : Option Command) (e : Stop) → stop_status e ≢ WriteFault → Works worked asked trace j (Err e) → IsCauseOf ran asked trace j (stop_status e)
@@ -168,23 +210,27 @@ module _ (words : List (List ℕ)) (told left old mid new : Option (List ℕ)) (
   stop_cause (Some (Replay how seed replies)) stop.TooLong apart h = (inr (inl h.0.1), h.0.0)
   stop_cause (Some (Replay how seed replies)) stop.ReadFault apart h = (h.0.1, h.0.0)
   stop_cause (Some (Replay how seed replies)) stop.NoMemory apart h = inl h.0
+  stop_cause (Some (Replay how seed replies)) stop.TurnsSpent apart h = h.0
   stop_cause (Some (Replay how seed replies)) _ apart h = absurd h.0
   stop_cause (Some (Layout spec cpus)) stop.NoMemory apart h = (tt, h.1)
   stop_cause (Some (Layout spec cpus)) _ apart h = absurd h.0
-  stop_cause (Some (Load m events workers)) _ apart h = absurd h
+  stop_cause (Some (Load m events workers)) stop.NoMemory apart h = inl h.0
+  stop_cause (Some (Load m events workers)) stop.TurnsSpent apart h = h.0
+  stop_cause (Some (Load m events workers)) _ apart h = absurd h.0
 
   -- and tells the reads
   stop_reads : (asked : Option Command) (e : Stop) → Works worked asked trace j (Err e) → StopsAtReadFault {A = Status} read.0 read.1 (Err e) → TellsReads ran (stop_status e)
   stop_reads None stop.ReadFault h reads = absurd h.0
   stop_reads (Some (Replay how seed replies)) stop.ReadFault h reads = h.0.1
   stop_reads (Some (Layout spec cpus)) stop.ReadFault h reads = absurd h.0
-  stop_reads (Some (Load m events workers)) stop.ReadFault h reads = absurd h
+  stop_reads (Some (Load m events workers)) stop.ReadFault h reads = absurd h.0
   stop_reads asked stop.BadWords h reads = reads
   stop_reads asked (stop.BadLine text) h reads = reads
   stop_reads asked stop.NotBuilt h reads = reads
   stop_reads asked stop.TooLong h reads = reads
   stop_reads asked stop.WriteFault h reads = reads
   stop_reads asked stop.NoMemory h reads = reads
+  stop_reads asked stop.TurnsSpent h reads = reads
 
   -- a stop whose line was written
   stop_told : (asked : Option Command) (e : Stop) (status : Status) → status ≡ stop_status e → status ≢ WriteFault → Works worked asked trace j (Err e)
@@ -222,7 +268,7 @@ module _ (words : List (List ℕ)) (told left old mid new : Option (List ℕ)) (
   cut_front None works none = absurd works.0
   cut_front (Some (Replay how seed replies)) works none = (works.0.0, AppendsFront-then old mid new (last_in replies trace j) (text_in replies trace j) works.1 none)
   cut_front (Some (Layout spec cpus)) works none = let p = works.0 in (p.0, p.1, AppendsFront-then old mid new 0 (layout_lines p.0) p.3 none)
-  cut_front (Some (Load m events workers)) works none = absurd works
+  cut_front (Some (Load m events workers)) works none = (works.0.0, AppendsFront-then old mid new (last_in false trace j) (text_in false trace j) works.1 none)
 
   cut_text : (asked : Option Command) (e : Stop) → e ≡ stop.WriteFault → Works worked asked trace j (Err e) → StopsAtReadFault {A = Status} read.0 read.1 (Err e) → Appends mid new (stop_line e) → Wrote ran asked trace j WriteFault
   cut_text asked stop.WriteFault is works reads wrote = inl (record { taken = cut_front asked works wrote; reads = reads })
@@ -232,6 +278,7 @@ module _ (words : List (List ℕ)) (told left old mid new : Option (List ℕ)) (
   cut_text asked stop.TooLong is works reads wrote = absurd (let never : ⊥ = cc in never)
   cut_text asked stop.ReadFault is works reads wrote = absurd (let never : ⊥ = cc in never)
   cut_text asked stop.NoMemory is works reads wrote = absurd (let never : ⊥ = cc in never)
+  cut_text asked stop.TurnsSpent is works reads wrote = absurd (let never : ⊥ = cc in never)
 
   -- the line of a stop was cut; a write fault has none
   cut : (asked : Option Command) (e : Stop) → Works worked asked trace j (Err e) → StopsAtReadFault {A = Status} read.0 read.1 (Err e) → AppendsFront mid new 0 (stop_line e) → Wrote ran asked trace j WriteFault
@@ -242,25 +289,31 @@ module _ (words : List (List ℕ)) (told left old mid new : Option (List ℕ)) (
   cut asked stop.TooLong works reads wrote = cut_line asked stop.TooLong (λ h. cc) works reads wrote
   cut asked stop.ReadFault works reads wrote = cut_line asked stop.ReadFault (λ h. cc) works reads wrote
   cut asked stop.NoMemory works reads wrote = cut_line asked stop.NoMemory (λ h. cc) works reads wrote
+  cut asked stop.TurnsSpent works reads wrote = cut_line asked stop.TurnsSpent (λ h. cc) works reads wrote
 
   -- ---- what was written
+
+  -- where every item was done
+  all_wrote : (asked : Option Command) (replies : Bool) → IsTextOf asked trace j (done_status trace j) (text_in replies trace j) → IsSome j.total → Appends old mid (text_in replies trace j)
+      → read.1 ≡ read.0 → after.1 ≡ write.0 → new ≡ mid → Wrote ran asked trace j (done_status trace j)
+  all_wrote asked replies text total told reads writes same =
+      let lacks = list_any lacks_memory j.items in
+      let has = is_refused trace j in
+      let took : TookAll ran asked trace j (done_status trace j) = record {
+        text = text_in replies trace j;
+        line = [];
+        text_is = text;
+        line_is = done_line ran j lacks has total;
+        taken = rw (same, append-nil (text_in replies trace j)) told;
+        reads = done_reads ran lacks has reads;
+        writes = writes;
+      } in
+      whole ran asked trace j (done_status trace j) (done_apart lacks has) took
 
   -- where the work came to its end
   done_wrote : (asked : Option Command) (done : Status) → Works worked asked trace j (Ok done) → read.1 ≡ read.0 → after.1 ≡ write.0 → new ≡ mid → Wrote ran asked trace j done
   done_wrote None done works reads writes same = absurd works.0
-  done_wrote (Some (Replay how seed replies)) done works reads writes same =
-      let lacks = list_any lacks_memory j.items in
-      let has = is_refused trace j in
-      let took : TookAll ran (Some (Replay how seed replies)) trace j (done_status trace j) = record {
-        text = text_in replies trace j;
-        line = [];
-        text_is = refl;
-        line_is = done_line ran j lacks has works.0.0.1;
-        taken = rw (same, append-nil (text_in replies trace j)) works.1;
-        reads = done_reads ran lacks has reads;
-        writes = writes;
-      } in
-      rw works.0.1 (whole ran (Some (Replay how seed replies)) trace j (done_status trace j) (done_apart lacks has) took)
+  done_wrote (Some (Replay how seed replies)) done works reads writes same = rw works.0.1 (all_wrote (Some (Replay how seed replies)) replies refl works.0.0.1 works.1 reads writes same)
   done_wrote (Some (Layout spec cpus)) done works reads writes same =
       let p = works.0 in
       let took : TookAll ran (Some (Layout spec cpus)) trace j (answer_status p.0) = record {
@@ -273,7 +326,7 @@ module _ (words : List (List ℕ)) (told left old mid new : Option (List ℕ)) (
         writes = writes;
       } in
       rw p.2 (whole ran (Some (Layout spec cpus)) trace j (answer_status p.0) (answer_apart p.0) took)
-  done_wrote (Some (Load m events workers)) done works reads writes same = absurd works
+  done_wrote (Some (Load m events workers)) done works reads writes same = rw works.0.1 (all_wrote (Some (Load m events workers)) false refl works.0.0.1 works.1 reads writes same)
 
   -- where a stop's line was written; the stop may be a write fault
   line_wrote : (asked : Option Command) (e : Stop) (status : Status) → status ≡ stop_status e → Works worked asked trace j (Err e)
@@ -291,6 +344,8 @@ module _ (words : List (List ℕ)) (told left old mid new : Option (List ℕ)) (
       rw same (whole ran asked trace j ReadFault (λ h. cc) (stop_told asked stop.ReadFault ReadFault refl (λ h. cc) works reads (still ∙ writes) wrote))
   line_wrote asked stop.NoMemory status same works reads writes still wrote =
       rw same (whole ran asked trace j NoMemory (λ h. cc) (stop_told asked stop.NoMemory NoMemory refl (λ h. cc) works reads (still ∙ writes) wrote))
+  line_wrote asked stop.TurnsSpent status same works reads writes still wrote =
+      rw same (whole ran asked trace j TurnsSpent (λ h. cc) (stop_told asked stop.TurnsSpent TurnsSpent refl (λ h. cc) works reads (still ∙ writes) wrote))
 
   -- ---- the cause
 
@@ -298,13 +353,14 @@ module _ (words : List (List ℕ)) (told left old mid new : Option (List ℕ)) (
   write_cause None stop.WriteFault counts more h = absurd h.0
   write_cause (Some (Replay how seed replies)) stop.WriteFault counts more h = rose_then write.0 write.1 after.1 counts more h.0.1
   write_cause (Some (Layout spec cpus)) stop.WriteFault counts more h = let p = h.0 in (rose_then write.0 write.1 after.1 counts more p.2, h.1)
-  write_cause (Some (Load m events workers)) stop.WriteFault counts more h = absurd h
+  write_cause (Some (Load m events workers)) stop.WriteFault counts more h = rose_then write.0 write.1 after.1 counts more h.0.1
   write_cause asked stop.BadWords counts more h = stop_cause asked stop.BadWords (λ h. cc) h
   write_cause asked (stop.BadLine text) counts more h = stop_cause asked (stop.BadLine text) (λ h. cc) h
   write_cause asked stop.NotBuilt counts more h = stop_cause asked stop.NotBuilt (λ h. cc) h
   write_cause asked stop.TooLong counts more h = stop_cause asked stop.TooLong (λ h. cc) h
   write_cause asked stop.ReadFault counts more h = stop_cause asked stop.ReadFault (λ h. cc) h
   write_cause asked stop.NoMemory counts more h = stop_cause asked stop.NoMemory (λ h. cc) h
+  write_cause asked stop.TurnsSpent counts more h = stop_cause asked stop.TurnsSpent (λ h. cc) h
 
   -- a write fault after a stop has its row
   faulted : (asked : Option Command) (e : Stop) → Rose write.0 after.1 → Works worked asked trace j (Err e) → IsCauseOf ran asked trace j WriteFault
@@ -313,14 +369,15 @@ module _ (words : List (List ℕ)) (told left old mid new : Option (List ℕ)) (
   faulted None _ rose h = absurd h.0
   faulted (Some (Replay how seed replies)) e rose h = rose
   faulted (Some (Layout spec cpus)) e rose h = (rose, h.1)
-  faulted (Some (Load m events workers)) e rose h = absurd h
+  faulted (Some (Load m events workers)) e rose h = rose
 
   done_has_cause : (asked : Option Command) (done : Status) → Works worked asked trace j (Ok done) → IsCauseOf ran asked trace j done
   done_has_cause None done works = absurd works.0
   done_has_cause (Some (Replay how seed replies)) done works =
-      rw works.0.1 (done_cause ran trace j (list_any lacks_memory j.items) (is_refused trace j) refl works.0.0)
+      rw works.0.1 (replay_cause ran (way_of how seed) trace j (done_status trace j) (done_cause ran (way_of how seed) trace j (list_any lacks_memory j.items) (is_refused trace j) refl works.0.0))
   done_has_cause (Some (Layout spec cpus)) done works = let p = works.0 in (rw p.2 (answer_cause ran spec cpus p.0 p.1), works.1)
-  done_has_cause (Some (Load m events workers)) done works = absurd works
+  done_has_cause (Some (Load m events workers)) done works =
+      rw works.0.1 (done_cause ran (Schedule m) trace j (list_any lacks_memory j.items) (is_refused trace j) refl works.0.0)
 
   -- ---- the run
 
@@ -332,18 +389,24 @@ module _ (words : List (List ℕ)) (told left old mid new : Option (List ℕ)) (
     is_asked = all.is_asked;
     cause = rw ends.0 (done_has_cause all.asked done all.works);
     wrote = rw ends.0 (done_wrote all.asked done all.works reads (ends.2 ∙ same ∙ writes) ends.1);
+    lawful = all.lawful;
+    over = over ran all.asked trace j all.lawful;
   }
   run_ends (Err e) status counts same more reads writes all (inl (is, wrote, still)) = record {
     asked = all.asked;
     is_asked = all.is_asked;
     cause = rw is (write_cause all.asked e counts (omega arith) all.works);
     wrote = line_wrote all.asked e status is all.works reads writes (still ∙ same) wrote;
+    lawful = all.lawful;
+    over = over ran all.asked trace j all.lawful;
   }
   run_ends (Err e) status counts same more reads writes all (inr (is, rose, wrote)) = record {
     asked = all.asked;
     is_asked = all.is_asked;
     cause = rw is (faulted all.asked e (rose_from write.0 after.0 after.1 (omega arith) rose) all.works);
     wrote = rw is (cut all.asked e all.works reads wrote);
+    lawful = all.lawful;
+    over = over ran all.asked trace j all.lawful;
   }
 
 -- ---- corollaries of the table
@@ -389,14 +452,32 @@ told_apart None trace bad spells built = absurd bad
 told_apart (Some bytes) trace bad spells built = bad_apart bytes bad trace spells built
 
 -- where a trace was read, the bytes are no bad ones
-read_bad : (c : Call) (trace : Option Trace) (j : Journal) → IsJournalOf c trace j → IsSome trace → IsSomeAnd c.told IsBadBytes → ⊥
-read_bad c None j law some bad = false≢true some
-read_bad c (Some trace) j law some bad = told_apart c.told trace bad law.spelled law.built
+read_bad : (c : Call) (way : Way) (trace : Option Trace) (j : Journal) → IsReplayJournal c way trace j → IsSome trace → IsSomeAnd c.told IsBadBytes → ⊥
+read_bad c way None j law some bad = false≢true some
+read_bad c way (Some trace) j law some bad = told_apart c.told trace bad law.spelled law.built
 
--- a replay whose status is that something was refused did not lack memory
-not_wanting : (trace : Option Trace) (j : Journal) → IsWant trace j → IsDone trace j → done_status trace j ≡ Refused → ⊥
-not_wanting trace j (inl none) done is = none_some j.total none done.1
-not_wanting trace j (inr wanting) done is = let e : Refused ≡ NoMemory = sym is ∙ wanting.1 in cc
+-- where a round's turns are spent there is a trace
+spent_some : (way : Way) (trace : Option Trace) (j : Journal) → SpendsNextRound way trace j → IsSome trace
+spent_some way None j spent = absurd spent.0
+spent_some way (Some trace) j spent = refl
+
+-- in the order of the text there are no turns
+no_turns : (m : MachineState) (it : Item) → ItemSpendsTurns Serial m it → ⊥
+no_turns m (item.Round round) spent = spent
+no_turns m _ spent = spent
+
+none_spent : (m : MachineState) (found : Option Item) → MatchOption found ⊥ (λ it. ItemSpendsTurns Serial m it) → ⊥
+none_spent m None spent = spent
+none_spent m (Some it) spent = no_turns m it spent
+
+not_spent : (trace : Option Trace) (j : Journal) → SpendsNextRound Serial trace j → ⊥
+not_spent None j spent = absurd spent.0
+not_spent (Some trace) j spent = let ends : EndsSpent Serial trace j = spent.0 in none_spent ends.0.machine (slice_get trace.items (length j.items)) ends.1
+
+-- a run that lacks memory did not do every item, or a reply tells of it
+wanting : (trace : Option Trace) (j : Journal) → IsWant trace j → IsDone trace j → NoMemory ≡ done_status trace j
+wanting trace j (inl none) done = absurd (none_some j.total none done.1)
+wanting trace j (inr wants) done = sym wants.1
 
 -- an answer for the layout that the words ask for
 moved : (words : List (List ℕ)) (spec want : Spec) (cpus on : ℕ) (answer : Result SlabLayout LayoutRefusal) → IsCommand words (Layout spec cpus) → IsCommand words (Layout want on) → IsLayoutAnswer spec cpus answer → IsLayoutAnswer want on answer
@@ -405,52 +486,82 @@ moved words spec want cpus on answer asked asks is =
     subst (λ n. IsLayoutAnswer want n answer) p.1 (subst (λ s. IsLayoutAnswer s cpus answer) p.0 is)
 
 -- a replay whose input is bad, and neither of whose ends failed, ends so
-bad_trace : (c : Call) (trace : Option Trace) (j : Journal) (asked : Option Command) (status : Status) → IsAsked c.words asked → IsCauseOf c asked trace j status → IsJournalOf c trace j
+bad_trace : (c : Call) (trace : Option Trace) (j : Journal) (asked : Option Command) (status : Status) → IsAsked c.words asked → IsCauseOf c asked trace j status → IsJournalOf c asked trace j
     → AsksReplay c.words → IsSomeAnd c.told IsBadBytes → NoFault c → (status ≡ BadTrace) ⊎ (status ≡ NoMemory)
-bad_trace c trace j None BadWords asked cause law asks bad sound = absurd (cause.0 (Replay Serial asks.0 asks.1) (asks.2, refl))
+bad_trace c trace j None BadWords asked cause law asks bad sound = absurd (cause.0 (Replay asks.0 asks.1 asks.2) asks.3)
 bad_trace c trace j None WriteFault asked cause law asks bad sound = absurd (sound.writes cause.0)
 bad_trace c trace j None NoMemory asked cause law asks bad sound = inr refl
 bad_trace c trace j None _ asked cause law asks bad sound = absurd cause.0
-bad_trace c trace j (Some (Replay how seed replies)) Fine asked cause law asks bad sound = absurd (read_bad c trace j law cause.0.0 bad)
-bad_trace c trace j (Some (Replay how seed replies)) Refused asked cause law asks bad sound = absurd (read_bad c trace j law cause.0.0 bad)
+bad_trace c trace j (Some (Replay how seed replies)) Fine asked cause law asks bad sound = absurd (read_bad c (way_of how seed) trace j law cause.0.0 bad)
+bad_trace c trace j (Some (Replay how seed replies)) Refused asked cause law asks bad sound = absurd (read_bad c (way_of how seed) trace j law cause.0.0 bad)
 bad_trace c trace j (Some (Replay how seed replies)) BadTrace asked cause law asks bad sound = inl refl
 bad_trace c trace j (Some (Replay how seed replies)) ReadFault asked cause law asks bad sound = absurd (sound.reads cause.0)
 bad_trace c trace j (Some (Replay how seed replies)) WriteFault asked cause law asks bad sound = absurd (sound.writes cause)
 bad_trace c trace j (Some (Replay how seed replies)) NoMemory asked cause law asks bad sound = inr refl
+bad_trace c trace j (Some (Replay how seed replies)) TurnsSpent asked cause law asks bad sound = absurd (read_bad c (way_of how seed) trace j law (spent_some (way_of how seed) trace j cause) bad)
 bad_trace c trace j (Some (Replay how seed replies)) _ asked cause law asks bad sound = absurd cause
-bad_trace c trace j (Some (Layout spec cpus)) status asked cause law asks bad sound = absurd (replay_apart c.words Serial asks.0 asks.1 spec cpus asks.2 asked.0)
-bad_trace c trace j (Some (Load m events workers)) status asked cause law asks bad sound = absurd cause
+bad_trace c trace j (Some (Layout spec cpus)) status asked cause law asks bad sound = absurd (replay_apart c.words asks.0 asks.1 asks.2 spec cpus asks.3.0 asked.0)
+bad_trace c trace j (Some (Load m events workers)) status asked cause law asks bad sound = absurd (load_apart c.words asks.0 asks.1 asks.2 m events workers asks.3.0 asked.0)
 
--- where everything of a replay was done, the status is that of what was done
-refused : (c : Call) (trace : Option Trace) (j : Journal) (asked : Option Command) (status : Status) → IsCauseOf c asked trace j status
-    → IsDone trace j → done_status trace j ≡ Refused → (Rose c.write.0 c.write.1 → ⊥) → status ≡ Refused
-refused c trace j None status cause done is no_write = absurd (none_some trace cause.1 done.0)
-refused c trace j (Some (Replay how seed replies)) Fine cause done is no_write = sym cause.1 ∙ is
-refused c trace j (Some (Replay how seed replies)) Refused cause done is no_write = refl
-refused c trace j (Some (Replay how seed replies)) BadTrace cause done is no_write = absurd (none_some trace cause.1 done.0)
-refused c trace j (Some (Replay how seed replies)) ReadFault cause done is no_write = absurd (none_some trace cause.1 done.0)
-refused c trace j (Some (Replay how seed replies)) WriteFault cause done is no_write = absurd (no_write cause)
-refused c trace j (Some (Replay how seed replies)) NoMemory cause done is no_write = absurd (not_wanting trace j cause done is)
-refused c trace j (Some (Replay how seed replies)) _ cause done is no_write = absurd cause
-refused c trace j (Some (Layout spec cpus)) status cause done is no_write = absurd (none_some trace cause.1 done.0)
-refused c trace j (Some (Load m events workers)) status cause done is no_write = absurd cause
+-- where every item of a trace was done, the status is that of what was done
+load_done : (c : Call) (way : Way) (trace : Option Trace) (j : Journal) (status : Status) → IsLoadCause c way trace j status → IsDone trace j → (Rose c.write.0 c.write.1 → ⊥) → status ≡ done_status trace j
+load_done c way trace j Fine cause done no_write = sym cause.1
+load_done c way trace j Refused cause done no_write = sym cause.1
+load_done c way trace j WriteFault cause done no_write = absurd (no_write cause)
+load_done c way trace j NoMemory cause done no_write = wanting trace j cause done
+load_done c way trace j TurnsSpent cause done no_write = absurd (none_some j.total cause.1 done.1)
+load_done c way trace j _ cause done no_write = absurd cause
 
--- a replay of a trace, neither of whose ends failed, did everything or lacked memory
+all_done : (c : Call) (trace : Option Trace) (j : Journal) (asked : Option Command) (status : Status) → IsCauseOf c asked trace j status
+    → IsDone trace j → (Rose c.write.0 c.write.1 → ⊥) → status ≡ done_status trace j
+all_done c trace j None status cause done no_write = absurd (none_some trace cause.1 done.0)
+all_done c trace j (Some (Replay how seed replies)) BadTrace cause done no_write = absurd (none_some trace cause.1 done.0)
+all_done c trace j (Some (Replay how seed replies)) ReadFault cause done no_write = absurd (none_some trace cause.1 done.0)
+all_done c trace j (Some (Replay how seed replies)) status cause done no_write = load_done c (way_of how seed) trace j status cause done no_write
+all_done c trace j (Some (Layout spec cpus)) status cause done no_write = absurd (none_some trace cause.1 done.0)
+all_done c trace j (Some (Load m events workers)) status cause done no_write = load_done c (Schedule m) trace j status cause done no_write
+
+-- where no write failed, every item of a load was done, or it was cut
+load_complete : (c : Call) (way : Way) (trace : Option Trace) (j : Journal) (status : Status) → IsLoadCause c way trace j status → (Rose c.write.0 c.write.1 → ⊥) → (status ≡ done_status trace j) ⊎ (status ≡ NoMemory) ⊎ (status ≡ TurnsSpent)
+load_complete c way trace j Fine cause no_write = inl (sym cause.1)
+load_complete c way trace j Refused cause no_write = inl (sym cause.1)
+load_complete c way trace j WriteFault cause no_write = absurd (no_write cause)
+load_complete c way trace j NoMemory cause no_write = inr (inl refl)
+load_complete c way trace j TurnsSpent cause no_write = inr (inr refl)
+load_complete c way trace j _ cause no_write = absurd cause
+
+-- a replay of a trace, neither of whose ends failed, did everything, or it was cut
 complete : (c : Call) (trace : Option Trace) (j : Journal) (asked : Option Command) (status : Status) → IsAsked c.words asked → IsCauseOf c asked trace j status
-    → AsksReplay c.words → IsSomeAnd c.told IsSomeTrace → NoFault c → (status ≡ done_status trace j) ⊎ (status ≡ NoMemory)
-complete c trace j None BadWords asked cause asks good sound = absurd (cause.0 (Replay Serial asks.0 asks.1) (asks.2, refl))
+    → AsksReplay c.words → IsSomeAnd c.told IsSomeTrace → NoFault c → (status ≡ done_status trace j) ⊎ (status ≡ NoMemory) ⊎ (status ≡ TurnsSpent)
+complete c trace j None BadWords asked cause asks good sound = absurd (cause.0 (Replay asks.0 asks.1 asks.2) asks.3)
 complete c trace j None WriteFault asked cause asks good sound = absurd (sound.writes cause.0)
-complete c trace j None NoMemory asked cause asks good sound = inr refl
+complete c trace j None NoMemory asked cause asks good sound = inr (inl refl)
 complete c trace j None _ asked cause asks good sound = absurd cause.0
-complete c trace j (Some (Replay how seed replies)) Fine asked cause asks good sound = inl (sym cause.1)
-complete c trace j (Some (Replay how seed replies)) Refused asked cause asks good sound = inl (sym cause.1)
 complete c trace j (Some (Replay how seed replies)) BadTrace asked cause asks good sound = absurd (good_input c good cause.0)
 complete c trace j (Some (Replay how seed replies)) ReadFault asked cause asks good sound = absurd (sound.reads cause.0)
-complete c trace j (Some (Replay how seed replies)) WriteFault asked cause asks good sound = absurd (sound.writes cause)
-complete c trace j (Some (Replay how seed replies)) NoMemory asked cause asks good sound = inr refl
-complete c trace j (Some (Replay how seed replies)) _ asked cause asks good sound = absurd cause
-complete c trace j (Some (Layout spec cpus)) status asked cause asks good sound = absurd (replay_apart c.words Serial asks.0 asks.1 spec cpus asks.2 asked.0)
-complete c trace j (Some (Load m events workers)) status asked cause asks good sound = absurd cause
+complete c trace j (Some (Replay how seed replies)) status asked cause asks good sound = load_complete c (way_of how seed) trace j status cause sound.writes
+complete c trace j (Some (Layout spec cpus)) status asked cause asks good sound = absurd (replay_apart c.words asks.0 asks.1 asks.2 spec cpus asks.3.0 asked.0)
+complete c trace j (Some (Load m events workers)) status asked cause asks good sound = absurd (load_apart c.words asks.0 asks.1 asks.2 m events workers asks.3.0 asked.0)
+
+-- so is a load
+load : (c : Call) (trace : Option Trace) (j : Journal) (asked : Option Command) (status : Status) → IsAsked c.words asked → IsCauseOf c asked trace j status → (seed events workers : ℕ)
+    → IsCommand c.words (Load seed events workers) → (Rose c.write.0 c.write.1 → ⊥) → (status ≡ done_status trace j) ⊎ (status ≡ NoMemory) ⊎ (status ≡ TurnsSpent)
+load c trace j None BadWords asked cause seed events workers asks no_write = absurd (cause.0 (Load seed events workers) (asks, tt))
+load c trace j None WriteFault asked cause seed events workers asks no_write = absurd (no_write cause.0)
+load c trace j None NoMemory asked cause seed events workers asks no_write = inr (inl refl)
+load c trace j None _ asked cause seed events workers asks no_write = absurd cause.0
+load c trace j (Some (Replay how n replies)) status asked cause seed events workers asks no_write = absurd (load_apart c.words how n replies seed events workers asked.0 asks)
+load c trace j (Some (Layout spec cpus)) status asked cause seed events workers asks no_write = absurd (layout_apart c.words spec cpus seed events workers asked.0 asks)
+load c trace j (Some (Load m more crew)) status asked cause seed events workers asks no_write = load_complete c (Schedule m) trace j status cause no_write
+
+-- a replay in the order of the text has no turns that could be spent
+serial : (c : Call) (trace : Option Trace) (j : Journal) (asked : Option Command) → IsAsked c.words asked → IsCauseOf c asked trace j TurnsSpent → (seed : ℕ) (replies : Bool)
+    → IsCommand c.words (Replay hows.Serial seed replies) → ⊥
+serial c trace j None asked cause seed replies asks = cause.0
+serial c trace j (Some (Replay how n told)) asked cause seed replies asks =
+    not_spent trace j (subst (λ h. SpendsNextRound (way_of h n) trace j) (same_replay c.words how hows.Serial n seed told replies asked.0 asks) cause)
+serial c trace j (Some (Layout spec cpus)) asked cause seed replies asks = cause.0
+serial c trace j (Some (Load m events workers)) asked cause seed replies asks = load_apart c.words hows.Serial seed replies m events workers asks asked.0
 
 -- but for a write fault and want of memory, a run ends as one of bad words exactly where the words are no command that is run
 bad_words : (c : Call) (trace : Option Trace) (j : Journal) (asked : Option Command) (status : Status) → IsAsked c.words asked → IsCauseOf c asked trace j status
@@ -463,7 +574,8 @@ bad_words c trace j (Some (Replay how seed replies)) BadWords asked cause apart 
 bad_words c trace j (Some (Replay how seed replies)) _ asked cause apart wanting = (λ h. absurd (let never : ⊥ = cc in never), λ bad. absurd (bad (Replay how seed replies) asked))
 bad_words c trace j (Some (Layout spec cpus)) BadWords asked cause apart wanting = absurd cause.0
 bad_words c trace j (Some (Layout spec cpus)) _ asked cause apart wanting = (λ h. absurd (let never : ⊥ = cc in never), λ bad. absurd (bad (Layout spec cpus) asked))
-bad_words c trace j (Some (Load m events workers)) status asked cause apart wanting = absurd cause
+bad_words c trace j (Some (Load m events workers)) BadWords asked cause apart wanting = absurd cause
+bad_words c trace j (Some (Load m events workers)) _ asked cause apart wanting = (λ h. absurd (let never : ⊥ = cc in never), λ bad. absurd (bad (Load m events workers) asked))
 
 -- a layout that did not fail to be written ends with the status of its answer, or lacked memory
 layout : (c : Call) (trace : Option Trace) (j : Journal) (asked : Option Command) (status : Status) → IsAsked c.words asked → IsCauseOf c asked trace j status → (want : Spec) (on : ℕ)
@@ -478,30 +590,18 @@ layout c trace j (Some (Layout spec cpus)) Refused asked cause want on asks no_w
 layout c trace j (Some (Layout spec cpus)) WriteFault asked cause want on asks no_write = absurd (no_write cause.0)
 layout c trace j (Some (Layout spec cpus)) NoMemory asked cause want on asks no_write = inl refl
 layout c trace j (Some (Layout spec cpus)) _ asked cause want on asks no_write = absurd cause.0
-layout c trace j (Some (Load m events workers)) status asked cause want on asks no_write = absurd cause
-
--- ---- what holds over a whole replay
-
-over : (c : Call) (trace : Option Trace) (journal : Journal) → IsJournalOf c trace journal → IfSome trace (λ trace. HoldsOver trace journal)
-over c None journal law = tt
-over c (Some trace) journal law = record {
-  given_once = λ object. given_once trace journal law.sound law.lawful object;
-  freed_once = λ object. freed_was_given trace journal law.sound law.lawful object;
-  balance = given_is_live trace journal law.sound law.lawful;
-  rounds = lawful-rounds trace journal law.sound law.lawful;
-  damages = poked-damages trace journal law.sound law.lawful;
-}
+layout c trace j (Some (Load m events workers)) status asked cause want on asks no_write = absurd (layout_apart c.words want on m events workers asks asked.0)
 
 -- ---- the whole promise
 
-pub promise : (c : Call) (outcome : Outcome) → Ends c outcome.trace outcome.journal outcome.status → IsJournalOf c outcome.trace outcome.journal → IsRunOf c outcome
-promise c outcome ends law = record {
+pub promise : (c : Call) (outcome : Outcome) → Ends c outcome.trace outcome.journal outcome.status → IsRunOf c outcome
+promise c outcome ends = record {
   ends = ends;
-  lawful = law;
-  over = over c outcome.trace outcome.journal law;
   bad_words = λ apart wanting. bad_words c outcome.trace outcome.journal ends.asked outcome.status ends.is_asked ends.cause apart wanting;
-  bad_trace = λ asks bad sound. bad_trace c outcome.trace outcome.journal ends.asked outcome.status ends.is_asked ends.cause law asks bad sound;
+  bad_trace = λ asks bad sound. bad_trace c outcome.trace outcome.journal ends.asked outcome.status ends.is_asked ends.cause ends.lawful asks bad sound;
   complete = λ asks good sound. complete c outcome.trace outcome.journal ends.asked outcome.status ends.is_asked ends.cause asks good sound;
-  refused = λ asks done is no_write. refused c outcome.trace outcome.journal ends.asked outcome.status ends.cause done is no_write;
+  serial = λ seed replies asks is. serial c outcome.trace outcome.journal ends.asked ends.is_asked (subst (λ status. IsCauseOf c ends.asked outcome.trace outcome.journal status) is ends.cause) seed replies asks;
+  load = λ seed events workers asks no_write. load c outcome.trace outcome.journal ends.asked outcome.status ends.is_asked ends.cause seed events workers asks no_write;
+  done = λ done no_write. all_done c outcome.trace outcome.journal ends.asked outcome.status ends.cause done no_write;
   layout = λ spec cpus asks no_write. layout c outcome.trace outcome.journal ends.asked outcome.status ends.is_asked ends.cause spec cpus asks no_write;
 }

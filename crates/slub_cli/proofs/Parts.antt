@@ -1,5 +1,5 @@
 -- What the parts of the work promise, from what their calls do.
-use Rattle.std.proofs.Common.{◌≡◌, ℕ, List, Bool, None, Ok, Err, Result, refl, sym, ◌∙◌, inl, inr, false, subst}
+use Rattle.std.proofs.Common.{◌≡◌, ℕ, List, Bool, Some, None, Ok, Err, Result, refl, sym, ◌∙◌, inl, inr, false, subst}
 use Rattle.std.specs.Prelude.{Option, IfOk, IsOk, IsErrOf, IsTrue}
 use Rattle.std.proofs.KnownBytes.{Appends-nil}
 use Rattle.std.proofs.lemmas.Bool.{false≢true}
@@ -15,11 +15,20 @@ use Rattle.slub_trace_reader.specs.Reads.{Reads}
 use Rattle.slub_journal.specs.declared.journal.Journal.{Journal}
 use Rattle.slub_journal.specs.Journal.{IsEmpty}
 use Rattle.slub_cli.specs.declared.stop.Stop.{Stop}
-use Rattle.slub_cli.specs.declared.stop.Stop.TheVariants.{BadWords, BadLine, NotBuilt, TooLong, ReadFault, WriteFault, NoMemory}
+use Rattle.slub_cli.specs.declared.stop.Stop.TheVariants.{BadWords, BadLine, NotBuilt, TooLong, ReadFault, WriteFault, NoMemory, TurnsSpent}
 use Rattle.slub_cli.specs.declared.status.Status.{Status}
-use Rattle.slub_cli.specs.Run.{Call, IsLayoutAnswer}
-use Rattle.slub_cli.specs.Inner.{IsReadStop, Replayed, Replays, StopsAtReadFault, TookText}
-use Rattle.slub_cli.specs.Stop.{IsStopOf}
+use Rattle.slub_trace_reader.specs.Sound.{IsSound}
+use Rattle.slub_load.specs.Load.{load_of}
+use Rattle.slub_journal.specs.Lawful.{IsBuilt}
+use Rattle.slub_ways.specs.declared.way.Way.{Way}
+use Rattle.slub_ways.specs.declared.way.Way.TheVariants.{Schedule}
+use Rattle.slub_ways.specs.Runs.{IsLawful, MachineState}
+use Rattle.slub_items.specs.declared.machine.Stopped.{Stopped}
+use Rattle.slub_items.specs.declared.machine.Stopped.TheVariants as stopped
+use Rattle.slub_items.specs.Stopped.{IsStopped}
+use Rattle.slub_cli.specs.Run.{Call, IsLayoutAnswer, IsLoadOf}
+use Rattle.slub_cli.specs.Inner.{DoesItem, IsItemStop, IsReadStop, Loads, Replayed, Replays, StopsAtReadFault, StopsAtWriteFault, StopsSpent, Tells, TookText}
+use Rattle.slub_cli.specs.Stop.{IsStopOf, item_stop}
 
 -- a fault of the reader stops the reading
 pub read_stop : (told left : Option (List ℕ)) (read : ℕ × ℕ) (why : TraceFault) (e : Stop) → Reads told left read.0 read.1 (Err why) → IsStopOf why e → IsReadStop told left read e
@@ -38,14 +47,15 @@ read_stop_faults told left old new (fault.BadLine line why) e reads (inr (text, 
 read_stop_faults told left old new fault.NoMemory e reads is = rw is reads
 
 -- a replay for which no trace was read came to that stop
-unread_end : (c : Call) (trace : Option Trace) (j : Journal) (e : Stop) → IsReadStop c.told c.left c.read e → trace ≡ None → j.total ≡ None → Replays c trace j (Err e)
-unread_end c trace j BadWords h unread none = absurd h
-unread_end c trace j (BadLine text) h unread none = (unread, h.0, h.1, h.2, (h.3, h.4))
-unread_end c trace j NotBuilt h unread none = (unread, h)
-unread_end c trace j TooLong h unread none = (unread, h)
-unread_end c trace j ReadFault h unread none = (unread, h)
-unread_end c trace j WriteFault h unread none = absurd h
-unread_end c trace j NoMemory h unread none = none
+unread_end : (c : Call) (way : Way) (trace : Option Trace) (j : Journal) (e : Stop) → IsReadStop c.told c.left c.read e → trace ≡ None → j.total ≡ None → Replays c way trace j (Err e)
+unread_end c way trace j BadWords h unread none = absurd h
+unread_end c way trace j (BadLine text) h unread none = (unread, h.0, h.1, h.2, (h.3, h.4))
+unread_end c way trace j NotBuilt h unread none = (unread, h)
+unread_end c way trace j TooLong h unread none = (unread, h)
+unread_end c way trace j ReadFault h unread none = (unread, h)
+unread_end c way trace j WriteFault h unread none = absurd h
+unread_end c way trace j NoMemory h unread none = none
+unread_end c way trace j TurnsSpent h unread none = absurd h
 
 -- and nothing was written
 unread_told : (replies : Bool) (old : Option (List ℕ)) (trace : Option Trace) (j : Journal) (told left : Option (List ℕ)) (read : ℕ × ℕ) (e : Stop) → IsReadStop told left read e → trace ≡ None → TookText {A = Status} replies old old trace j (Err e)
@@ -56,12 +66,50 @@ unread_told replies old trace j told left read NotBuilt h unread = rw unread (Ap
 unread_told replies old trace j told left read TooLong h unread = rw unread (Appends-nil old)
 unread_told replies old trace j told left read ReadFault h unread = rw unread (Appends-nil old)
 unread_told replies old trace j told left read NoMemory h unread = rw unread (Appends-nil old)
+unread_told replies old trace j told left read TurnsSpent h unread = absurd h
 
-pub unread_replays : (c : Call) (replies : Bool) (trace : Option Trace) (j : Journal) (e : Stop) → IsReadStop c.told c.left c.read e → c.new ≡ c.old → trace ≡ None → IsEmpty j → Replayed c replies trace j (Err e)
-unread_replays c replies trace j e h same unread empty = record {
-  end = unread_end c trace j e h unread empty.total;
+pub unread_replays : (c : Call) (way : Way) (replies : Bool) (trace : Option Trace) (j : Journal) (e : Stop) → IsReadStop c.told c.left c.read e → c.new ≡ c.old → trace ≡ None → IsEmpty j → Replayed c way replies trace j (Err e)
+unread_replays c way replies trace j e h same unread empty = record {
+  end = unread_end c way trace j e h unread empty.total;
   lawful = rw unread empty;
   told = subst (λ (new : Option (List ℕ)). TookText {A = Status} replies c.old new trace j (Err e)) (sym same) (unread_told replies c.old trace j c.told c.left c.read e h unread);
+}
+
+-- a trace that was done came to that stop
+pub trace_stop : (write : ℕ × ℕ) (way : Way) (trace : Trace) (j : Journal) (e : Stop) → IsItemStop write.0 write.1 j e → StopsSpent {A = Unit {0}} way trace j (Err e) → Loads write way (Some trace) j (Err e)
+trace_stop write way trace j WriteFault stops spent = (refl, stops)
+trace_stop write way trace j NoMemory stops spent = stops
+trace_stop write way trace j TurnsSpent stops spent = (spent, stops)
+trace_stop write way trace j _ stops spent = absurd stops
+
+-- whatever it was to give
+pub faults_as : (A B : Type 0) (old new : ℕ) (e : Stop) → StopsAtWriteFault {A = A} old new (Err e) → StopsAtWriteFault {A = B} old new (Err e)
+faults_as A B old new WriteFault h = h
+faults_as A B old new _ h = h
+
+pub spent_as : (A B : Type 0) (way : Way) (trace : Trace) (j : Journal) (e : Stop) → StopsSpent {A = A} way trace j (Err e) → StopsSpent {A = B} way trace j (Err e)
+spent_as A B way trace j TurnsSpent h = h
+spent_as A B way trace j _ h = h
+
+-- so did its replay
+pub replay_stop : (c : Call) (way : Way) (trace : Option Trace) (j : Journal) (e : Stop) → Loads c.write way trace j (Err e) → Replays c way trace j (Err e)
+replay_stop c way trace j WriteFault h = h
+replay_stop c way trace j NoMemory h = h
+replay_stop c way trace j TurnsSpent h = h
+replay_stop c way trace j _ h = absurd h
+
+-- a load is one that is replayed today
+load_built : (seed events workers : ℕ) → IsBuilt (load_of seed events workers)
+unfolding load_of
+load_built seed events workers = refl
+
+-- what was made is the load, and the journal is lawful for it
+pub made_load : (seed events workers : ℕ) (trace : Trace) (j : Journal) → trace ≡ load_of seed events workers → IsSound trace → IsLawful (Schedule seed) trace j → IsLoadOf seed events workers trace j
+made_load seed events workers trace j is sound lawful = record {
+  made = is;
+  sound = sound;
+  built = subst IsBuilt (sym is) (load_built seed events workers);
+  lawful = lawful;
 }
 
 -- what a call of the layout answers is the layout, or why there is none
@@ -71,6 +119,25 @@ answered spec cpus (Ok layout) solved accepted size align flags = (accepted refl
 answered spec cpus (Err refusal.BadSize) solved accepted size align flags = size refl
 answered spec cpus (Err refusal.BadAlign) solved accepted size align flags = align refl
 answered spec cpus (Err refusal.BadFlags) solved accepted size align flags = flags refl
+
+-- an item that was not done leaves the journal
+pub not_done : (way : Way) (m : MachineState) (trace : Trace) (number : ℕ) (j : Journal) (e : Stopped) → IsStopped way m trace number e → DoesItem way m trace number j j (Err (item_stop e))
+not_done way m trace number j (stopped.NoMemory machine) is = record { items = refl; total = refl; machine = record { frames = refl; cpus = refl; tid = refl } }
+not_done way m trace number j stopped.TurnsSpent is = (record { items = refl; total = refl; machine = record { frames = refl; cpus = refl; tid = refl } }, is)
+
+-- and tells nothing
+pub not_told : (replies : Bool) (old : Option (List ℕ)) (trace : Trace) (j : Journal) (e : Stopped) → Tells {A = MachineState} replies old old trace j j (Err (item_stop e))
+not_told replies old trace j (stopped.NoMemory machine) = λ start h. h
+not_told replies old trace j stopped.TurnsSpent = λ start h. h
+
+-- and no write failed
+pub not_stopped : (faults : ℕ) (j : Journal) (e : Stopped) → j.total ≡ None → IsItemStop faults faults j (item_stop e)
+not_stopped faults j (stopped.NoMemory machine) none = none
+not_stopped faults j stopped.TurnsSpent none = none
+
+pub not_faulted : (faults : ℕ) (e : Stopped) → StopsAtWriteFault {A = MachineState} faults faults (Err (item_stop e))
+not_faulted faults (stopped.NoMemory machine) = refl
+not_faulted faults stopped.TurnsSpent = refl
 
 -- it is not both
 pub not_both : (b : Bool) → IsTrue b → b ≡ false → ⊥

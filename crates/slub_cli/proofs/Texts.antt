@@ -72,7 +72,7 @@ unfolding text_of
 empty_text replies trace journal no_items no_total = rw (no_items, no_total, items_text-none replies trace trace.items) refl
 
 -- more was told after more was told
-pub tells_then : (replies : Bool) (old mid new : Option (List ℕ)) (trace : Trace) (before middle after : Journal) (r : Result (Unit {0}) Stop) → GrowsText replies old mid trace before middle → Tells replies mid new trace middle after r → Tells replies old new trace before after r
+pub tells_then : {A : Type 0} (replies : Bool) (old mid new : Option (List ℕ)) (trace : Trace) (before middle after : Journal) (r : Result A Stop) → GrowsText replies old mid trace before middle → Tells replies mid new trace middle after r → Tells replies old new trace before after r
 tells_then replies old mid new trace before middle after (Err WriteFault) first more = λ start h. more start (first start h)
 tells_then replies old mid new trace before middle after _ first more = λ start h. more start (first start h)
 
@@ -80,3 +80,16 @@ tells_then replies old mid new trace before middle after _ first more = λ start
 pub took_of : (replies : Bool) (old new : Option (List ℕ)) (trace : Trace) (before after : Journal) (r : Result (Unit {0}) Stop) → text_of replies trace before ≡ [] → Tells replies old new trace before after r → TookText replies old new (Some trace) after r
 took_of replies old new trace before after (Err WriteFault) none tells = tells old (rw none (Appends-nil old))
 took_of replies old new trace before after _ none tells = tells old (rw none (Appends-nil old))
+
+-- where it stopped, whatever it was to give
+pub took_err : (A B : Type 0) (replies : Bool) (old new : Option (List ℕ)) (trace : Trace) (before after : Journal) (e : Stop) → text_of replies trace before ≡ [] → Tells {A = A} replies old new trace before after (Err e) → TookText {A = B} replies old new (Some trace) after (Err e)
+took_err A B replies old new trace before after WriteFault none tells = tells old (rw none (Appends-nil old))
+took_err A B replies old new trace before after _ none tells = tells old (rw none (Appends-nil old))
+
+pub took_as : (A B : Type 0) (replies : Bool) (old new : Option (List ℕ)) (trace : Option Trace) (after : Journal) (e : Stop) → TookText {A = A} replies old new trace after (Err e) → TookText {A = B} replies old new trace after (Err e)
+took_as A B replies old new trace after WriteFault took = took
+took_as A B replies old new trace after _ took = took
+
+pub tells_as : (A B : Type 0) (replies : Bool) (old new : Option (List ℕ)) (trace : Trace) (before after : Journal) (e : Stop) → Tells {A = A} replies old new trace before after (Err e) → Tells {A = B} replies old new trace before after (Err e)
+tells_as A B replies old new trace before after WriteFault tells = tells
+tells_as A B replies old new trace before after _ tells = tells

@@ -181,48 +181,42 @@ few_cpus (name ∷ words) spec cpus (named, p) = let a = says words spec cpus p 
 
 -- ---- the names
 
--- a replay is no layout, and neither is a making of a trace
+-- a replay is no layout, and neither is a load
 pub replay_apart : (words : List Word) (how : How) (seed : ℕ) (replies : Bool) (spec : Spec) (cpus : ℕ) → IsCommand words (Replay how seed replies) → IsCommand words (Layout spec cpus) → ⊥
 replay_apart [] how seed replies spec cpus p q = absurd p
 replay_apart (name ∷ words) how seed replies spec cpus (named, p) (again, q) = absurd (differ 114 108 refl (ap (λ l. get_or l 0 0) (sym named ∙ again)))
 
-load_apart : (words : List Word) (how : How) (seed : ℕ) (replies : Bool) (m events workers : ℕ) → IsCommand words (Replay how seed replies) → IsCommand words (Load m events workers) → ⊥
+pub load_apart : (words : List Word) (how : How) (seed : ℕ) (replies : Bool) (m events workers : ℕ) → IsCommand words (Replay how seed replies) → IsCommand words (Load m events workers) → ⊥
 load_apart [] how seed replies m events workers p q = absurd p
 load_apart (name ∷ words) how seed replies m events workers (named, p) (again, q) = absurd (differ 114 108 refl (ap (λ l. get_or l 0 0) (sym named ∙ again)))
 
-layout_apart : (words : List Word) (spec : Spec) (cpus m events workers : ℕ) → IsCommand words (Layout spec cpus) → IsCommand words (Load m events workers) → ⊥
+pub layout_apart : (words : List Word) (spec : Spec) (cpus m events workers : ℕ) → IsCommand words (Layout spec cpus) → IsCommand words (Load m events workers) → ⊥
 layout_apart [] spec cpus m events workers p q = absurd p
 layout_apart (name ∷ words) spec cpus m events workers (named, p) (again, q) = absurd (differ 97 111 refl (ap (λ l. get_or l 1 0) (sym named ∙ again)))
 
-same_replay : (words : List Word) (x y : How) (m n : ℕ) (b d : Bool) → IsCommand words (Replay x m b) → IsCommand words (Replay y n d) → x ≡ y
+pub same_replay : (words : List Word) (x y : How) (m n : ℕ) (b d : Bool) → IsCommand words (Replay x m b) → IsCommand words (Replay y n d) → x ≡ y
 same_replay [] x y m n b d p q = absurd p
 same_replay (name ∷ words) x y m n b d (named, p) (again, q) = one_how words x y m n b d p q
 
 -- where the command that the words spell is not run today, no other one is
-pub not_runnable : (words : List Word) (command : Command) → IsCommand words command → (IsRunnable command → ⊥) → AreBadWords words
-not_runnable words (Replay how seed replies) is not (Replay x n b) (asked, runs) = not (same_replay words how x seed n replies b is asked ∙ runs)
+not_runnable : (words : List Word) (command : Command) → IsCommand words command → (IsRunnable command → ⊥) → AreBadWords words
+not_runnable words (Replay how seed replies) is not (Replay x n b) (asked, runs) = not (λ threads. runs (sym (same_replay words how x seed n replies b is asked) ∙ threads))
 not_runnable words (Replay how seed replies) is not (Layout spec cpus) (asked, runs) = replay_apart words how seed replies spec cpus is asked
-not_runnable words (Replay how seed replies) is not (Load m events workers) (asked, runs) = absurd runs
+not_runnable words (Replay how seed replies) is not (Load m events workers) (asked, runs) = load_apart words how seed replies m events workers is asked
 not_runnable words (Layout spec cpus) is not other asking = absurd (not tt)
-not_runnable words (Load m events workers) is not (Replay x n b) (asked, runs) = load_apart words x n b m events workers asked is
-not_runnable words (Load m events workers) is not (Layout spec cpus) (asked, runs) = layout_apart words spec cpus m events workers asked is
-not_runnable words (Load m events workers) is not (Load n more crew) (asked, runs) = absurd runs
+not_runnable words (Load m events workers) is not other asking = absurd (not tt)
 
 -- ---- what was read
 
 -- the words ask for a replay that is run today
-pub replayed : (words : List Word) (command : Command) (how : How) (seed : ℕ) (replies : Bool) → IsCommand words command → command ≡ Replay how seed replies → how ≡ Serial → IsAsking words (Replay Serial seed replies)
-replayed words command how seed replies asked is serial = (subst (λ x. IsCommand words x) (is ∙ ap (λ h. Replay h seed replies) serial) asked, refl)
+pub replayed : (words : List Word) (command : Command) (how way : How) (seed : ℕ) (replies : Bool) → IsCommand words command → command ≡ Replay how seed replies → how ≡ way → (way ≡ Threads → ⊥) → IsAsking words (Replay way seed replies)
+replayed words command how way seed replies asked is same runs = (subst (λ x. IsCommand words x) (is ∙ ap (λ h. Replay h seed replies) same) asked, runs)
 
 -- the words ask for a replay that is not
-pub not_serial : (words : List Word) (command : Command) (how : How) (seed : ℕ) (replies : Bool) → IsCommand words command → command ≡ Replay how seed replies → (how ≡ Serial → ⊥) → AreBadWords words
-not_serial words command how seed replies asked is not = not_runnable words (Replay how seed replies) (subst (λ x. IsCommand words x) is asked) not
+pub by_threads : (words : List Word) (command : Command) (how : How) (seed : ℕ) (replies : Bool) → IsCommand words command → command ≡ Replay how seed replies → how ≡ Threads → AreBadWords words
+by_threads words command how seed replies asked is threads = not_runnable words (Replay how seed replies) (subst (λ x. IsCommand words x) is asked) (λ runs. runs threads)
 
--- the words ask for a trace to be made
-pub not_made : (words : List Word) (command : Command) (seed events workers : ℕ) → IsCommand words command → command ≡ Load seed events workers → AreBadWords words
-not_made words command seed events workers asked is = not_runnable words (Load seed events workers) (subst (λ x. IsCommand words x) is asked) (λ none. none)
-
--- a way that is another one is not that of the text
-pub other_how : (how : How) → (how ≡ Schedule) ⊎ (how ≡ Threads) → how ≡ Serial → ⊥
-other_how how (inl is) serial = let e : Schedule ≡ Serial = sym is ∙ serial in cc
-other_how how (inr is) serial = let e : Threads ≡ Serial = sym is ∙ serial in cc
+-- a load is of few events and few workers
+pub few_load : (words : List Word) (seed events workers : ℕ) → IsCommand words (Load seed events workers) → (events ≤ 500000) × (1 ≤ workers) × (workers ≤ 16)
+few_load [] seed events workers p = absurd p
+few_load (name ∷ words) seed events workers (named, p) = (p.say.events_is.most_of, p.say.workers_is.least_of, p.say.workers_is.most_of)

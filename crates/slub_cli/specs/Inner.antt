@@ -1,5 +1,5 @@
 -- What the parts of a run promise.
-use Rattle.std.specs.Prelude.{IsSome, ◌≡◌, ℕ, ◌+◌, List, [], ◌∷◌, ◌++◌, Bool, Option, Some, None, IfSome, Result, Ok, Err, codes, ◌⊎◌, ⊤}
+use Rattle.std.specs.Prelude.{IsSome, ◌≡◌, ℕ, ◌+◌, List, [], ◌∷◌, ◌++◌, Bool, false, Option, Some, None, IfSome, Result, Ok, Err, codes, ◌⊎◌, ⊤}
 use Rattle.std.specs.Io.KnownBytes.{Appends, IsAtEnd}
 use Rattle.slub_edges.specs.Edges.{Rose, AppendsFront}
 use Rattle.slub_object_layout.specs.declared.layout.Layout.{Layout as SlabLayout}
@@ -16,13 +16,15 @@ use Rattle.slub_journal.specs.declared.journal.Done.{Done}
 use Rattle.slub_journal.specs.declared.journal.Total.{Total}
 use Rattle.slub_journal.specs.declared.journal.Journal.{Journal}
 use Rattle.slub_journal.specs.Lawful.{IsBuilt, IsTotal}
-use Rattle.slub_journal.specs.Runs.{DoesAt, IsReadyMachine, MachineState}
 use Rattle.slub_journal.specs.Text.{text_of}
+use Rattle.slub_ways.specs.declared.way.Way.{Way}
+use Rattle.slub_ways.specs.declared.way.Way.TheVariants.{Schedule}
+use Rattle.slub_ways.specs.Runs.{DoesAt, EndsSpent, IsReadyMachine, MachineState, RunsItems, SpendsAt, machine_of}
 use Rattle.slub_cli.specs.declared.stop.Stop.{Stop}
-use Rattle.slub_cli.specs.declared.stop.Stop.TheVariants.{BadWords, BadLine, NotBuilt, TooLong, ReadFault, WriteFault, NoMemory}
+use Rattle.slub_cli.specs.declared.stop.Stop.TheVariants.{BadWords, BadLine, NotBuilt, TooLong, ReadFault, WriteFault, NoMemory, TurnsSpent}
 use Rattle.slub_cli.specs.declared.status.Status.{Status}
 use Rattle.slub_cli.specs.declared.status.Status.TheVariants as ends
-use Rattle.slub_cli.specs.Run.{AreBadWords, Call, IsAsked, IsBadLine, IsDone, IsJournalOf, IsLayoutAnswer, IsUnbuilt, answer_status, bad_line, done_status, fault_line, last_begins, last_in, text_in}
+use Rattle.slub_cli.specs.Run.{AreBadWords, Call, IsAsked, IsBadLine, IsDone, IsJournalOf, IsLayoutAnswer, IsLoadJournal, IsReplayJournal, SpendsNextRound, IsUnbuilt, answer_status, bad_line, done_status, fault_line, last_begins, last_in, text_in, way_of}
 
 -- ---- what the sink tells
 
@@ -69,15 +71,19 @@ pub record SameMachine (old new : Journal) : Type 0 where
   pub cpus : new.cpus ≡ old.cpus
   pub tid : new.tid ≡ old.tid
 
+-- the journal has this item more
+pub record Puts (done : Done) (old new : Journal) : Type 0 where
+  pub items : new.items ≡ old.items ++ done ∷ []
+  pub total : new.total ≡ old.total
+  pub machine : SameMachine old new
+
 -- the journal has one item more, which was done from this machine to that
-pub record Adds (m : MachineState) (trace : Trace) (number : ℕ) (after : MachineState)
+pub record Adds (way : Way) (m : MachineState) (trace : Trace) (number : ℕ) (after : MachineState)
     (old new : Journal) : Type 0 where
   pub answer : Done
-  pub does : DoesAt m trace number answer after
-  pub items : new.items ≡ old.items ++ answer ∷ []
-  pub total : new.total ≡ old.total
+  pub does : DoesAt way m trace number answer after
   pub ready : IsReadyMachine after trace (number + 1)
-  pub machine : SameMachine old new
+  pub puts : Puts answer old new
 
 -- nothing was put in
 pub record IsSame (old new : Journal) : Type 0 where
@@ -85,13 +91,28 @@ pub record IsSame (old new : Journal) : Type 0 where
   pub total : new.total ≡ old.total
   pub machine : SameMachine old new
 
--- doing an item adds it, but for want of memory
-abbrev pub DoesItem : MachineState → Trace → ℕ → MachineState → Journal → Journal
-    → Result (Unit {0}) Stop → Type 0
-DoesItem m trace number after old new (Ok x) = Adds m trace number after old new
-DoesItem m trace number after old new (Err WriteFault) = Adds m trace number after old new
-DoesItem m trace number after old new (Err NoMemory) = IsSame old new
-DoesItem m trace number after old new _ = ⊥
+-- an item that was done is put in, but for want of memory
+abbrev pub PutsItem : Done → Journal → Journal → Result (Unit {0}) Stop → Type 0
+PutsItem done old new (Ok x) = Puts done old new
+PutsItem done old new (Err WriteFault) = Puts done old new
+PutsItem done old new (Err NoMemory) = IsSame old new
+PutsItem done old new _ = ⊥
+
+-- doing an item adds it and gives the machine after it, but for want of memory and of turns
+abbrev pub DoesItem : Way → MachineState → Trace → ℕ → Journal → Journal
+    → Result MachineState Stop → Type 0
+DoesItem way m trace number old new (Ok after) = Adds way m trace number after old new
+DoesItem way m trace number old new (Err WriteFault) =
+    (after : MachineState) × Adds way m trace number after old new
+DoesItem way m trace number old new (Err NoMemory) = IsSame old new
+DoesItem way m trace number old new (Err TurnsSpent) =
+    IsSame old new × SpendsAt way m trace number
+DoesItem way m trace number old new _ = ⊥
+
+-- all items of the trace were done, by some way, and left this machine
+abbrev pub LeavesMachine : Trace → Journal → MachineState → Type 0
+LeavesMachine trace journal m =
+    (way : Way) × RunsItems way (machine_of trace) trace trace.items journal.items m
 
 -- the total is put in
 pub record AddsTotal (s : State) (old new : Journal) : Type 0 where
@@ -120,11 +141,18 @@ abbrev pub StopsAtWriteFault : {A : Type 0} → ℕ → ℕ → Result A Stop �
 StopsAtWriteFault old new (Err WriteFault) = ⊤
 StopsAtWriteFault old new _ = new ≡ old
 
--- doing items stops for two causes
+-- doing items stops for three causes
 abbrev pub IsItemStop : ℕ → ℕ → Journal → Stop → Type 0
 IsItemStop old new journal WriteFault = Rose old new
 IsItemStop old new journal NoMemory = journal.total ≡ None
+IsItemStop old new journal TurnsSpent = journal.total ≡ None
 IsItemStop old new journal _ = ⊥
+
+-- a round whose turns are spent stopped it, the one after the journal's last item; or else another
+-- cause
+abbrev pub StopsSpent : {A : Type 0} → Way → Trace → Journal → Result A Stop → Type 0
+StopsSpent way trace journal (Err TurnsSpent) = EndsSpent way trace journal
+StopsSpent way trace journal _ = ⊤
 
 -- why no trace was read that is replayed today: what the source told before, what it tells after,
 -- and its counts of faults
@@ -156,25 +184,39 @@ PrintsLayout old new write spec cpus (Err WriteFault) =
 PrintsLayout old new write spec cpus (Err NoMemory) = new ≡ old
 PrintsLayout old new write spec cpus _ = ⊥
 
--- what a replay came to: everything was done, or why it ended early
-abbrev pub Replays : Call → Option Trace → Journal → Result Status Stop → Type 0
-Replays c trace journal (Ok status) = IsDone trace journal × (status ≡ done_status trace journal)
-Replays c trace journal (Err (BadLine text)) =
+-- what doing a trace came to, with the sink's counts of faults: everything was done, or why it
+-- ended early
+abbrev pub Loads : ℕ × ℕ → Way → Option Trace → Journal → Result Status Stop → Type 0
+Loads write way trace journal (Ok status) =
+    IsDone trace journal × (status ≡ done_status trace journal)
+Loads write way trace journal (Err WriteFault) = IsSome trace × Rose write.0 write.1
+Loads write way trace journal (Err NoMemory) = journal.total ≡ None
+Loads write way trace journal (Err TurnsSpent) = SpendsNextRound way trace journal
+Loads write way trace journal _ = ⊥
+
+-- the same of a replay, which reads its trace
+abbrev pub Replays : Call → Way → Option Trace → Journal → Result Status Stop → Type 0
+Replays c way trace journal (Err (BadLine text)) =
     (trace ≡ None) × (line : ℕ) × (why : Why) × (text.items ≡ bad_line line why)
     × IsBadLine c line why
-Replays c trace journal (Err NotBuilt) = (trace ≡ None) × IsUnbuilt c
-Replays c trace journal (Err TooLong) = (trace ≡ None) × IfSome c.told IsTooLong
-Replays c trace journal (Err ReadFault) = (trace ≡ None) × Rose c.read.0 c.read.1
-Replays c trace journal (Err WriteFault) = IsSome trace × Rose c.write.0 c.write.1
-Replays c trace journal (Err NoMemory) = journal.total ≡ None
-Replays c trace journal _ = ⊥
+Replays c way trace journal (Err NotBuilt) = (trace ≡ None) × IsUnbuilt c
+Replays c way trace journal (Err TooLong) = (trace ≡ None) × IfSome c.told IsTooLong
+Replays c way trace journal (Err ReadFault) = (trace ≡ None) × Rose c.read.0 c.read.1
+Replays c way trace journal result = Loads c.write way trace journal result
 
 -- the whole of a replay
-pub record Replayed (c : Call) (replies : Bool) (trace : Option Trace) (journal : Journal)
-    (result : Result Status Stop) : Type 0 where
-  pub end : Replays c trace journal result
-  pub lawful : IsJournalOf c trace journal
+pub record Replayed (c : Call) (way : Way) (replies : Bool) (trace : Option Trace)
+    (journal : Journal) (result : Result Status Stop) : Type 0 where
+  pub end : Replays c way trace journal result
+  pub lawful : IsReplayJournal c way trace journal
   pub told : TookText replies c.old c.new trace journal result
+
+-- the whole of a load: what the sink told before, what it tells after, and its counts of faults
+pub record Loaded (old new : Option (List ℕ)) (write : ℕ × ℕ) (seed events workers : ℕ)
+    (trace : Option Trace) (journal : Journal) (result : Result Status Stop) : Type 0 where
+  pub end : Loads write (Schedule seed) trace journal result
+  pub lawful : IsLoadJournal seed events workers trace journal
+  pub told : TookText false old new trace journal result
 
 -- what it came to where no command was read
 abbrev pub Refuses : Call → Option Trace → Journal → Result Status Stop → Type 0
@@ -186,10 +228,13 @@ Refuses c trace journal _ = ⊥
 abbrev pub Works : Call → Option Command → Option Trace → Journal → Result Status Stop → Type 0
 Works c None trace journal result = Refuses c trace journal result × (c.new ≡ c.old)
 Works c (Some (Replay how seed replies)) trace journal result =
-    Replays c trace journal result × TookText replies c.old c.new trace journal result
+    Replays c (way_of how seed) trace journal result
+    × TookText replies c.old c.new trace journal result
 Works c (Some (Layout spec cpus)) trace journal result =
     PrintsLayout c.old c.new c.write spec cpus result × (trace ≡ None) × (journal.total ≡ None)
-Works c (Some (Load seed events workers)) trace journal result = ⊥
+Works c (Some (Load seed events workers)) trace journal result =
+    Loads c.write (Schedule seed) trace journal result
+    × TookText false c.old c.new trace journal result
 
 -- the whole of the work, for one command that was read of the words
 pub record Worked (c : Call) (trace : Option Trace) (journal : Journal)
@@ -197,7 +242,7 @@ pub record Worked (c : Call) (trace : Option Trace) (journal : Journal)
   pub asked : Option Command
   pub is_asked : IsAsked c.words asked
   pub works : Works c asked trace journal result
-  pub lawful : IsJournalOf c trace journal
+  pub lawful : IsJournalOf c asked trace journal
 
 -- the line of a stop
 abbrev pub stop_line : Stop → List ℕ
@@ -208,6 +253,7 @@ stop_line TooLong = fault_line (codes "input too long")
 stop_line ReadFault = fault_line (codes "read fault")
 stop_line WriteFault = []
 stop_line NoMemory = fault_line (codes "out of memory")
+stop_line TurnsSpent = fault_line (codes "turns spent")
 
 -- the status of a stop
 abbrev pub stop_status : Stop → Status
@@ -218,6 +264,7 @@ stop_status TooLong = ends.BadTrace
 stop_status ReadFault = ends.ReadFault
 stop_status WriteFault = ends.WriteFault
 stop_status NoMemory = ends.NoMemory
+stop_status TurnsSpent = ends.TurnsSpent
 
 -- the line of a stop was written and no write failed, or a front of it that isn't the whole
 abbrev pub WroteLine : Option (List ℕ) → Option (List ℕ) → ℕ × ℕ → Stop → Status → Type 0

@@ -11,7 +11,8 @@ use Rattle.slub_object_layout.specs.declared.layout.Spec.{Spec}
 use Rattle.slub_object_layout.specs.Layout.{IsAccepted, IsAlign, IsLayout, IsSize, IsSupported}
 use Rattle.slub_command.specs.declared.command.Command.{Command}
 use Rattle.slub_command.specs.declared.command.Command.TheVariants.{Replay, Layout, Load}
-use Rattle.slub_command.specs.declared.command.How.TheVariants.{Serial}
+use Rattle.slub_command.specs.declared.command.How.{How}
+use Rattle.slub_command.specs.declared.command.How.TheVariants as hows
 use Rattle.slub_command.specs.Command.{IsCommand}
 use Rattle.slub_slabinfo_text.specs.Texts.{layout_lines}
 use Rattle.slub_answers.specs.Kinds.{is_no_memory, is_ok_reply}
@@ -36,22 +37,25 @@ use Rattle.slub_journal.specs.declared.journal.Journal.{Journal}
 use Rattle.slub_journal.specs.Journal.{IsEmpty}
 use Rattle.slub_journal.specs.ClientText.{is_ok_client}
 use Rattle.slub_journal.specs.Lawful.{IsBuilt}
-use Rattle.slub_journal.specs.Runs.{IsLawful}
 use Rattle.slub_journal.specs.Text.{text_of, items_text}
 use Rattle.slub_laws.specs.Freed.{freed_times, given_times}
 use Rattle.slub_laws.specs.Poked.{HasPokedDamages}
 use Rattle.slub_laws.specs.Rounds.{HasLawfulRounds}
+use Rattle.slub_load.specs.Load.{load_of}
+use Rattle.slub_ways.specs.declared.way.Way.{Way}
+use Rattle.slub_ways.specs.declared.way.Way.TheVariants.{Serial, Schedule}
+use Rattle.slub_ways.specs.Runs.{AreByText, EndsSpent, IsLawful}
 use Rattle.slub_cli.specs.declared.status.Status.{Status}
 use Rattle.slub_cli.specs.declared.status.Status.TheVariants.{Fine, Refused, BadWords, BadTrace, ReadFault, WriteFault, NoMemory, TurnsSpent}
 use Rattle.slub_cli.specs.declared.status.Outcome.{Outcome}
 
 -- ---- the words
 
--- a command that is run today: a replay in the order of the text, or a layout
+-- a command that is run today: every one but a replay by threads
 abbrev pub IsRunnable : Command → Type 0
-IsRunnable (Replay how seed replies) = how ≡ Serial
+IsRunnable (Replay how seed replies) = ¬ (how ≡ hows.Threads)
 IsRunnable (Layout spec cpus) = ⊤
-IsRunnable (Load seed events workers) = ⊥
+IsRunnable (Load seed events workers) = ⊤
 
 -- the words are a command that is run today
 abbrev pub IsAsking : List (List ℕ) → Command → Type 0
@@ -67,9 +71,23 @@ abbrev pub IsAsked : List (List ℕ) → Option Command → Type 0
 IsAsked words None = ⊤
 IsAsked words (Some command) = IsAsking words command
 
--- the words ask for a replay, with or without `--replies`
+-- the words ask for a replay that is run today, with or without `--replies`
 abbrev pub AsksReplay : List (List ℕ) → Type 0
-AsksReplay words = (seed : ℕ) × (replies : Bool) × IsCommand words (Replay Serial seed replies)
+AsksReplay words =
+    (how : How) × (seed : ℕ) × (replies : Bool) × IsAsking words (Replay how seed replies)
+
+-- how a replay does its rounds: in the order of the text, or in turns that are drawn from the
+-- seed. A replay by threads isn't run, and no clause asks for its way
+abbrev pub way_of : How → ℕ → Way
+way_of hows.Serial seed = Serial
+way_of hows.Schedule seed = Schedule seed
+way_of hows.Threads seed = Serial
+
+-- the same of what was asked; a load is by schedule, and nothing else has rounds
+abbrev pub way_asked : Option Command → Way
+way_asked (Some (Replay how seed replies)) = way_of how seed
+way_asked (Some (Load seed events workers)) = Schedule seed
+way_asked _ = Serial
 
 -- ---- the replies
 
@@ -115,7 +133,7 @@ has_refused item (done.Slabinfo rows) = false
 has_refused item (done.Tuned answer) = is_err answer
 has_refused item (done.Client outcome) = refuses_client item outcome
 
--- the items of the trace that was read, or none
+-- the items of the trace that was read or made, or none
 abbrev pub items_in : Option Trace → List Item
 items_in None = []
 items_in (Some trace) = trace.items
@@ -125,7 +143,7 @@ abbrev pub is_refused : Option Trace → Journal → Bool
 is_refused trace journal =
     list_any (λ one. has_refused one.0 one.1) (zip (items_in trace) journal.items)
 
--- the status of a replay that did everything
+-- the status of a run that did every item
 abbrev pub done_status : Option Trace → Journal → Status
 done_status trace journal =
     cond (list_any lacks_memory journal.items) NoMemory
@@ -157,9 +175,9 @@ pub record Call : Type 0 where
   pub read : ℕ × ℕ
   pub write : ℕ × ℕ
 
--- ---- the text of a replay
+-- ---- the text of a trace that was done
 
--- the text of the journal for the trace that was read
+-- the text of the journal for the trace that was read or made
 abbrev pub text_in : Bool → Option Trace → Journal → List ℕ
 text_in replies None journal = []
 text_in replies (Some trace) journal = text_of replies trace journal
@@ -174,7 +192,7 @@ last_from replies trace (Some total) dones = length (items_text replies trace tr
 unfoldable pub last_begins : Bool → Trace → Journal → ℕ
 last_begins replies trace journal = last_from replies trace journal.total journal.items
 
--- the same where a trace was read
+-- the same where there is a trace
 abbrev pub last_in : Bool → Option Trace → Journal → ℕ
 last_in replies None journal = 0
 last_in replies (Some trace) journal = last_begins replies trace journal
@@ -200,23 +218,63 @@ answer_status (Err why) = Refused
 -- ---- the law
 
 -- a source that told these bytes was read to its end, its bytes spell this trace and no other, the
--- trace is sound and one that is replayed today, and the journal is lawful for it
-pub record IsReplayOf (told left : Option (List ℕ)) (trace : Trace)
+-- trace is sound and one that is replayed today, and the journal is lawful for it and the way
+pub record IsReplayOf (told left : Option (List ℕ)) (way : Way) (trace : Trace)
     (journal : Journal) : Type 0 where
   pub at_end : IsAtEnd left
   pub spelled : Spells told trace
   pub sound : IsSound trace
   pub built : IsBuilt trace
-  pub lawful : IsLawful trace journal
+  pub lawful : IsLawful way trace journal
+
+-- this trace is the load of the three numbers, it is sound and one that is replayed today, and the
+-- journal is lawful for it by schedule, with turns that are drawn from the same seed
+pub record IsLoadOf (seed events workers : ℕ) (trace : Trace) (journal : Journal) : Type 0 where
+  pub made : trace ≡ load_of seed events workers
+  pub sound : IsSound trace
+  pub built : IsBuilt trace
+  pub lawful : IsLawful (Schedule seed) trace journal
 
 -- the journal is that of the trace that was read; where none was read, it is empty
-abbrev pub IsJournalOf : Call → Option Trace → Journal → Type 0
-IsJournalOf c None journal = IsEmpty journal
-IsJournalOf c (Some trace) journal = IsReplayOf c.told c.left trace journal
+abbrev pub IsReplayJournal : Call → Way → Option Trace → Journal → Type 0
+IsReplayJournal c way None journal = IsEmpty journal
+IsReplayJournal c way (Some trace) journal = IsReplayOf c.told c.left way trace journal
+
+-- the journal is that of the trace that was made; where none was made, it is empty
+abbrev pub IsLoadJournal : ℕ → ℕ → ℕ → Option Trace → Journal → Type 0
+IsLoadJournal seed events workers None journal = IsEmpty journal
+IsLoadJournal seed events workers (Some trace) journal = IsLoadOf seed events workers trace journal
+
+-- nothing was replayed: there is no trace, and the journal is empty
+abbrev pub HasNoTrace : Option Trace → Journal → Type 0
+HasNoTrace trace journal = (trace ≡ None) × IsEmpty journal
+
+-- the journal is that of what was asked
+abbrev pub IsJournalOf : Call → Option Command → Option Trace → Journal → Type 0
+IsJournalOf c None trace journal = HasNoTrace trace journal
+IsJournalOf c (Some (Replay how seed replies)) trace journal =
+    IsReplayJournal c (way_of how seed) trace journal
+IsJournalOf c (Some (Layout spec cpus)) trace journal = HasNoTrace trace journal
+IsJournalOf c (Some (Load seed events workers)) trace journal =
+    IsLoadJournal seed events workers trace journal
+
+-- what holds over all items of a trace that were done, since their journal is lawful
+pub record HoldsOver (way : Way) (trace : Trace) (journal : Journal) : Type 0 where
+  -- no object number is given twice, and none is freed more often than it was given: none twice
+  pub given_once : (object : ℕ) → given_times object trace journal ≤ 1
+  pub freed_once : (object : ℕ) →
+      freed_times object trace journal ≤ given_times object trace journal
+  -- what was given less what was freed is live
+  pub balance : IfSome journal.total (λ total. total.given ≡ total.freed + total.live)
+  -- each round is lawful by its events and replies alone
+  pub rounds : HasLawfulRounds way trace journal
+  -- each damage that is told of was poked there before, where every item is done in the order of
+  -- the text
+  pub damages : AreByText way trace.items → HasPokedDamages trace journal
 
 -- ---- the statuses
 
--- everything of a replay was done
+-- every item of a trace was done, and summed up
 abbrev pub IsDone : Option Trace → Journal → Type 0
 IsDone trace journal = IsSome trace × IsSome journal.total
 
@@ -233,21 +291,31 @@ abbrev pub IsBadInput : Call → Type 0
 IsBadInput c =
     ((line : ℕ) × (why : Why) × IsBadLine c line why) ⊎ IfSome c.told IsTooLong ⊎ IsUnbuilt c
 
--- want of memory ended the replay, or is one of its replies
+-- want of memory ended the run, or is one of its replies
 abbrev pub IsWant : Option Trace → Journal → Type 0
 IsWant trace journal =
     (journal.total ≡ None) ⊎ (IsDone trace journal × (done_status trace journal ≡ NoMemory))
 
--- the row of each status, for a replay
-abbrev pub IsReplayCause : Call → Option Trace → Journal → Status → Type 0
-IsReplayCause c trace journal Fine = IsDone trace journal × (done_status trace journal ≡ Fine)
-IsReplayCause c trace journal Refused =
+-- the round after the journal's last item has made all its turns, and an event of it has no reply
+abbrev pub SpendsNextRound : Way → Option Trace → Journal → Type 0
+SpendsNextRound way trace journal =
+    IsSomeAnd trace (λ trace. EndsSpent way trace journal) × (journal.total ≡ None)
+
+-- the row of each status, for a load
+abbrev pub IsLoadCause : Call → Way → Option Trace → Journal → Status → Type 0
+IsLoadCause c way trace journal Fine = IsDone trace journal × (done_status trace journal ≡ Fine)
+IsLoadCause c way trace journal Refused =
     IsDone trace journal × (done_status trace journal ≡ Refused)
-IsReplayCause c trace journal BadTrace = IsBadInput c × (trace ≡ None)
-IsReplayCause c trace journal ReadFault = Rose c.read.0 c.read.1 × (trace ≡ None)
-IsReplayCause c trace journal WriteFault = Rose c.write.0 c.write.1
-IsReplayCause c trace journal NoMemory = IsWant trace journal
-IsReplayCause c trace journal _ = ⊥
+IsLoadCause c way trace journal WriteFault = Rose c.write.0 c.write.1
+IsLoadCause c way trace journal NoMemory = IsWant trace journal
+IsLoadCause c way trace journal TurnsSpent = SpendsNextRound way trace journal
+IsLoadCause c way trace journal _ = ⊥
+
+-- the same for a replay, which reads its trace
+abbrev pub IsReplayCause : Call → Way → Option Trace → Journal → Status → Type 0
+IsReplayCause c way trace journal BadTrace = IsBadInput c × (trace ≡ None)
+IsReplayCause c way trace journal ReadFault = Rose c.read.0 c.read.1 × (trace ≡ None)
+IsReplayCause c way trace journal status = IsLoadCause c way trace journal status
 
 -- the same for a layout
 abbrev pub IsLayoutCause : Call → Spec → ℕ → Status → Type 0
@@ -268,10 +336,11 @@ IsWordsCause c _ = ⊥
 abbrev pub IsCauseOf : Call → Option Command → Option Trace → Journal → Status → Type 0
 IsCauseOf c None trace journal status = IsWordsCause c status × (trace ≡ None)
 IsCauseOf c (Some (Replay how seed replies)) trace journal status =
-    IsReplayCause c trace journal status
+    IsReplayCause c (way_of how seed) trace journal status
 IsCauseOf c (Some (Layout spec cpus)) trace journal status =
     IsLayoutCause c spec cpus status × (trace ≡ None)
-IsCauseOf c (Some (Load seed events workers)) trace journal status = ⊥
+IsCauseOf c (Some (Load seed events workers)) trace journal status =
+    IsLoadCause c (Schedule seed) trace journal status
 
 -- the source's count of faults rose at a read fault, and is else as it was
 abbrev pub TellsReads : Call → Status → Type 0
@@ -295,8 +364,8 @@ IsBadInputLine c line =
     ⊎ ((line ≡ fault_line (codes "input too long")) × IfSome c.told IsTooLong)
     ⊎ ((line ≡ fault_line (codes "bad trace")) × IsUnbuilt c)
 
--- the line after the text, where a run ended early with this status; a replay that did everything
--- has none
+-- the line after the text, where a run ended early with this status; a run that did everything has
+-- none
 abbrev pub IsFaultLine : Call → Journal → Status → List ℕ → Type 0
 IsFaultLine c journal Fine line = line ≡ []
 IsFaultLine c journal Refused line = line ≡ []
@@ -306,6 +375,7 @@ IsFaultLine c journal ReadFault line = line ≡ fault_line (codes "read fault")
 IsFaultLine c journal NoMemory line =
     ((journal.total ≡ None) × (line ≡ fault_line (codes "out of memory")))
     ⊎ (IsSome journal.total × (line ≡ []))
+IsFaultLine c journal TurnsSpent line = line ≡ fault_line (codes "turns spent")
 IsFaultLine c journal _ line = ⊥
 
 -- the text of a layout: none where no memory was there
@@ -323,13 +393,15 @@ IsWordsText trace BadWords text = (text ≡ []) × (trace ≡ None)
 IsWordsText trace NoMemory text = (text ≡ []) × (trace ≡ None)
 IsWordsText trace _ text = ⊥
 
--- the text of what was asked, where it ended with this status
+-- the text of what was asked, where it ended with this status; of a load it is that without
+-- `--replies`
 abbrev pub IsTextOf : Option Command → Option Trace → Journal → Status → List ℕ → Type 0
 IsTextOf None trace journal status text = IsWordsText trace status text
 IsTextOf (Some (Replay how seed replies)) trace journal status text =
     text ≡ text_in replies trace journal
 IsTextOf (Some (Layout spec cpus)) trace journal status text = IsLayoutText spec cpus status text
-IsTextOf (Some (Load seed events workers)) trace journal status text = ⊥
+IsTextOf (Some (Load seed events workers)) trace journal status text =
+    text ≡ text_in false trace journal
 
 -- no write failed: the text was taken, and after it the line of the status
 pub record TookAll (c : Call) (asked : Option Command) (trace : Option Trace) (journal : Journal)
@@ -342,16 +414,20 @@ pub record TookAll (c : Call) (asked : Option Command) (trace : Option Trace) (j
   pub reads : TellsReads c status
   pub writes : c.write.1 ≡ c.write.0
 
--- the front of a text was taken that isn't the whole, of a replay past where the last entry begins
-abbrev pub TookFront : Call → Option Command → Option Trace → Journal → Type 0
-TookFront c None trace journal = ⊥
-TookFront c (Some (Replay how seed replies)) trace journal =
+-- the front of a trace's text was taken that isn't the whole, past where the last entry begins
+abbrev pub TookTextFront : Call → Bool → Option Trace → Journal → Type 0
+TookTextFront c replies trace journal =
     IsSome trace
     × AppendsFront c.old c.new (last_in replies trace journal) (text_in replies trace journal)
+
+-- the front of a text was taken that isn't the whole
+abbrev pub TookFront : Call → Option Command → Option Trace → Journal → Type 0
+TookFront c None trace journal = ⊥
+TookFront c (Some (Replay how seed replies)) trace journal = TookTextFront c replies trace journal
 TookFront c (Some (Layout spec cpus)) trace journal =
     (answer : Result SlabLayout LayoutRefusal) × IsLayoutAnswer spec cpus answer
     × AppendsFront c.old c.new 0 (layout_lines answer)
-TookFront c (Some (Load seed events workers)) trace journal = ⊥
+TookFront c (Some (Load seed events workers)) trace journal = TookTextFront c false trace journal
 
 -- a write of the text failed, and no read
 pub record TookEntry (c : Call) (asked : Option Command) (trace : Option Trace)
@@ -381,13 +457,16 @@ Wrote c asked trace journal status = TookAll c asked trace journal status
 
 -- ---- the run
 
--- for one command that was read of the words, this status has its cause, and this was written
+-- for one command that was read of the words, this status has its cause, this was written, the
+-- journal is lawful, and what follows from that holds over the whole run
 pub record Ends (c : Call) (trace : Option Trace) (journal : Journal)
     (status : Status) : Type 0 where
   pub asked : Option Command
   pub is_asked : IsAsked c.words asked
   pub cause : IsCauseOf c asked trace journal status
   pub wrote : Wrote c asked trace journal status
+  pub lawful : IsJournalOf c asked trace journal
+  pub over : IfSome trace (λ trace. HoldsOver (way_asked asked) trace journal)
 
 -- ---- input
 
@@ -407,26 +486,17 @@ pub record NoFault (c : Call) : Type 0 where
   pub reads : ¬ Rose c.read.0 c.read.1
   pub writes : ¬ Rose c.write.0 c.write.1
 
--- what holds over a whole replay, since its journal is lawful
-pub record HoldsOver (trace : Trace) (journal : Journal) : Type 0 where
-  -- no object number is given twice, and none is freed more often than it was given: none twice
-  pub given_once : (object : ℕ) → given_times object trace journal ≤ 1
-  pub freed_once : (object : ℕ) →
-      freed_times object trace journal ≤ given_times object trace journal
-  -- what was given less what was freed is live
-  pub balance : IfSome journal.total (λ total. total.given ≡ total.freed + total.live)
-  -- each round is lawful by its events and replies alone
-  pub rounds : HasLawfulRounds trace journal
-  -- each damage that is told of was poked there before
-  pub damages : HasPokedDamages trace journal
+-- every item was done, or memory was wanting, or a round's turns were spent
+abbrev pub IsDoneOrCut : Outcome → Type 0
+IsDoneOrCut outcome =
+    (outcome.status ≡ done_status outcome.trace outcome.journal) ⊎ (outcome.status ≡ NoMemory)
+    ⊎ (outcome.status ≡ TurnsSpent)
 
--- what `run` promises of each call and its outcome. The rest follows from the first two: what holds
--- over the whole run, and which status it must have
+-- what `run` promises of each call and its outcome. The rest follows from the first, `ends`: which
+-- status it must have
 pub record IsRunOf (c : Call) (outcome : Outcome) : Type 0 where
   pub ends : Ends c outcome.trace outcome.journal outcome.status
-  pub lawful : IsJournalOf c outcome.trace outcome.journal
-  pub over : IfSome outcome.trace (λ trace. HoldsOver trace outcome.journal)
-  -- words that are no command, and no others, end as such
+  -- words that are no command that is run, and no others, end as such
   pub bad_words : outcome.status ≢ WriteFault → outcome.status ≢ NoMemory →
       (outcome.status ≡ BadWords ↔ AreBadWords c.words)
   -- bytes that are no trace end as such
@@ -434,11 +504,16 @@ pub record IsRunOf (c : Call) (outcome : Outcome) : Type 0 where
       (outcome.status ≡ BadTrace) ⊎ (outcome.status ≡ NoMemory)
   -- a trace is done to its end
   pub complete : AsksReplay c.words → IsSomeAnd c.told IsSomeTrace → NoFault c →
-      (outcome.status ≡ done_status outcome.trace outcome.journal) ⊎ (outcome.status ≡ NoMemory)
-  -- and what was refused is told
-  pub refused : AsksReplay c.words → IsDone outcome.trace outcome.journal →
-      done_status outcome.trace outcome.journal ≡ Refused → ¬ Rose c.write.0 c.write.1 →
-      outcome.status ≡ Refused
+      IsDoneOrCut outcome
+  -- a replay in the order of the text has no turns that could be spent
+  pub serial : (seed : ℕ) (replies : Bool) → IsCommand c.words (Replay hows.Serial seed replies) →
+      outcome.status ≢ TurnsSpent
+  -- a load is done to its end
+  pub load : (seed events workers : ℕ) → IsCommand c.words (Load seed events workers) →
+      ¬ Rose c.write.0 c.write.1 → IsDoneOrCut outcome
+  -- where every item was done, the status is that of what was done, of a replay as of a load
+  pub done : IsDone outcome.trace outcome.journal → ¬ Rose c.write.0 c.write.1 →
+      outcome.status ≡ done_status outcome.trace outcome.journal
   -- a layout is answered
   pub layout : (spec : Spec) (cpus : ℕ) → IsCommand c.words (Layout spec cpus) →
       ¬ Rose c.write.0 c.write.1 →

@@ -1,49 +1,48 @@
 //! Replaying a trace: each item is done, its text made, put into the journal, and written.
 //!
-//! `replies` says whether the lines are written that `--replies` asks for. The text of each item is made
-//! in one buffer, which is emptied before and used again.
+//! `way` says how the rounds are done, and `replies` whether the lines are written that `--replies` asks for. The
+//! text of each item is made in one buffer, which is emptied before and used again.
 
 ghost use Rattle.std.specs.Prelude.{Bool, ◌≡◌, ◌<◌, ◌≤◌, [], None, Some, length, IfErr, IfOk, OnOk, IsSome};
 ghost use Rattle.slub_lists.specs.Coherent.{IsCoherent};
 ghost use Rattle.slub_journal.specs.Journal.{IsEmpty};
 ghost use Rattle.slub_trace_reader.specs.Sound.{IsSound};
 ghost use Rattle.slub_journal.specs.Lawful.{opening_of};
-ghost use Rattle.slub_journal.specs.Runs.{IsLawful, IsReadyMachine, RunsItems, machine_of};
-ghost use Rattle.slub_cli.specs.Inner.{DoesItem, IsItemStop, IsMachineOf, StopsAtWriteFault, Tells, TookText, Totals};
+ghost use Rattle.slub_ways.specs.Runs.{IsLawful, IsReadyMachine, RunsItems, machine_of};
+ghost use Rattle.slub_cli.specs.Inner.{DoesItem, IsItemStop, IsMachineOf, LeavesMachine, PutsItem, StopsAtWriteFault, StopsSpent, Tells, TookText, Totals};
 
 use crate::stop::Stop;
 use slub_edges::edges::Sink;
 use slub_edges::pieces::write_lines;
 use slub_items::machine::Machine;
-use slub_journal::journal::Journal;
+use slub_journal::journal::{Done, Journal};
 use slub_journal::text::{push_item, push_sums};
 use slub_trace_reader::trace::Trace;
+use slub_ways::way::Way;
 use std::alloc::Global;
 
-/// Does the item of a number. Its text is made before it is put into the journal, and written after.
-fn do_item<K: Sink>(
+/// Puts an item that was done into the journal. Its text is made before, and written after.
+fn put_item<K: Sink>(
     alloc: Global,
     replies: bool,
     trace: &Trace,
     number: usize,
-    machine: &mut Machine,
+    done: Done,
     text: &mut Vec<u8>,
     sink: &mut K,
     journal: &mut Journal,
 ) -> Result<(), Stop>
     requires sound { IsSound trace.now }
     requires within { number < length trace.now.items }
-    requires ready { IsReadyMachine machine.old trace.now number }
     requires so_far { length journal.old.items ≡ number }
     requires no_total { journal.old.total ≡ None }
-    ensures done { DoesItem machine.old trace.now number machine.new journal.old journal.new result }
+    ensures put { PutsItem done journal.old journal.new result }
     ensures told { Tells replies (K.taken sink.old) (K.taken sink.new) trace.now
         journal.old journal.new result }
     ensures stops { IfErr result (IsItemStop (K.faults sink.old) (K.faults sink.new) journal.new) }
     ensures write_faults { StopsAtWriteFault (K.faults sink.old) (K.faults sink.new) result }
     ensures counts { K.faults sink.old ≤ K.faults sink.new }
 {
-    let done = machine.item(alloc, trace, number)?;
     text.clear();
     push_item(alloc, text, trace, number, &done, replies)?;
     journal.items.push(done)?;
@@ -51,26 +50,57 @@ fn do_item<K: Sink>(
     Ok(())
 }
 
-/// Does the items in order.
-fn do_items<K: Sink>(
+/// Does the item of a number, and puts it into the journal.
+fn do_item<K: Sink>(
     alloc: Global,
+    way: Way,
     replies: bool,
     trace: &Trace,
-    machine: &mut Machine,
+    number: usize,
+    machine: Machine,
     text: &mut Vec<u8>,
     sink: &mut K,
     journal: &mut Journal,
-) -> Result<(), Stop>
+) -> Result<Machine, Stop>
     requires sound { IsSound trace.now }
-    requires opened { machine.old ≡ machine_of trace.now }
+    requires within { number < length trace.now.items }
+    requires ready { IsReadyMachine machine trace.now number }
+    requires so_far { length journal.old.items ≡ number }
+    requires no_total { journal.old.total ≡ None }
+    ensures done { DoesItem way machine trace.now number journal.old journal.new result }
+    ensures told { Tells replies (K.taken sink.old) (K.taken sink.new) trace.now
+        journal.old journal.new result }
+    ensures stops { IfErr result (IsItemStop (K.faults sink.old) (K.faults sink.new) journal.new) }
+    ensures write_faults { StopsAtWriteFault (K.faults sink.old) (K.faults sink.new) result }
+    ensures counts { K.faults sink.old ≤ K.faults sink.new }
+{
+    let (after, done) = machine.item(alloc, trace, number, way)?;
+    put_item(alloc, replies, trace, number, done, text, sink, journal)?;
+    Ok(after)
+}
+
+/// Does the items in order.
+fn do_items<K: Sink>(
+    alloc: Global,
+    way: Way,
+    replies: bool,
+    trace: &Trace,
+    opened: Machine,
+    text: &mut Vec<u8>,
+    sink: &mut K,
+    journal: &mut Journal,
+) -> Result<Machine, Stop>
+    requires sound { IsSound trace.now }
+    requires opened { opened ≡ machine_of trace.now }
     requires coherent { IsCoherent (opening_of trace.now) }
     requires begun { IsMachineOf trace.now journal.old }
     requires no_items { journal.old.items ≡ [] }
     requires no_total { journal.old.total ≡ None }
-    ensures run { OnOk result (RunsItems (machine_of trace.now) trace.now trace.now.items
-        journal.new.items machine.new) }
-    ensures coherent { OnOk result (IsCoherent machine.new.lists) }
-    ensures lawful { IsLawful trace.now journal.new }
+    ensures run { IfOk result (λ machine. RunsItems way (machine_of trace.now) trace.now
+        trace.now.items journal.new.items machine) }
+    ensures coherent { IfOk result (λ machine. IsCoherent machine.lists) }
+    ensures lawful { IsLawful way trace.now journal.new }
+    ensures spent { StopsSpent way trace.now journal.new result }
     ensures no_total { journal.new.total ≡ None }
     ensures told { Tells replies (K.taken sink.old) (K.taken sink.new) trace.now
         journal.old journal.new result }
@@ -78,10 +108,13 @@ fn do_items<K: Sink>(
     ensures write_faults { StopsAtWriteFault (K.faults sink.old) (K.faults sink.new) result }
     ensures counts { K.faults sink.old ≤ K.faults sink.new }
 {
+    let mut machine = opened;
     for number in 0..trace.items.len() {
-        do_item(alloc, replies, trace, number, machine, text, sink, journal)?;
+        machine = do_item(
+            alloc, way, replies, trace, number, machine, text, sink, journal,
+        )?;
     }
-    Ok(())
+    Ok(machine)
 }
 
 /// Sums up. The text of the total is made before it is put into the journal, and written after.
@@ -95,8 +128,7 @@ fn do_total<K: Sink>(
     requires sound { IsSound trace.now }
     requires opened { IsCoherent (opening_of trace.now) }
     requires coherent { IsCoherent machine.now.lists }
-    requires run { RunsItems (machine_of trace.now) trace.now trace.now.items
-        journal.old.items machine.now }
+    requires run { LeavesMachine trace.now journal.old machine.now }
     requires no_total { journal.old.total ≡ None }
     ensures done { Totals machine.now.lists journal.old journal.new result }
     ensures told { (replies : Bool) → Tells replies (K.taken sink.old) (K.taken sink.new)
@@ -127,6 +159,7 @@ fn begin(trace: &Trace, journal: &mut Journal)
 /// Replays a trace on a machine of its own.
 pub fn do_trace<K: Sink>(
     alloc: Global,
+    way: Way,
     replies: bool,
     trace: &Trace,
     sink: &mut K,
@@ -134,7 +167,8 @@ pub fn do_trace<K: Sink>(
 ) -> Result<(), Stop>
     requires sound { IsSound trace.now }
     requires empty { IsEmpty journal.old }
-    ensures lawful { IsLawful trace.now journal.new }
+    ensures lawful { IsLawful way trace.now journal.new }
+    ensures spent { StopsSpent way trace.now journal.new result }
     ensures all { OnOk result (IsSome journal.new.total) }
     ensures told { TookText replies (K.taken sink.old) (K.taken sink.new) (Some trace.now)
         journal.new result }
@@ -143,16 +177,8 @@ pub fn do_trace<K: Sink>(
     ensures counts { K.faults sink.old ≤ K.faults sink.new }
 {
     begin(trace, journal);
-    let mut machine = Machine::open(alloc, trace)?;
+    let opened = Machine::open(alloc, trace)?;
     let mut text = Vec::new(alloc);
-    do_items(
-        alloc,
-        replies,
-        trace,
-        &mut machine,
-        &mut text,
-        sink,
-        journal,
-    )?;
+    let machine = do_items(alloc, way, replies, trace, opened, &mut text, sink, journal)?;
     do_total(alloc, trace, &machine, sink, journal)
 }

@@ -4,7 +4,7 @@ ghost use Rattle.std.specs.Prelude.{◌≡◌, ◌≤◌, ℕ, List, None, map, 
 ghost use Rattle.slub_trace_reader.specs.Sound.{IsSound};
 ghost use Rattle.slub_journal.specs.Journal.{IsEmpty};
 ghost use Rattle.slub_cli.specs.Run.{AsksReplay, IsRunOf};
-ghost use Rattle.slub_cli.specs.Inner.{Finishes, ReadsBuilt, Replayed, StopsAtReadFault, StopsAtWriteFault, Worked, stop_line, stop_status};
+ghost use Rattle.slub_cli.specs.Inner.{Finishes, Loaded, ReadsBuilt, Replayed, StopsAtReadFault, StopsAtWriteFault, Worked, stop_line, stop_status};
 
 use crate::layout::print_layout;
 use crate::replay::do_trace;
@@ -15,8 +15,10 @@ use slub_edges::edges::{Sink, Source};
 use slub_edges::pieces::write_lines;
 use slub_journal::built::is_built;
 use slub_journal::journal::Journal;
+use slub_load::load::load_trace;
 use slub_trace_reader::reading::read_trace;
 use slub_trace_reader::trace::Trace;
+use slub_ways::way::Way;
 use std::alloc::Global;
 
 /// Reads a trace that is replayed today.
@@ -39,6 +41,7 @@ fn read_built<S: Source>(alloc: Global, source: &mut S) -> Result<Trace, Stop>
 /// Replays the trace that the source has, and keeps it.
 fn replay<S: Source, K: Sink>(
     alloc: Global,
+    way: Way,
     replies: bool,
     source: &mut S,
     sink: &mut K,
@@ -55,7 +58,7 @@ fn replay<S: Source, K: Sink>(
       new = K.taken sink.new;
       read = (S.faults source.old, S.faults source.new);
       write = (K.faults sink.old, K.faults sink.new);
-    }) replies trace.new journal.new result }
+    }) way replies trace.new journal.new result }
     ensures read_faults { StopsAtReadFault (S.faults source.old) (S.faults source.new) result }
     ensures write_faults { StopsAtWriteFault (K.faults sink.old) (K.faults sink.new) result }
     ensures counts { K.faults sink.old ≤ K.faults sink.new }
@@ -64,8 +67,38 @@ fn replay<S: Source, K: Sink>(
         Ok(read) => read,
         Err(stop) => return Err(stop),
     };
-    let end = do_trace(alloc, replies, &read, sink, journal);
+    let end = do_trace(alloc, way, replies, &read, sink, journal);
     *trace = Some(read);
+    match end {
+        Ok(()) => Ok(done_status(trace, journal)),
+        Err(stop) => Err(stop),
+    }
+}
+
+/// Makes the trace of a seed, replays it by schedule with the same seed, and keeps it. The lines that `--replies`
+/// asks for aren't written.
+fn load<K: Sink>(
+    alloc: Global,
+    seed: u64,
+    events: u32,
+    workers: u32,
+    sink: &mut K,
+    trace: &mut Option<Trace>,
+    journal: &mut Journal,
+) -> Result<Status, Stop>
+    requires few_events { events ≤ 500000 }
+    requires some_workers { 1 ≤ workers }
+    requires few_workers { workers ≤ 16 }
+    requires unread { trace.old ≡ None }
+    requires empty { IsEmpty journal.old }
+    ensures loaded { Loaded (K.taken sink.old) (K.taken sink.new)
+        (K.faults sink.old, K.faults sink.new) seed events workers trace.new journal.new result }
+    ensures write_faults { StopsAtWriteFault (K.faults sink.old) (K.faults sink.new) result }
+    ensures counts { K.faults sink.old ≤ K.faults sink.new }
+{
+    let made = load_trace(alloc, seed, events, workers)?;
+    let end = do_trace(alloc, Way::Schedule { seed }, false, &made, sink, journal);
+    *trace = Some(made);
     match end {
         Ok(()) => Ok(done_status(trace, journal)),
         Err(stop) => Err(stop),
@@ -103,12 +136,20 @@ fn work<S: Source, K: Sink>(
         Err(CommandFault::NoMemory) => return Err(Stop::NoMemory),
     };
     match command {
-        Command::Replay { how, replies, .. } => match how {
-            How::Serial => replay(alloc, replies, source, sink, trace, journal),
-            How::Schedule | How::Threads => Err(Stop::BadWords),
+        Command::Replay { how, seed, replies } => match how {
+            How::Serial => replay(alloc, Way::Serial, replies, source, sink, trace, journal),
+            How::Schedule => {
+                let way = Way::Schedule { seed };
+                replay(alloc, way, replies, source, sink, trace, journal)
+            }
+            How::Threads => Err(Stop::BadWords),
         },
         Command::Layout { spec, cpus } => print_layout(alloc, &spec, cpus, sink),
-        Command::Load { .. } => Err(Stop::BadWords),
+        Command::Load {
+            seed,
+            events,
+            workers,
+        } => load(alloc, seed, events, workers, sink, trace, journal),
     }
 }
 
@@ -139,6 +180,7 @@ fn line_of(stop: &Stop) -> &[u8]
         Stop::ReadFault => b"slub: read fault\n",
         Stop::WriteFault => b"",
         Stop::NoMemory => b"slub: out of memory\n",
+        Stop::TurnsSpent => b"slub: turns spent\n",
     }
 }
 
@@ -151,19 +193,21 @@ fn status_of(stop: &Stop) -> Status
         Stop::ReadFault => Status::ReadFault,
         Stop::WriteFault => Status::WriteFault,
         Stop::NoMemory => Status::NoMemory,
+        Stop::TurnsSpent => Status::TurnsSpent,
     }
 }
 
 /// Runs a command, writes its text to the sink, and says how it ended.
 ///
 /// `replay` reads a trace from the source to its end, does its items in order, and writes the text of
-/// each as it is done and the total at the end; `layout` writes a layout and doesn't read the source.
-/// The words are read before a byte of the source. Where a run ends early, one fault line says why.
+/// each as it is done and the total at the end; `load` does so with a trace that it makes from a number, by
+/// schedule; `layout` writes a layout. Neither of these two reads the source. The words are read before a
+/// byte of the source. Where a run ends early, one fault line says why.
 ///
-/// Run today are `replay` in the order of the text, with or without `--replies`, and `layout`; another
-/// command ends the run as words that are no command do. Replayed today are the traces whose CPUs start
-/// at transaction id 0 (`is_built` of `slub_journal`): another one ends the run as bytes that are no trace
-/// do.
+/// Run today are `replay` in the order of the text and by schedule, with or without `--replies`, `load` and
+/// `layout`; `replay --how threads` ends the run as words that are no command do. Replayed today are the
+/// traces whose CPUs start at transaction id 0 (`is_built` of `slub_journal`): another one ends the run as
+/// bytes that are no trace do.
 pub fn run<S: Source, K: Sink>(
     alloc: Global,
     words: &[String],

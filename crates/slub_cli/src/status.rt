@@ -31,7 +31,7 @@ pub enum Status {
     WriteFault,
     /// Memory ran out, for the run or for one of its replies.
     NoMemory,
-    /// A scheduled round had no turns left. No run ends so yet.
+    /// All turns of a scheduled round were made, and an event of it had no reply. The round isn't in the journal.
     TurnsSpent,
 }
 
@@ -55,13 +55,13 @@ impl Status {
     }
 }
 
-/// What a run leaves: how it ended, the trace that it read, and what it did.
+/// What a run leaves: how it ended, the trace that it read or made, and what it did.
 #[derive(Debug, Drop)]
 pub struct Outcome {
     pub status: Status,
-    /// None where no trace was read, or one that is not replayed today.
+    /// None where no trace was read or made, or one was read that is not replayed today.
     pub trace: Option<Trace>,
-    /// Empty where no trace was read.
+    /// Empty where no trace was read or made.
     pub journal: Journal,
 }
 
@@ -168,7 +168,7 @@ fn is_refused(items: &[Item], dones: &[Done]) -> bool
     false
 }
 
-/// The items of the trace that was read, or none.
+/// The items of the trace that was read or made, or none.
 fn items_in(trace: &Option<Trace>) -> &[Item]
     ensures { result.now ≡ items_in trace.now }
 {
@@ -178,7 +178,7 @@ fn items_in(trace: &Option<Trace>) -> &[Item]
     }
 }
 
-/// The status of a replay that did everything.
+/// The status of a run that did every item.
 pub(crate) fn done_status(trace: &Option<Trace>, journal: &Journal) -> Status
     ensures { result ≡ done_status trace.now journal.now }
 {

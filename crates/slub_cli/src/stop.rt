@@ -3,9 +3,10 @@
 ghost use Rattle.std.specs.Prelude.{◌≡◌, IfOk};
 ghost use Rattle.slub_cli.specs.declared.stop.Stop.TheVariants.{WriteFault, NoMemory};
 ghost use Rattle.slub_cli.specs.Run.{bad_line};
-ghost use Rattle.slub_cli.specs.Stop.{IsStopOf};
+ghost use Rattle.slub_cli.specs.Stop.{IsStopOf, item_stop};
 
 use slub_edges::edges::Failed;
+use slub_items::machine::Stopped;
 use slub_trace_reader::reading::{TraceFault, Why};
 use std::alloc::{AllocError, AllocFailed, Global};
 
@@ -22,6 +23,8 @@ pub enum Stop {
     ReadFault,
     WriteFault,
     NoMemory,
+    /// All turns of a scheduled round are made, and an event of it has no reply.
+    TurnsSpent,
 }
 
 impl From<AllocError> for Stop {
@@ -82,5 +85,17 @@ impl From<Failed> for Stop {
 
     fn from(_failed: Failed) -> Stop {
         Stop::WriteFault
+    }
+}
+
+// What an item that wasn't done stops for; its machine is let go.
+impl From<Stopped> for Stop {
+    ghost from_gives = { λ stopped e. e ≡ item_stop stopped };
+
+    fn from(stopped: Stopped) -> Stop {
+        match stopped {
+            Stopped::NoMemory(_) => Stop::NoMemory,
+            Stopped::TurnsSpent => Stop::TurnsSpent,
+        }
     }
 }

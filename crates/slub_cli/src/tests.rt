@@ -155,7 +155,7 @@ fn what_is_no_command_and_no_trace(rt: HostRuntime) -> Result<(), Fail> {
         &["replay", "--how", "threads"],
         &["replay", "--seed", "1", "--seed", "2"],
         &["layout", "192", "8", "-"],
-        &["load", "0", "1", "1"],
+        &["load", "0", "1", "17"],
     ] {
         expect(alloc, words, FIRST, &SOUND, Status::BadWords, bad)?;
     }

@@ -1,4 +1,4 @@
-//! Commands through `run`: layouts, and replays without `--replies`.
+//! Commands through `run`: layouts, replays without `--replies`, and loads.
 
 use crate::status::Status;
 use crate::tests::{HEADER, SOUND, expect, expect_cut, text_of};
@@ -86,6 +86,7 @@ fn refusals_alone_without_replies(rt: HostRuntime) -> Result<(), Fail> {
         &["replay"] as &[&str],
         &["replay", "--how", "serial"],
         &["replay", "--seed=7", "--how=serial"],
+        &["replay", "--how", "schedule", "--seed", "7"],
     ] {
         expect(
             rt.alloc(),
@@ -113,4 +114,21 @@ fn damage_is_told_without_replies(rt: HostRuntime) -> Result<(), Fail> {
         Status::Refused,
         "damage node 4104: poison offset 0 found 41 wanted 6b\ntotal given 2 freed 1 live 1 free 72 aside 73 frozen 0 slabs 2 frames 13\n",
     )
+}
+
+#[test]
+fn loads_of_one_worker_and_of_two(rt: HostRuntime) -> Result<(), Fail> {
+    for (words, line) in [
+        (
+            ["load", "1", "1000", "1"],
+            "total given 528 freed 528 live 0 free 0 aside 0 frozen 0 slabs 0 frames 4095\n",
+        ),
+        (
+            ["load", "2", "5000", "2"],
+            "total given 2563 freed 2563 live 0 free 0 aside 0 frozen 0 slabs 0 frames 4095\n",
+        ),
+    ] {
+        expect(rt.alloc(), &words, "", &SOUND, Status::Fine, line)?;
+    }
+    expect_cut(rt.alloc(), &["load", "1", "1000", "1"], "", 0, "total")
 }

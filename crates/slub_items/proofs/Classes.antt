@@ -1,11 +1,10 @@
 -- The board after a `kmalloc`, a `kget` and a `krealloc`.
-use Rattle.std.proofs.Common.{◌≡◌, ◌≢◌, ℕ, zero, suc, ◌+◌, ◌<◌, ◌≤◌, ◌&&◌, not, Bool, true, false, List, [], ◌∷◌, ◌++◌, length, get_or, set, get_or-set_same, refl, sym, ◌∙◌, ap, subst, All, arith, Option, Some, None, IsSome, MatchOption, Result, Ok, Err, inl, inr, ◌⊎◌, option_map, is_some}
-use Rattle.std.specs.List.{Contains, IsDistinct, list_any, range_with_len}
-use Rattle.std.specs.Prelude.{nat_eq}
+use Rattle.std.proofs.Common.{◌≡◌, ◌≢◌, ℕ, zero, suc, ◌+◌, ◌≤◌, ◌&&◌, not, Bool, true, false, List, [], ◌∷◌, length, get_or, set, get_or-set_same, refl, sym, ◌∙◌, ap, subst, All, arith, Option, Some, None, IsSome, Result, Ok, Err, inl, inr, option_map, is_some}
+use Rattle.std.specs.List.{Contains, list_any, range_with_len}
 use Rattle.std.specs.Option.{option_map_or}
 use Rattle.std.proofs.lemmas.List.Elements.{All-cons, All-head, All-nil}
 use Rattle.slub_common.specs.Times.{times}
-use Rattle.slub_common.proofs.Times.{Contains-times, times-cons, times-cons_other, times-contained}
+use Rattle.slub_common.proofs.Times.{Contains-times, times-cons_other}
 use Rattle.slub_object_layout.specs.declared.event.Act.TheVariants.{Alloc, Free}
 use Rattle.slub_object_layout.specs.declared.event.Event.{Event}
 use Rattle.slub_object_layout.specs.Layout.{address_of, is_checked}
@@ -22,7 +21,7 @@ use Rattle.slub_red_zone.specs.State.{CheckedState}
 use Rattle.slub_lists.specs.declared.lists.Held.{Held}
 use Rattle.slub_lists.specs.State.{State}
 use Rattle.slub_lists.specs.Alloc.{cache_of, checked_of}
-use Rattle.slub_lists.specs.Coherent.{IsCoherent, all_on_board, held_under, laid_down}
+use Rattle.slub_lists.specs.Coherent.{IsCoherent, held_under, laid_down}
 use Rattle.slub_lists.specs.Places.{layout_at, no_layout}
 use Rattle.slub_lists.proofs.CheckedSlabs.{at_some}
 use Rattle.slub_trace_reader.specs.declared.trace.Client.{Client as Asked}
@@ -34,10 +33,10 @@ use Rattle.slub_journal.specs.declared.client.ClientAnswer.{ClientAnswer}
 use Rattle.slub_journal.specs.declared.client.ClientAnswer.TheVariants as answer
 use Rattle.slub_journal.specs.declared.client.ClientDone.{ClientDone}
 use Rattle.slub_journal.specs.declared.client.ClientRound.{ClientRound}
-use Rattle.slub_journal.specs.Asked.{AnswersAtOnce, DoesAsked, IsServable, Tells, event_of, frees_of, refusal_of, round_of}
-use Rattle.slub_journal.specs.BulkLines.{AddsNumbers, DropsNumbers, FreesAgain, address_under, allocs_of, replied}
+use Rattle.slub_journal.specs.Asked.{AnswersAtOnce, DoesAsked, IsServable, event_of, frees_of, refusal_of, round_of}
+use Rattle.slub_journal.specs.BulkLines.{AddsNumbers, DropsNumbers, FreesAgain, address_under, replied}
 use Rattle.slub_journal.specs.Classes.{class_place}
-use Rattle.slub_journal.specs.Kmalloc.{CreatesClasses, MovesOn, Moves, ServesClasses, ServesHeld, ServesKget, ServesKrealloc, TakesOfClass, class_name, given_answer, is_enough, is_kmalloc, names_cache, place_of_class}
+use Rattle.slub_journal.specs.Kmalloc.{CreatesClasses, MovesOn, ServesClasses, ServesKget, ServesKrealloc, TakesOfClass, given_answer, is_enough, is_kmalloc, names_cache, place_of_class}
 use Rattle.slub_items.specs.Leaves.{LeavesClasses, MovesNumber}
 use Rattle.slub_trace_reader.specs.Classes.{class_names}
 use Rattle.slub_journal.specs.Lawful.{CreatesName, IsAtRest, IsUnheld, RunsEvents}
@@ -48,7 +47,7 @@ use Rattle.slub_round_law.proofs.Tale.{injected}
 use Rattle.slub_round_law.proofs.Times.{events_given, once_times}
 use Rattle.slub_round_law.proofs.Whole.{laid-under}
 use Rattle.slub_bulk.specs.Numbers.{IsNumber}
-use Rattle.slub_bulk.proofs.Boards.{allocs_fit, allocs_free_none, answers_of, asked_lawful, frees_fit, one_stays, replies_even, stays_there}
+use Rattle.slub_bulk.proofs.Boards.{allocs_fit, answers_of, asked_lawful, frees_fit, one_stays, replies_even}
 use Rattle.slub_bulk.proofs.Bulking.{one_differs}
 use Rattle.slub_bulk.proofs.Even.{replied-all}
 use Rattle.slub_bulk.proofs.Leaving.{back-again, drops, either-way, nobody, not-some}

@@ -1,41 +1,63 @@
 //! The machine, and what an item does to it.
 
-ghost use Rattle.std.specs.Prelude.{◌≡◌, ◌+◌, ◌^◌, ◌<◌, length, IfOk, OnErr, OnOk};
+ghost use Rattle.std.specs.Prelude.{◌≡◌, ◌+◌, ◌-◌, ◌^◌, ◌<◌, ◌≤◌, length, IfErr, IfOk, OnErr, OnOk};
 ghost use Rattle.slub_lists.specs.Coherent.{IsCoherent};
+ghost use Rattle.slub_trace_reader.specs.declared.trace.Trace.{Trace as Read};
 ghost use Rattle.slub_trace_reader.specs.Sound.{IsSound, asked_objects};
+ghost use Rattle.slub_calls.specs.Laws.{MayDo};
 ghost use Rattle.slub_journal.specs.Asked.{IsServable};
 ghost use Rattle.slub_journal.specs.Lawful.{DoesPlainAt, IsAtRest, IsPlainAt, IsReady, IsTotal, TakesMemoryAt, all_freed, all_given, opening_of};
 ghost use Rattle.slub_journal.specs.Reserves.{AreSoundReserves};
-ghost use Rattle.slub_journal.specs.Runs.{DoesAt, IsReadyMachine, KeepsBeside, Serves, machine_of};
+ghost use Rattle.slub_round_law.specs.Round.{IsRound};
 ghost use Rattle.slub_engine.specs.Steps.{KeepsSizes, KeepsUnheld};
+ghost use Rattle.slub_ways.specs.Ways.{DoesRoundBy};
+ghost use Rattle.slub_ways.specs.Runs.{DoesAt, IsReadyMachine, KeepsReserves, KeepsRounds, Serves, machine_of};
+ghost use Rattle.slub_items.specs.Stopped.{IsMachineStopped, IsStopped};
 
+use crate::round::by_way;
 use slub_common::no_memory::NoMemory;
 use slub_engine::item;
 use slub_journal::client::ClientDone;
-use slub_journal::journal::{Done, Total};
+use slub_journal::journal::{Done, RoundResult, Total};
 use slub_list_machine::lists::Lists;
 use slub_mempool::reserves::Reserves;
+use slub_object_layout::event::Round;
+use slub_rounds::scheduled::Stopped as RoundStopped;
 use slub_trace_reader::trace::{Client, Item, Trace};
+use slub_ways::laws::{items_leave_room, ready_rounds_may_be_done};
+use slub_ways::way::Way;
 use std::alloc::Global;
 use std::marker::Model;
 
-/// The machine between two items: its lists, and beside them the reserves of its clients.
+/// The machine between two items: its lists, beside them the reserves of its clients, and how many `round` lines
+/// were done.
 #[derive(Drop)]
 pub struct Machine {
     lists: Lists,
     reserves: Reserves,
+    rounds: u64,
 }
 
 impl Model for Machine {
-    ghost use Rattle.slub_journal.specs.Runs.{MachineState};
+    ghost use Rattle.slub_ways.specs.Runs.{MachineState};
 
     ghost Value = { MachineState };
 
-    ghost view = { λ m. record { lists = m.lists; reserves = m.reserves } };
+    ghost view = { λ m. record { lists = m.lists; reserves = m.reserves; rounds = m.rounds } };
+}
+
+/// Why an item wasn't done.
+#[derive(Drop)]
+pub enum Stopped {
+    /// There was no memory for it. The machine is as it was given, but after a client's line as the line left it so
+    /// far.
+    NoMemory(Machine),
+    /// All turns of the round are made, and an event has no reply.
+    TurnsSpent,
 }
 
 impl Machine {
-    /// The machine before the first item of a trace: no cache, and no reserve.
+    /// The machine before the first item of a trace: no cache, no reserve, and no round done.
     pub fn open(alloc: Global, trace: &Trace) -> Result<Machine, NoMemory>
         requires { IsSound trace.now }
         ensures opened { IfOk result (λ machine. machine ≡ machine_of trace.now) }
@@ -43,28 +65,93 @@ impl Machine {
     {
         let lists = open_lists(alloc, trace)?;
         let reserves = Reserves::open(alloc)?;
-        Ok(Machine { lists, reserves })
+        Ok(Machine {
+            lists,
+            reserves,
+            rounds: 0,
+        })
     }
 
-    /// Does the item of this number. Where no memory is found, the machine is as the item left it so far; a
-    /// client's line alone leaves it changed.
-    pub fn item(&mut self, alloc: Global, trace: &Trace, number: usize) -> Result<Done, NoMemory>
+    /// Does the item of this number, a round by the way, and gives the machine back with what came of it.
+    ///
+    /// The errors: `NoMemory` where none was found, only for an item that takes some, which a shrink, a destroy and a
+    /// setting don't; `TurnsSpent` only for a round of two or more workers by `Way::Schedule`.
+    pub fn item(
+        mut self,
+        alloc: Global,
+        trace: &Trace,
+        number: usize,
+        way: Way,
+    ) -> Result<(Machine, Done), Stopped>
         requires sound { IsSound trace.now }
         requires within { number < length trace.now.items }
-        requires ready { IsReadyMachine self.old trace.now number }
-        ensures done { IfOk result (λ done. DoesAt self.old trace.now number done self.new) }
-        ensures ready { OnOk result (IsReadyMachine self.new trace.now (number + 1)) }
-        ensures err { IsPlainAt trace.now number → OnErr result (self.new ≡ self.old) }
-        ensures memory { OnErr result (TakesMemoryAt trace.now number) }
+        requires ready { IsReadyMachine self trace.now number }
+        ensures done { IfOk result (λ done. DoesAt way self trace.now number done.1 done.0) }
+        ensures ready { IfOk result (λ done. IsReadyMachine done.0 trace.now (number + 1)) }
+        ensures stopped { IfErr result (IsStopped way self trace.now number) }
     {
+        ready_rounds_may_be_done();
+        items_leave_room();
         match &trace.items.as_slice()[number] {
-            Item::Client(client) => Ok(Done::Client(self.serve(alloc, trace, client)?)),
-            _ => self.plain_item(alloc, trace, number),
+            Item::Round(round) => {
+                let (after, result) = self.round(alloc, round, way)?;
+                Ok((after, Done::Round(result)))
+            }
+            Item::Client(client) => match self.serve(alloc, trace, client) {
+                Ok(served) => Ok((self, Done::Client(served))),
+                Err(NoMemory) => Err(Stopped::NoMemory(self)),
+            },
+            _ => match self.plain_item(alloc, trace, number) {
+                Ok(done) => Ok((self, done)),
+                Err(NoMemory) => Err(Stopped::NoMemory(self)),
+            },
         }
     }
 
-    /// Does an item that isn't a client's line, on the lists. Where no memory is found, the machine is as it
-    /// was given.
+    /// Does a round by the way.
+    fn round(
+        self,
+        alloc: Global,
+        round: &Round,
+        way: Way,
+    ) -> Result<(Machine, RoundResult), Stopped>
+        requires coherent { IsCoherent self.lists }
+        requires rest { IsAtRest self.lists }
+        requires objects { length self.lists.board ≤ 1048577 }
+        requires may_do { (trace : Read) × MayDo self.lists trace round.now }
+        requires few { self.rounds < 2 ^ 64 - 1 }
+        ensures does { IfOk result (λ done.
+            DoesRoundBy way self.rounds self.lists round.now done.1 done.0.lists) }
+        ensures lawful { IfOk result (λ done. IsRound self.lists round.now done.1 done.0.lists) }
+        ensures reserves { IfOk result (λ done. KeepsReserves self done.0) }
+        ensures counted { IfOk result (λ done. done.0.rounds ≡ self.rounds + 1) }
+        ensures stopped { IfErr result (IsMachineStopped way self round.now) }
+    {
+        let Machine {
+            lists,
+            reserves,
+            rounds,
+        } = self;
+        match by_way(alloc, lists, round, rounds, way) {
+            Ok((lists, result)) => Ok((
+                Machine {
+                    lists,
+                    reserves,
+                    rounds: rounds + 1,
+                },
+                result,
+            )),
+            Err(RoundStopped::NoMemory(lists)) => Err(Stopped::NoMemory(Machine {
+                lists,
+                reserves,
+                rounds,
+            })),
+            Err(RoundStopped::TurnsSpent) => Err(Stopped::TurnsSpent),
+        }
+    }
+
+    /// Does an item that is neither a round nor a client's line, on the lists. Where no memory is found, the machine
+    /// is as it was given.
     fn plain_item(&mut self, alloc: Global, trace: &Trace, number: usize) -> Result<Done, NoMemory>
         requires sound { IsSound trace.now }
         requires within { number < length trace.now.items }
@@ -72,7 +159,8 @@ impl Machine {
         requires ready { IsReady self.old.lists trace.now number }
         ensures done { IfOk result (λ done.
             DoesPlainAt self.old.lists trace.now number done self.new.lists) }
-        ensures beside { KeepsBeside self.old self.new }
+        ensures reserves { KeepsReserves self.old self.new }
+        ensures rounds { KeepsRounds self.old self.new }
         ensures ready { OnOk result (IsReady self.new.lists trace.now (number + 1)) }
         ensures err { OnErr result (self.new ≡ self.old) }
         ensures memory { OnErr result (TakesMemoryAt trace.now number) }
@@ -96,6 +184,7 @@ impl Machine {
         ensures unheld { KeepsUnheld self.old.lists (asked_objects client.now) self.new.lists }
         ensures rest { IsAtRest self.new.lists }
         ensures reserves { AreSoundReserves trace.now self.new.reserves }
+        ensures rounds { KeepsRounds self.old self.new }
     {
         match client {
             Client::Kmalloc | Client::Kget { .. } | Client::Krealloc { .. } => {

@@ -6,10 +6,10 @@ use Rattle.slub_laws.proofs.Few.{sums_few}
 use Rattle.slub_cli.proofs.replay.do_total.Goals as goal
 
 pub total-sums-requires-clause-given : goal.total-sums-requires-clause-given
-total-sums-requires-clause-given g c = rw c.as_slice.ensures (sums_few c.args.trace.now c.args.journal.now.items c.args.machine.now c.requires.sound c.requires.opened c.requires.run).0
+total-sums-requires-clause-given g c = rw c.as_slice.ensures (sums_few c.requires.run.0 c.args.trace.now c.args.journal.now.items c.args.machine.now c.requires.sound c.requires.opened c.requires.run.1).0
 
 pub total-sums-requires-clause-freed : goal.total-sums-requires-clause-freed
-total-sums-requires-clause-freed g c = rw c.as_slice.ensures (sums_few c.args.trace.now c.args.journal.now.items c.args.machine.now c.requires.sound c.requires.opened c.requires.run).1
+total-sums-requires-clause-freed g c = rw c.as_slice.ensures (sums_few c.requires.run.0 c.args.trace.now c.args.journal.now.items c.args.machine.now c.requires.sound c.requires.opened c.requires.run.1).1
 
 pub returns-in_err-write_lines-clause-told : goal.returns-in_err-write_lines-clause-told
 returns-in_err-write_lines-clause-told g c =

@@ -4,4 +4,4 @@ use Rattle.slub_cli.proofs.run.replay.Goals as goal
 
 pub returns-in-Err-clause-replayed : goal.returns-in-Err-clause-replayed
 returns-in-Err-clause-replayed g c =
-    λ words. unread_replays _ c.args.replies c.args.trace.now c.args.journal.now c.in-Err.stop c.in-Err.ensures.reads refl c.requires.unread c.requires.empty
+    λ words. unread_replays _ c.args.way c.args.replies c.args.trace.now c.args.journal.now c.in-Err.stop c.in-Err.ensures.reads refl c.requires.unread c.requires.empty

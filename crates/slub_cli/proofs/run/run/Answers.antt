@@ -12,4 +12,3 @@ returns-clause-run g c =
     (g.K.Sink.faults c.work-end.new.sink, g.K.Sink.faults c.finish-status.new.sink) c.work-end.new.trace c.work-end.new.journal
     c.work-end.result c.finish-status.result c.work-end.ensures.counts refl c.finish-status.ensures.counts
     c.work-end.ensures.read_faults c.work-end.ensures.write_faults worked c.finish-status.ensures.finishes)
-    worked.lawful

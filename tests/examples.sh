@@ -1,7 +1,8 @@
 #!/usr/bin/env bash
 # examples.sh [PROGRAM]: each examples/NAME.out against what the program writes: for the words of NAME.args, one a
 # line (without it: replay --replies), the input NAME.trace (without it: none) and the status of NAME.status
-# (without it: 0). Without PROGRAM the program is made by `rt try`, unproved, in about a minute.
+# (without it: 0). One trace may stand for several names: of TRACE.WAY it is TRACE.trace. Without PROGRAM the program
+# is made by `rt try`, unproved, in about a minute.
 top=$(cd "$(dirname "${BASH_SOURCE[0]}")/.." && pwd) || exit 2
 room=$(mktemp -d) || exit 2
 trap 'rm -rf "$room"' EXIT
@@ -14,7 +15,9 @@ for out in "$top"/examples/*.out; do
     example=${out%.out}
     case=$room/cases/${example##*/}
     cp "$out" "$case.stdout"
-    if [ -f "$example.trace" ]; then cp "$example.trace" "$case"; else : >"$case"; fi
+    trace=$example.trace
+    [ -f "$trace" ] || trace=${example%.*}.trace
+    if [ -f "$trace" ]; then cp "$trace" "$case"; else : >"$case"; fi
     if [ -f "$example.args" ]; then cp "$example.args" "$case.args"; else printf 'replay\n--replies\n' >"$case.args"; fi
 done
 
@@ -54,7 +57,8 @@ for out in "$top"/examples/*.out; do
     fi
 done
 for trace in "$top"/examples/*.trace; do
-    [ -f "${trace%.trace}.out" ] && continue
+    outputs=("${trace%.trace}.out" "${trace%.trace}".*.out)
+    [ -f "${outputs[0]}" ] || [ -f "${outputs[1]}" ] && continue
     failed=$((failed + 1))
     echo "tests/examples.sh: no output stands beside $(basename "$trace")" >&2
 done

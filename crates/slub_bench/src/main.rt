@@ -4,11 +4,14 @@
 //! prints what a take costs, by the pool and by a scan of all frames, and the ratio; `reader` reads a
 //! trace of some twelve million bytes, and prints what that costs against counting its lines and
 //! words; `serial` replays traces of 10,000, 100,000 and 500,000 events, and prints what an event costs
-//! in each, and what of it is reading, replay, text and writing.
+//! in each, and what of it is reading, replay, text and writing; `schedule` replays rounds of eight workers by schedule
+//! and in the order of the text, a load, and a trace of small rounds.
 #![tactic(auto)]
 
 mod pool;
 mod reader;
+mod runs;
+mod schedule;
 mod serial;
 
 use std::rt::{Clock, Env};
@@ -26,7 +29,10 @@ fn main(rt: HostRuntime) -> io::Result<()> {
     match part {
         Some(word) if word.as_str() == "pool" => pool::measure_all(&rt),
         Some(word) if word.as_str() == "reader" => reader::measure(&rt),
+        Some(word) if word.as_str() == "schedule" => schedule::measure(&rt),
         Some(word) if word.as_str() == "serial" => serial::measure(&rt),
-        _ => println!(rt; "slub_bench: name what is to be measured: pool, reader or serial"),
+        _ => println!(rt;
+            "slub_bench: name what is to be measured: pool, reader, schedule or serial"
+        ),
     }
 }

@@ -1,6 +1,7 @@
 //! The trace reader against counting lines and words.
 
 use crate::nanos_since;
+use crate::runs::out_of_memory;
 use slub_common::limits::INPUT_MAX;
 use slub_edges::faultless::FaultlessSource;
 use slub_edges::reading::read_all;
@@ -34,10 +35,6 @@ fn lines_and_words(text: &[u8]) -> (usize, usize) {
     let lines = text.iter().filter(|byte| **byte == b'\n').count();
     let spaces = text.iter().filter(|byte| **byte == b' ').count();
     (lines, lines.saturating_add(spaces))
-}
-
-fn out_of_memory() -> io::Error {
-    io::Error::from(io::ErrorKind::OutOfMemory)
 }
 
 /// The nanoseconds that one way of going over the text takes.

@@ -1,0 +1,103 @@
+//! Rounds of several workers by schedule, against the order of the text.
+
+use crate::runs::{HEAD, one_round, read_nanos, run_nanos};
+use slub_edges::faultless::FaultlessSink;
+use std::alloc::{AllocError, Global};
+use std::io;
+use std::rt::Clock;
+
+/// The workers of a round.
+const WORKERS: u32 = 8;
+
+/// The events of the load that is measured.
+const LOADED: u32 = 200_000;
+
+/// How many small rounds stand in a trace, which is as many as there may be.
+const ROUNDS: u32 = 256;
+
+/// A replay in the order of the text.
+const SERIAL: &[&str] = &["replay"];
+
+/// A replay by schedule.
+const SCHEDULE: &[&str] = &["replay", "--how", "schedule"];
+
+/// A trace of as many rounds as there may be, of two workers and two events each.
+fn small_rounds(alloc: Global) -> Result<Vec<u8>, AllocError> {
+    let mut text = Vec::from_slice(alloc, HEAD)?;
+    for round in 1..=ROUNDS {
+        let other = round + ROUNDS;
+        let lines = format!(in alloc;
+            "round 2\nalloc 0 0 dentry {round}\nalloc 1 1 filp {other}\ndone\n"
+        )?;
+        text.extend_from_slice(lines.as_bytes())?;
+    }
+    text.extend_from_slice(b"end\n")?;
+    Ok(text)
+}
+
+/// The least time of three.
+fn best_run(rt: &(impl Clock + AllocGlobal), text: &[u8], words: &[&str]) -> io::Result<u64> {
+    let mut nowhere = FaultlessSink::new();
+    let mut best = run_nanos(rt, text, words, &mut nowhere)?;
+    for _ in 0..2 {
+        best = best.min(run_nanos(rt, text, words, &mut nowhere)?);
+    }
+    Ok(best)
+}
+
+fn best_read(rt: &(impl Clock + AllocGlobal), text: &[u8]) -> io::Result<u64> {
+    let mut best = read_nanos(rt, text)?;
+    for _ in 0..2 {
+        best = best.min(read_nanos(rt, text)?);
+    }
+    Ok(best)
+}
+
+/// What a trace of about so many events costs by schedule and in the order of the text, an event; reading and the
+/// opening of the machine left out. Gives the first of the two.
+fn measure_one(
+    rt: &(impl Clock + AllocGlobal + Print),
+    events: u32,
+    opening: u64,
+    first: Option<u64>,
+) -> io::Result<u64> {
+    let text = one_round(rt.alloc(), WORKERS, events)?;
+    let count = u64::from(events).max(1);
+    let before = best_read(rt, &text)?.saturating_add(opening);
+    let turns = best_run(rt, &text, SCHEDULE)?.saturating_sub(before) / count;
+    let serial = best_run(rt, &text, SERIAL)?.saturating_sub(before) / count;
+    let ratio = turns.saturating_mul(100) / serial.max(1);
+    let percent = turns.saturating_mul(100) / first.unwrap_or(turns).max(1);
+    println!(rt;
+        "{events} events of {WORKERS} workers: by schedule {turns} ns an event, {percent} % of the first; in the order of the text {serial} ns: {ratio} %"
+    )?;
+    Ok(turns)
+}
+
+/// What a load costs, against reading a trace of as many events.
+fn measure_load(rt: &(impl Clock + AllocGlobal + Print)) -> io::Result<()> {
+    let text = one_round(rt.alloc(), WORKERS, LOADED)?;
+    let reading = best_read(rt, &text)? / 1_000_000;
+    let load = best_run(rt, b"", &["load", "1", "200000", "8"])? / 1_000_000;
+    println!(rt; "load 1 {LOADED} 8: {load} ms; reading as many events as text: {reading} ms")
+}
+
+/// What small rounds cost, each of which opens the machine and closes it.
+fn measure_rounds(rt: &(impl Clock + AllocGlobal + Print)) -> io::Result<()> {
+    let text = small_rounds(rt.alloc())?;
+    let all = best_run(rt, &text, SCHEDULE)?;
+    let millis = all / 1_000_000;
+    let each = all / u64::from(ROUNDS) / 1000;
+    println!(rt; "{ROUNDS} rounds of two workers on 4096 frames: {millis} ms, {each} us a round")
+}
+
+/// Measures three lengths, a load and small rounds; the cost of an event doesn't grow with the length.
+pub(crate) fn measure(rt: &(impl Clock + AllocGlobal + Print)) -> io::Result<()> {
+    let nothing = one_round(rt.alloc(), WORKERS, 0)?;
+    let opening = best_run(rt, &nothing, SCHEDULE)?;
+    let first = measure_one(rt, 10_000, opening, None)?;
+    measure_one(rt, 100_000, opening, Some(first))?;
+    measure_one(rt, 500_000, opening, Some(first))?;
+    measure_load(rt)?;
+    measure_rounds(rt)
+}

@@ -53,25 +53,48 @@ fn best_read(rt: &(impl Clock + AllocGlobal), text: &[u8]) -> io::Result<u64> {
     Ok(best)
 }
 
-/// What a trace of about so many events costs by schedule and in the order of the text, an event; reading and the
-/// opening of the machine left out. Gives the first of the two.
+/// The nanoseconds that a round without events takes, by schedule and in the order of the text.
+#[derive(Clone, Copy)]
+struct Openings {
+    schedule: u64,
+    serial: u64,
+}
+
+impl Openings {
+    fn measured(rt: &(impl Clock + AllocGlobal)) -> io::Result<Openings> {
+        let nothing = one_round(rt.alloc(), WORKERS, 0)?;
+        Ok(Openings {
+            schedule: best_run(rt, &nothing, SCHEDULE)?,
+            serial: best_run(rt, &nothing, SERIAL)?,
+        })
+    }
+}
+
+/// What an event of a trace of about so many costs by schedule and in the order of the text, reading and the opening of
+/// the machine left out. Gives the first of the two.
 fn measure_one(
     rt: &(impl Clock + AllocGlobal + Print),
     events: u32,
-    opening: u64,
+    openings: Openings,
     first: Option<u64>,
 ) -> io::Result<u64> {
     let text = one_round(rt.alloc(), WORKERS, events)?;
     let count = u64::from(events).max(1);
-    let before = best_read(rt, &text)?.saturating_add(opening);
-    let turns = best_run(rt, &text, SCHEDULE)?.saturating_sub(before) / count;
-    let serial = best_run(rt, &text, SERIAL)?.saturating_sub(before) / count;
-    let ratio = turns.saturating_mul(100) / serial.max(1);
-    let percent = turns.saturating_mul(100) / first.unwrap_or(turns).max(1);
+    let reading = best_read(rt, &text)?;
+    let drawn = best_run(rt, &text, SCHEDULE)?
+        .saturating_sub(reading)
+        .saturating_sub(openings.schedule)
+        / count;
+    let serial = best_run(rt, &text, SERIAL)?
+        .saturating_sub(reading)
+        .saturating_sub(openings.serial)
+        / count;
+    let ratio = drawn.saturating_mul(100) / serial.max(1);
+    let percent = drawn.saturating_mul(100) / first.unwrap_or(drawn).max(1);
     println!(rt;
-        "{events} events of {WORKERS} workers: by schedule {turns} ns an event, {percent} % of the first; in the order of the text {serial} ns: {ratio} %"
+        "{events} events of {WORKERS} workers: by schedule {drawn} ns an event, {percent} % of the first; in the order of the text {serial} ns: {ratio} %"
     )?;
-    Ok(turns)
+    Ok(drawn)
 }
 
 /// What a load costs, against reading a trace of as many events.
@@ -93,11 +116,10 @@ fn measure_rounds(rt: &(impl Clock + AllocGlobal + Print)) -> io::Result<()> {
 
 /// Measures three lengths, a load and small rounds; the cost of an event doesn't grow with the length.
 pub(crate) fn measure(rt: &(impl Clock + AllocGlobal + Print)) -> io::Result<()> {
-    let nothing = one_round(rt.alloc(), WORKERS, 0)?;
-    let opening = best_run(rt, &nothing, SCHEDULE)?;
-    let first = measure_one(rt, 10_000, opening, None)?;
-    measure_one(rt, 100_000, opening, Some(first))?;
-    measure_one(rt, 500_000, opening, Some(first))?;
+    let openings = Openings::measured(rt)?;
+    let first = measure_one(rt, 50_000, openings, None)?;
+    measure_one(rt, 200_000, openings, Some(first))?;
+    measure_one(rt, 500_000, openings, Some(first))?;
     measure_load(rt)?;
     measure_rounds(rt)
 }

@@ -114,7 +114,7 @@ fn measure_rounds(rt: &(impl Clock + AllocGlobal + Print)) -> io::Result<()> {
     println!(rt; "{ROUNDS} rounds of two workers on 4096 frames: {millis} ms, {each} us a round")
 }
 
-/// Measures three lengths, a load and small rounds; the cost of an event doesn't grow with the length.
+/// Measures three lengths, a load and small rounds.
 pub(crate) fn measure(rt: &(impl Clock + AllocGlobal + Print)) -> io::Result<()> {
     let openings = Openings::measured(rt)?;
     let first = measure_one(rt, 50_000, openings, None)?;

@@ -21,8 +21,8 @@
 //!     asked: the machine is coherent after each item, after each event in the order of the text, and at
 //!     every turn by schedule;
 //!   - *over*: over the whole run no number is given or freed twice, given less freed is live, and rounds
-//!     are lawful; in the order of the text damage was poked;
-//! - *bad_words*, *bad_trace*, *complete*, *serial*, *load*, *refused*, *layout*: which status a run must have;
+//!     are lawful; where every item is done in the order of the text, damage was poked;
+//! - *bad_words*, *bad_trace*, *complete*, *serial*, *load*, *done*, *layout*: which status a run must have;
 //!   `Status::number` gives its number;
 //! - *untouched*: where the words don't ask for a replay, the source is as it was.
 #![tactic(auto)]

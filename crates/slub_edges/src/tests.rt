@@ -8,6 +8,7 @@ ghost use Rattle.slub_edges.specs.Edges.{AppendsFront};
 use crate::adapters::{ReadSource, WriteSink};
 use crate::edges::{Failed, Sink, Source};
 use crate::faultless::{FaultlessSink, FaultlessSource};
+use crate::gate::{Gate, OpenGate, PairGate};
 use crate::memory::{MemSink, MemSource};
 use crate::pieces::{write_all, write_lines};
 use crate::reading::{ReadAllFault, read_all};
@@ -15,6 +16,7 @@ use std::alloc::Global;
 use std::io;
 use std::io::{ErrorKind, Read};
 use std::test::Fail;
+use std::thread::{Threads, join};
 
 /// Bytes through a source that never fails.
 fn read_back(alloc: Global, bytes: &[u8], most: usize) -> Result<Vec<u8>, ReadAllFault>
@@ -141,4 +143,36 @@ fn std_reads_and_writes(rt: HostRuntime) -> Result<(), Fail> {
     let mut none = FaultlessSink::new();
     assert_eq!(rt; none.write(b"abc"), Ok(3));
     Ok(())
+}
+
+/// A worker that passes a gate before each of its events.
+fn pass_all<G: Gate>(gate: &G, worker: u32, events: u32) -> u32
+    ensures { result ≡ events }
+{
+    for event in 0..events {
+        gate.pass(worker, event);
+    }
+    events
+}
+
+/// Two workers in threads of their own, which share a gate.
+fn pass_both<G: Gate + Sync, R: Threads>(rt: &R, gate: &G) -> (u32, u32)
+    ensures { result ≡ (3, 2) }
+{
+    join(rt, || pass_all(gate, 0, 3), || pass_all(gate, 1, 2))
+}
+
+#[test]
+fn workers_pass_a_gate(rt: HostRuntime) {
+    assert_eq!(rt; pass_both(&rt, &OpenGate), (3, 2));
+
+    // worker 0 waits for worker 1
+    let gate = PairGate::of(10_000_000);
+    assert_eq!(rt; pass_both(&rt, &gate), (3, 2));
+    assert!(rt; !gate.gave_up());
+
+    // worker 1 never comes
+    let alone = PairGate::of(100);
+    assert_eq!(rt; pass_all(&alone, 0, 2), 2);
+    assert!(rt; alone.gave_up());
 }

@@ -1,4 +1,5 @@
 pub mod Rested
+pub mod Stays
 pub mod Settled
 pub mod Twice
 pub mod Turned

@@ -1,5 +1,5 @@
 -- The turn of a worker that is alone, step by step.
-use Rattle.std.proofs.Common.{◌≡◌, ℕ, ◌∙◌, Bool, false, List, [], ◌∷◌, get_or, set, Option, sym, ap, subst}
+use Rattle.std.proofs.Common.{◌≡◌, ℕ, ◌∙◌, Bool, false, List, [], ◌∷◌, get_or, set, Option, refl, sym, ap, subst}
 use Rattle.slub_answers.specs.declared.reply.Reply.{Reply}
 use Rattle.slub_core.specs.declared.spot.Spot.{Spot}
 use Rattle.slub_core.specs.declared.step.Step.{Step}
@@ -7,14 +7,14 @@ use Rattle.slub_core.specs.declared.step.Answer.{Answer}
 use Rattle.slub_core.specs.Setup.{Setup}
 use Rattle.slub_core.specs.Words.{number_of, after_op, answer_of}
 use Rattle.slub_core.specs.Local.{Local, Turn, Change, noted}
-use Rattle.slub_core.specs.Steps.{step_at, advance_at, settled, rested, begun}
+use Rattle.slub_core.specs.Steps.{step_at, advance_at, changed, settled, rested, begun}
 use Rattle.slub_core.specs.Run.{System, turn}
 use Rattle.slub_local.specs.declared.guarded.Guarded.{Guarded}
-use Rattle.slub_local.specs.Values.{values_of}
+use Rattle.slub_local.specs.Values.{values_of, rooms_of}
 use Rattle.slub_local.specs.Ways as ways
 use Rattle.slub_schedule.specs.Table.{WordTable}
-use Rattle.slub_fits.specs.Fits.{StepFits, HasRooms, TurnFits, change_of, after_answer}
-use Rattle.slub_turns.specs.Fits.{SettledFits}
+use Rattle.slub_fits.specs.Fits.{StepFits, HasRooms, HasCallFor, ChangeFits, TurnFits, change_of, after_answer}
+use Rattle.slub_turns.specs.Fits.{GuardedFits, SettledFits}
 use Rattle.slub_turns.specs.System.{alone}
 
 -- what is asked of the step of a worker that has begun
@@ -48,11 +48,23 @@ module _ (m : Setup) (table : WordTable) (values : List Guarded) (local l : Loca
         ∙ ap (λ (s : Spot). led_to l s (answer_of (the_step (begun m false local) (begun m false local).spot).op (word_under (the_step (begun m false local) (begun m false local).spot)))) at
         ∙ ap (λ (x : Local). led_to x x.spot (answer_of (the_step (begun m false local) (begun m false local).spot).op (word_under (the_step (begun m false local) (begun m false local).spot)))) is
 
--- what is asked of what is done at once
-pub settled_fits : (m : Setup) (rooms : List ℕ) (s : System) (l : Local) (c : Change) → ((refused : Bool) → TurnFits m refused s l) → HasRooms m rooms → c ≡ after_answer m s l → SettledFits m rooms c
-settled_fits m rooms s l c fits room is =
-    let P : Change → Type 0 = λ x. SettledFits m rooms x in
-    subst P (sym is) (record { room = room; first = (fits false).first; second = λ refused. (fits refused).second; last = λ refused. (fits refused).last })
+-- what is asked of what is done at once: what fits all values with room in the node lists fits these
+guarded_fits : (m : Setup) (guarded : List Guarded) (c : Change) → HasRooms m (rooms_of guarded) → values_of guarded ≡ c.value → ChangeFits m c → GuardedFits guarded c
+guarded_fits m guarded c room value fits = record { call = fits.call; at_once = fits.at_once guarded (record { values = value; rooms = room }) }
+
+pub settled_fits : (m : Setup) (guarded : List Guarded) (s : System) (l k : Local) (reply : Option Reply) → ((refused : Bool) → TurnFits m refused s l) → HasRooms m (rooms_of guarded)
+    → ways.changed guarded k reply ≡ after_answer m s l → SettledFits m guarded (ways.changed guarded k reply)
+settled_fits m guarded s l k reply fits room is =
+    let P : Change → Type 0 = λ c. ChangeFits m c in
+    let Q : Change → Type 0 = λ c. (refused : Bool) → ChangeFits m (changed m refused c) in
+    let R : Change → Type 0 = λ c. (refused : Bool) → let d = changed m refused (changed m refused c) in HasCallFor d.local d.reply in
+    let second = subst Q (sym is) (λ refused. (fits refused).second) in
+    let rooms : List ℕ → Type 0 = λ rs. HasRooms m rs in
+    record {
+      first = guarded_fits m guarded (ways.changed guarded k reply) room refl (subst P (sym is) (fits false).first);
+      second = λ refused after value same. guarded_fits m after (changed m refused (ways.changed guarded k reply)) (subst rooms (sym same) room) value (second refused);
+      last = subst R (sym is) (λ refused. (fits refused).last);
+    }
 
 -- all of the turn
 pub turn_is : (m : Setup) (table after : WordTable) (values now : List Guarded) (local k l : Local) (step : Step) (c : Change) (refused : Bool)

@@ -1,4 +1,5 @@
 pub mod Means
+pub mod Spots
 pub mod Fits
 pub mod System
 pub mod Ready

@@ -8,13 +8,16 @@ ghost use Rattle.slub_local.specs.Facts.{setup_of};
 ghost use Rattle.slub_local.specs.Values.{values_of, rooms_of};
 ghost use Rattle.slub_local.specs.Ways.{changed};
 ghost use Rattle.slub_checked_paths.specs.Slabs as slabs;
-ghost use Rattle.slub_fits.specs.Fits.{AtOnceFits, HasCallFor, ChangeFits};
+ghost use Rattle.slub_fits.specs.Fits.{AtOnceFits};
+ghost use Rattle.slub_turns.specs.Spots as spots;
 ghost use Rattle.slub_turns.specs.Fits.{SettledFits};
 
 use slub_alloc_paths::at_once::alloc_at_once;
 use slub_answers::reply::Reply;
 use slub_checked_paths::checked::checked_at_once;
-use slub_core::spot::Spot;
+use slub_core::spot::{
+    AllocSpot, CheckedSpot, DiscardSpot, FreeSpot, MoveSetSpot, PutAwaySpot, Spot, TrimSpot,
+};
 use slub_free_paths::discard::discard_at_once;
 use slub_free_paths::free::free_at_once;
 use slub_free_paths::move_set::move_set_at_once;
@@ -94,6 +97,24 @@ fn change_here(setup: &Setup, values: &mut [Guarded], local: &mut Local) -> Opti
     at_once(setup, values, local, spot)
 }
 
+/// Whether something is done at once at this spot, which then calls for no step.
+fn is_at_once(spot: Spot) -> bool
+    ensures { result ≡ spots.is_at_once spot }
+{
+    match spot {
+        Spot::InAlloc(AllocSpot::PopNode | AllocSpot::TakeRun) => true,
+        Spot::InPutAway(PutAwaySpot::PutNode, _) => true,
+        Spot::InDiscard(DiscardSpot::PutRun, _) => true,
+        Spot::InFree(FreeSpot::TakeOff) => true,
+        Spot::InMoveSet(MoveSetSpot::ChooseFront | MoveSetSpot::PutTail, _) => true,
+        Spot::InTrim(TrimSpot::ScanNode | TrimSpot::DropScanned) => true,
+        Spot::InChecked(CheckedSpot::DoChecked, _) => true,
+        Spot::InChecked(CheckedSpot::MoveRun, _) => true,
+        Spot::InChecked(CheckedSpot::AddSlab, _) => true,
+        _ => false,
+    }
+}
+
 /// The call has this reply, if it is one; and what is done at once after that is done, up to a spot that calls for a
 /// step, which is twice at most. Whether memory was refused in it.
 pub fn settle(
@@ -102,13 +123,19 @@ pub fn settle(
     local: &mut Local,
     reply: Option<Reply>,
 ) -> bool
-    requires { (means : Means) × SettledFits (setup_of setup.now means) (rooms_of values.old) (changed values.old local.old reply) }
+    requires { (means : Means) × SettledFits (setup_of setup.now means) values.old (changed values.old local.old reply) }
     ensures change { (means : Means) → let c = core.settled (setup_of setup.now means) result (changed values.old local.old reply) in (values_of values.new ≡ c.value) × (local.new ≡ noted c.local c.reply) }
     ensures rooms { rooms_of values.new ≡ rooms_of values.old }
 {
     local.noted(reply);
+    if !is_at_once(local.spot()) {
+        return false;
+    }
     let first = change_here(setup, values, local);
     local.noted(first);
+    if !is_at_once(local.spot()) {
+        return is_refused(first);
+    }
     let second = change_here(setup, values, local);
     local.noted(second);
     was_refused(first, second)

@@ -2,7 +2,6 @@ use Rattle.std.proofs.Common.{false}
 use Rattle.slub_core.specs.Setup.{Setup}
 use Rattle.slub_core.specs.Steps.{begun}
 use Rattle.slub_local.specs.Facts.{setup_of}
-use Rattle.slub_local.specs.Values.{rooms_of}
 use Rattle.slub_local.specs.Ways as ways
 use Rattle.slub_schedule.specs.Table.{IsTableOf}
 use Rattle.slub_turns.specs.System.{alone}
@@ -27,8 +26,8 @@ settle-refused-requires c =
     let is = answer_is m c.args.table.now c.args.values.now c.args.local.now c.begin.new.local c.spot-spot.result c.step_at-step.result (c.begin.ensures means) c.spot-spot.ensures (c.step_at-step.ensures means)
     c.apply-answer.result c.advance_at-reply.new.local c.advance_at-reply.result told (c.advance_at-reply.ensures means) in (
       means,
-      settled_fits m (rooms_of c.args.values.now) (alone c.args.table.now c.args.values.now c.args.local.now) (begun m false c.args.local.now)
-          (ways.changed c.args.values.now c.advance_at-reply.new.local c.advance_at-reply.result) fits.turn rooms is,
+      settled_fits m c.args.values.now (alone c.args.table.now c.args.values.now c.args.local.now) (begun m false c.args.local.now)
+          c.advance_at-reply.new.local c.advance_at-reply.result fits.turn rooms is,
     )
 
 pub returns-clause-turned : goal.returns-clause-turned

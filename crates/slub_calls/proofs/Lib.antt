@@ -3,3 +3,4 @@ pub mod Shares
 pub mod Fitting
 pub mod Reading
 pub mod Walks
+pub mod Handing

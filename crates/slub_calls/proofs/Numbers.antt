@@ -68,7 +68,7 @@ stays_key ks o x there = by (list_any (eqb x) ks)
     by true = there
     by false = any_push ks o x ∙ ap (λ b. b || eqb o x) there
 
-same_number : (o : ℕ) → eqb o o ≡ true
+pub same_number : (o : ℕ) → eqb o o ≡ true
 same_number o = grind (arith, nat_tests)
 
 comes_key : (ks : List ℕ) (o : ℕ) → list_any (eqb o) (insert_key eqb ks o) ≡ true

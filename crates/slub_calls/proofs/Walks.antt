@@ -1,20 +1,18 @@
 -- One event, one number and one worker more.
-use Rattle.std.proofs.Common.{◌≡◌, ℕ, zero, suc, ◌+◌, ◌<◌, Bool, true, false, nat_lt, ◌≤◌, cond, List, [], ◌∷◌, ◌++◌, length, map, take, get_or, refl, sym, ◌∙◌, ap, eqb, Option, Some, None, arith}
-use Rattle.std.specs.List.{cons_option, filter_map, position, position_or_len, range_with_len}
+use Rattle.std.proofs.Common.{◌≡◌, ℕ, suc, ◌+◌, ◌<◌, Bool, true, false, cond, List, [], ◌∷◌, ◌++◌, length, take, get_or, refl, sym, ◌∙◌, ap, eqb, Option, Some, None, arith}
+use Rattle.std.specs.List.{cons_option, filter_map, position_or_len}
 use Rattle.std.proofs.lemmas.Bool.{false≢true}
 use Rattle.std.proofs.lemmas.Bool.Decides.{nat_tests}
-use Rattle.std.proofs.lemmas.Option.{none-some, same_Some}
 use Rattle.std.proofs.lemmas.List.Recursion.{is_position_or_len}
 use Rattle.std.proofs.lemmas.List.{append-nil, map-append, take_more}
 use Rattle.std.proofs.lemmas.List.Elements.{filter-append, filter_map-append}
 use Rattle.indexmap.specs.IndexSet.{insert_all, insert_key}
 use Rattle.indexmap.proofs.SetLemmas.{set_all_push}
 use Rattle.slub_object_layout.specs.declared.event.Event.{Event}
-use Rattle.slub_object_layout.specs.declared.event.Round.{Round}
 use Rattle.slub_cache_create.specs.Table.{Table}
 use Rattle.slub_core.specs.declared.local.Known.{Known}
 use Rattle.slub_core.specs.Accounted.{place_of}
-use Rattle.slub_calls.specs.Calls.{call_for, calls_for, events_by, numbers_in, object_named, room_for, worker_of}
+use Rattle.slub_calls.specs.Calls.{call_for, calls_for, events_by, numbers_in, object_named, room_for}
 use Rattle.slub_calls.proofs.Numbers.{rooms}
 
 -- ---- the events of a worker
@@ -37,7 +35,7 @@ other_more events i event worker within at other =
 
 -- ---- the numbers that they name
 
-abbrev named : List Event → List ℕ
+abbrev pub named : List Event → List ℕ
 named events = filter_map (λ (event : Event). object_named event.act) events
 
 named_more : (events : List Event) (event : Event) (n : Option ℕ) → object_named event.act ≡ n → named (events ++ event ∷ []) ≡ named events ++ cons_option n []
@@ -68,46 +66,11 @@ step_of o x xs = by (eqb o x) (eqb x o) (turned x o)
     by true false is = absurd (false≢true is)
     by false true is = absurd (false≢true (sym is))
 
-place_is : (o : ℕ) (numbers : List ℕ) → place_of (rooms numbers) o ≡ position_or_len (eqb o) numbers
+pub place_is : (o : ℕ) (numbers : List ℕ) → place_of (rooms numbers) o ≡ position_or_len (eqb o) numbers
 place_is o numbers = is_position_or_len (λ xs. place_of (rooms xs) o) (eqb o) refl (step_of o) numbers
-
-place_le : (o : ℕ) (numbers : List ℕ) → place_of (rooms numbers) o ≤ length numbers
-place_le o [] = omega arith
-place_le o (x ∷ xs) = by (eqb x o) (place_le o xs)
-  where
-    by : (b : Bool) → place_of (rooms xs) o ≤ length xs → cond b 0 (suc (place_of (rooms xs) o)) ≤ suc (length xs)
-    by true few = omega arith
-    by false few = omega (arith, few)
-
-found_by : (at long place : ℕ) (b : Bool) → nat_lt at long ≡ b → cond b (Some at) None ≡ Some place → place ≡ at
-found_by at long place true is found = sym (same_Some at place found)
-found_by at long place false is found = absurd (none-some place found)
-
-missed_by : (at long : ℕ) (b : Bool) → nat_lt at long ≡ b → at ≤ long → cond b (Some at) None ≡ None → long ≡ at
-missed_by at long true is few missed = absurd (none-some at (sym missed))
-missed_by at long false is few missed = grind (arith, nat_tests, is, few)
-
-pub found_at : (o : ℕ) (numbers : List ℕ) (place : ℕ) → position (eqb o) numbers ≡ Some place → place ≡ place_of (rooms numbers) o
-found_at o numbers place found = found_by (position_or_len (eqb o) numbers) (length numbers) place (nat_lt (position_or_len (eqb o) numbers) (length numbers)) refl found ∙ sym (place_is o numbers)
-
-pub not_found : (o : ℕ) (numbers : List ℕ) → position (eqb o) numbers ≡ None → length numbers ≡ place_of (rooms numbers) o
-not_found o numbers missed =
-    let few = place_le o numbers in let is = place_is o numbers in
-    missed_by (position_or_len (eqb o) numbers) (length numbers) (nat_lt (position_or_len (eqb o) numbers) (length numbers)) refl (omega (arith, few, is)) missed ∙ sym is
 
 -- ---- calls
 
 pub call_more : (table : Table) (ks : List Known) (events : List Event) (event : Event)
     → calls_for table ks (events ++ event ∷ []) ≡ calls_for table ks events ++ call_for table ks event.cpu event.act ∷ []
 call_more table ks events event = map-append (λ (one : Event). call_for table ks one.cpu one.act) events (event ∷ [])
-
--- ---- workers
-
-range_last : (from n last : ℕ) → from + n ≡ last → range_with_len from (suc n) ≡ range_with_len from n ++ last ∷ []
-range_last from zero last is = ap (λ k. k ∷ []) (let here : from ≡ last = omega (arith, is) in here)
-range_last from (suc n) last is = ap (λ rest. from ∷ rest) (range_last (from + 1) n last (omega (arith, is)))
-
-pub worker_more : (table : Table) (round : Round) (n : ℕ) → map (worker_of table round) (range_with_len 0 (n + 1)) ≡ map (worker_of table round) (range_with_len 0 n) ++ worker_of table round n ∷ []
-worker_more table round n =
-    let on : n + 1 ≡ suc n = omega arith in
-    ap (λ k. map (worker_of table round) (range_with_len 0 k)) on ∙ ap (map (worker_of table round)) (range_last 0 n n (omega arith)) ∙ map-append (worker_of table round) (range_with_len 0 n) (n ∷ [])

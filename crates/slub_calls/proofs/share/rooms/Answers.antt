@@ -4,8 +4,8 @@ use Rattle.std.proofs.lemmas.Option.{get_or_from_slice_get}
 use Rattle.slub_core.specs.declared.local.Known.{Known}
 use Rattle.slub_calls.proofs.Numbers.{rooms}
 use Rattle.slub_calls.proofs.Walks.{room_more}
-use Rattle.slub_calls.proofs.workers.rooms.Goals as goal
-use Rattle.slub_calls.proofs.workers.rooms.Goals.{in-Some+in_ok-push, in_default}
+use Rattle.slub_calls.proofs.share.rooms.Goals as goal
+use Rattle.slub_calls.proofs.share.rooms.Goals.{in-Some+in_ok-push, in_default}
 
 pub loop-at-preserved : goal.loop-at-preserved
 loop-at-preserved c =

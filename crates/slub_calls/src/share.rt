@@ -1,0 +1,182 @@
+//! What a worker is to do, event by event.
+
+ghost use Rattle.std.specs.Prelude.{◌≡◌, ℕ, List, [], ◌∷◌, ◌++◌, IfOk, OnOk, map};
+ghost use Rattle.slub_object_layout.specs.declared.event.Event.{Event};
+ghost use Rattle.slub_core.specs.Run.{idle};
+ghost use Rattle.slub_calls.specs.Calls.{IsNamedEvent, call_for, object_named, room_for, worker_with};
+ghost use Rattle.slub_calls.specs.Share.{gathered};
+
+use indexmap::IndexSet;
+use slub_answers::reply::Reply;
+use slub_cache_create::caches::Caches;
+use slub_common::no_memory::NoMemory;
+use slub_core::call::{Call, CallKind};
+use slub_core::local::{Answered, Known};
+use slub_local::local::Local;
+use slub_object_layout::event::{Act, Event};
+use std::alloc::Global;
+
+/// What a call has that its kind doesn't ask for.
+const NO_CALL: Call = Call {
+    kind: CallKind::Flush,
+    cpu: 0,
+    cache: None,
+    object: 0,
+    place: 0,
+    word: 0,
+    value: 0,
+    offset: 0,
+    byte: 0,
+};
+
+/// A worker's share of the events of a round, as far as they were handed out.
+#[derive(Drop)]
+pub struct Share {
+    worker: u32,
+    /// The object numbers that its events name, each once, in the order in which they come.
+    numbers: IndexSet<u32>,
+    /// The calls of its events, with room for their replies.
+    script: Vec<Answered>,
+}
+
+impl Share {
+    /// The share of a worker that has no event yet, with room for so many.
+    pub fn open(alloc: Global, worker: u32, events: usize) -> Result<Share, NoMemory>
+        ensures { IfOk result (λ share. gathered share ≡ record idle { worker = worker }) }
+    {
+        let script = Vec::with_capacity(alloc, events)?;
+        Ok(Share {
+            worker,
+            numbers: IndexSet::new(alloc),
+            script,
+        })
+    }
+
+    /// The worker has one event more. A number keeps its place, since each new one goes last.
+    pub fn push(&mut self, table: &Caches, event: &Event) -> Result<(), NoMemory>
+        requires { IsNamedEvent table.now event.now }
+        ensures { OnOk result ((worker : ℕ) (events : List Event) → gathered self.old ≡ worker_with table.now worker events → gathered self.new ≡ worker_with table.now worker (events ++ event.now ∷ [])) }
+    {
+        let place = match object_named(&event.act) {
+            Some(object) => self.numbers.insert_full(object)?.0,
+            None => 0,
+        };
+        let call = call_at(table, place, event);
+        self.script.push(Answered {
+            call,
+            reply: Reply::NotHeld,
+        })?;
+        Ok(())
+    }
+
+    /// The worker with all these events to come.
+    pub fn into_local(self, alloc: Global) -> Result<Local, NoMemory>
+        ensures { IfOk result (λ local. local ≡ gathered self) }
+    {
+        let rooms = rooms(alloc, &self.numbers)?;
+        Local::open(alloc, self.worker, rooms, self.script)
+    }
+}
+
+/// The object number that an act names.
+fn object_named(act: &Act) -> Option<u32>
+    ensures { result ≡ object_named act.now }
+{
+    match act {
+        Act::Alloc { cache: _, object } => Some(*object),
+        Act::Free { object } => Some(*object),
+        Act::Write { object, .. } => Some(*object),
+        Act::Read { object, .. } => Some(*object),
+        Act::Poke { object, .. } => Some(*object),
+        Act::Trim { cache: _ } => None,
+        Act::Flush => None,
+    }
+}
+
+/// What an event calls for, where its object has this place.
+fn call_at(table: &Caches, place: usize, event: &Event) -> Call
+    requires { IsNamedEvent table.now event.now }
+    ensures { result ≡ record (call_for table.now [] event.now.cpu event.now.act) { place = place } }
+{
+    let call = Call {
+        cpu: event.cpu,
+        place,
+        ..NO_CALL
+    };
+    match event.act {
+        Act::Alloc { cache, object } => Call {
+            kind: CallKind::Alloc,
+            cache: table.at(cache),
+            object,
+            ..call
+        },
+        Act::Free { object } => Call {
+            kind: CallKind::Free,
+            object,
+            ..call
+        },
+        Act::Write {
+            object,
+            word,
+            value,
+        } => Call {
+            kind: CallKind::Write,
+            object,
+            word,
+            value,
+            ..call
+        },
+        Act::Read { object, word } => Call {
+            kind: CallKind::Read,
+            object,
+            word,
+            ..call
+        },
+        Act::Poke {
+            object,
+            offset,
+            byte,
+        } => Call {
+            kind: CallKind::Poke,
+            object,
+            offset,
+            byte,
+            ..call
+        },
+        Act::Trim { cache } => Call {
+            kind: CallKind::Trim,
+            cache: table.at(cache),
+            ..call
+        },
+        Act::Flush => Call {
+            kind: CallKind::Flush,
+            ..call
+        },
+    }
+}
+
+/// Room for what a worker will know of each of these objects.
+fn rooms(alloc: Global, numbers: &IndexSet<u32>) -> Result<Vec<Known>, NoMemory>
+    ensures { IfOk result (λ rooms. rooms.items ≡ map room_for numbers.now.keys) }
+{
+    let mut rooms = Vec::with_capacity(alloc, numbers.len())?;
+    for at in 0..numbers.len() {
+        if let Some(object) = numbers.get_index(at) {
+            rooms.push(room_for(*object))?;
+        }
+    }
+    Ok(rooms)
+}
+
+/// Room for what a worker will know of an object.
+fn room_for(object: u32) -> Known
+    ensures { result ≡ room_for object }
+{
+    Known {
+        object,
+        frame: 0,
+        index: 0,
+        cache: 0,
+        held: false,
+    }
+}

@@ -1,0 +1,19 @@
+use Rattle.std.proofs.Common.{◌≡◌, ◌+◌, ◌≤◌, ◌++◌, [], length, map, All, vec_capacity}
+use Rattle.slub_workers.specs.Ranks.{AreBack}
+use Rattle.slub_workers.specs.Workers.{HasWorkedAt, countdown, worker_in}
+use Rattle.slub_workers.proofs.round.take_all.Given as goal
+
+-- the first are back, and the others have their seats
+abbrev pub invariant-loop-worker : goal.invariant-loop-worker
+invariant-loop-worker l = record {
+  table : l.root.table_id ≡ l.shared.words.shared.table_id;
+  slots : l.root.me.1 ≡ [];
+  list : All (HasWorkedAt l.shared.words.shared.table_id) l.list.items;
+  numbers : map worker_in l.list.items ++ countdown (length l.locals.items) ≡ countdown (length l.fn.list.items);
+  back : AreBack 0 l.root.me.0 l.locals.items;
+  count : length l.list.items + length l.locals.items ≡ length l.fn.list.items;
+  room : length l.fn.list.items ≤ vec_capacity l.locals;
+}
+
+abbrev pub decreases-loop-worker : goal.decreases-loop-worker
+decreases-loop-worker l = length l.list.items

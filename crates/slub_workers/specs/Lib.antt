@@ -1,0 +1,10 @@
+pub mod Begun
+pub mod Locks
+pub mod Standing
+pub mod Nobody
+pub mod Seats
+pub mod Rule
+pub mod Sits
+pub mod Workers
+pub mod Round
+pub mod Ranks

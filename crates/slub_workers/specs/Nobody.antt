@@ -1,0 +1,16 @@
+-- Where nothing is named. No step is made by it.
+use Rattle.std.specs.Prelude.{[]}
+use Rattle.slub_core.specs.Run.{idle}
+use Rattle.slub_workers.specs.Begun.{Begun}
+use Rattle.slub_workers.specs.Standing.{Standing}
+
+abbrev pub nobody : Standing
+nobody = record { local = idle; values = [] }
+
+abbrev pub no_key : Begun
+no_key = record {
+  facts = record { frames = 0; cpus = 0; step = 0; objects = 0; plain = []; caches = [] };
+  table = record { frames = 0; objects = 0; words = [] };
+  guards = [];
+  locals = [];
+}

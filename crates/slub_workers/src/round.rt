@@ -1,0 +1,233 @@
+//! A round by threads: seats for the workers, a thread for each, and the end.
+
+ghost use Rattle.std.specs.Prelude.{◌≡◌, ◌+◌, ◌≤◌, Bool, List, [], ◌∷◌, ◌++◌, length, replicate, vec_capacity, map, All, IfOk, IfErr};
+ghost use denote.Param.Send.{IsSync};
+ghost use Rattle.slub_core.specs.declared.spot.Spot.TheVariants.{Between};
+ghost use Rattle.slub_core.specs.Run.{IsFinished};
+ghost use Rattle.slub_local.specs.declared.guarded.Guarded.TheVariants.{Nothing};
+ghost use Rattle.slub_workers.specs.Standing.{Fork, branch, one_way};
+ghost use Rattle.slub_workers.specs.Rule.{standing_first};
+ghost use Rattle.slub_workers.specs.Ranks.{AreBack, AreFresh, view_of};
+ghost use Rattle.slub_workers.specs.Round.{HasWorked, IsUnchanged, MayWork};
+ghost use Rattle.slub_workers.specs.Seats.{all_but_last};
+ghost use Rattle.slub_workers.specs.Workers.{HasWorkedAt, MayWorkAt, countdown, worker_in};
+
+use crate::rule::{Deals, Returns};
+use crate::shared::{Opened, Shared, Unopened, WorkerSeat};
+use crate::standing::Standing;
+use crate::worker::Worker;
+use slub_common::no_memory::NoMemory;
+use slub_edges::gate::Gate;
+use slub_local::guarded::Guarded;
+use slub_local::local::Local;
+use slub_turns::machine::Machine;
+use std::alloc::Global;
+use std::sync::Wait;
+use std::thread::{Threads, join};
+
+/// The memory that a round takes, but for its table.
+struct Room {
+    /// For the words at the end, and for what the locks guard.
+    words: Vec<u64>,
+    values: Vec<Guarded>,
+    /// By worker: what is guarded by the locks that it has, which is nothing yet.
+    hands: Vec<Vec<Guarded>>,
+    /// For the workers that are to work, and for those that have worked.
+    workers: Vec<Worker>,
+    done: Vec<Worker>,
+}
+
+/// Takes the memory of a round.
+fn take_room(alloc: Global, machine: &Machine) -> Result<Room, NoMemory>
+    ensures words { IfOk result (λ r. (r.words.items ≡ []) × (length machine.now.table.words ≤ vec_capacity r.words)) }
+    ensures values { IfOk result (λ r. (r.values.items ≡ []) × (33 ≤ vec_capacity r.values)) }
+    ensures hands { IfOk result (λ r. (length r.hands.items ≡ length machine.now.locals.items) × All (λ hand. hand.items ≡ replicate 33 Nothing) r.hands.items) }
+    ensures workers { IfOk result (λ r. (r.workers.items ≡ []) × (length machine.now.locals.items ≤ vec_capacity r.workers)) }
+    ensures done { IfOk result (λ r. (r.done.items ≡ []) × (length machine.now.locals.items ≤ vec_capacity r.done)) }
+{
+    let count = machine.locals.len();
+    let words = Vec::with_capacity(alloc, machine.table.words().len())?;
+    let values = Vec::with_capacity(alloc, 33)?;
+    let hands = empty_hands(alloc, count)?;
+    let workers = Vec::with_capacity(alloc, count)?;
+    let done = Vec::with_capacity(alloc, count)?;
+    Ok(Room {
+        words,
+        values,
+        hands,
+        workers,
+        done,
+    })
+}
+
+/// For each of so many workers nothing at each lock.
+fn empty_hands(alloc: Global, count: usize) -> Result<Vec<Vec<Guarded>>, NoMemory>
+    ensures count { IfOk result (λ hands. length hands.items ≡ count) }
+    ensures empty { IfOk result (λ hands. All (λ hand. hand.items ≡ replicate 33 Nothing) hands.items) }
+{
+    let mut hands = Vec::with_capacity(alloc, count)?;
+    for _ in 0..count {
+        hands.push_reserved(empty_hand(alloc)?);
+    }
+    Ok(hands)
+}
+
+/// Nothing at each lock.
+fn empty_hand(alloc: Global) -> Result<Vec<Guarded>, NoMemory>
+    ensures { IfOk result (λ hand. hand.items ≡ replicate 33 Nothing) }
+{
+    let mut values = Vec::with_capacity(alloc, 33)?;
+    for _ in 0..33usize {
+        values.push_reserved(Guarded::Nothing);
+    }
+    Ok(values)
+}
+
+/// A seat for the last worker of the first seat's view.
+fn seat_one(shared: &Shared, root: &mut WorkerSeat, local: Local, values: Vec<Guarded>) -> Worker
+    requires table { root.old.table_id ≡ shared.now.words.shared.table_id }
+    requires last { (view : List Fork) × (root.old.me ≡ (view ++ one_way (standing_first local) ∷ [], [])) }
+    requires between { local.spot ≡ Between }
+    requires values { values.items ≡ replicate 33 Nothing }
+    ensures root { (root.new.table_id ≡ root.old.table_id) × (root.new.me ≡ (all_but_last root.old.me.0, [])) }
+    ensures worker { result ≡ (root.old.table_id, standing_first local) }
+{
+    let seat = shared.words.shared.split_seat::<Deals>(root);
+    Worker {
+        seat,
+        standing: Standing { local, values },
+    }
+}
+
+/// A seat for each worker, the last one first. There is room for them in the list.
+fn seat_all(
+    shared: &Shared,
+    root: &mut WorkerSeat,
+    locals: &mut Vec<Local>,
+    mut hands: Vec<Vec<Guarded>>,
+    mut list: Vec<Worker>,
+) -> Vec<Worker>
+    requires table { root.old.table_id ≡ shared.now.words.shared.table_id }
+    requires view { root.old.me ≡ (view_of locals.old.items, []) }
+    requires fresh { AreFresh shared.now.words.shared.key locals.old.items }
+    requires hands { (length hands.items ≡ length locals.old.items) × All (λ hand. hand.items ≡ replicate 33 Nothing) hands.items }
+    requires room { (list.items ≡ []) × (length locals.old.items ≤ vec_capacity list) }
+    ensures root { (root.new.table_id ≡ root.old.table_id) × (root.new.me ≡ ([], [])) }
+    ensures seated { All (MayWorkAt shared.now.words.shared.key shared.now.words.shared.table_id) result.items }
+    ensures numbers { map worker_in result.items ≡ countdown (length locals.old.items) }
+    ensures locals { (locals.new.items ≡ []) × (vec_capacity locals.new ≡ vec_capacity locals.old) }
+{
+    while let Some(local) = locals.pop() {
+        let Some(values) = hands.pop() else {
+            unreachable!()
+        };
+        list.push_reserved(seat_one(shared, root, local, values));
+    }
+    list
+}
+
+/// Each worker of the list works in a thread of its own. Those that have worked stand in `done`, for which there is
+/// room.
+fn work_all<R: Threads + Wait + Sync, G: Gate + Sync>(
+    rt: &R,
+    gate: &G,
+    shared: &Shared,
+    mut todo: Vec<Worker>,
+    done: Vec<Worker>,
+) -> Vec<Worker>
+    requires todo { All (MayWorkAt shared.now.words.shared.key shared.now.words.shared.table_id) todo.items }
+    requires done { All (HasWorkedAt shared.now.words.shared.table_id) done.items }
+    requires room { length done.items + length todo.items ≤ vec_capacity done }
+    ensures finished { All (HasWorkedAt shared.now.words.shared.table_id) result.items }
+    ensures numbers { map worker_in result.items ≡ map worker_in done.items ++ map worker_in todo.items }
+    ensures room { vec_capacity result ≡ vec_capacity done }
+{
+    let Some(worker) = todo.pop() else {
+        return done;
+    };
+    let (mut done, worker) = join(
+        rt,
+        || -> Vec<Worker>
+            requires { IsSync R.row × IsSync G.row × All (MayWorkAt shared.now.words.shared.key shared.now.words.shared.table_id) todo.items × All (HasWorkedAt shared.now.words.shared.table_id) done.items × (length done.items + length todo.items ≤ vec_capacity done) }
+            ensures { All (HasWorkedAt shared.entry.now.words.shared.table_id) result.items × (map worker_in result.items ≡ map worker_in done.items ++ map worker_in todo.items) × (vec_capacity result ≡ vec_capacity done) }
+        { work_all(rt, gate, shared, todo, done) },
+        || -> Worker
+            requires { IsSync R.row × IsSync G.row × MayWorkAt shared.now.words.shared.key shared.now.words.shared.table_id worker }
+            ensures { HasWorkedAt shared.entry.now.words.shared.table_id result × (worker_in result ≡ worker_in worker) }
+        { worker.work(rt, gate, shared) },
+    );
+    done.push_reserved(worker);
+    done
+}
+
+/// A worker that has worked gives its seat back.
+fn take_back(shared: &Shared, root: &mut WorkerSeat, worker: Worker) -> Local
+    requires table { (root.old.table_id ≡ shared.now.words.shared.table_id) × (worker.0 ≡ shared.now.words.shared.table_id) }
+    requires finished { IsFinished worker.1.local }
+    ensures table { root.new.table_id ≡ root.old.table_id }
+    ensures root { (refused : Bool) × (f : Fork) × (result ≡ (branch refused f).local) × (root.new.me ≡ (root.old.me.0 ++ f ∷ [], root.old.me.1)) }
+    ensures local { result ≡ worker.1.local }
+{
+    let Worker { seat, standing } = worker;
+    shared.words.shared.join_seat::<Returns>(root, seat);
+    let Standing { local, values: _ } = standing;
+    local
+}
+
+/// All workers are back, in rising number. There is room for them.
+fn take_all(
+    shared: &Shared,
+    root: &mut WorkerSeat,
+    mut list: Vec<Worker>,
+    mut locals: Vec<Local>,
+) -> Vec<Local>
+    requires table { root.old.table_id ≡ shared.now.words.shared.table_id }
+    requires view { root.old.me ≡ ([], []) }
+    requires list { All (HasWorkedAt shared.now.words.shared.table_id) list.items }
+    requires numbers { map worker_in list.items ≡ countdown (length list.items) }
+    requires room { (locals.items ≡ []) × (length list.items ≤ vec_capacity locals) }
+    ensures table { root.new.table_id ≡ root.old.table_id }
+    ensures back { AreBack 0 root.new.me.0 result.items }
+    ensures count { length result.items ≡ length list.items }
+{
+    while let Some(worker) = list.pop() {
+        locals.push_reserved(take_back(shared, root, worker));
+    }
+    locals
+}
+
+/// The workers of the machine, which has so many frames and object numbers, make their turns, each in a thread of its
+/// own, until each of their calls has a reply. All memory is taken first.
+pub fn threads_round<R: Threads + Wait + Sync, G: Gate + Sync>(
+    rt: &R,
+    gate: &G,
+    alloc: Global,
+    frames: u32,
+    objects: u32,
+    machine: Machine,
+) -> Result<Machine, Unopened>
+    requires sizes { (frames ≡ machine.table.frames) × (objects ≡ machine.table.objects) }
+    requires work { MayWork machine }
+    ensures worked { IfOk result (HasWorked machine) }
+    ensures unopened { IfErr result (λ u. IsUnchanged machine u.machine) }
+{
+    let Ok(room) = take_room(alloc, &machine) else {
+        return Err(Unopened { machine });
+    };
+    let Room {
+        words,
+        values,
+        hands,
+        workers,
+        done,
+    } = room;
+    let Opened {
+        shared,
+        mut root,
+        mut locals,
+    } = Shared::open(alloc, frames, objects, machine)?;
+    let workers = seat_all(&shared, &mut root, &mut locals, hands, workers);
+    let done = work_all(rt, gate, &shared, workers, done);
+    let locals = take_all(&shared, &mut root, done, locals);
+    Ok(shared.close(root, words, values, locals))
+}

@@ -1,0 +1,158 @@
+//! What all workers share: the words, what the locks guard that no worker has, and what stays while a round runs.
+
+ghost use Rattle.std.specs.Prelude.{◌≡◌, ℕ, ◌+◌, ◌*◌, ◌<◌, ◌≤◌, [], false, slice_index_or, IfOk, IfErr, length, vec_capacity};
+ghost use Rattle.std.specs.Mem.Slots.{slots_items, slots_filled, slots_len, IsFull};
+ghost use Rattle.slub_workers.specs.Rule.{first_view};
+ghost use Rattle.slub_workers.specs.Ranks.{AreBack};
+ghost use Rattle.slub_workers.specs.Round.{HasEnded, IsUnchanged, MayWork, begun_by};
+
+use crate::rule::{Key, Ruled, View};
+use atomic_table::{Closed, Refused, Seat};
+use slub_local::guarded::Guarded;
+use slub_local::local::Local;
+use slub_local::setup::Setup;
+use slub_schedule::table::Table;
+use slub_turns::machine::Machine;
+use std::alloc::Global;
+use std::snapshot::Snapshot;
+
+pub(crate) type Words = atomic_table::Table<Guarded, View, Key, Ruled, Global>;
+
+pub(crate) type WorkerSeat = Seat<Guarded, View>;
+
+/// The table of a round.
+pub(crate) struct Shared {
+    /// What a lock guards lies in the slot of its number.
+    pub(crate) words: Words,
+    pub(crate) setup: Setup,
+    /// Frame 0 counts.
+    pub(crate) frames: u32,
+    /// Object numbers are below this one; 0 is none.
+    pub(crate) objects: u32,
+    ghost sizes: { (setup.frames ≡ frames) × (setup.objects ≡ objects) },
+    ghost words_are: { words.shared.table_id.words ≡ 1056 + 514 * frames + objects },
+    ghost slots: { words.shared.table_id.slots ≡ 33 },
+    ghost facts: { words.shared.key.facts ≡ setup },
+    ghost table: { (words.shared.key.table.frames ≡ frames) × (words.shared.key.table.objects ≡ objects) },
+}
+
+/// There was no memory: the machine is as it was.
+#[derive(Debug, Drop)]
+pub struct Unopened {
+    pub machine: Machine,
+}
+
+/// A table that was opened. The seat knows of all workers.
+pub(crate) struct Opened {
+    pub(crate) shared: Shared,
+    pub(crate) root: WorkerSeat,
+    /// In rising number.
+    pub(crate) locals: Vec<Local>,
+}
+
+impl Shared {
+    /// Opens a table with the words of the machine, and with what its locks guard in the slots.
+    pub(crate) fn open(
+        alloc: Global,
+        frames: u32,
+        objects: u32,
+        machine: Machine,
+    ) -> Result<Opened, Unopened>
+        requires sizes { (frames ≡ machine.table.frames) × (objects ≡ machine.table.objects) }
+        requires work { MayWork machine }
+        ensures key { IfOk result (λ o. o.shared.words.shared.key ≡ begun_by machine) }
+        ensures root { IfOk result (λ o. (o.root.table_id ≡ o.shared.words.shared.table_id) × (o.root.me ≡ (first_view o.shared.words.shared.key, []))) }
+        ensures locals { IfOk result (λ o. o.locals ≡ machine.locals) }
+        ensures unopened { IfErr result (λ u. IsUnchanged machine u.machine) }
+    {
+        let key = Key {
+            machine: Snapshot::of(&machine),
+        };
+        let Machine {
+            setup,
+            table,
+            values,
+            locals,
+        } = machine;
+        match Words::new(alloc, table.words(), values, &key) {
+            Ok((words, root)) => Ok(Opened {
+                shared: Shared {
+                    words,
+                    setup,
+                    frames,
+                    objects,
+                },
+                root,
+                locals,
+            }),
+            Err(Refused { slots: values }) => Err(Unopened {
+                machine: Machine {
+                    setup,
+                    table,
+                    values,
+                    locals,
+                },
+            }),
+        }
+    }
+
+    /// The machine as the last step left it, where all workers are back and are finished. It takes no memory: there is
+    /// room for the words and for what the locks guard.
+    pub(crate) fn close(
+        self,
+        root: WorkerSeat,
+        words: Vec<u64>,
+        values: Vec<Guarded>,
+        locals: Vec<Local>,
+    ) -> Machine
+        requires root { root.table_id ≡ self.words.shared.table_id }
+        requires count { length locals.items ≡ length self.words.shared.key.locals }
+        requires back { AreBack 0 root.me.0 locals.items }
+        requires words { (words.items ≡ []) × (self.words.shared.table_id.words ≤ vec_capacity words) }
+        requires values { (values.items ≡ []) × (33 ≤ vec_capacity values) }
+        ensures { HasEnded self.words.shared.key (begun_by result) }
+    {
+        let Shared {
+            words: table,
+            setup,
+            frames,
+            objects,
+        } = self;
+        let count = table.word_count();
+        let mut closed = table.close_with(root);
+        let words = words_of(&closed, count, words);
+        let values = values_of(&mut closed, values);
+        closed.free();
+        Machine {
+            setup,
+            table: Table::open(frames, objects, words),
+            values,
+            locals,
+        }
+    }
+}
+
+/// The words of a closed table, of which there are so many. There is room for them.
+fn words_of(closed: &Closed<Guarded, Global>, count: usize, mut words: Vec<u64>) -> Vec<u64>
+    requires count { (count ≡ slots_len closed.now.words) × IsFull closed.now.words }
+    requires room { (words.items ≡ []) × (count ≤ vec_capacity words) }
+    ensures { result.items ≡ slots_items closed.now.words }
+{
+    for i in 0..count {
+        words.push_reserved(closed.word(i));
+    }
+    words
+}
+
+/// What the locks guard, by the number of the lock. There is room for it.
+fn values_of(closed: &mut Closed<Guarded, Global>, mut values: Vec<Guarded>) -> Vec<Guarded>
+    requires count { (slots_len closed.old.slots ≡ 33) × IsFull closed.old.slots }
+    requires room { (values.items ≡ []) × (33 ≤ vec_capacity values) }
+    ensures values { result.items ≡ slots_items closed.old.slots }
+    ensures taken { (k : ℕ) → k < slots_len closed.new.slots → slice_index_or (slots_filled closed.new.slots) k false ≡ false }
+{
+    for lock in 0..33 {
+        values.push_reserved(closed.take(lock));
+    }
+    values
+}

@@ -1,0 +1,36 @@
+//! What a worker has between two turns.
+
+use slub_local::guarded::Guarded;
+use slub_local::local::Local;
+use std::marker::Model;
+
+/// A worker, and what the locks guard that it has.
+#[derive(Debug, Drop)]
+pub struct Standing {
+    pub(crate) local: Local,
+    /// By the number of the lock; `Guarded::Nothing` of a lock that it hasn't.
+    pub(crate) values: Vec<Guarded>,
+}
+
+impl Model for Standing {
+    ghost use Rattle.slub_workers.specs.Standing.{Standing};
+
+    ghost Value = { Standing };
+
+    ghost view = { λ x. record { local = x.local; values = x.values.items } };
+}
+
+/// Where a worker stands when memory was refused in its turn, and when it wasn't. No value of it is made.
+#[derive(Debug, Drop)]
+pub struct Fork {
+    refused: Standing,
+    granted: Standing,
+}
+
+impl Model for Fork {
+    ghost use Rattle.slub_workers.specs.Standing.{Fork};
+
+    ghost Value = { Fork };
+
+    ghost view = { λ f. record { refused = f.refused; granted = f.granted } };
+}

@@ -1,0 +1,92 @@
+//! Numbers of words, steps outside of the table, and the gate.
+
+use crate::number::{answer_outside, number};
+use crate::worker::pass;
+use slub_answers::reply::Reply;
+use slub_core::call::{Call, CallKind};
+use slub_core::local::Answered;
+use slub_core::step::{Answer, Op, Place};
+use slub_edges::gate::Gate;
+use slub_local::local::Local;
+use slub_local::setup::Setup;
+use slub_turns::begin::rest;
+use std::sync::atomic::{AtomicU64, Ordering};
+use std::test::Fail;
+
+/// A machine of 16 frames and 8 object numbers.
+#[test]
+fn numbers_of_words(rt: HostRuntime) {
+    assert_eq!(rt; number(16, 8, Place::LockOf(32)), 32);
+    assert_eq!(rt; number(16, 8, Place::ListOf(0)), 33);
+    assert_eq!(rt; number(16, 8, Place::CpuOf(511)), 1056);
+    assert_eq!(rt; number(16, 8, Place::SlabOf(15)), 1072);
+    assert_eq!(rt; number(16, 8, Place::BoardOf(1)), 1073);
+    assert_eq!(rt; number(16, 8, Place::MemoryOf(0)), 1080);
+    assert_eq!(rt; number(16, 8, Place::LinkOf(15)), 9287);
+}
+
+#[test]
+fn steps_outside_find_nothing(rt: HostRuntime) {
+    assert_eq!(rt; answer_outside(Op::Load), Answer::Word(0));
+    assert_eq!(rt; answer_outside(Op::Swap(3)), Answer::Word(0));
+    assert_eq!(rt; answer_outside(Op::Store(3)), Answer::Done);
+    assert_eq!(rt;
+        answer_outside(Op::Exchange { from: 0, to: 3 }),
+        Answer::Won
+    );
+    assert_eq!(rt;
+        answer_outside(Op::Exchange { from: 1, to: 3 }),
+        Answer::Lost(0)
+    );
+}
+
+/// A gate that counts.
+#[derive(Drop)]
+struct CountingGate {
+    passed: AtomicU64,
+}
+
+impl Gate for CountingGate {
+    fn pass(&self, _worker: u32, _event: u32) {
+        self.passed.fetch_add(1, Ordering::SeqCst);
+    }
+}
+
+/// A call of this kind, of no cache, of the object at place 0.
+fn call_of(kind: CallKind) -> Answered {
+    Answered {
+        call: Call {
+            kind,
+            cpu: 1,
+            cache: None,
+            object: 7,
+            place: 0,
+            word: 0,
+            value: 0,
+            offset: 0,
+            byte: 0,
+        },
+        reply: Reply::Poked,
+    }
+}
+
+/// A worker passes the gate once for each of its events, whether it takes a step or has its reply at once.
+#[test]
+fn events_pass_the_gate_once(rt: HostRuntime) -> Result<(), Fail> {
+    let alloc = rt.alloc();
+    let setup = Setup::open(alloc, 16, 2, 2, 8, Vec::new(alloc), Vec::new(alloc))?;
+    let mut script = vec![in alloc; call_of(CallKind::Alloc); 2]?;
+    script.push(call_of(CallKind::Free))?;
+    let mut local = Local::open(alloc, 0, Vec::new(alloc), script)?;
+    let gate = CountingGate {
+        passed: AtomicU64::new(0),
+    };
+    let passed = pass(&gate, &local, 0);
+    assert_eq!(rt; gate.passed.load(Ordering::SeqCst), 1);
+    rest(&setup, &mut local);
+    let passed = pass(&gate, &local, passed);
+    assert_eq!(rt; gate.passed.load(Ordering::SeqCst), 3);
+    let _passed = pass(&gate, &local, passed);
+    assert_eq!(rt; gate.passed.load(Ordering::SeqCst), 3);
+    Ok(())
+}

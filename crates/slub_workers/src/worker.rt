@@ -1,0 +1,158 @@
+//! A worker at its seat, and its turns.
+
+ghost use Rattle.std.specs.Prelude.{◌≡◌};
+ghost use Rattle.slub_workers.specs.Sits.{Sits, MayStand};
+ghost use Rattle.slub_workers.specs.Workers.{HasWorkedAt, MayWorkAt, worker_in};
+
+use crate::rule::Naming;
+use crate::shared::{Shared, WorkerSeat};
+use crate::standing::Standing;
+use crate::step::make;
+use crossbeam_utils::Backoff;
+use slub_core::spot::Spot;
+use slub_core::step::{Answer, Place, Step};
+use slub_edges::gate::Gate;
+use slub_local::local::Local;
+use slub_turns::advance::advance_at;
+use slub_turns::at_once::settle;
+use slub_turns::begin::{begin, is_finished, rest};
+use slub_turns::laws::{picks_fit, turns_keep_ready};
+use slub_turns::step::step_at;
+use std::marker::{Brand, Model};
+use std::sync::Wait;
+
+/// A worker of a round by threads. Contracts see which table it has its seat at, and how it stands.
+#[derive(Drop)]
+pub(crate) struct Worker {
+    pub(crate) seat: WorkerSeat,
+    pub(crate) standing: Standing,
+}
+
+impl Model for Worker {
+    ghost use Rattle.atomic_table.specs.Seated.{TableId};
+    ghost use Rattle.slub_workers.specs.Standing.{Standing};
+    ghost use Rattle.slub_workers.specs.Sits.{Sits};
+
+    ghost Value = { TableId × Standing };
+
+    ghost view = { λ w. (w.seat.table_id, w.standing) };
+
+    ghost invariant = { λ w. Sits w.seat.me w.standing };
+}
+
+/// The turn of a worker: it begins a call where it is in none, makes a step on the table, and goes where the answer
+/// leads, with what is done at once after it and the replies that take no step. The step, and what it answered.
+fn turn_of<N: Naming>(
+    shared: &Shared,
+    seat: &mut WorkerSeat,
+    standing: &mut Standing,
+) -> (Step, Answer)
+    requires standing { N.standing ≡ standing.old }
+    requires key { N.key ≡ shared.now.words.shared.key }
+    requires seat { seat.old.table_id ≡ shared.now.words.shared.table_id }
+    requires sits { Sits seat.old.me standing.old }
+    requires may { MayStand shared.now.words.shared.key standing.old }
+    ensures seat { seat.new.table_id ≡ seat.old.table_id }
+    ensures sits { Sits seat.new.me standing.new }
+    ensures may { MayStand shared.now.words.shared.key standing.new }
+    ensures number { standing.new.local.worker ≡ standing.old.local.worker }
+{
+    picks_fit();
+    turns_keep_ready();
+    begin(&shared.setup, &mut standing.local);
+    let spot = standing.local.spot();
+    let step = step_at(&shared.setup, &standing.values, &standing.local, spot);
+    let answer = make::<N>(shared, seat, standing.values.as_mut_slice(), step);
+    let reply = advance_at(
+        &shared.setup,
+        &standing.values,
+        &mut standing.local,
+        spot,
+        answer,
+    );
+    let _refused = settle(
+        &shared.setup,
+        standing.values.as_mut_slice(),
+        &mut standing.local,
+        reply,
+    );
+    rest(&shared.setup, &mut standing.local);
+    (step, answer)
+}
+
+impl Worker {
+    /// Makes a turn. The step of it, and what it answered.
+    fn turn(&mut self, shared: &Shared) -> (Step, Answer)
+        requires { MayWorkAt shared.now.words.shared.key shared.now.words.shared.table_id self.old }
+        ensures may { MayWorkAt shared.now.words.shared.key shared.now.words.shared.table_id self.new }
+        ensures number { worker_in self.new ≡ worker_in self.old }
+    {
+        turn_of::<Brand>(shared, &mut self.seat, &mut self.standing)
+    }
+
+    /// Makes turns until each of its calls has a reply. It passes the gate before each of its events.
+    pub(crate) fn work<W: Wait, G: Gate>(mut self, wait: &W, gate: &G, shared: &Shared) -> Worker
+        requires { MayWorkAt shared.now.words.shared.key shared.now.words.shared.table_id self }
+        ensures worked { HasWorkedAt shared.now.words.shared.table_id result }
+        ensures number { worker_in result ≡ worker_in self }
+    {
+        let backoff = Backoff::new();
+        let mut passed = 0;
+        for _ in wait.forever() {
+            passed = pass(gate, &self.standing.local, passed);
+            if is_finished(&self.standing.local) {
+                return self;
+            }
+            let (step, answer) = self.turn(shared);
+            pause(wait, shared, &backoff, step, answer);
+        }
+        unreachable!()
+    }
+}
+
+/// A worker that is in no call passes the gate for its events that have replies, and for the next one, but for as many
+/// as it has passed it for already. For how many it has passed it then.
+pub(crate) fn pass<G: Gate>(gate: &G, local: &Local, passed: usize) -> usize {
+    if let Spot::Between = local.spot() {
+        let told = local.answers().len();
+        for event in passed..told {
+            gate.pass(local.worker(), number_of(event));
+        }
+        if local.has_call() && passed <= told {
+            gate.pass(local.worker(), number_of(told));
+        }
+        return told.saturating_add(1);
+    }
+    passed
+}
+
+/// The number of an event.
+fn number_of(event: usize) -> u32 {
+    u32::try_from(event).unwrap_or(u32::MAX)
+}
+
+/// After a step: where a lock is lost the worker sleeps until the word changes, and where it is given back one that
+/// sleeps is woken. After another exchange that is lost the worker waits a little.
+fn pause<W: Wait>(wait: &W, shared: &Shared, backoff: &Backoff, step: Step, answer: Answer) {
+    match (step.place, answer) {
+        (Place::LockOf(lock), Answer::Lost(found)) => sleep(wait, shared, lock as usize, found),
+        (Place::LockOf(lock), Answer::Done) => wake(shared, lock as usize),
+        (_, Answer::Lost(_)) => backoff.spin(),
+        _ => backoff.reset(),
+    }
+}
+
+/// Sleeps while the word is this one.
+fn sleep<W: Wait>(wait: &W, shared: &Shared, word: usize, found: u64) {
+    if word < shared.words.word_count() {
+        let low = (found & 0xffff_ffff) as u32;
+        shared.words.shared.park(wait, word, low);
+    }
+}
+
+/// Wakes one that sleeps on the word.
+fn wake(shared: &Shared, word: usize) {
+    if word < shared.words.word_count() {
+        shared.words.shared.wake_one(word);
+    }
+}

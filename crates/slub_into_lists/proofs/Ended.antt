@@ -81,12 +81,12 @@ joined m cache (Checked slabs) (Counts counts) g room kept = false≢true (sym (
     none z = ap (λ b. z && not b) checks ∙ both z
 joined m cache (Pool pool) k g room kept = absurd (let e = g.0 in omega arith)
 
-room-at : (values : List Guarded) (n : ℕ) → n < length values → get_or (rooms_of values) n 0 ≡ room_in (get_or values n Nothing)
+pub room-at : (values : List Guarded) (n : ℕ) → n < length values → get_or (rooms_of values) n 0 ≡ room_in (get_or values n Nothing)
 room-at [] n below = absurd (omega arith)
 room-at (v ∷ vs) zero below = refl
 room-at (v ∷ vs) (suc n) below = room-at vs n (let l : length (v ∷ vs) ≡ suc (length vs) = refl in omega arith)
 
-length-rooms : (values : List Guarded) → length (rooms_of values) ≡ length values
+pub length-rooms : (values : List Guarded) → length (rooms_of values) ≡ length values
 length-rooms [] = refl
 length-rooms (v ∷ vs) = ap suc (length-rooms vs)
 

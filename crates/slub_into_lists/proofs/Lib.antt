@@ -7,3 +7,4 @@ pub mod Counting
 pub mod Ended
 pub mod Taking
 pub mod Returning
+pub mod Undone

@@ -1,3 +1,4 @@
 pub mod Reads
 pub mod Joins
 pub mod Closing
+pub mod Undoing

@@ -60,7 +60,7 @@ fn write_lists(setup: &Setup, words: &[u64], values: &[Guarded], locals: &[Local
 }
 
 /// Moves back what the locks guarded, and puts the machine together.
-fn put_together(step: u32, values: Vec<Guarded>, rest: Rest) -> (Lists, Beside)
+pub(crate) fn put_together(step: u32, values: Vec<Guarded>, rest: Rest) -> (Lists, Beside)
     requires { MayTakeBack values.items rest }
     ensures { IsPutTogether step (values_of values.items) rest result.0 result.1 }
 {

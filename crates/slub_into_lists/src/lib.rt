@@ -13,6 +13,7 @@
 //! `close`: where the machine was opened from coherent lists and has been coherent since (`IsEnded`), the lists are
 //! those into which it closes (`Closes` of `slub_opening`), they are coherent, and with all objects on the board they
 //! may be opened again (`IsClosed`).
+//! `undoing::put_back`: lists that were opened, and on whose words nothing was done (`WasOpened`), are as they were.
 #![tactic(auto)]
 
 mod board;
@@ -22,4 +23,5 @@ mod nodes;
 mod slabs;
 #[cfg(test)]
 mod tests;
+pub mod undoing;
 mod walks;

@@ -29,3 +29,12 @@ pub record IsRestOf (s : State) (rest : Rest) : Type 0 where
   pub kept_node : (cache : ℕ) (otherwise : KeptNode) → cache < 32
       → IsKeptOf (has_node s.table s.checked cache) []
       (slice_index_or rest.kept.items cache otherwise)
+
+-- but for the words of the frames, and for what is out, the vectors have what the lists had
+pub record IsUntouched (s : State) (rest : Rest) : Type 0 where
+  pub slabs : rest.slabs.items ≡ s.slabs
+  pub frees : rest.frees.items ≡ s.frees
+  pub cpu_lists : rest.cpu_lists.items ≡ s.cpu_lists
+  pub board : rest.board.items ≡ s.board
+  pub gone : rest.gone.items ≡ s.gone
+  pub live : rest.live.items ≡ s.live

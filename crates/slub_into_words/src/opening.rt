@@ -6,6 +6,7 @@ ghost use Rattle.slub_list_machine.specs.Parts.{state_of};
 ghost use Rattle.slub_into_words.specs.Beside.{IsBesideOf};
 ghost use Rattle.slub_into_words.specs.Classes.{front_words};
 ghost use Rattle.slub_into_words.specs.Opened.{IsOpened, IsRoomFor};
+ghost use Rattle.slub_into_words.specs.Rest.{IsUntouched};
 
 use crate::beside::Beside;
 use crate::opened::{KeptNode, Opened, Unopened};
@@ -36,6 +37,7 @@ pub fn open(alloc: Global, lists: Lists, beside: Beside) -> Result<Opened, Unope
     requires coherent { IsCoherent lists }
     requires beside { IsBesideOf lists beside }
     ensures opened { IfOk result (IsOpened lists beside) }
+    ensures still { IfOk result (λ o. IsUntouched lists o.rest) }
     ensures unopened { IfErr result (λ u. (u.lists ≡ lists) × (u.beside ≡ beside)) }
 {
     let parts = lists.into_parts();
@@ -75,7 +77,8 @@ fn opened(mut parts: Parts, mut beside: Beside, room: Room) -> Opened
     requires consistent { IsConsistent (state_of parts) }
     requires beside { IsBesideOf (state_of parts) beside }
     requires room { IsRoomFor (state_of parts) beside.step room }
-    ensures { IsOpened (state_of parts) beside result }
+    ensures opened { IsOpened (state_of parts) beside result }
+    ensures still { IsUntouched (state_of parts) result.rest }
 {
     let Room {
         setup,

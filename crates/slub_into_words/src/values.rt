@@ -7,7 +7,7 @@ ghost use Rattle.slub_list_machine.specs.Parts.{state_of};
 ghost use Rattle.slub_local.specs.Values.{value_in, values_of, room_in, rooms_of};
 ghost use Rattle.slub_opening.specs.Opening.{node_value, value_of};
 ghost use Rattle.slub_into_words.specs.Opened.{room_of};
-ghost use Rattle.slub_into_words.specs.Rest.{IsRestOf};
+ghost use Rattle.slub_into_words.specs.Rest.{IsRestOf, IsUntouched};
 ghost use Rattle.slub_into_words.specs.Values.{value_at, room_at, IsKeptOf, AreKept};
 
 use crate::beside::Beside;
@@ -51,6 +51,7 @@ pub fn moved(
     ensures values { values_of result.0.items ≡ value_of (state_of parts) }
     ensures rooms { rooms_of result.0.items ≡ map (room_of (state_of parts)) (range_with_len 0 33) }
     ensures rest { IsRestOf (state_of parts) result.1 }
+    ensures still { IsUntouched (state_of parts) result.1 }
 {
     let Parts {
         frames,

@@ -47,8 +47,8 @@ pub moved-values-requires-clause-consistent : goal.moved-values-requires-clause-
 moved-values-requires-clause-consistent c =
     subst IsConsistent (sym c.lay_all.ensures.state) (memory-consistent (state_of c.args.parts) c.lay_all.new.parts.memory.items c.lay_all.ensures.count c.requires.consistent)
 
-pub returns : goal.returns
-returns c =
+pub returns-clause-opened : goal.returns-clause-opened
+returns-clause-opened c =
     let s = state_of c.args.parts in
     let b = c.args.beside in
     let memory = c.lay_all.new.parts.memory.items in
@@ -66,4 +66,17 @@ returns c =
       values = c.moved-values.ensures.values ∙ ap value_of e ∙ values-same s memory;
       rooms = c.moved-values.ensures.rooms ∙ ap (λ (t : State). map (room_of t) (range_with_len 0 33)) e ∙ ap (λ (f : ℕ → ℕ). map f (range_with_len 0 33)) (rooms-same s memory);
       rest = rest-of s memory c.moved-values.result.1 (subst (λ (t : State). IsRestOf t c.moved-values.result.1) e c.moved-values.ensures.rest);
+    }
+
+pub returns-clause-still : goal.returns-clause-still
+returns-clause-still c =
+    let e = c.lay_all.ensures.state in
+    let still = c.moved-values.ensures.still in
+    record {
+      slabs = still.slabs ∙ ap (λ (t : State). t.slabs) e;
+      frees = still.frees ∙ ap (λ (t : State). t.frees) e;
+      cpu_lists = still.cpu_lists ∙ ap (λ (t : State). t.cpu_lists) e;
+      board = still.board ∙ ap (λ (t : State). t.board) e;
+      gone = still.gone ∙ ap (λ (t : State). t.gone) e;
+      live = still.live ∙ ap (λ (t : State). t.live) e;
     }

@@ -43,3 +43,7 @@ returns-clause-rest c =
       kept_node = kept-bare s c.move_nodes.new.kept.items c.requires.consistent
           c.move_nodes.ensures.kept_nodes c.move_nodes.ensures.kept;
     }
+
+pub returns-clause-still : goal.returns-clause-still
+returns-clause-still c =
+    record { slabs = refl; frees = refl; cpu_lists = refl; board = refl; gone = refl; live = refl }

@@ -6,3 +6,4 @@ pub mod Weights
 pub mod Machines
 pub mod Following
 pub mod One
+pub mod Threads

@@ -14,7 +14,7 @@ use Rattle.slub_core.proofs.Opens.{opens, rounds_keep}
 use Rattle.slub_core.proofs.Turns.{turn_keeps}
 use Rattle.slub_local.specs.Facts as local
 use Rattle.slub_local.specs.Facts.{Facts}
-use Rattle.slub_schedule.specs.Rounds.{Ends, IsSpent}
+use Rattle.slub_schedule.specs.Rounds.{IsSpent}
 use Rattle.slub_schedule.specs.Turns.{turns_of}
 use Rattle.slub_opening.specs.Opening.{IsLaidDown, setup_of}
 use Rattle.slub_opening.specs.Opening as opening
@@ -125,23 +125,25 @@ ended-tells s b trace round m rest answers t d ended closed =
 
 -- ---- the whole
 
-pub has-ended : (s : State) (b : Beside) (trace : Trace) (round : Round) (m n : Machine) (rest : Rest) (answers : Answers) (seed : ℕ) (picks : List Pick) → MayRun s b trace round → IsBegun s b round m rest
-    → local.setup_of n.setup the_means ≡ local.setup_of m.setup the_means → IsReady n.setup n.table n.values.items n.locals.items → Ends (local.setup_of m.setup the_means) seed (system_in m) picks (system_in n)
+pub has-ended : (s : State) (b : Beside) (trace : Trace) (round : Round) (m n : Machine) (rest : Rest) (answers : Answers) (picks : List Pick) → MayRun s b trace round → IsBegun s b round m rest
+    → local.setup_of n.setup the_means ≡ local.setup_of m.setup the_means → IsReady n.setup n.table n.values.items n.locals.items → system_in n ≡ run (local.setup_of m.setup the_means) (system_in m) picks → All IsFinished n.locals.items
     → IsRoomFor s (length round.events) round.workers answers → HasEnded s b trace round n rest answers
-has-ended s b trace round m n rest answers seed picks may begun kept ready ends room = record {
+has-ended s b trace round m n rest answers picks may begun kept ready ran finished room = record {
   may = may;
   setup = kept ∙ begun.setup;
   picks = picks;
-  run = ends.run ∙ (λ i. run (begun.setup i) (begun.system i) picks);
-  finished = ends.finished;
+  run = ran ∙ (λ i. run (begun.setup i) (begun.system i) picks);
+  finished = finished;
   full = ready.full ∙ ap rooms_for (kept ∙ begun.setup) ∙ rooms-same s (beside_in b);
   waiting = begun.waiting;
   room = room;
 }
 
-pub is-done : (s : State) (b : Beside) (trace : Trace) (round : Round) (m n : Machine) (rest : Rest) (seed : ℕ) (picks : List Pick) (after : State) (result : RoundResult) → MayRun s b trace round → IsBegun s b round m rest
-    → Ends (local.setup_of m.setup the_means) seed (system_in m) picks (system_in n) → HasClosed s (beside_in b) round (system_in n) after result → IsDone s seed round after result
-is-done s b trace round m n rest seed picks after result may begun ends closed = record {
+-- by picks of whichever kind
+pub is-done : (Ending : Setup → System → List Pick → System → Type 0) (s : State) (b : Beside) (trace : Trace) (round : Round) (m n : Machine) (rest : Rest) (picks : List Pick) (after : State) (result : RoundResult)
+    → MayRun s b trace round → IsBegun s b round m rest
+    → Ending (local.setup_of m.setup the_means) (system_in m) picks (system_in n) → HasClosed s (beside_in b) round (system_in n) after result → IsDone Ending s round after result
+is-done Ending s b trace round m n rest picks after result may begun ends closed = record {
   does = record {
     beside = beside_in b;
     new = may.new;
@@ -149,7 +151,7 @@ is-done s b trace round m n rest seed picks after result may begun ends closed =
     picks = picks;
     last = system_in n;
     coherent = coherent-run s b trace round picks may;
-    ends = subst (λ (p : Setup × System). Ends p.0 seed p.1 picks (system_in n)) (λ i. (begun.setup i, begun.system i)) ends;
+    ends = subst (λ (p : Setup × System). Ending p.0 p.1 picks (system_in n)) (λ i. (begun.setup i, begun.system i)) ends;
     lists = closed.lists;
     left = closed.left;
     closes = closed.closes;

@@ -1,4 +1,4 @@
--- What holds of rounds by a seed.
+-- What holds of rounds by steps: by a seed, and by threads.
 use Rattle.std.specs.Prelude.{◌≡◌, ℕ, ◌+◌, ◌^◌, ◌≤◌, length, slice_index, All, Contains, None, nat_eq}
 use Rattle.std.specs.List.{IsDistinct}
 use Rattle.slub_object_layout.specs.declared.event.Round.{Round}
@@ -12,7 +12,7 @@ use Rattle.slub_schedule.specs.Schedule.{AreRefusedAlike}
 use Rattle.slub_calls.specs.Laws.{MayDo}
 use Rattle.slub_journal.specs.declared.journal.RoundResult.{RoundResult}
 use Rattle.slub_round_law.specs.Round.{IsRound}
-use Rattle.slub_rounds.specs.Rounds.{DoesRoundBySeed, SpendsTurns}
+use Rattle.slub_rounds.specs.Rounds.{DoesRoundBySeed, DoesRoundByThreads, SpendsTurns}
 
 -- a round that a seed draws is lawful in the words of the text, without a step
 abbrev pub RoundsBySeedAreLawful : Type 0
@@ -20,6 +20,13 @@ RoundsBySeedAreLawful =
     (s : State) (seed : ℕ) (trace : Trace) (round : Round) (result : RoundResult) (after : State)
     → IsCoherent s → IsLaidDown s → MayDo s trace round
     → DoesRoundBySeed s seed round result after → IsRound s round result after
+
+-- so is a round by threads, in whatever order they made their steps
+abbrev pub RoundsByThreadsAreLawful : Type 0
+RoundsByThreadsAreLawful =
+    (s : State) (trace : Trace) (round : Round) (result : RoundResult) (after : State)
+    → IsCoherent s → IsLaidDown s → MayDo s trace round
+    → DoesRoundByThreads s round result after → IsRound s round result after
 
 -- two rounds are one: the same replies and damages, and machines that are alike
 pub record AreOneRound (one other : RoundResult) (t u : State) : Type 0 where

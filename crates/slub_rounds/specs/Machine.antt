@@ -5,10 +5,12 @@ use Rattle.slub_object_layout.specs.declared.event.Round.{Round}
 use Rattle.slub_trace_reader.specs.declared.trace.Trace.{Trace}
 use Rattle.slub_lists.specs.State.{State}
 use Rattle.slub_lists.specs.Coherent.{IsCoherent, all_on_board}
+use Rattle.slub_core.specs.Setup.{Setup}
 use Rattle.slub_core.specs.Local.{Local}
 use Rattle.slub_core.specs.Run.{System, Pick, run, IsFinished}
 use Rattle.slub_local.specs.Facts as local
 use Rattle.slub_local.specs.Values.{rooms_of}
+use Rattle.slub_schedule.specs.Rounds.{Ends}
 use Rattle.slub_schedule.specs.Turns.{turns_for}
 use Rattle.slub_opening.specs.Opening.{IsLaidDown, setup_of}
 use Rattle.slub_opening.specs.Opening as opening
@@ -20,14 +22,14 @@ use Rattle.slub_into_words.specs.declared.opened.Opened.{Opened}
 use Rattle.slub_into_words.specs.declared.opened.Rest.{Rest}
 use Rattle.slub_into_words.specs.Beside.{beside_of, IsBesideOf}
 use Rattle.slub_into_words.specs.Opened.{IsOpened, room_of}
-use Rattle.slub_into_words.specs.Rest.{IsRestOf}
+use Rattle.slub_into_words.specs.Rest.{IsRestOf, IsUntouched}
 use Rattle.slub_turns.specs.declared.machine.Machine.{Machine}
 use Rattle.slub_turns.specs.Means.{the_means}
 use Rattle.slub_turns.specs.System.{system_of, IsTableFor}
 use Rattle.slub_journal.specs.declared.journal.RoundResult.{RoundResult}
 use Rattle.slub_rounds.specs.declared.answers.Answers.{Answers}
 use Rattle.slub_rounds.specs.Answers.{IsRoomFor, IsTold}
-use Rattle.slub_rounds.specs.Rounds.{IsNewBeside, DoesRoundBySeed, system_begun}
+use Rattle.slub_rounds.specs.Rounds.{IsNewBeside, DoesRoundBySteps, Finishes, system_begun}
 use Rattle.slub_rounds.specs.Room.{all_workers, weight_of}
 
 -- what stands beside the lists, with the one way of takes, gifts and orders that there is
@@ -88,9 +90,26 @@ pub record IsSet (s : State) (b : Beside) (trace : Trace) (round : Round) (opene
   pub most : turns ≡ turns_for (weight_of round.events) round.workers
   pub room : IsRoomFor s (length round.events) round.workers answers
 
+-- the same of a round by threads, beside which the words of the frames wait as they were
+pub record IsSetForThreads (s : State) (b : Beside) (trace : Trace) (round : Round)
+    (opened : Opened) (locals : List Local) (memory : List ℕ) (answers : Answers) : Type 0 where
+  pub may : MayRun s b trace round
+  pub opens : IsOpened s b opened
+  pub still : IsUntouched s opened.rest
+  pub workers : locals ≡ workers_of s.table round
+  pub memory_is : memory ≡ s.memory
+  pub room : IsRoomFor s (length round.events) round.workers answers
+
 -- the round is done, and the next one may begin
-pub record IsDone (s : State) (seed : ℕ) (round : Round) (after : State)
-    (result : RoundResult) : Type 0 where
-  pub does : DoesRoundBySeed s seed round result after
+pub record IsDone (Ending : Setup → System → List Pick → System → Type 0) (s : State)
+    (round : Round) (after : State) (result : RoundResult) : Type 0 where
+  pub does : DoesRoundBySteps Ending s round result after
   pub coherent : IsCoherent after
   pub laid_down : IsLaidDown after
+
+abbrev pub IsDoneBySeed : State → ℕ → Round → State → RoundResult → Type 0
+IsDoneBySeed s seed round after result =
+    IsDone (λ m first picks last. Ends m seed first picks last) s round after result
+
+abbrev pub IsDoneByThreads : State → Round → State → RoundResult → Type 0
+IsDoneByThreads s round after result = IsDone Finishes s round after result

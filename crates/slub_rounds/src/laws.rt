@@ -1,8 +1,8 @@
 //! What follows from the definitions. None of these does anything.
 
-ghost use Rattle.slub_rounds.specs.Laws.{RoundsBySeedAreLawful, RoundsBySeedAreOne, RoundsLeadOn};
+ghost use Rattle.slub_rounds.specs.Laws.{RoundsBySeedAreLawful, RoundsBySeedAreOne, RoundsByThreadsAreLawful, RoundsLeadOn};
 
-use slub_round_causes::laws::drawn_rounds_are_lawful;
+use slub_round_causes::laws::{drawn_rounds_are_lawful, rounds_are_lawful};
 
 /// A round that a seed draws is lawful in the words of the text: each reply has its cause, and the board, the want of
 /// frames, reports and objects set aside are as the text says.
@@ -10,6 +10,13 @@ pub fn rounds_by_seed_are_lawful()
     ensures { RoundsBySeedAreLawful }
 {
     drawn_rounds_are_lawful();
+}
+
+/// So is a round by threads, in whatever order they made their steps.
+pub fn rounds_by_threads_are_lawful()
+    ensures { RoundsByThreadsAreLawful }
+{
+    rounds_are_lawful();
 }
 
 /// Want of memory aside, the replies and damages of a round by a seed are a function of the machine, the round and the

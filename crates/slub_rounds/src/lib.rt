@@ -1,21 +1,25 @@
-//! Rounds of several workers by a seed, from plain lists to plain lists.
+//! Rounds of several workers by a seed and by threads, from plain lists to plain lists.
 //!
 //! `scheduled` opens the machine on lists into words (`slub_into_words`), gives each worker its events as calls
 //! (`slub_calls`), lets the workers make their turns as the seed draws them (`slub_schedule`, `slub_turns`), and closes
 //! the words into lists again (`slub_into_lists`). Then the replies are put in the order of the text, and damages and
-//! ledgers are told as a sequential round tells them (`slub_engine`). All memory is taken before the first turn, but the
-//! bytes of new checked slabs: where none is found, the machine is as it was.
+//! ledgers are told as a sequential round tells them (`slub_engine`). `threaded` does the same with a thread for each
+//! worker (`slub_workers`). All memory is taken before the first turn, but the bytes of new checked slabs: where none is
+//! found, the machine is as it was. By threads the lists are open by then, and are put together again.
 //!
 //! # What it promises
 //!
 //! `scheduled`: what it answers is a round by this seed (`DoesRoundBySeed`), with the machine coherent before each turn
 //! and after the last one, which is lawful (`IsRound` of `slub_round_law`), and leaves coherent lists with all objects on
-//! the board; or the turns of the round are spent (`SpendsTurns`). `laws`: a round by a seed is lawful, and there is one
-//! of each machine, round and seed, want of memory aside; on the machine that a lawful round leaves the next one of its
-//! trace can be done.
+//! the board; or the turns of the round are spent (`SpendsTurns`). `threaded`: the same of a round by some picks, in
+//! whatever order the threads made their steps (`DoesRoundByThreads`). `laws`: rounds by a seed and by threads are lawful,
+//! and there is one round of each machine, round and seed, want of memory aside; on the machine that a lawful round leaves
+//! the next one of its trace can be done.
 #![tactic(auto)]
 
 mod answers;
+mod ends;
 pub mod laws;
 mod room;
 pub mod scheduled;
+pub mod threaded;

@@ -1,7 +1,6 @@
 //! A round of several workers by a seed.
 
 ghost use Rattle.std.specs.Prelude.{◌≡◌, ◌≤◌, ℕ, List, IfErr, IfOk, MatchOption, OnErr, OnOk, length};
-ghost use Rattle.slub_object_layout.specs.declared.event.Round.{Round as Events};
 ghost use Rattle.slub_trace_reader.specs.declared.trace.Trace.{Trace};
 ghost use Rattle.slub_lists.specs.State.{State};
 ghost use Rattle.slub_lists.specs.Coherent.{IsCoherent};
@@ -10,24 +9,22 @@ ghost use Rattle.slub_local.specs.Facts.{setup_of};
 ghost use Rattle.slub_schedule.specs.Rounds.{Ends, IsSpent};
 ghost use Rattle.slub_schedule.specs.Turns.{turns_of};
 ghost use Rattle.slub_opening.specs.Opening.{IsLaidDown};
-ghost use Rattle.slub_calls.specs.Calls.{workers_of};
 ghost use Rattle.slub_calls.specs.Laws.{MayDo};
 ghost use Rattle.slub_into_words.specs.declared.beside.Beside.{Beside};
-ghost use Rattle.slub_into_words.specs.Opened.{IsOpened};
 ghost use Rattle.slub_round_law.specs.Round.{IsRound};
 ghost use Rattle.slub_turns.specs.Means.{the_means};
 ghost use Rattle.slub_turns.specs.Ready.{IsReady};
 ghost use Rattle.slub_rounds.specs.Rounds.{DoesRoundBySeed, SpendsTurns};
 ghost use Rattle.slub_rounds.specs.Room.{all_workers};
-ghost use Rattle.slub_rounds.specs.Machine.{HasClosed, HasEnded, IsBegun, IsDone, IsSet, beside_in, system_in};
+ghost use Rattle.slub_rounds.specs.Machine.{IsDoneBySeed, IsSet, system_in};
 ghost use Rattle.slub_rounds.specs.Scheduled.{IsStopped};
 
-use crate::answers::{Answers, result_of};
+use crate::answers::Answers;
+use crate::ends::{begun, closed};
 use crate::laws::rounds_by_seed_are_lawful;
 use crate::room::{Room, leave_finished, take_room};
 use slub_common::no_memory::NoMemory;
-use slub_into_lists::closing::close;
-use slub_into_words::opened::{Opened, Rest};
+use slub_into_words::opened::Opened;
 use slub_into_words::opening::open;
 use slub_journal::journal::RoundResult;
 use slub_list_machine::lists::Lists;
@@ -100,33 +97,13 @@ fn in_words(
     seed: u64,
 ) -> Option<(Lists, RoundResult)>
     requires { (s : State) × (b : Beside) × (trace : Trace) × IsSet s b trace round.now opened locals.items order turns answers }
-    ensures { (s : State) (b : Beside) (trace : Trace) → IsSet s b trace round.now opened locals.items order turns answers → MatchOption result (SpendsTurns s seed round.now) (λ done. IsDone s seed round.now done.0 done.1) }
+    ensures { (s : State) (b : Beside) (trace : Trace) → IsSet s b trace round.now opened locals.items order turns answers → MatchOption result (SpendsTurns s seed round.now) (λ done. IsDoneBySeed s seed round.now done.0 done.1) }
 {
     let (mut machine, rest) = begun(opened, locals);
     match run_turns(&mut machine, order, seed, turns) {
         Ok(()) => Some(closed(machine, rest, round, answers)),
         Err(TurnsSpent) => None,
     }
-}
-
-/// The machine in words with its workers, each of which has the replies that take no step.
-fn begun(opened: Opened, locals: Vec<Local>) -> (Machine, Rest)
-    ensures { (s : State) (b : Beside) (round : Events) → IsOpened s b opened → locals.items ≡ workers_of s.table round → IsBegun s b round result.0 result.1 }
-{
-    let Opened {
-        setup,
-        table,
-        values,
-        rest,
-    } = opened;
-    let mut machine = Machine {
-        setup,
-        table,
-        values,
-        locals,
-    };
-    machine.open();
-    (machine, rest)
 }
 
 /// The workers make their turns, in the order that the seed draws. `order` has all of them.
@@ -146,21 +123,4 @@ fn run_turns(
 {
     leave_finished(&machine.locals, &mut order);
     rounds::scheduled(machine, order, seed, turns)
-}
-
-/// Closes the machine, whose workers have all their replies, and tells what came of the round.
-fn closed(machine: Machine, rest: Rest, round: &Round, answers: Answers) -> (Lists, RoundResult)
-    requires { (s : State) × (b : Beside) × (trace : Trace) × HasEnded s b trace round.now machine rest answers }
-    ensures { (s : State) (b : Beside) (trace : Trace) → HasEnded s b trace round.now machine rest answers → HasClosed s (beside_in b) round.now (system_in machine) result.0 result.1 }
-{
-    let Machine {
-        setup,
-        table,
-        values,
-        locals,
-    } = machine;
-    let (mut lists, _beside) = close(&setup, table, values, rest, &locals);
-    let result = result_of(&lists, round, &locals, answers);
-    lists.end_round();
-    (lists, result)
 }

@@ -10,7 +10,7 @@ use Rattle.slub_rounds.specs.Answers.{IsTold, MayTell}
 use Rattle.slub_rounds.specs.Machine.{beside_in, system_in}
 use Rattle.slub_rounds.specs.Rounds.{world_before}
 use Rattle.slub_rounds.proofs.Machines.{ended-closes, ended-tells}
-use Rattle.slub_rounds.proofs.scheduled.closed.Goals as goal
+use Rattle.slub_rounds.proofs.ends.closed.Goals as goal
 
 pub close-lists-requires : goal.close-lists-requires
 close-lists-requires c =

@@ -5,10 +5,10 @@ use Rattle.slub_local.specs.Facts.{Facts, setup_of}
 use Rattle.slub_local.specs.Values.{rooms_of}
 use Rattle.slub_schedule.specs.Table.{WordTable}
 use Rattle.slub_turns.specs.Means.{the_means}
-use Rattle.slub_rounds.proofs.scheduled.begun.Goals as goal
+use Rattle.slub_rounds.proofs.ends.begun.Goals as goal
 
-pub returns : goal.returns
-returns c = λ s b round opens workers.
+pub returns-clause-begun : goal.returns-clause-begun
+returns-clause-begun c = λ s b round opens workers.
     let kept = c.open.ensures in
     let frames : c.args.opened.setup.frames ≡ s.frames = ap (λ (m : Setup). m.frames) (opens.setup the_means) in
     let objects : c.args.opened.setup.objects ≡ length s.board = ap (λ (m : Setup). m.objects) (opens.setup the_means) in

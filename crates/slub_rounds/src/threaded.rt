@@ -1,0 +1,107 @@
+//! A round of several workers by threads.
+
+ghost use Rattle.std.specs.Prelude.{◌≡◌, ◌≤◌, IfErr, IfOk, MatchResult, length};
+ghost use Rattle.slub_trace_reader.specs.declared.trace.Trace.{Trace};
+ghost use Rattle.slub_lists.specs.State.{State};
+ghost use Rattle.slub_lists.specs.Coherent.{IsCoherent};
+ghost use Rattle.slub_opening.specs.Opening.{IsLaidDown};
+ghost use Rattle.slub_calls.specs.Laws.{MayDo};
+ghost use Rattle.slub_into_words.specs.declared.beside.Beside.{Beside};
+ghost use Rattle.slub_round_law.specs.Round.{IsRound};
+ghost use Rattle.slub_rounds.specs.Rounds.{DoesRoundByThreads};
+ghost use Rattle.slub_rounds.specs.Machine.{IsDoneByThreads, IsSetForThreads};
+
+use crate::answers::Answers;
+use crate::ends::{begun, closed};
+use crate::laws::rounds_by_threads_are_lawful;
+use crate::room::{Room, take_room};
+use slub_common::no_memory::NoMemory;
+use slub_edges::gate::Gate;
+use slub_into_lists::undoing::put_back;
+use slub_into_words::opened::Opened;
+use slub_into_words::opening::open;
+use slub_journal::journal::RoundResult;
+use slub_list_machine::lists::Lists;
+use slub_local::local::Local;
+use slub_object_layout::event::Round;
+use slub_workers::round::threads_round;
+use std::alloc::{AllocError, Global};
+use std::sync::Wait;
+use std::thread::Threads;
+
+/// Does a round of several workers, each in a thread of its own, which passes the gate before each of its events.
+///
+/// All memory is taken before the first event, but the bytes of new checked slabs; where none is found, the lists are
+/// given back as they were. The cost is in proportion to the words of the machine and to the steps.
+pub fn threaded<R: Threads + Wait + Sync, G: Gate + Sync>(
+    rt: &R,
+    gate: &G,
+    alloc: Global,
+    lists: Lists,
+    round: &Round,
+) -> Result<(Lists, RoundResult), Lists>
+    requires coherent { IsCoherent lists }
+    requires laid_down { IsLaidDown lists }
+    requires objects { length lists.board ≤ 1048577 }
+    requires may_do { (trace : Trace) × MayDo lists trace round.now }
+    ensures does { IfOk result (λ done. DoesRoundByThreads lists round.now done.1 done.0) }
+    ensures lawful { IfOk result (λ done. IsRound lists round.now done.1 done.0) }
+    ensures coherent { IfOk result (λ done. IsCoherent done.0) }
+    ensures laid_down { IfOk result (λ done. IsLaidDown done.0) }
+    ensures err { IfErr result (λ after. after ≡ lists) }
+{
+    rounds_by_threads_are_lawful();
+    let room = match take_room(alloc, &lists, round) {
+        Ok(room) => room,
+        Err(NoMemory) => return Err(lists),
+    };
+    let (lists, kept) = keep_memory(alloc, lists);
+    let memory = match kept {
+        Ok(memory) => memory,
+        Err(AllocError) => return Err(lists),
+    };
+    let Room {
+        beside,
+        workers,
+        order: _,
+        turns: _,
+        answers,
+    } = room;
+    match open(alloc, lists, beside) {
+        Ok(opened) => in_threads(rt, gate, alloc, opened, workers, memory, answers, round),
+        Err(unopened) => Err(unopened.lists),
+    }
+}
+
+/// The words of the frames, kept for the case that the round can't begin once the lists are opened.
+fn keep_memory(alloc: Global, lists: Lists) -> (Lists, Result<Vec<u64>, AllocError>)
+    ensures lists { result.0 ≡ lists }
+    ensures kept { IfOk result.1 (λ memory. memory.items ≡ lists.memory) }
+{
+    let parts = lists.into_parts();
+    let kept = Vec::from_slice(alloc, &parts.memory);
+    (Lists::from_parts(parts), kept)
+}
+
+/// Does the round on the machine in words, and closes it. Where there is no memory for the table that the threads
+/// share, the lists are put together again as they were.
+fn in_threads<R: Threads + Wait + Sync, G: Gate + Sync>(
+    rt: &R,
+    gate: &G,
+    alloc: Global,
+    opened: Opened,
+    locals: Vec<Local>,
+    memory: Vec<u64>,
+    answers: Answers,
+    round: &Round,
+) -> Result<(Lists, RoundResult), Lists>
+    requires set { (s : State) × (b : Beside) × (trace : Trace) × IsSetForThreads s b trace round.now opened locals.items memory.items answers }
+    ensures { (s : State) (b : Beside) (trace : Trace) → IsSetForThreads s b trace round.now opened locals.items memory.items answers → MatchResult result (λ done. IsDoneByThreads s round.now done.0 done.1) (λ after. after ≡ s) }
+{
+    let (machine, rest) = begun(opened, locals);
+    let objects = rest.board.len() as u32;
+    match threads_round(rt, gate, alloc, rest.frames, objects, machine) {
+        Ok(machine) => Ok(closed(machine, rest, round, answers)),
+        Err(unopened) => Err(put_back(unopened.machine.values, rest, memory)),
+    }
+}

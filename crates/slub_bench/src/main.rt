@@ -5,7 +5,8 @@
 //! trace of some twelve million bytes, and prints what that costs against counting its lines and
 //! words; `serial` replays traces of 10,000, 100,000 and 500,000 events, and prints what an event costs
 //! in each, and what of it is reading, replay, text and writing; `schedule` replays rounds of eight workers by schedule
-//! and in the order of the text, a load, and a trace of small rounds.
+//! and in the order of the text, a load, and a trace of small rounds; `threads` replays rounds by threads, of one
+//! worker, of four on CPUs of their own and of four on one CPU.
 #![tactic(auto)]
 
 mod pool;
@@ -13,6 +14,7 @@ mod reader;
 mod runs;
 mod schedule;
 mod serial;
+mod threads;
 
 use std::rt::{Clock, Env};
 use std::time::Instant;
@@ -31,8 +33,9 @@ fn main(rt: HostRuntime) -> io::Result<()> {
         Some(word) if word.as_str() == "reader" => reader::measure(&rt),
         Some(word) if word.as_str() == "schedule" => schedule::measure(&rt),
         Some(word) if word.as_str() == "serial" => serial::measure(&rt),
+        Some(word) if word.as_str() == "threads" => threads::measure(&rt),
         _ => println!(rt;
-            "slub_bench: name what is to be measured: pool, reader, schedule or serial"
+            "slub_bench: name what is to be measured: pool, reader, schedule, serial or threads"
         ),
     }
 }

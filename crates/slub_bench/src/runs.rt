@@ -3,11 +3,14 @@
 use crate::nanos_since;
 use slub_cli::run::run;
 use slub_edges::edges::Sink;
-use slub_edges::faultless::FaultlessSource;
+use slub_edges::faultless::{FaultlessSink, FaultlessSource};
+use slub_edges::gate::OpenGate;
 use slub_trace_reader::reading::read_trace;
 use std::alloc::{AllocError, Global};
 use std::io;
 use std::rt::Clock;
+use std::sync::Wait;
+use std::thread::Threads;
 use std::time::Instant;
 
 /// How many objects are live at most.
@@ -65,8 +68,8 @@ pub(crate) fn read_nanos(rt: &(impl Clock + AllocGlobal), text: &[u8]) -> io::Re
 }
 
 /// The nanoseconds that a whole run of these words takes to a sink.
-pub(crate) fn run_nanos<K: Sink>(
-    rt: &(impl Clock + AllocGlobal),
+pub(crate) fn run_nanos<R: Clock + AllocGlobal + Threads + Wait + Sync, K: Sink>(
+    rt: &R,
     text: &[u8],
     words: &[&str],
     sink: &mut K,
@@ -79,6 +82,29 @@ pub(crate) fn run_nanos<K: Sink>(
         asked.push(String::from_str(rt.alloc(), word)?)?;
     }
     let start = Instant::now(rt)?;
-    let _outcome = run(rt.alloc(), &asked, &mut source, sink);
+    let _outcome = run(rt, rt.alloc(), &asked, &mut source, sink, &OpenGate);
     nanos_since(rt, &start)
+}
+
+/// The least nanoseconds of three runs.
+pub(crate) fn best_run(
+    rt: &(impl Clock + AllocGlobal + Threads + Wait + Sync),
+    text: &[u8],
+    words: &[&str],
+) -> io::Result<u64> {
+    let mut nowhere = FaultlessSink::new();
+    let mut best = run_nanos(rt, text, words, &mut nowhere)?;
+    for _ in 0..2 {
+        best = best.min(run_nanos(rt, text, words, &mut nowhere)?);
+    }
+    Ok(best)
+}
+
+/// The least nanoseconds of three readings.
+pub(crate) fn best_read(rt: &(impl Clock + AllocGlobal), text: &[u8]) -> io::Result<u64> {
+    let mut best = read_nanos(rt, text)?;
+    for _ in 0..2 {
+        best = best.min(read_nanos(rt, text)?);
+    }
+    Ok(best)
 }

@@ -1,10 +1,11 @@
 //! Rounds of several workers by schedule, against the order of the text.
 
-use crate::runs::{HEAD, one_round, read_nanos, run_nanos};
-use slub_edges::faultless::FaultlessSink;
+use crate::runs::{HEAD, best_read, best_run, one_round};
 use std::alloc::{AllocError, Global};
 use std::io;
 use std::rt::Clock;
+use std::sync::Wait;
+use std::thread::Threads;
 
 /// The workers of a round.
 const WORKERS: u32 = 8;
@@ -35,24 +36,6 @@ fn small_rounds(alloc: Global) -> Result<Vec<u8>, AllocError> {
     Ok(text)
 }
 
-/// The least time of three.
-fn best_run(rt: &(impl Clock + AllocGlobal), text: &[u8], words: &[&str]) -> io::Result<u64> {
-    let mut nowhere = FaultlessSink::new();
-    let mut best = run_nanos(rt, text, words, &mut nowhere)?;
-    for _ in 0..2 {
-        best = best.min(run_nanos(rt, text, words, &mut nowhere)?);
-    }
-    Ok(best)
-}
-
-fn best_read(rt: &(impl Clock + AllocGlobal), text: &[u8]) -> io::Result<u64> {
-    let mut best = read_nanos(rt, text)?;
-    for _ in 0..2 {
-        best = best.min(read_nanos(rt, text)?);
-    }
-    Ok(best)
-}
-
 /// The nanoseconds that a round without events takes, by schedule and in the order of the text.
 #[derive(Clone, Copy)]
 struct Openings {
@@ -61,7 +44,7 @@ struct Openings {
 }
 
 impl Openings {
-    fn measured(rt: &(impl Clock + AllocGlobal)) -> io::Result<Openings> {
+    fn measured(rt: &(impl Clock + AllocGlobal + Threads + Wait + Sync)) -> io::Result<Openings> {
         let nothing = one_round(rt.alloc(), WORKERS, 0)?;
         Ok(Openings {
             schedule: best_run(rt, &nothing, SCHEDULE)?,
@@ -73,7 +56,7 @@ impl Openings {
 /// What an event of a trace of about so many costs by schedule and in the order of the text, reading and the opening of
 /// the machine left out. Gives the first of the two.
 fn measure_one(
-    rt: &(impl Clock + AllocGlobal + Print),
+    rt: &(impl Clock + AllocGlobal + Threads + Wait + Sync + Print),
     events: u32,
     openings: Openings,
     first: Option<u64>,
@@ -98,7 +81,7 @@ fn measure_one(
 }
 
 /// What a load costs, against reading a trace of as many events.
-fn measure_load(rt: &(impl Clock + AllocGlobal + Print)) -> io::Result<()> {
+fn measure_load(rt: &(impl Clock + AllocGlobal + Threads + Wait + Sync + Print)) -> io::Result<()> {
     let text = one_round(rt.alloc(), WORKERS, LOADED)?;
     let reading = best_read(rt, &text)? / 1_000_000;
     let load = best_run(rt, b"", &["load", "1", "200000", "8"])? / 1_000_000;
@@ -106,7 +89,9 @@ fn measure_load(rt: &(impl Clock + AllocGlobal + Print)) -> io::Result<()> {
 }
 
 /// What small rounds cost, each of which opens the machine and closes it.
-fn measure_rounds(rt: &(impl Clock + AllocGlobal + Print)) -> io::Result<()> {
+fn measure_rounds(
+    rt: &(impl Clock + AllocGlobal + Threads + Wait + Sync + Print),
+) -> io::Result<()> {
     let text = small_rounds(rt.alloc())?;
     let all = best_run(rt, &text, SCHEDULE)?;
     let millis = all / 1_000_000;
@@ -115,7 +100,9 @@ fn measure_rounds(rt: &(impl Clock + AllocGlobal + Print)) -> io::Result<()> {
 }
 
 /// Measures three lengths, a load and small rounds.
-pub(crate) fn measure(rt: &(impl Clock + AllocGlobal + Print)) -> io::Result<()> {
+pub(crate) fn measure(
+    rt: &(impl Clock + AllocGlobal + Threads + Wait + Sync + Print),
+) -> io::Result<()> {
     let openings = Openings::measured(rt)?;
     let first = measure_one(rt, 50_000, openings, None)?;
     measure_one(rt, 200_000, openings, Some(first))?;

@@ -5,6 +5,8 @@ use slub_edges::adapters::WriteSink;
 use slub_edges::faultless::FaultlessSink;
 use std::io::BufWriter;
 use std::rt::{Clock, Files};
+use std::sync::Wait;
+use std::thread::Threads;
 use std::{fs, io};
 
 /// The file that a run with replies is written to, and that is removed at the end.
@@ -17,7 +19,7 @@ const PLAIN: &[&str] = &["replay"];
 const REPLIES: &[&str] = &["replay", "--replies"];
 
 /// The nanoseconds that a whole run with replies takes to a file, through a buffer of 64 KiB.
-fn file_nanos(rt: &(impl Clock + Files + AllocGlobal), text: &[u8]) -> io::Result<u64> {
+fn file_nanos(rt: &(impl Clock + Files + AllocGlobal + Threads + Wait + Sync), text: &[u8]) -> io::Result<u64> {
     let file = fs::create(rt, WRITTEN)?;
     let mut sink = WriteSink::of(BufWriter::with_capacity(rt.alloc(), 65536, file)?);
     run_nanos(rt, text, REPLIES, &mut sink)
@@ -37,7 +39,7 @@ struct Parts {
 }
 
 impl Parts {
-    fn measured(rt: &(impl Clock + Files + AllocGlobal), text: &[u8]) -> io::Result<Parts> {
+    fn measured(rt: &(impl Clock + Files + AllocGlobal + Threads + Wait + Sync), text: &[u8]) -> io::Result<Parts> {
         let mut nowhere = FaultlessSink::new();
         Ok(Parts {
             reading: read_nanos(rt, text)?,
@@ -57,7 +59,7 @@ impl Parts {
     }
 
     /// The least times of three.
-    fn best(rt: &(impl Clock + Files + AllocGlobal), text: &[u8]) -> io::Result<Parts> {
+    fn best(rt: &(impl Clock + Files + AllocGlobal + Threads + Wait + Sync), text: &[u8]) -> io::Result<Parts> {
         let mut best = Parts::measured(rt, text)?;
         for _ in 0..2 {
             best = best.least(Parts::measured(rt, text)?);
@@ -69,7 +71,7 @@ impl Parts {
 /// Measures a trace of about so many events: the nanoseconds of one event, reading it included, and the
 /// opening of the machine left out; and what of it is reading, replay, text and writing.
 fn measure_one(
-    rt: &(impl Clock + Files + AllocGlobal + Print),
+    rt: &(impl Clock + Files + AllocGlobal + Threads + Wait + Sync + Print),
     events: u32,
     opening: u64,
     first: Option<u64>,
@@ -92,7 +94,7 @@ fn measure_one(
 }
 
 /// Measures three lengths; the cost of an event doesn't grow with the length.
-pub(crate) fn measure(rt: &(impl Clock + Files + AllocGlobal + Print)) -> io::Result<()> {
+pub(crate) fn measure(rt: &(impl Clock + Files + AllocGlobal + Threads + Wait + Sync + Print)) -> io::Result<()> {
     let opening = Parts::best(rt, &one_round(rt.alloc(), 1, 0)?)?.plain;
     let micros = opening / 1000;
     println!(rt; "a machine of 4096 frames is opened in {micros} us")?;

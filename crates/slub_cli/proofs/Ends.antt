@@ -10,6 +10,8 @@ use Rattle.slub_edges.proofs.Told.{AppendsFront-after, AppendsFront-then, Append
 use Rattle.slub_object_layout.specs.declared.layout.Layout.{Layout as SlabLayout}
 use Rattle.slub_object_layout.specs.declared.layout.LayoutRefusal.{LayoutRefusal}
 use Rattle.slub_object_layout.specs.declared.layout.Spec.{Spec}
+use Rattle.slub_object_layout.specs.declared.event.Round.{Round}
+use Rattle.slub_command.specs.declared.command.How.{How}
 use Rattle.slub_command.specs.declared.command.How.TheVariants as hows
 use Rattle.slub_command.specs.declared.command.Command.{Command}
 use Rattle.slub_command.specs.declared.command.Command.TheVariants.{Replay, Layout, Load}
@@ -25,6 +27,7 @@ use Rattle.slub_trace_reader.specs.Sound.{IsSound}
 use Rattle.slub_ways.specs.declared.way.Way.{Way}
 use Rattle.slub_ways.specs.declared.way.Way.TheVariants.{Serial, Schedule}
 use Rattle.slub_ways.specs.Runs.{EndsSpent, IsLawful, ItemSpendsTurns, MachineState}
+use Rattle.slub_ways.specs.Ways.{SpendsTurnsBy}
 use Rattle.slub_ways.proofs.Runs.{lawful-serially}
 use Rattle.slub_journal.specs.Lawful.{IsBuilt}
 use Rattle.slub_journal.specs.declared.journal.Journal.{Journal}
@@ -461,18 +464,21 @@ spent_some : (way : Way) (trace : Option Trace) (j : Journal) → SpendsNextRoun
 spent_some way None j spent = absurd spent.0
 spent_some way (Some trace) j spent = refl
 
--- in the order of the text there are no turns
-no_turns : (m : MachineState) (it : Item) → ItemSpendsTurns Serial m it → ⊥
-no_turns m (item.Round round) spent = spent
-no_turns m _ spent = spent
+-- only by schedule are there turns
+abbrev HasNoTurns : Way → Type 0
+HasNoTurns way = (m : MachineState) (round : Round) → SpendsTurnsBy way m.rounds m.lists round → ⊥
 
-none_spent : (m : MachineState) (found : Option Item) → MatchOption found ⊥ (λ it. ItemSpendsTurns Serial m it) → ⊥
-none_spent m None spent = spent
-none_spent m (Some it) spent = no_turns m it spent
+no_turns : (way : Way) (m : MachineState) (it : Item) → HasNoTurns way → ItemSpendsTurns way m it → ⊥
+no_turns way m (item.Round round) none spent = none m round spent
+no_turns way m _ none spent = spent
 
-not_spent : (trace : Option Trace) (j : Journal) → SpendsNextRound Serial trace j → ⊥
-not_spent None j spent = absurd spent.0
-not_spent (Some trace) j spent = let ends : EndsSpent Serial trace j = spent.0 in none_spent ends.0.machine (slice_get trace.items (length j.items)) ends.1
+none_spent : (way : Way) (m : MachineState) (found : Option Item) → HasNoTurns way → MatchOption found ⊥ (λ it. ItemSpendsTurns way m it) → ⊥
+none_spent way m None none spent = spent
+none_spent way m (Some it) none spent = no_turns way m it none spent
+
+not_spent : (way : Way) (trace : Option Trace) (j : Journal) → HasNoTurns way → SpendsNextRound way trace j → ⊥
+not_spent way None j none spent = absurd spent.0
+not_spent way (Some trace) j none spent = let ends : EndsSpent way trace j = spent.0 in none_spent way ends.0.machine (slice_get trace.items (length j.items)) none ends.1
 
 -- a run that lacks memory did not do every item, or a reply tells of it
 wanting : (trace : Option Trace) (j : Journal) → IsWant trace j → IsDone trace j → NoMemory ≡ done_status trace j
@@ -500,8 +506,8 @@ bad_trace c trace j (Some (Replay how seed replies)) WriteFault asked cause law 
 bad_trace c trace j (Some (Replay how seed replies)) NoMemory asked cause law asks bad sound = inr refl
 bad_trace c trace j (Some (Replay how seed replies)) TurnsSpent asked cause law asks bad sound = absurd (read_bad c (way_of how seed) trace j law (spent_some (way_of how seed) trace j cause) bad)
 bad_trace c trace j (Some (Replay how seed replies)) _ asked cause law asks bad sound = absurd cause
-bad_trace c trace j (Some (Layout spec cpus)) status asked cause law asks bad sound = absurd (replay_apart c.words asks.0 asks.1 asks.2 spec cpus asks.3.0 asked.0)
-bad_trace c trace j (Some (Load m events workers)) status asked cause law asks bad sound = absurd (load_apart c.words asks.0 asks.1 asks.2 m events workers asks.3.0 asked.0)
+bad_trace c trace j (Some (Layout spec cpus)) status asked cause law asks bad sound = absurd (replay_apart c.words asks.0 asks.1 asks.2 spec cpus asks.3 asked)
+bad_trace c trace j (Some (Load m events workers)) status asked cause law asks bad sound = absurd (load_apart c.words asks.0 asks.1 asks.2 m events workers asks.3 asked)
 
 -- where every item of a trace was done, the status is that of what was done
 load_done : (c : Call) (way : Way) (trace : Option Trace) (j : Journal) (status : Status) → IsLoadCause c way trace j status → IsDone trace j → (Rose c.write.0 c.write.1 → ⊥) → status ≡ done_status trace j
@@ -540,30 +546,30 @@ complete c trace j None _ asked cause asks good sound = absurd cause.0
 complete c trace j (Some (Replay how seed replies)) BadTrace asked cause asks good sound = absurd (good_input c good cause.0)
 complete c trace j (Some (Replay how seed replies)) ReadFault asked cause asks good sound = absurd (sound.reads cause.0)
 complete c trace j (Some (Replay how seed replies)) status asked cause asks good sound = load_complete c (way_of how seed) trace j status cause sound.writes
-complete c trace j (Some (Layout spec cpus)) status asked cause asks good sound = absurd (replay_apart c.words asks.0 asks.1 asks.2 spec cpus asks.3.0 asked.0)
-complete c trace j (Some (Load m events workers)) status asked cause asks good sound = absurd (load_apart c.words asks.0 asks.1 asks.2 m events workers asks.3.0 asked.0)
+complete c trace j (Some (Layout spec cpus)) status asked cause asks good sound = absurd (replay_apart c.words asks.0 asks.1 asks.2 spec cpus asks.3 asked)
+complete c trace j (Some (Load m events workers)) status asked cause asks good sound = absurd (load_apart c.words asks.0 asks.1 asks.2 m events workers asks.3 asked)
 
 -- so is a load
 load : (c : Call) (trace : Option Trace) (j : Journal) (asked : Option Command) (status : Status) → IsAsked c.words asked → IsCauseOf c asked trace j status → (seed events workers : ℕ)
     → IsCommand c.words (Load seed events workers) → (Rose c.write.0 c.write.1 → ⊥) → (status ≡ done_status trace j) ⊎ (status ≡ NoMemory) ⊎ (status ≡ TurnsSpent)
-load c trace j None BadWords asked cause seed events workers asks no_write = absurd (cause.0 (Load seed events workers) (asks, tt))
+load c trace j None BadWords asked cause seed events workers asks no_write = absurd (cause.0 (Load seed events workers) asks)
 load c trace j None WriteFault asked cause seed events workers asks no_write = absurd (no_write cause.0)
 load c trace j None NoMemory asked cause seed events workers asks no_write = inr (inl refl)
 load c trace j None _ asked cause seed events workers asks no_write = absurd cause.0
-load c trace j (Some (Replay how n replies)) status asked cause seed events workers asks no_write = absurd (load_apart c.words how n replies seed events workers asked.0 asks)
-load c trace j (Some (Layout spec cpus)) status asked cause seed events workers asks no_write = absurd (layout_apart c.words spec cpus seed events workers asked.0 asks)
+load c trace j (Some (Replay how n replies)) status asked cause seed events workers asks no_write = absurd (load_apart c.words how n replies seed events workers asked asks)
+load c trace j (Some (Layout spec cpus)) status asked cause seed events workers asks no_write = absurd (layout_apart c.words spec cpus seed events workers asked asks)
 load c trace j (Some (Load m more crew)) status asked cause seed events workers asks no_write = load_complete c (Schedule m) trace j status cause no_write
 
--- a replay in the order of the text has no turns that could be spent
-serial : (c : Call) (trace : Option Trace) (j : Journal) (asked : Option Command) → IsAsked c.words asked → IsCauseOf c asked trace j TurnsSpent → (seed : ℕ) (replies : Bool)
-    → IsCommand c.words (Replay hows.Serial seed replies) → ⊥
-serial c trace j None asked cause seed replies asks = cause.0
-serial c trace j (Some (Replay how n told)) asked cause seed replies asks =
-    not_spent trace j (subst (λ h. SpendsNextRound (way_of h n) trace j) (same_replay c.words how hows.Serial n seed told replies asked.0 asks) cause)
-serial c trace j (Some (Layout spec cpus)) asked cause seed replies asks = cause.0
-serial c trace j (Some (Load m events workers)) asked cause seed replies asks = load_apart c.words hows.Serial seed replies m events workers asks asked.0
+-- a replay in the order of the text, or by threads, has no turns that could be spent
+unspent : (c : Call) (trace : Option Trace) (j : Journal) (asked : Option Command) → IsAsked c.words asked → IsCauseOf c asked trace j TurnsSpent → (how : How) (seed : ℕ) (replies : Bool)
+    → ((n : ℕ) → HasNoTurns (way_of how n)) → IsCommand c.words (Replay how seed replies) → ⊥
+unspent c trace j None asked cause how seed replies none asks = cause.0
+unspent c trace j (Some (Replay other n told)) asked cause how seed replies none asks =
+    not_spent (way_of how n) trace j (none n) (subst (λ h. SpendsNextRound (way_of h n) trace j) (same_replay c.words other how n seed told replies asked asks) cause)
+unspent c trace j (Some (Layout spec cpus)) asked cause how seed replies none asks = cause.0
+unspent c trace j (Some (Load m events workers)) asked cause how seed replies none asks = load_apart c.words how seed replies m events workers asks asked
 
--- but for a write fault and want of memory, a run ends as one of bad words exactly where the words are no command that is run
+-- but for a write fault and want of memory, a run ends as one of bad words exactly where the words are no command
 bad_words : (c : Call) (trace : Option Trace) (j : Journal) (asked : Option Command) (status : Status) → IsAsked c.words asked → IsCauseOf c asked trace j status
     → status ≢ WriteFault → status ≢ NoMemory → (status ≡ BadWords → AreBadWords c.words) × (AreBadWords c.words → status ≡ BadWords)
 bad_words c trace j None BadWords asked cause apart wanting = (λ h. cause.0, λ h. refl)
@@ -580,17 +586,17 @@ bad_words c trace j (Some (Load m events workers)) _ asked cause apart wanting =
 -- a layout that did not fail to be written ends with the status of its answer, or lacked memory
 layout : (c : Call) (trace : Option Trace) (j : Journal) (asked : Option Command) (status : Status) → IsAsked c.words asked → IsCauseOf c asked trace j status → (want : Spec) (on : ℕ)
     → IsCommand c.words (Layout want on) → (Rose c.write.0 c.write.1 → ⊥) → (status ≡ NoMemory) ⊎ ((answer : Result SlabLayout LayoutRefusal) × IsLayoutAnswer want on answer × (status ≡ answer_status answer))
-layout c trace j None BadWords asked cause want on asks no_write = absurd (cause.0 (Layout want on) (asks, tt))
+layout c trace j None BadWords asked cause want on asks no_write = absurd (cause.0 (Layout want on) asks)
 layout c trace j None WriteFault asked cause want on asks no_write = absurd (no_write cause.0)
 layout c trace j None NoMemory asked cause want on asks no_write = inl refl
 layout c trace j None _ asked cause want on asks no_write = absurd cause.0
-layout c trace j (Some (Replay how seed replies)) status asked cause want on asks no_write = absurd (replay_apart c.words how seed replies want on asked.0 asks)
-layout c trace j (Some (Layout spec cpus)) Fine asked cause want on asks no_write = inr (Ok cause.0.0, moved c.words spec want cpus on (Ok cause.0.0) asked.0 asks cause.0.1, refl)
-layout c trace j (Some (Layout spec cpus)) Refused asked cause want on asks no_write = inr (Err cause.0.0, moved c.words spec want cpus on (Err cause.0.0) asked.0 asks cause.0.1, refl)
+layout c trace j (Some (Replay how seed replies)) status asked cause want on asks no_write = absurd (replay_apart c.words how seed replies want on asked asks)
+layout c trace j (Some (Layout spec cpus)) Fine asked cause want on asks no_write = inr (Ok cause.0.0, moved c.words spec want cpus on (Ok cause.0.0) asked asks cause.0.1, refl)
+layout c trace j (Some (Layout spec cpus)) Refused asked cause want on asks no_write = inr (Err cause.0.0, moved c.words spec want cpus on (Err cause.0.0) asked asks cause.0.1, refl)
 layout c trace j (Some (Layout spec cpus)) WriteFault asked cause want on asks no_write = absurd (no_write cause.0)
 layout c trace j (Some (Layout spec cpus)) NoMemory asked cause want on asks no_write = inl refl
 layout c trace j (Some (Layout spec cpus)) _ asked cause want on asks no_write = absurd cause.0
-layout c trace j (Some (Load m events workers)) status asked cause want on asks no_write = absurd (layout_apart c.words want on m events workers asks asked.0)
+layout c trace j (Some (Load m events workers)) status asked cause want on asks no_write = absurd (layout_apart c.words want on m events workers asks asked)
 
 -- ---- the whole promise
 
@@ -600,7 +606,10 @@ promise c outcome ends = record {
   bad_words = λ apart wanting. bad_words c outcome.trace outcome.journal ends.asked outcome.status ends.is_asked ends.cause apart wanting;
   bad_trace = λ asks bad sound. bad_trace c outcome.trace outcome.journal ends.asked outcome.status ends.is_asked ends.cause ends.lawful asks bad sound;
   complete = λ asks good sound. complete c outcome.trace outcome.journal ends.asked outcome.status ends.is_asked ends.cause asks good sound;
-  serial = λ seed replies asks is. serial c outcome.trace outcome.journal ends.asked ends.is_asked (subst (λ status. IsCauseOf c ends.asked outcome.trace outcome.journal status) is ends.cause) seed replies asks;
+  serial = λ seed replies asks is.
+      unspent c outcome.trace outcome.journal ends.asked ends.is_asked (subst (λ status. IsCauseOf c ends.asked outcome.trace outcome.journal status) is ends.cause) hows.Serial seed replies (λ n m round spent. spent) asks;
+  threads = λ seed replies asks is.
+      unspent c outcome.trace outcome.journal ends.asked ends.is_asked (subst (λ status. IsCauseOf c ends.asked outcome.trace outcome.journal status) is ends.cause) hows.Threads seed replies (λ n m round spent. spent) asks;
   load = λ seed events workers asks no_write. load c outcome.trace outcome.journal ends.asked outcome.status ends.is_asked ends.cause seed events workers asks no_write;
   done = λ done no_write. all_done c outcome.trace outcome.journal ends.asked outcome.status ends.cause done no_write;
   layout = λ spec cpus asks no_write. layout c outcome.trace outcome.journal ends.asked outcome.status ends.is_asked ends.cause spec cpus asks no_write;

@@ -8,6 +8,9 @@ use Rattle.slub_object_layout.specs.declared.layout.LayoutRefusal.{LayoutRefusal
 use Rattle.slub_object_layout.specs.declared.layout.LayoutRefusal.TheVariants as refusal
 use Rattle.slub_object_layout.specs.declared.layout.Spec.{Spec}
 use Rattle.slub_object_layout.specs.Layout.{IsAccepted, IsAlign, IsLayout, IsSize, IsSupported}
+use Rattle.slub_command.specs.declared.command.How.{How}
+use Rattle.slub_command.specs.declared.command.Command.TheVariants.{Replay}
+use Rattle.slub_command.specs.Command.{IsCommand}
 use Rattle.slub_trace_reader.specs.declared.trace.Trace.{Trace}
 use Rattle.slub_trace_reader.specs.declared.reading.TraceFault.{TraceFault}
 use Rattle.slub_trace_reader.specs.declared.reading.TraceFault.TheVariants as fault
@@ -26,8 +29,8 @@ use Rattle.slub_ways.specs.Runs.{IsLawful, MachineState}
 use Rattle.slub_items.specs.declared.machine.Stopped.{Stopped}
 use Rattle.slub_items.specs.declared.machine.Stopped.TheVariants as stopped
 use Rattle.slub_items.specs.Stopped.{IsStopped}
-use Rattle.slub_cli.specs.Run.{Call, IsLayoutAnswer, IsLoadOf}
-use Rattle.slub_cli.specs.Inner.{DoesItem, IsItemStop, IsReadStop, Loads, Replayed, Replays, StopsAtReadFault, StopsAtWriteFault, StopsSpent, Tells, TookText}
+use Rattle.slub_cli.specs.Run.{Call, IsLayoutAnswer, IsLoadOf, IsReplayJournal, way_of}
+use Rattle.slub_cli.specs.Inner.{DoesItem, IsItemStop, IsReadStop, Loads, Replayed, Replays, StopsAtReadFault, StopsAtWriteFault, StopsSpent, Tells, TookText, Worked}
 use Rattle.slub_cli.specs.Stop.{IsStopOf, item_stop}
 
 -- a fault of the reader stops the reading
@@ -97,6 +100,16 @@ replay_stop c way trace j WriteFault h = h
 replay_stop c way trace j NoMemory h = h
 replay_stop c way trace j TurnsSpent h = h
 replay_stop c way trace j _ h = absurd h
+
+-- what was asked is a replay, and this was one by its way
+pub replay_worked : (c : Call) (way : Way) (how : How) (seed : ℕ) (replies : Bool) (trace : Option Trace) (j : Journal) (r : Result Status Stop) → way ≡ way_of how seed → IsCommand c.words (Replay how seed replies)
+    → Replayed c way replies trace j r → Worked c trace j r
+replay_worked c way how seed replies trace j r is asks whole = record {
+  asked = Some (Replay how seed replies);
+  is_asked = asks;
+  works = (subst (λ (w : Way). Replays c w trace j r) is whole.end, whole.told);
+  lawful = subst (λ (w : Way). IsReplayJournal c w trace j) is whole.lawful;
+}
 
 -- a load is one that is replayed today
 load_built : (seed events workers : ℕ) → IsBuilt (load_of seed events workers)

@@ -12,7 +12,6 @@ use Rattle.slub_command.specs.declared.command.Command.TheVariants.{Replay, Layo
 use Rattle.slub_command.specs.Spelling.{Word, IsFlags, IsNumber, stands_in}
 use Rattle.slub_command.specs.Options.{AreGiven, Given, IsGiven, IsHow, IsReplay, how_given, hows, how_word, listed, replies_given, seed_given}
 use Rattle.slub_command.specs.Command.{IsCommand, IsLayout}
-use Rattle.slub_cli.specs.Run.{AreBadWords, IsAsking, IsRunnable}
 
 -- numbers that differ are not the same
 differ : (m n : ℕ) → eqb m n ≡ false → m ≡ n → ⊥
@@ -198,23 +197,11 @@ pub same_replay : (words : List Word) (x y : How) (m n : ℕ) (b d : Bool) → I
 same_replay [] x y m n b d p q = absurd p
 same_replay (name ∷ words) x y m n b d (named, p) (again, q) = one_how words x y m n b d p q
 
--- where the command that the words spell is not run today, no other one is
-not_runnable : (words : List Word) (command : Command) → IsCommand words command → (IsRunnable command → ⊥) → AreBadWords words
-not_runnable words (Replay how seed replies) is not (Replay x n b) (asked, runs) = not (λ threads. runs (sym (same_replay words how x seed n replies b is asked) ∙ threads))
-not_runnable words (Replay how seed replies) is not (Layout spec cpus) (asked, runs) = replay_apart words how seed replies spec cpus is asked
-not_runnable words (Replay how seed replies) is not (Load m events workers) (asked, runs) = load_apart words how seed replies m events workers is asked
-not_runnable words (Layout spec cpus) is not other asking = absurd (not tt)
-not_runnable words (Load m events workers) is not other asking = absurd (not tt)
-
 -- ---- what was read
 
--- the words ask for a replay that is run today
-pub replayed : (words : List Word) (command : Command) (how way : How) (seed : ℕ) (replies : Bool) → IsCommand words command → command ≡ Replay how seed replies → how ≡ way → (way ≡ Threads → ⊥) → IsAsking words (Replay way seed replies)
-replayed words command how way seed replies asked is same runs = (subst (λ x. IsCommand words x) (is ∙ ap (λ h. Replay h seed replies) same) asked, runs)
-
--- the words ask for a replay that is not
-pub by_threads : (words : List Word) (command : Command) (how : How) (seed : ℕ) (replies : Bool) → IsCommand words command → command ≡ Replay how seed replies → how ≡ Threads → AreBadWords words
-by_threads words command how seed replies asked is threads = not_runnable words (Replay how seed replies) (subst (λ x. IsCommand words x) is asked) (λ runs. runs threads)
+-- the words ask for a replay
+pub replayed : (words : List Word) (command : Command) (how : How) (seed : ℕ) (replies : Bool) → IsCommand words command → command ≡ Replay how seed replies → IsCommand words (Replay how seed replies)
+replayed words command how seed replies asked is = subst (λ x. IsCommand words x) is asked
 
 -- a load is of few events and few workers
 pub few_load : (words : List Word) (seed events workers : ℕ) → IsCommand words (Load seed events workers) → (events ≤ 500000) × (1 ≤ workers) × (workers ≤ 16)

@@ -43,7 +43,7 @@ use Rattle.slub_laws.specs.Poked.{HasPokedDamages}
 use Rattle.slub_laws.specs.Rounds.{HasLawfulRounds}
 use Rattle.slub_load.specs.Load.{load_of}
 use Rattle.slub_ways.specs.declared.way.Way.{Way}
-use Rattle.slub_ways.specs.declared.way.Way.TheVariants.{Serial, Schedule}
+use Rattle.slub_ways.specs.declared.way.Way.TheVariants.{Serial, Schedule, Threads}
 use Rattle.slub_ways.specs.Runs.{AreByText, EndsSpent, IsLawful}
 use Rattle.slub_cli.specs.declared.status.Status.{Status}
 use Rattle.slub_cli.specs.declared.status.Status.TheVariants.{Fine, Refused, BadWords, BadTrace, ReadFault, WriteFault, NoMemory, TurnsSpent}
@@ -51,37 +51,27 @@ use Rattle.slub_cli.specs.declared.status.Outcome.{Outcome}
 
 -- ---- the words
 
--- a command that is run today: every one but a replay by threads
-abbrev pub IsRunnable : Command → Type 0
-IsRunnable (Replay how seed replies) = ¬ (how ≡ hows.Threads)
-IsRunnable (Layout spec cpus) = ⊤
-IsRunnable (Load seed events workers) = ⊤
-
--- the words are a command that is run today
-abbrev pub IsAsking : List (List ℕ) → Command → Type 0
-IsAsking words command = IsCommand words command × IsRunnable command
-
--- the words are no such command
+-- the words are no command
 abbrev pub AreBadWords : List (List ℕ) → Type 0
-AreBadWords words = (command : Command) → ¬ IsAsking words command
+AreBadWords words = (command : Command) → ¬ IsCommand words command
 
 -- the command that was read of the words; none was read where they are none, or no memory was
 -- there to read them
 abbrev pub IsAsked : List (List ℕ) → Option Command → Type 0
 IsAsked words None = ⊤
-IsAsked words (Some command) = IsAsking words command
+IsAsked words (Some command) = IsCommand words command
 
--- the words ask for a replay that is run today, with or without `--replies`
+-- the words ask for a replay, with or without `--replies`
 abbrev pub AsksReplay : List (List ℕ) → Type 0
 AsksReplay words =
-    (how : How) × (seed : ℕ) × (replies : Bool) × IsAsking words (Replay how seed replies)
+    (how : How) × (seed : ℕ) × (replies : Bool) × IsCommand words (Replay how seed replies)
 
--- how a replay does its rounds: in the order of the text, or in turns that are drawn from the
--- seed. A replay by threads isn't run, and no clause asks for its way
+-- how a replay does its rounds: in the order of the text, in turns that are drawn from the seed, or
+-- by threads
 abbrev pub way_of : How → ℕ → Way
 way_of hows.Serial seed = Serial
 way_of hows.Schedule seed = Schedule seed
-way_of hows.Threads seed = Serial
+way_of hows.Threads seed = Threads
 
 -- the same of what was asked; a load is by schedule, and nothing else has rounds
 abbrev pub way_asked : Option Command → Way
@@ -496,7 +486,7 @@ IsDoneOrCut outcome =
 -- status it must have
 pub record IsRunOf (c : Call) (outcome : Outcome) : Type 0 where
   pub ends : Ends c outcome.trace outcome.journal outcome.status
-  -- words that are no command that is run, and no others, end as such
+  -- words that are no command, and no others, end as such
   pub bad_words : outcome.status ≢ WriteFault → outcome.status ≢ NoMemory →
       (outcome.status ≡ BadWords ↔ AreBadWords c.words)
   -- bytes that are no trace end as such
@@ -507,6 +497,9 @@ pub record IsRunOf (c : Call) (outcome : Outcome) : Type 0 where
       IsDoneOrCut outcome
   -- a replay in the order of the text has no turns that could be spent
   pub serial : (seed : ℕ) (replies : Bool) → IsCommand c.words (Replay hows.Serial seed replies) →
+      outcome.status ≢ TurnsSpent
+  -- nor has one by threads
+  pub threads : (seed : ℕ) (replies : Bool) → IsCommand c.words (Replay hows.Threads seed replies) →
       outcome.status ≢ TurnsSpent
   -- a load is done to its end
   pub load : (seed events workers : ℕ) → IsCommand c.words (Load seed events workers) →

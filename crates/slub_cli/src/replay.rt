@@ -1,7 +1,8 @@
 //! Replaying a trace: each item is done, its text made, put into the journal, and written.
 //!
 //! `way` says how the rounds are done, and `replies` whether the lines are written that `--replies` asks for. The
-//! text of each item is made in one buffer, which is emptied before and used again.
+//! text of each item is made in one buffer, which is emptied before and used again. `rt` starts the threads of rounds
+//! by threads, and their workers pass `gate`.
 
 ghost use Rattle.std.specs.Prelude.{Bool, ◌≡◌, ◌<◌, ◌≤◌, [], None, Some, length, IfErr, IfOk, OnOk, IsSome};
 ghost use Rattle.slub_lists.specs.Coherent.{IsCoherent};
@@ -13,6 +14,7 @@ ghost use Rattle.slub_cli.specs.Inner.{DoesItem, IsItemStop, IsMachineOf, Leaves
 
 use crate::stop::Stop;
 use slub_edges::edges::Sink;
+use slub_edges::gate::Gate;
 use slub_edges::pieces::write_lines;
 use slub_items::machine::Machine;
 use slub_journal::journal::{Done, Journal};
@@ -20,6 +22,8 @@ use slub_journal::text::{push_item, push_sums};
 use slub_trace_reader::trace::Trace;
 use slub_ways::way::Way;
 use std::alloc::Global;
+use std::sync::Wait;
+use std::thread::Threads;
 
 /// Puts an item that was done into the journal. Its text is made before, and written after.
 fn put_item<K: Sink>(
@@ -51,7 +55,9 @@ fn put_item<K: Sink>(
 }
 
 /// Does the item of a number, and puts it into the journal.
-fn do_item<K: Sink>(
+fn do_item<R: Threads + Wait + Sync, K: Sink, G: Gate + Sync>(
+    rt: &R,
+    gate: &G,
     alloc: Global,
     way: Way,
     replies: bool,
@@ -74,13 +80,15 @@ fn do_item<K: Sink>(
     ensures write_faults { StopsAtWriteFault (K.faults sink.old) (K.faults sink.new) result }
     ensures counts { K.faults sink.old ≤ K.faults sink.new }
 {
-    let (after, done) = machine.item(alloc, trace, number, way)?;
+    let (after, done) = machine.item(rt, gate, alloc, trace, number, way)?;
     put_item(alloc, replies, trace, number, done, text, sink, journal)?;
     Ok(after)
 }
 
 /// Does the items in order.
-fn do_items<K: Sink>(
+fn do_items<R: Threads + Wait + Sync, K: Sink, G: Gate + Sync>(
+    rt: &R,
+    gate: &G,
     alloc: Global,
     way: Way,
     replies: bool,
@@ -111,7 +119,7 @@ fn do_items<K: Sink>(
     let mut machine = opened;
     for number in 0..trace.items.len() {
         machine = do_item(
-            alloc, way, replies, trace, number, machine, text, sink, journal,
+            rt, gate, alloc, way, replies, trace, number, machine, text, sink, journal,
         )?;
     }
     Ok(machine)
@@ -157,7 +165,9 @@ fn begin(trace: &Trace, journal: &mut Journal)
 }
 
 /// Replays a trace on a machine of its own.
-pub fn do_trace<K: Sink>(
+pub fn do_trace<R: Threads + Wait + Sync, K: Sink, G: Gate + Sync>(
+    rt: &R,
+    gate: &G,
     alloc: Global,
     way: Way,
     replies: bool,
@@ -179,6 +189,8 @@ pub fn do_trace<K: Sink>(
     begin(trace, journal);
     let opened = Machine::open(alloc, trace)?;
     let mut text = Vec::new(alloc);
-    let machine = do_items(alloc, way, replies, trace, opened, &mut text, sink, journal)?;
+    let machine = do_items(
+        rt, gate, alloc, way, replies, trace, opened, &mut text, sink, journal,
+    )?;
     do_total(alloc, trace, &machine, sink, journal)
 }

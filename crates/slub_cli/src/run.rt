@@ -3,7 +3,7 @@
 ghost use Rattle.std.specs.Prelude.{◌≡◌, ◌≤◌, ℕ, List, None, map, string_bytes, IfOk};
 ghost use Rattle.slub_trace_reader.specs.Sound.{IsSound};
 ghost use Rattle.slub_journal.specs.Journal.{IsEmpty};
-ghost use Rattle.slub_cli.specs.Run.{AsksReplay, IsRunOf};
+ghost use Rattle.slub_cli.specs.Run.{AsksReplay, IsRunOf, way_of};
 ghost use Rattle.slub_cli.specs.Inner.{Finishes, Loaded, ReadsBuilt, Replayed, StopsAtReadFault, StopsAtWriteFault, Worked, stop_line, stop_status};
 
 use crate::layout::print_layout;
@@ -12,6 +12,7 @@ use crate::status::{Outcome, Status, done_status};
 use crate::stop::Stop;
 use slub_command::command::{Command, CommandFault, How, read};
 use slub_edges::edges::{Sink, Source};
+use slub_edges::gate::Gate;
 use slub_edges::pieces::write_lines;
 use slub_journal::built::is_built;
 use slub_journal::journal::Journal;
@@ -20,6 +21,8 @@ use slub_trace_reader::reading::read_trace;
 use slub_trace_reader::trace::Trace;
 use slub_ways::way::Way;
 use std::alloc::Global;
+use std::sync::Wait;
+use std::thread::Threads;
 
 /// Reads a trace that is replayed today.
 fn read_built<S: Source>(alloc: Global, source: &mut S) -> Result<Trace, Stop>
@@ -39,7 +42,9 @@ fn read_built<S: Source>(alloc: Global, source: &mut S) -> Result<Trace, Stop>
 }
 
 /// Replays the trace that the source has, and keeps it.
-fn replay<S: Source, K: Sink>(
+fn replay<R: Threads + Wait + Sync, S: Source, K: Sink, G: Gate + Sync>(
+    rt: &R,
+    gate: &G,
     alloc: Global,
     way: Way,
     replies: bool,
@@ -67,7 +72,7 @@ fn replay<S: Source, K: Sink>(
         Ok(read) => read,
         Err(stop) => return Err(stop),
     };
-    let end = do_trace(alloc, way, replies, &read, sink, journal);
+    let end = do_trace(rt, gate, alloc, way, replies, &read, sink, journal);
     *trace = Some(read);
     match end {
         Ok(()) => Ok(done_status(trace, journal)),
@@ -75,9 +80,22 @@ fn replay<S: Source, K: Sink>(
     }
 }
 
+/// How a replay does its rounds.
+fn way_of(how: How, seed: u64) -> Way
+    ensures { result ≡ way_of how seed }
+{
+    match how {
+        How::Serial => Way::Serial,
+        How::Schedule => Way::Schedule { seed },
+        How::Threads => Way::Threads,
+    }
+}
+
 /// Makes the trace of a seed, replays it by schedule with the same seed, and keeps it. The lines that `--replies`
 /// asks for aren't written.
-fn load<K: Sink>(
+fn load<R: Threads + Wait + Sync, K: Sink, G: Gate + Sync>(
+    rt: &R,
+    gate: &G,
     alloc: Global,
     seed: u64,
     events: u32,
@@ -97,7 +115,8 @@ fn load<K: Sink>(
     ensures counts { K.faults sink.old ≤ K.faults sink.new }
 {
     let made = load_trace(alloc, seed, events, workers)?;
-    let end = do_trace(alloc, Way::Schedule { seed }, false, &made, sink, journal);
+    let way = Way::Schedule { seed };
+    let end = do_trace(rt, gate, alloc, way, false, &made, sink, journal);
     *trace = Some(made);
     match end {
         Ok(()) => Ok(done_status(trace, journal)),
@@ -106,7 +125,9 @@ fn load<K: Sink>(
 }
 
 /// Does all of a run but the fault line.
-fn work<S: Source, K: Sink>(
+fn work<R: Threads + Wait + Sync, S: Source, K: Sink, G: Gate + Sync>(
+    rt: &R,
+    gate: &G,
     alloc: Global,
     words: &[String],
     source: &mut S,
@@ -136,20 +157,16 @@ fn work<S: Source, K: Sink>(
         Err(CommandFault::NoMemory) => return Err(Stop::NoMemory),
     };
     match command {
-        Command::Replay { how, seed, replies } => match how {
-            How::Serial => replay(alloc, Way::Serial, replies, source, sink, trace, journal),
-            How::Schedule => {
-                let way = Way::Schedule { seed };
-                replay(alloc, way, replies, source, sink, trace, journal)
-            }
-            How::Threads => Err(Stop::BadWords),
-        },
+        Command::Replay { how, seed, replies } => {
+            let way = way_of(how, seed);
+            replay(rt, gate, alloc, way, replies, source, sink, trace, journal)
+        }
         Command::Layout { spec, cpus } => print_layout(alloc, &spec, cpus, sink),
         Command::Load {
             seed,
             events,
             workers,
-        } => load(alloc, seed, events, workers, sink, trace, journal),
+        } => load(rt, gate, alloc, seed, events, workers, sink, trace, journal),
     }
 }
 
@@ -204,15 +221,17 @@ fn status_of(stop: &Stop) -> Status
 /// schedule; `layout` writes a layout. Neither of these two reads the source. The words are read before a
 /// byte of the source. Where a run ends early, one fault line says why.
 ///
-/// Run today are `replay` in the order of the text and by schedule, with or without `--replies`, `load` and
-/// `layout`; `replay --how threads` ends the run as words that are no command do. Replayed today are the
-/// traces whose CPUs start at transaction id 0 (`is_built` of `slub_journal`): another one ends the run as
-/// bytes that are no trace do.
-pub fn run<S: Source, K: Sink>(
+/// A replay does its rounds in the order of the text, by schedule or by threads: then `rt` starts a thread for each
+/// worker of a round, and the workers pass `gate` before each of their events. Replayed today are the traces whose
+/// CPUs start at transaction id 0 (`is_built` of `slub_journal`): another one ends the run as bytes that are no trace
+/// do.
+pub fn run<R: Threads + Wait + Sync, S: Source, K: Sink, G: Gate + Sync>(
+    rt: &R,
     alloc: Global,
     words: &[String],
     source: &mut S,
     sink: &mut K,
+    gate: &G,
 ) -> Outcome
     ensures run { IsRunOf (record {
       words = map string_bytes words.now;
@@ -227,7 +246,16 @@ pub fn run<S: Source, K: Sink>(
 {
     let mut trace = None;
     let mut journal = Journal::empty(alloc);
-    let end = work(alloc, words, source, sink, &mut trace, &mut journal);
+    let end = work(
+        rt,
+        gate,
+        alloc,
+        words,
+        source,
+        sink,
+        &mut trace,
+        &mut journal,
+    );
     let status = finish(sink, end);
     Outcome {
         status,

@@ -21,7 +21,7 @@ pub enum Status {
     /// Everything was done, and a creation, a shrink, a destruction, a tune, a client's line or a layout was
     /// refused, a reply isn't Ok, or an object was found damaged.
     Refused,
-    /// The words are no command, or one that isn't run today.
+    /// The words are no command.
     BadWords,
     /// The bytes are no trace, or too many, or a trace that is not replayed today.
     BadTrace,

@@ -13,7 +13,7 @@ use std::alloc::{AllocError, AllocFailed, Global};
 /// Why a run ended early.
 #[derive(Debug, Drop)]
 pub enum Stop {
-    /// The words are no command, or one that isn't run today.
+    /// The words are no command.
     BadWords,
     /// A line of the trace is bad: the line that tells of it.
     BadLine(Vec<u8>),

@@ -1,8 +1,11 @@
 use crate::run::run;
 use crate::status::Status;
+use slub_edges::gate::OpenGate;
 use slub_edges::memory::{MemSink, MemSource};
 use std::alloc::{AllocError, Global};
+use std::sync::Wait;
 use std::test::*;
+use std::thread::Threads;
 
 pub(crate) const HEADER: &str =
     "slabinfo - version: 2.1\n# name            <active_objs> <num_objs> <objsize> <objperslab> <pagesperslab> : tunables <limit> <batchcount> <sharedfactor> : slabdata <active_slabs> <num_slabs> <sharedavail>\n";
@@ -55,27 +58,33 @@ fn first_text(alloc: Global) -> Result<String, AllocError> {
 }
 
 /// Runs words on an input, and gives the status and the bytes that were taken.
-fn ran(alloc: Global, words: &[&str], input: &str, ends: &Ends) -> Result<(Status, Vec<u8>), Fail> {
+fn ran<R: Threads + Wait + Sync + AllocGlobal>(
+    rt: &R,
+    words: &[&str],
+    input: &str,
+    ends: &Ends,
+) -> Result<(Status, Vec<u8>), Fail> {
+    let alloc = rt.alloc();
     let mut source = MemSource::of(alloc, input.as_bytes(), ends.reads)?;
     let mut sink = MemSink::of(alloc, ends.writes, ends.most.max(1))?;
     let mut owned = Vec::new(alloc);
     for word in words {
         owned.push(String::from_str(alloc, word)?)?;
     }
-    let outcome = run(alloc, &owned, &mut source, &mut sink);
+    let outcome = run(rt, alloc, &owned, &mut source, &mut sink, &OpenGate);
     let taken = sink.bytes().to_vec(alloc)?;
     Ok((outcome.status, taken))
 }
 
-pub(crate) fn expect(
-    alloc: Global,
+pub(crate) fn expect<R: Threads + Wait + Sync + AllocGlobal>(
+    rt: &R,
     words: &[&str],
     input: &str,
     ends: &Ends,
     status: Status,
     text: &str,
 ) -> Result<(), Fail> {
-    let (ended, taken) = ran(alloc, words, input, ends)?;
+    let (ended, taken) = ran(rt, words, input, ends)?;
     if ended != status {
         return Err("another status".into());
     }
@@ -91,9 +100,9 @@ pub(crate) const REPLAY: [&str; 2] = ["replay", "--replies"];
 fn the_first_allocation(rt: HostRuntime) -> Result<(), Fail> {
     let alloc = rt.alloc();
     let text = first_text(alloc)?;
-    expect(alloc, &REPLAY, FIRST, &SOUND, Status::Fine, text.as_str())?;
+    expect(&rt, &REPLAY, FIRST, &SOUND, Status::Fine, text.as_str())?;
     let slow = Ends { most: 1, ..SOUND };
-    expect(alloc, &REPLAY, FIRST, &slow, Status::Fine, text.as_str())
+    expect(&rt, &REPLAY, FIRST, &slow, Status::Fine, text.as_str())
 }
 
 #[test]
@@ -105,7 +114,7 @@ fn faults_of_the_ends(rt: HostRuntime) -> Result<(), Fail> {
             ..SOUND
         };
         expect(
-            alloc,
+            &rt,
             &REPLAY,
             FIRST,
             &ends,
@@ -115,15 +124,15 @@ fn faults_of_the_ends(rt: HostRuntime) -> Result<(), Fail> {
     }
     let text = first_text(alloc)?;
     for line in 0..6 {
-        expect_cut(alloc, &REPLAY, FIRST, line, text.as_str())?;
+        expect_cut(&rt, &REPLAY, FIRST, line, text.as_str())?;
     }
     Ok(())
 }
 
 /// Fails the write of a line, counted from 0, and expects that the lines before it were taken, each as
 /// one piece, and nothing after them.
-pub(crate) fn expect_cut(
-    alloc: Global,
+pub(crate) fn expect_cut<R: Threads + Wait + Sync + AllocGlobal>(
+    rt: &R,
     words: &[&str],
     input: &str,
     line: u64,
@@ -133,7 +142,7 @@ pub(crate) fn expect_cut(
         writes: &[line],
         ..SOUND
     };
-    let (status, taken) = ran(alloc, words, input, &ends)?;
+    let (status, taken) = ran(rt, words, input, &ends)?;
     if status != Status::WriteFault || !whole.as_bytes().starts_with(taken.as_slice()) {
         return Err("no front of the text".into());
     }
@@ -152,12 +161,11 @@ fn what_is_no_command_and_no_trace(rt: HostRuntime) -> Result<(), Fail> {
         &["--replies", "replay"],
         &["replay", "--replies", ""],
         &["replay", "--how=fast"],
-        &["replay", "--how", "threads"],
         &["replay", "--seed", "1", "--seed", "2"],
         &["layout", "192", "8", "-"],
         &["load", "0", "1", "17"],
     ] {
-        expect(alloc, words, FIRST, &SOUND, Status::BadWords, bad)?;
+        expect(&rt, words, FIRST, &SOUND, Status::BadWords, bad)?;
     }
     for (input, line) in [
         ("", "slub: line 1: no end\n"),
@@ -179,7 +187,7 @@ fn what_is_no_command_and_no_trace(rt: HostRuntime) -> Result<(), Fail> {
             "slub: bad trace\n",
         ),
     ] {
-        expect(alloc, &REPLAY, input, &SOUND, Status::BadTrace, line)?;
+        expect(&rt, &REPLAY, input, &SOUND, Status::BadTrace, line)?;
     }
     let long = vec![in alloc; b'#'; 16777217]?;
     let mut source = MemSource::of(alloc, &long, &[])?;
@@ -188,7 +196,7 @@ fn what_is_no_command_and_no_trace(rt: HostRuntime) -> Result<(), Fail> {
         String::from_str(alloc, "replay")?,
         String::from_str(alloc, "--replies")?,
     ]?;
-    let outcome = run(alloc, &words, &mut source, &mut sink);
+    let outcome = run(&rt, alloc, &words, &mut source, &mut sink, &OpenGate);
     if outcome.status != Status::BadTrace || sink.bytes() != b"slub: input too long\n".as_slice() {
         return Err("too long an input was taken".into());
     }

@@ -11,9 +11,9 @@ const NODE: &str =
 #[test]
 fn layout_of_a_checked_cache(rt: HostRuntime) -> Result<(), Fail> {
     let words = ["layout", "24", "8", "FZP", "2"];
-    expect(rt.alloc(), &words, "", &SOUND, Status::Fine, NODE)?;
+    expect(&rt, &words, "", &SOUND, Status::Fine, NODE)?;
     for line in 0..12 {
-        expect_cut(rt.alloc(), &words, "", line, NODE)?;
+        expect_cut(&rt, &words, "", line, NODE)?;
     }
     Ok(())
 }
@@ -21,20 +21,14 @@ fn layout_of_a_checked_cache(rt: HostRuntime) -> Result<(), Fail> {
 #[test]
 fn a_fault_line_that_is_not_taken(rt: HostRuntime) -> Result<(), Fail> {
     let end = "slub: line 3: bad form\n";
-    expect_cut(
-        rt.alloc(),
-        &["replay"],
-        "slubtrace 1\nmachine 16 2\nbad\n",
-        0,
-        end,
-    )?;
-    expect_cut(rt.alloc(), &["replay", "-x"], "", 0, "slub: bad command\n")
+    expect_cut(&rt, &["replay"], "slubtrace 1\nmachine 16 2\nbad\n", 0, end)?;
+    expect_cut(&rt, &["replay", "-x"], "", 0, "slub: bad command\n")
 }
 
 #[test]
 fn layout_of_eight_frames(rt: HostRuntime) -> Result<(), Fail> {
     expect(
-        rt.alloc(),
+        &rt,
         &["layout", "700", "8", "-", "16"],
         "",
         &SOUND,
@@ -46,7 +40,7 @@ fn layout_of_eight_frames(rt: HostRuntime) -> Result<(), Fail> {
 #[test]
 fn layout_of_one_byte(rt: HostRuntime) -> Result<(), Fail> {
     expect(
-        rt.alloc(),
+        &rt,
         &["layout", "1", "0", "Z", "1"],
         "",
         &SOUND,
@@ -62,7 +56,7 @@ fn layouts_that_are_refused(rt: HostRuntime) -> Result<(), Fail> {
         (["layout", "64", "24", "-", "2"], "layout: bad alignment\n"),
         (["layout", "64", "8", "U", "2"], "layout: bad flags\n"),
     ] {
-        expect(rt.alloc(), &words, "", &SOUND, Status::Refused, line)?;
+        expect(&rt, &words, "", &SOUND, Status::Refused, line)?;
     }
     Ok(())
 }
@@ -88,14 +82,7 @@ fn refusals_alone_without_replies(rt: HostRuntime) -> Result<(), Fail> {
         &["replay", "--seed=7", "--how=serial"],
         &["replay", "--how", "schedule", "--seed", "7"],
     ] {
-        expect(
-            rt.alloc(),
-            words,
-            OVERRUN,
-            &SOUND,
-            Status::Refused,
-            text.as_str(),
-        )?;
+        expect(&rt, words, OVERRUN, &SOUND, Status::Refused, text.as_str())?;
     }
     Ok(())
 }
@@ -107,7 +94,7 @@ pub(crate) const STALE: &str =
 #[test]
 fn damage_is_told_without_replies(rt: HostRuntime) -> Result<(), Fail> {
     expect(
-        rt.alloc(),
+        &rt,
         &["replay"],
         STALE,
         &SOUND,
@@ -128,7 +115,7 @@ fn loads_of_one_worker_and_of_two(rt: HostRuntime) -> Result<(), Fail> {
             "total given 2563 freed 2563 live 0 free 0 aside 0 frozen 0 slabs 0 frames 4095\n",
         ),
     ] {
-        expect(rt.alloc(), &words, "", &SOUND, Status::Fine, line)?;
+        expect(&rt, &words, "", &SOUND, Status::Fine, line)?;
     }
-    expect_cut(rt.alloc(), &["load", "1", "1000", "1"], "", 0, "total")
+    expect_cut(&rt, &["load", "1", "1000", "1"], "", 0, "total")
 }

@@ -3,26 +3,29 @@
 use crate::run::run;
 use crate::tests::FIRST;
 use crate::tests_commands::{OVERRUN, STALE};
+use slub_edges::gate::OpenGate;
 use slub_edges::memory::{MemSink, MemSource};
-use std::alloc::Global;
+use std::sync::Wait;
 use std::test::*;
+use std::thread::Threads;
 
 /// Runs words on an input whose reads of these numbers fail, and expects so many pieces, each a line
 /// with its line feed.
-fn expect_pieces(
-    alloc: Global,
+fn expect_pieces<R: Threads + Wait + Sync + AllocGlobal>(
+    rt: &R,
     words: &[&str],
     input: &str,
     reads: &[u64],
     lines: usize,
 ) -> Result<(), Fail> {
+    let alloc = rt.alloc();
     let mut source = MemSource::of(alloc, input.as_bytes(), reads)?;
     let mut sink = MemSink::of(alloc, &[], 4096)?;
     let mut owned = Vec::new(alloc);
     for word in words {
         owned.push(String::from_str(alloc, word)?)?;
     }
-    run(alloc, &owned, &mut source, &mut sink);
+    run(rt, alloc, &owned, &mut source, &mut sink, &OpenGate);
     if sink.pieces().len() != lines {
         return Err("another number of pieces".into());
     }
@@ -37,26 +40,19 @@ fn expect_pieces(
 
 #[test]
 fn each_line_is_one_piece(rt: HostRuntime) -> Result<(), Fail> {
-    let alloc = rt.alloc();
     // a creation, a reply, slabinfo and the total
-    expect_pieces(alloc, &["replay", "--replies"], FIRST, &[], 6)?;
-    expect_pieces(alloc, &["replay"], FIRST, &[], 4)?;
+    expect_pieces(&rt, &["replay", "--replies"], FIRST, &[], 6)?;
+    expect_pieces(&rt, &["replay"], FIRST, &[], 4)?;
     // a creation, five replies, slabinfo and the total; without replies what is always printed
-    expect_pieces(alloc, &["replay", "--replies"], OVERRUN, &[], 10)?;
-    expect_pieces(alloc, &["replay"], OVERRUN, &[], 5)?;
+    expect_pieces(&rt, &["replay", "--replies"], OVERRUN, &[], 10)?;
+    expect_pieces(&rt, &["replay"], OVERRUN, &[], 5)?;
     // a damage
-    expect_pieces(alloc, &["replay"], STALE, &[], 2)?;
+    expect_pieces(&rt, &["replay"], STALE, &[], 2)?;
     // layouts, and one that is refused
-    expect_pieces(alloc, &["layout", "24", "8", "FZP", "2"], "", &[], 12)?;
-    expect_pieces(alloc, &["layout", "64", "24", "-", "2"], "", &[], 1)?;
+    expect_pieces(&rt, &["layout", "24", "8", "FZP", "2"], "", &[], 12)?;
+    expect_pieces(&rt, &["layout", "64", "24", "-", "2"], "", &[], 1)?;
     // fault lines
-    expect_pieces(alloc, &["replay", "-x"], FIRST, &[], 1)?;
-    expect_pieces(
-        alloc,
-        &["replay"],
-        "slubtrace 1\nmachine 16 2\nbad\n",
-        &[],
-        1,
-    )?;
-    expect_pieces(alloc, &["replay"], FIRST, &[0], 1)
+    expect_pieces(&rt, &["replay", "-x"], FIRST, &[], 1)?;
+    expect_pieces(&rt, &["replay"], "slubtrace 1\nmachine 16 2\nbad\n", &[], 1)?;
+    expect_pieces(&rt, &["replay"], FIRST, &[0], 1)
 }

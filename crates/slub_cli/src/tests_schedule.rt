@@ -4,10 +4,13 @@ use crate::run::run;
 use crate::status::{Outcome, Status};
 use crate::tests::text_of;
 use slub_answers::reply::Reply;
+use slub_edges::gate::OpenGate;
 use slub_edges::memory::{MemSink, MemSource};
 use slub_journal::journal::Done;
 use std::alloc::Global;
+use std::sync::Wait;
 use std::test::*;
+use std::thread::Threads;
 
 /// The seeds that are tried.
 const SEEDS: [&str; 10] = [
@@ -24,14 +27,19 @@ const SEEDS: [&str; 10] = [
 ];
 
 /// Replays a trace by schedule.
-fn scheduled(alloc: Global, seed: &str, input: &str) -> Result<Outcome, Fail> {
+fn scheduled<R: Threads + Wait + Sync + AllocGlobal>(
+    rt: &R,
+    seed: &str,
+    input: &str,
+) -> Result<Outcome, Fail> {
+    let alloc = rt.alloc();
     let mut source = MemSource::of(alloc, input.as_bytes(), &[])?;
     let mut sink = MemSink::of(alloc, &[], 4096)?;
     let mut words = Vec::new(alloc);
     for word in ["replay", "--how", "schedule", "--seed", seed] {
         words.push(String::from_str(alloc, word)?)?;
     }
-    Ok(run(alloc, &words, &mut source, &mut sink))
+    Ok(run(rt, alloc, &words, &mut source, &mut sink, &OpenGate))
 }
 
 /// How many replies of all rounds are that no frames were there.
@@ -81,7 +89,7 @@ fn ten_seeds_leave_as_many_live(rt: HostRuntime) -> Result<(), Fail> {
     )?;
     trace.push_str("alloc 0 0 dentry 19\nalloc 1 0 dentry 20\nalloc 2 1 node 21\ndone\nend\n")?;
     for seed in &SEEDS {
-        let outcome = scheduled(alloc, seed, trace.as_str())?;
+        let outcome = scheduled(&rt, seed, trace.as_str())?;
         let Some(total) = &outcome.journal.total else {
             return Err("no total".into());
         };
@@ -109,7 +117,7 @@ fn four_workers_share_two_frames(rt: HostRuntime) -> Result<(), Fail> {
     push_allocs(&mut trace, alloc, "3 1 big", 13, 16)?;
     trace.push_str("done\nend\n")?;
     for seed in &SEEDS {
-        let outcome = scheduled(alloc, seed, trace.as_str())?;
+        let outcome = scheduled(&rt, seed, trace.as_str())?;
         let Some(total) = &outcome.journal.total else {
             return Err("no total".into());
         };

@@ -3,9 +3,9 @@
 //! `Machine` is the machine between two items: the plain lists, beside them the reserves of clients, and how many
 //! `round` lines were done. Its definitions are `specs/Runs.antt` of `slub_ways`, and contracts see it as a
 //! `MachineState` of that file. A round is done by the way that the caller names (`Way` of `slub_ways`): in the order
-//! of the text by `slub_engine`, and two or more workers by a seed by `slub_rounds`. The seed of a round is that of the
-//! way plus how many `round` lines were before, modulo 2^64. A client's line is done by the crate of its request:
-//! `slub_kmalloc`, `slub_bulk` or `slub_mempool`; every other item by `slub_engine`.
+//! of the text by `slub_engine`, and two or more workers by a seed or in threads by `slub_rounds`. The seed of a round
+//! is that of the way plus how many `round` lines were before, modulo 2^64. A client's line is done by the crate of
+//! its request: `slub_kmalloc`, `slub_bulk` or `slub_mempool`; every other item by `slub_engine`.
 //!
 //! # What it promises
 //!

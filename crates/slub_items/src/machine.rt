@@ -16,6 +16,7 @@ ghost use Rattle.slub_items.specs.Stopped.{IsMachineStopped, IsStopped};
 
 use crate::round::by_way;
 use slub_common::no_memory::NoMemory;
+use slub_edges::gate::Gate;
 use slub_engine::item;
 use slub_journal::client::ClientDone;
 use slub_journal::journal::{Done, RoundResult, Total};
@@ -28,6 +29,8 @@ use slub_ways::laws::{items_leave_room, ready_rounds_may_be_done};
 use slub_ways::way::Way;
 use std::alloc::Global;
 use std::marker::Model;
+use std::sync::Wait;
+use std::thread::Threads;
 
 /// The machine between two items: its lists, beside them the reserves of its clients, and how many `round` lines
 /// were done.
@@ -72,12 +75,15 @@ impl Machine {
         })
     }
 
-    /// Does the item of this number, a round by the way, and gives the machine back with what came of it.
+    /// Does the item of this number, a round by the way, and gives the machine back with what came of it. The workers
+    /// of a round by threads pass the gate before each of their events.
     ///
     /// The errors: `NoMemory` where none was found, only for an item that takes some, which a shrink, a destroy and a
     /// setting don't; `TurnsSpent` only for a round of two or more workers by `Way::Schedule`.
-    pub fn item(
+    pub fn item<R: Threads + Wait + Sync, G: Gate + Sync>(
         mut self,
+        rt: &R,
+        gate: &G,
         alloc: Global,
         trace: &Trace,
         number: usize,
@@ -94,7 +100,7 @@ impl Machine {
         items_leave_room();
         match &trace.items.as_slice()[number] {
             Item::Round(round) => {
-                let (after, result) = self.round(alloc, round, way)?;
+                let (after, result) = self.round(rt, gate, alloc, round, way)?;
                 Ok((after, Done::Round(result)))
             }
             Item::Client(client) => match self.serve(alloc, trace, client) {
@@ -109,8 +115,10 @@ impl Machine {
     }
 
     /// Does a round by the way.
-    fn round(
+    fn round<R: Threads + Wait + Sync, G: Gate + Sync>(
         self,
+        rt: &R,
+        gate: &G,
         alloc: Global,
         round: &Round,
         way: Way,
@@ -132,7 +140,7 @@ impl Machine {
             reserves,
             rounds,
         } = self;
-        match by_way(alloc, lists, round, rounds, way) {
+        match by_way(rt, gate, alloc, lists, round, rounds, way) {
             Ok((lists, result)) => Ok((
                 Machine {
                     lists,

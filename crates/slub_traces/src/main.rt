@@ -8,9 +8,12 @@
 
 use slub_cli::run::run;
 use slub_common::no_memory::NoMemory;
+use slub_edges::gate::OpenGate;
 use slub_edges::memory::{MemSink, MemSource};
 use std::alloc::Global;
 use std::rt::Files;
+use std::sync::Wait;
+use std::thread::Threads;
 use std::{fs, io};
 
 /// How a run ended.
@@ -21,7 +24,8 @@ struct Replayed {
 }
 
 /// Runs words on a trace, and compares the output.
-fn replay(
+fn replay<R: Threads + Wait + Sync>(
+    rt: &R,
     alloc: Global,
     words: &[String],
     trace: &[u8],
@@ -29,7 +33,7 @@ fn replay(
 ) -> Result<Replayed, NoMemory> {
     let mut source = MemSource::of(alloc, trace, &[])?;
     let mut sink = MemSink::of(alloc, &[], 65536)?;
-    let outcome = run(alloc, words, &mut source, &mut sink);
+    let outcome = run(rt, alloc, words, &mut source, &mut sink, &OpenGate);
     Ok(Replayed {
         status: outcome.status.number(),
         is_stored: sink.bytes() == stored,
@@ -37,7 +41,10 @@ fn replay(
 }
 
 /// Replays the trace that a line names, with the words that follow the name.
-fn replay_line(rt: &(impl Files + AllocGlobal), line: &str) -> io::Result<Replayed> {
+fn replay_line<R: Files + AllocGlobal + Threads + Wait + Sync>(
+    rt: &R,
+    line: &str,
+) -> io::Result<Replayed> {
     let mut parts = line.split(' ');
     let name = parts.next().unwrap_or("");
     let mut words = Vec::new(rt.alloc());
@@ -46,7 +53,7 @@ fn replay_line(rt: &(impl Files + AllocGlobal), line: &str) -> io::Result<Replay
     }
     let trace = fs::read(rt, name)?;
     let stored = fs::read(rt, format!(in rt.alloc(); "{name}.out")?.as_str())?;
-    match replay(rt.alloc(), &words, &trace, &stored) {
+    match replay(rt, rt.alloc(), &words, &trace, &stored) {
         Ok(replayed) => Ok(replayed),
         Err(NoMemory) => Err(io::Error::from(io::ErrorKind::OutOfMemory)),
     }

@@ -14,10 +14,11 @@ use Rattle.slub_journal.specs.Lawful.{IsAtRest}
 use Rattle.slub_journal.specs.declared.journal.RoundResult.{RoundResult}
 use Rattle.slub_round_law.specs.Round.{Fits, IsRound}
 use Rattle.slub_round_law.proofs.Whole.{lawful}
-use Rattle.slub_round_causes.proofs.Whole.{drawn-lawful}
-use Rattle.slub_rounds.specs.Laws.{RoundsBySeedAreLawful}
+use Rattle.slub_round_causes.proofs.Whole.{drawn-lawful, rounds-lawful}
+use Rattle.slub_rounds.specs.Laws.{RoundsBySeedAreLawful, RoundsByThreadsAreLawful}
+use Rattle.slub_rounds.proofs.Threads.{threads-lawful}
 use Rattle.slub_ways.specs.declared.way.Way.{Way}
-use Rattle.slub_ways.specs.declared.way.Way.TheVariants.{Serial, Schedule}
+use Rattle.slub_ways.specs.declared.way.Way.TheVariants.{Serial, Schedule, Threads}
 use Rattle.slub_ways.specs.Ways.{DoesRoundBy, seed_after}
 
 -- what sound events allocate are numbers of the machine
@@ -48,6 +49,10 @@ seed-lawful s seed trace round result after coherent laid may done =
     drawn-lawful s done.beside seed trace round result done.picks done.last done.lists after done.left coherent laid done.new.fits may
     done.ends done.closes done.replies done.damages done.ledgers done.after_is
 
+-- one by threads is
+by-threads : RoundsByThreadsAreLawful
+by-threads = threads-lawful rounds-lawful
+
 -- and so is one in the order of the text
 pub lawful-by : (way : Way) (rounds : ℕ) (s : State) (trace : Trace) (round : Round) (result : RoundResult) (after : State) → IsCoherent s → IsAtRest s → MayDo s trace round
     → DoesRoundBy way rounds s round result after → IsRound s round result after
@@ -55,3 +60,5 @@ lawful-by Serial rounds s trace round result after coherent rest may does = lawf
 lawful-by (Schedule seed) rounds s trace round result after coherent rest may (inl (few, does)) = lawful s round result after coherent rest (fits s trace round may) does
 lawful-by (Schedule seed) rounds s trace round result after coherent rest may (inr (several, does)) =
     seed-lawful s (seed_after seed rounds) trace round result after coherent rest.laid_down may does
+lawful-by Threads rounds s trace round result after coherent rest may (inl (few, does)) = lawful s round result after coherent rest (fits s trace round may) does
+lawful-by Threads rounds s trace round result after coherent rest may (inr (several, does)) = by-threads s trace round result after coherent rest.laid_down may does

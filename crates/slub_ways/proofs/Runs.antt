@@ -1,9 +1,10 @@
 -- What the crates above stand on: an item of a number is done, a run of items grows by one, and which runs are serial.
-use Rattle.std.proofs.Common.{◌≡◌, ℕ, ◌+◌, ◌<◌, List, [], ◌∷◌, ◌++◌, length, take, get_or, refl, sym, subst, arith, Some, None, Option, MatchOption, inl, inr, slice_get}
+use Rattle.std.proofs.Common.{◌≡◌, ℕ, ◌+◌, ◌<◌, ◌≤◌, List, [], ◌∷◌, ◌++◌, length, take, get_or, refl, sym, subst, arith, Some, None, Option, MatchOption, inl, inr, slice_get, All}
 use Rattle.std.proofs.lemmas.List.{take_more}
 use Rattle.std.proofs.lemmas.List.Elements.{All-head, All-tail}
 use Rattle.std.proofs.lemmas.Option.{slice_get-get_or, slice_get_read}
 use Rattle.slub_object_layout.specs.declared.event.Round.{Round}
+use Rattle.slub_lists.specs.State.{State}
 use Rattle.slub_lists.specs.Coherent.{IsCoherent}
 use Rattle.slub_trace_reader.specs.declared.trace.Client.{Client as Asked}
 use Rattle.slub_trace_reader.specs.declared.trace.Item.{Item}
@@ -14,9 +15,9 @@ use Rattle.slub_journal.specs.declared.journal.Done.{Done}
 use Rattle.slub_journal.specs.declared.journal.Done.TheVariants as done
 use Rattle.slub_journal.specs.declared.journal.Journal.{Journal}
 use Rattle.slub_journal.specs.declared.journal.RoundResult.{RoundResult}
-use Rattle.slub_journal.specs.Lawful.{DoesPlain, DoesPlainAt}
+use Rattle.slub_journal.specs.Lawful.{DoesPlain, DoesPlainAt, DoesRound}
 use Rattle.slub_ways.specs.declared.way.Way.{Way}
-use Rattle.slub_ways.specs.declared.way.Way.TheVariants.{Serial, Schedule}
+use Rattle.slub_ways.specs.declared.way.Way.TheVariants.{Serial, Schedule, Threads}
 use Rattle.slub_ways.specs.Ways.{DoesRoundBy}
 use Rattle.slub_ways.specs.Runs.{AreByText, Does, DoesAt, IsAlone, IsLawful, KeepsReserves, KeepsRounds, MachineState, RunsItems, Serves, machine_of}
 use Rattle.slub_ways.proofs.Numbers.{front}
@@ -82,30 +83,44 @@ does_plain_at way m trace number dn after does kept same = by (slice_get trace.i
 
 -- ---- items that are done in the order of the text
 
--- by schedule, too, an item that is no round of several workers
-serially : (seed : ℕ) (m : MachineState) (trace : Trace) (it : Item) (dn : Done) (after : MachineState) → IsAlone it → Does (Schedule seed) m trace it dn after → Does Serial m trace it dn after
+-- by every way, a round of one worker
+pub alone-done : (way : Way) (rounds : ℕ) (s : State) (round : Round) (result : RoundResult) (after : State) → round.workers ≤ 1 → DoesRound s round result after → DoesRoundBy way rounds s round result after
+alone-done Serial rounds s round result after alone does = does
+alone-done (Schedule seed) rounds s round result after alone does = inl (alone, does)
+alone-done Threads rounds s round result after alone does = inl (alone, does)
+
+alone-serially : (way : Way) (m : MachineState) (round : Round) (result : RoundResult) (after : MachineState) → round.workers ≤ 1 → DoesRoundBy way m.rounds m.lists round result after.lists → DoesRoundBy Serial m.rounds m.lists round result after.lists
+alone-serially Serial m round result after alone does = does
+alone-serially (Schedule seed) m round result after alone (inl (few, serial)) = serial
+alone-serially (Schedule seed) m round result after alone (inr (several, drawn)) = absurd (let never : ⊥ = omega (arith, several, alone) in never)
+alone-serially Threads m round result after alone (inl (few, serial)) = serial
+alone-serially Threads m round result after alone (inr (several, threaded)) = absurd (let never : ⊥ = omega (arith, several, alone) in never)
+
+-- and so an item that is no round of several workers
+serially : (way : Way) (m : MachineState) (trace : Trace) (it : Item) (dn : Done) (after : MachineState) → IsAlone it → Does way m trace it dn after → Does Serial m trace it dn after
 unfolding Does
-serially seed m trace (item.Round round) (done.Round result) after alone does = (by does.0, does.1, does.2)
-  where
-    by : DoesRoundBy (Schedule seed) m.rounds m.lists round result after.lists → DoesRoundBy Serial m.rounds m.lists round result after.lists
-    by (inl (few, serial)) = serial
-    by (inr (several, drawn)) = absurd (let never : ⊥ = omega (arith, several, alone) in never)
-serially seed m trace (item.Round round) _ after alone does = does
-serially seed m trace (item.Client client) (done.Client outcome) after alone does = does
-serially seed m trace (item.Client client) _ after alone does = does
-serially seed m trace _ dn after alone does = does
+serially way m trace (item.Round round) (done.Round result) after alone does = (alone-serially way m round result after alone does.0, does.1, does.2)
+serially way m trace (item.Round round) _ after alone does = does
+serially way m trace (item.Client client) (done.Client outcome) after alone does = does
+serially way m trace (item.Client client) _ after alone does = does
+serially way m trace _ dn after alone does = does
+
+alone-items : (way : Way) (m : MachineState) (trace : Trace) (items : List Item) (dones : List Done) (after : MachineState) → All IsAlone items → RunsItems way m trace items dones after → RunsItems Serial m trace items dones after
+alone-items way m trace [] [] after alone run = run
+alone-items way m trace [] (dn ∷ dones) after alone run = absurd run
+alone-items way m trace (it ∷ items) [] after alone run = absurd run
+alone-items way m trace (it ∷ items) (dn ∷ dones) after alone run =
+    (run.0, serially way m trace it dn run.0 (All-head IsAlone it items alone) run.1, run.2, alone-items way run.0 trace items dones after (All-tail IsAlone it items alone) run.3)
 
 items-serially : (way : Way) (m : MachineState) (trace : Trace) (items : List Item) (dones : List Done) (after : MachineState) → AreByText way items → RunsItems way m trace items dones after → RunsItems Serial m trace items dones after
 items-serially Serial m trace items dones after by_text run = run
-items-serially (Schedule seed) m trace [] [] after by_text run = run
-items-serially (Schedule seed) m trace [] (dn ∷ dones) after by_text run = absurd run
-items-serially (Schedule seed) m trace (it ∷ items) [] after by_text run = absurd run
-items-serially (Schedule seed) m trace (it ∷ items) (dn ∷ dones) after by_text run =
-    (run.0, serially seed m trace it dn run.0 (All-head IsAlone it items by_text) run.1, run.2, items-serially (Schedule seed) run.0 trace items dones after (All-tail IsAlone it items by_text) run.3)
+items-serially (Schedule seed) m trace items dones after by_text run = alone-items (Schedule seed) m trace items dones after by_text run
+items-serially Threads m trace items dones after by_text run = alone-items Threads m trace items dones after by_text run
 
 first-by-text : (way : Way) (n : ℕ) (items : List Item) → AreByText way items → AreByText way (take n items)
 first-by-text Serial n items by_text = tt
 first-by-text (Schedule seed) n items by_text = front IsAlone n items by_text
+first-by-text Threads n items by_text = front IsAlone n items by_text
 
 -- so is a journal that is lawful by any way, where every item is done so
 pub lawful-serially : (way : Way) (trace : Trace) (journal : Journal) → AreByText way trace.items → IsLawful way trace journal → IsLawful Serial trace journal

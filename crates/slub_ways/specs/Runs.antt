@@ -15,7 +15,7 @@ use Rattle.slub_journal.specs.Kmalloc.{ServesClasses}
 use Rattle.slub_journal.specs.Lawful.{DoesPlain, IsReady, IsTotal, coming, opening_of}
 use Rattle.slub_journal.specs.Reserves.{AreReserves, AreSoundReserves, Reserve, ServesReserves}
 use Rattle.slub_ways.specs.declared.way.Way.{Way}
-use Rattle.slub_ways.specs.declared.way.Way.TheVariants.{Serial, Schedule}
+use Rattle.slub_ways.specs.declared.way.Way.TheVariants.{Serial, Schedule, Threads}
 use Rattle.slub_ways.specs.Ways.{DoesRoundBy, SpendsTurnsBy}
 
 -- ---- the machine
@@ -92,11 +92,12 @@ abbrev pub IsAlone : Item → Type 0
 IsAlone (item.Round round) = round.workers ≤ 1
 IsAlone _ = ⊤
 
--- every one of the items is done in the order of the text: by schedule, where no round is of
--- several workers
+-- every one of the items is done in the order of the text: by schedule and by threads, where no
+-- round is of several workers
 abbrev pub AreByText : Way → List Item → Type 0
 AreByText Serial items = ⊤
 AreByText (Schedule seed) items = All IsAlone items
+AreByText Threads items = All IsAlone items
 
 -- ---- turns that are spent
 

@@ -2,10 +2,11 @@
 //!
 //! `way` has the ways. `specs/Ways.antt` says what each makes of a round: by `Serial` its events are answered one
 //! after the other, in the order of the text; by `Schedule` the workers of a round make turns as a number draws
-//! them, and a round of one worker is as by `Serial`. `specs/Runs.antt` has the machine between two items, which is
-//! the lists, the reserves of clients and how many `round` lines were done; what each item does to it; and which
-//! journals are lawful: the items answer the trace's first items, one each, from the opening machine on, and the
-//! machine is coherent between any two steps, those of a scheduled round among them.
+//! them, and by `Threads` as their threads come to them; by both a round of one worker is as by `Serial`.
+//! `specs/Runs.antt` has the machine between two items, which is the lists, the reserves of clients and how many
+//! `round` lines were done; what each item does to it; and which journals are lawful: the items answer the trace's
+//! first items, one each, from the opening machine on, and the machine is coherent between any two steps, those of
+//! a round by schedule or by threads among them.
 //!
 //! # What it promises
 //!

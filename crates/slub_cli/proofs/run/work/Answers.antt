@@ -1,69 +1,36 @@
-use Rattle.std.proofs.Common.{◌≡◌, Some, None, map, refl, subst, le_refl}
+use Rattle.std.proofs.Common.{Some, map, subst}
 use Rattle.std.specs.Prelude.{string_bytes}
-use Rattle.slub_command.specs.declared.command.Command.TheVariants.{Replay, Layout, Load}
-use Rattle.slub_command.specs.declared.command.How.TheVariants.{Serial, Schedule, Threads}
+use Rattle.slub_command.specs.declared.command.Command.TheVariants.{Layout, Load}
 use Rattle.slub_command.specs.Command.{IsCommand}
-use Rattle.slub_cli.proofs.Words.{by_threads, few_cpus, few_load, replayed}
+use Rattle.slub_cli.proofs.Parts.{replay_worked}
+use Rattle.slub_cli.proofs.Words.{few_cpus, few_load, replayed}
 use Rattle.slub_cli.proofs.run.work.Goals as goal
 
-pub returns-in-Serial-clause-worked : goal.returns-in-Serial-clause-worked
-returns-in-Serial-clause-worked g c =
+pub returns-in-Replay-clause-worked : goal.returns-in-Replay-clause-worked
+returns-in-Replay-clause-worked g c =
     let r = c.in-Replay in
-    let whole = c.replay.ensures.replayed (map string_bytes c.args.words.now) in
-    record {
-      asked = Some (Replay Serial r.seed r.replies);
-      is_asked = replayed (map string_bytes c.args.words.now) c.in-Ok.command r.how Serial r.seed r.replies c.in-Ok.ensures.spells r.is c.in-Serial.is (λ h. let e : Serial ≡ Threads = h in cc);
-      works = (whole.end, whole.told);
-      lawful = whole.lawful;
-    }
+    let words = map string_bytes c.args.words.now in
+    replay_worked _ c.way_of-way.result r.how r.seed r.replies c.replay.new.trace c.replay.new.journal c.replay.result c.way_of-way.ensures
+    (replayed words c.in-Ok.command r.how r.seed r.replies c.in-Ok.ensures.spells r.is) (c.replay.ensures.replayed words)
 
-pub returns-in-Serial-clause-untouched : goal.returns-in-Serial-clause-untouched
-returns-in-Serial-clause-untouched g c =
+pub returns-in-Replay-clause-untouched : goal.returns-in-Replay-clause-untouched
+returns-in-Replay-clause-untouched g c =
     let r = c.in-Replay in
-    let asked = replayed (map string_bytes c.args.words.now) c.in-Ok.command r.how Serial r.seed r.replies c.in-Ok.ensures.spells r.is c.in-Serial.is (λ h. let e : Serial ≡ Threads = h in cc) in
-    λ none. absurd (none (Serial, r.seed, r.replies, asked))
-
-pub returns-in-Schedule-clause-worked : goal.returns-in-Schedule-clause-worked
-returns-in-Schedule-clause-worked g c =
-    let r = c.in-Replay in
-    let whole = c.replay-in-Schedule.ensures.replayed (map string_bytes c.args.words.now) in
-    record {
-      asked = Some (Replay Schedule r.seed r.replies);
-      is_asked = replayed (map string_bytes c.args.words.now) c.in-Ok.command r.how Schedule r.seed r.replies c.in-Ok.ensures.spells r.is c.in-Schedule.is (λ h. let e : Schedule ≡ Threads = h in cc);
-      works = (whole.end, whole.told);
-      lawful = whole.lawful;
-    }
-
-pub returns-in-Schedule-clause-untouched : goal.returns-in-Schedule-clause-untouched
-returns-in-Schedule-clause-untouched g c =
-    let r = c.in-Replay in
-    let asked = replayed (map string_bytes c.args.words.now) c.in-Ok.command r.how Schedule r.seed r.replies c.in-Ok.ensures.spells r.is c.in-Schedule.is (λ h. let e : Schedule ≡ Threads = h in cc) in
-    λ none. absurd (none (Schedule, r.seed, r.replies, asked))
-
-pub returns-in-Threads : goal.returns-in-Threads
-returns-in-Threads g c =
-    let r = c.in-Replay in
-    let bad = by_threads (map string_bytes c.args.words.now) c.in-Ok.command r.how r.seed r.replies c.in-Ok.ensures.spells r.is c.in-Threads.is in
-    record {
-      worked = record { asked = None; is_asked = tt; works = ((bad, c.requires.unread), refl); lawful = (c.requires.unread, c.requires.empty) };
-      untouched = λ none. refl;
-      read_faults = refl;
-      write_faults = refl;
-      counts = le_refl _;
-    }
+    let asked = replayed (map string_bytes c.args.words.now) c.in-Ok.command r.how r.seed r.replies c.in-Ok.ensures.spells r.is in
+    λ none. absurd (none (r.how, r.seed, r.replies, asked))
 
 pub load-requires-clause-few_events : goal.load-requires-clause-few_events
-load-requires-clause-few_events g c =
+load-requires-clause-few_events g c = λ κs lives.
     let l = c.in-Load in
     (few_load (map string_bytes c.args.words.now) l.seed l.events l.workers (subst (λ x. IsCommand (map string_bytes c.args.words.now) x) l.is c.in-Ok.ensures.spells)).0
 
 pub load-requires-clause-some_workers : goal.load-requires-clause-some_workers
-load-requires-clause-some_workers g c =
+load-requires-clause-some_workers g c = λ κs lives.
     let l = c.in-Load in
     (few_load (map string_bytes c.args.words.now) l.seed l.events l.workers (subst (λ x. IsCommand (map string_bytes c.args.words.now) x) l.is c.in-Ok.ensures.spells)).1
 
 pub load-requires-clause-few_workers : goal.load-requires-clause-few_workers
-load-requires-clause-few_workers g c =
+load-requires-clause-few_workers g c = λ κs lives.
     let l = c.in-Load in
     (few_load (map string_bytes c.args.words.now) l.seed l.events l.workers (subst (λ x. IsCommand (map string_bytes c.args.words.now) x) l.is c.in-Ok.ensures.spells)).2
 
@@ -73,7 +40,7 @@ returns-in-Load-clause-worked g c =
     let whole = c.load.ensures.loaded in
     record {
       asked = Some (Load l.seed l.events l.workers);
-      is_asked = (subst (λ x. IsCommand (map string_bytes c.args.words.now) x) l.is c.in-Ok.ensures.spells, tt);
+      is_asked = subst (λ x. IsCommand (map string_bytes c.args.words.now) x) l.is c.in-Ok.ensures.spells;
       works = (whole.end, whole.told);
       lawful = whole.lawful;
     }
@@ -91,7 +58,7 @@ returns-in-Layout-clause-worked g c =
     let l = c.in-Layout in
     record {
       asked = Some (Layout l.spec l.cpus);
-      is_asked = (subst (λ x. IsCommand (map string_bytes c.args.words.now) x) l.is c.in-Ok.ensures.spells, tt);
+      is_asked = subst (λ x. IsCommand (map string_bytes c.args.words.now) x) l.is c.in-Ok.ensures.spells;
       works = (c.print_layout.ensures.printed, c.requires.unread, c.requires.empty.total);
       lawful = (c.requires.unread, c.requires.empty);
     }

@@ -19,7 +19,10 @@ const PLAIN: &[&str] = &["replay"];
 const REPLIES: &[&str] = &["replay", "--replies"];
 
 /// The nanoseconds that a whole run with replies takes to a file, through a buffer of 64 KiB.
-fn file_nanos(rt: &(impl Clock + Files + AllocGlobal + Threads + Wait + Sync), text: &[u8]) -> io::Result<u64> {
+fn file_nanos(
+    rt: &(impl Clock + Files + AllocGlobal + Threads + Wait + Sync),
+    text: &[u8],
+) -> io::Result<u64> {
     let file = fs::create(rt, WRITTEN)?;
     let mut sink = WriteSink::of(BufWriter::with_capacity(rt.alloc(), 65536, file)?);
     run_nanos(rt, text, REPLIES, &mut sink)
@@ -39,7 +42,10 @@ struct Parts {
 }
 
 impl Parts {
-    fn measured(rt: &(impl Clock + Files + AllocGlobal + Threads + Wait + Sync), text: &[u8]) -> io::Result<Parts> {
+    fn measured(
+        rt: &(impl Clock + Files + AllocGlobal + Threads + Wait + Sync),
+        text: &[u8],
+    ) -> io::Result<Parts> {
         let mut nowhere = FaultlessSink::new();
         Ok(Parts {
             reading: read_nanos(rt, text)?,
@@ -59,7 +65,10 @@ impl Parts {
     }
 
     /// The least times of three.
-    fn best(rt: &(impl Clock + Files + AllocGlobal + Threads + Wait + Sync), text: &[u8]) -> io::Result<Parts> {
+    fn best(
+        rt: &(impl Clock + Files + AllocGlobal + Threads + Wait + Sync),
+        text: &[u8],
+    ) -> io::Result<Parts> {
         let mut best = Parts::measured(rt, text)?;
         for _ in 0..2 {
             best = best.least(Parts::measured(rt, text)?);
@@ -94,7 +103,9 @@ fn measure_one(
 }
 
 /// Measures three lengths; the cost of an event doesn't grow with the length.
-pub(crate) fn measure(rt: &(impl Clock + Files + AllocGlobal + Threads + Wait + Sync + Print)) -> io::Result<()> {
+pub(crate) fn measure(
+    rt: &(impl Clock + Files + AllocGlobal + Threads + Wait + Sync + Print),
+) -> io::Result<()> {
     let opening = Parts::best(rt, &one_round(rt.alloc(), 1, 0)?)?.plain;
     let micros = opening / 1000;
     println!(rt; "a machine of 4096 frames is opened in {micros} us")?;

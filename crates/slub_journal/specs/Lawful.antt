@@ -1,6 +1,6 @@
 -- What is done lawfully on the lists: a creation, a round in the order of the text, each item but a
 -- round and a client's line.
-use Rattle.std.specs.Prelude.{◌≡◌, ℕ, ◌+◌, ◌<◌, ◌&&◌, Bool, false, ◌==◌, List, [], ◌∷◌, length, map, drop, reverse, sum_by, count_by, flat_map, Option, Some, None, IfSome, MatchOption, ⊤, Result, Ok, Err, slice_index, slice_index_or, slice_get, All}
+use Rattle.std.specs.Prelude.{◌≡◌, ℕ, ◌+◌, ◌<◌, ◌&&◌, ◌⊎◌, Bool, false, ◌==◌, List, [], ◌∷◌, length, map, drop, reverse, sum_by, count_by, flat_map, Option, Some, None, IfSome, MatchOption, ⊤, Result, Ok, Err, slice_index, slice_index_or, slice_get, All}
 use Rattle.std.specs.List.{filter_map, range_with_len, zip}
 use Rattle.std.specs.Option.{option_map, option_map_or, option_and_then}
 use Rattle.slub_object_layout.specs.declared.layout.LayoutRefusal.TheVariants as refused
@@ -278,9 +278,14 @@ opening_of trace = opening trace.frames trace.cpus trace.objects trace.names
 
 -- ---- what is built
 
--- the trace is one that is replayed today: no transaction id to start at
+-- it is no client's line
+abbrev pub IsOwn : Item → Type 0
+IsOwn (item.Client client) = ⊥
+IsOwn _ = ⊤
+
+-- the trace is one that is replayed today: beside clients' lines no transaction id to start at
 abbrev pub IsBuilt : Trace → Type 0
-IsBuilt trace = trace.tid ≡ 0
+IsBuilt trace = (trace.tid ≡ 0) ⊎ All IsOwn trace.items
 
 -- ---- where the machine stands
 

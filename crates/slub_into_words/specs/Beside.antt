@@ -1,6 +1,5 @@
 -- What stands beside the lists of a machine, and what it fits.
-use Rattle.std.specs.Prelude.{◌≡◌, ℕ, ◌+◌, ◌/◌, ◌%◌, ◌^◌, ◌<◌, ◌≤◌, nat_lt, if◌then◌else◌, List, length, map, replicate, slice_index_or, IsSome}
-use Rattle.std.specs.List.{range_with_len}
+use Rattle.std.specs.Prelude.{◌≡◌, ℕ, ◌+◌, ◌/◌, ◌%◌, ◌^◌, ◌<◌, ◌≤◌, List, length, replicate, slice_index_or, IsSome}
 use Rattle.slub_lists.specs.State.{State}
 use Rattle.slub_lists.specs.Alloc.{cache_of}
 use Rattle.slub_core.specs.Setup.{Means}
@@ -29,14 +28,8 @@ pub record IsBesideOf (s : State) (b : Beside) : Type 0 where
       → tid_at b n % b.step ≡ n % 16
   pub link : (frame : ℕ) → slice_index_or b.links.items frame 0 < 2 ^ 16
 
--- ---- of a new machine
+-- ---- between rounds
 
--- the words of CPU c begin at the id c (`init_tid`); a CPU that isn't there has an empty word
-abbrev pub first_tid : ℕ → ℕ → ℕ
-first_tid cpus n = if nat_lt (n % 16) cpus then n % 16 else 0
-
-abbrev pub first_tids : ℕ → List ℕ
-first_tids cpus = map (first_tid cpus) (range_with_len 0 512)
-
+-- no slab leads to another
 abbrev pub first_links : ℕ → List ℕ
 first_links frames = replicate frames 0

@@ -1,4 +1,5 @@
 pub mod Beside
+pub mod Ids
 pub mod Facts
 pub mod Classes
 pub mod Laying

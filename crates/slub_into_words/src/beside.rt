@@ -4,8 +4,10 @@ ghost use Rattle.std.specs.Prelude.{◌≡◌, ◌*◌, ◌<◌, ◌≤◌, leng
 ghost use Rattle.std.specs.Int.{IsPowerOfTwo};
 ghost use Rattle.slub_lists.specs.State.{State};
 ghost use Rattle.slub_lists.specs.Coherent.{IsCoherent};
-ghost use Rattle.slub_into_words.specs.Beside.{IsBesideOf, first_tid, first_tids, first_links};
+ghost use Rattle.slub_into_words.specs.Beside.{IsBesideOf, first_links};
+ghost use Rattle.slub_into_words.specs.Ids.{AreIds, IsStepOf};
 
+use crate::ids::Ids;
 use slub_common::no_memory::NoMemory;
 use std::alloc::Global;
 
@@ -21,20 +23,16 @@ pub struct Beside {
 }
 
 impl Beside {
-    /// What stands beside a new machine (`init_tid`): the words of CPU c begin at the id c, and the links say
-    /// nothing.
-    pub fn first(alloc: Global, frames: u32, cpus: u32) -> Result<Beside, NoMemory>
+    /// What stands beside a machine between two rounds: the words go on from these ids, and the links say nothing.
+    pub fn of(alloc: Global, ids: &Ids, frames: u32, cpus: u32) -> Result<Beside, NoMemory>
         requires frames { frames ≤ 4096 }
         requires cpus { (1 ≤ cpus) × (cpus ≤ 16) }
-        ensures step { IfOk result (λ b. IsPowerOfTwo b.step × (cpus ≤ b.step) × (b.step < 2 * cpus)) }
-        ensures tids { IfOk result (λ b. b.tids.items ≡ first_tids cpus) }
+        ensures step { IfOk result (λ b. IsStepOf cpus b.step) }
+        ensures tids { IfOk result (λ b. b.tids.items ≡ ids.now) }
         ensures links { IfOk result (λ b. b.links.items ≡ first_links frames) }
-        ensures fits { IfOk result (λ b. (s : State) → IsCoherent s → s.frames ≡ frames → s.cpus ≡ cpus → 1 ≤ length s.board → length s.board ≤ 1048577 → IsBesideOf s b) }
+        ensures fits { IfOk result (λ b. (s : State) → IsCoherent s → s.frames ≡ frames → s.cpus ≡ cpus → 1 ≤ length s.board → length s.board ≤ 1048577 → AreIds s ids.now → IsBesideOf s b) }
     {
-        let mut tids = Vec::with_capacity(alloc, 512)?;
-        for number in 0..512 {
-            tids.push_reserved(first_tid(cpus, number));
-        }
+        let tids = Vec::from_slice(alloc, &ids.by_word)?;
         let links = vec![in alloc; 0; frames as usize]?;
         Ok(Beside {
             tids,
@@ -52,12 +50,4 @@ fn step_of(cpus: u32) -> u32
     ensures few { result ≤ 16 }
 {
     cpus.next_power_of_two()
-}
-
-/// The first id of a CPU word.
-fn first_tid(cpus: u32, number: u32) -> u32
-    ensures { result ≡ first_tid cpus number }
-{
-    let cpu = number % 16;
-    if cpu < cpus { cpu } else { 0 }
 }

@@ -5,6 +5,7 @@ ghost use Rattle.std.specs.Prelude.{IfOk};
 ghost use Rattle.slub_lists.specs.Coherent.{IsCoherent};
 
 use crate::beside::Beside;
+use crate::ids::Ids;
 use crate::opened::Opened;
 use crate::opening::open;
 use slub_answers::reply::Reply;
@@ -50,7 +51,8 @@ fn opened(rt: &impl Abort, alloc: Global, lists: Lists) -> Result<Opened, NoMemo
     requires { IsCoherent lists }
 {
     assert!(rt; lists.frames() == 16 && lists.cpus() == 2 && lists.board().len() == 2);
-    let beside = Beside::first(alloc, 16, 2)?;
+    let ids = Ids::first(alloc, 0, 2)?;
+    let beside = Beside::of(alloc, &ids, 16, 2)?;
     match open(alloc, lists, beside) {
         Ok(opened) => Ok(opened),
         Err(_unopened) => Err(NoMemory),

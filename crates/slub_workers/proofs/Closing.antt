@@ -1,7 +1,7 @@
 -- Where all workers are back and finished, the table has the machine that a run leads to.
-use Rattle.std.proofs.Common.{◌≡◌, ℕ, zero, suc, ◌+◌, ◌<◌, Bool, false, List, [], ◌∷◌, length, get_or, map, refl, sym, ap, ◌∙◌, subst, arith}
+use Rattle.std.proofs.Common.{◌≡◌, ℕ, zero, suc, ◌+◌, ◌<◌, Bool, false, List, [], ◌∷◌, length, get_or, refl, sym, ap, ◌∙◌, subst, arith}
 use Rattle.std.specs.Prelude.{Contains}
-use mathlib.Core.Option.{Option, some, some-injective, some-ne-none}
+use mathlib.Core.Option.{some, some-injective, some-ne-none}
 use lib.ListN.{get_elem?}
 use Rattle.atomic_table.specs.Table.{Final, Seen}
 use Rattle.slub_core.specs.Local.{Local}
@@ -14,7 +14,7 @@ use Rattle.slub_turns.specs.Ready.{IsReady}
 use Rattle.slub_workers.specs.Begun.{Begun}
 use Rattle.slub_workers.specs.Locks.{locks_of}
 use Rattle.slub_workers.specs.Standing.{Standing, Fork, branch, branches, locals_of}
-use Rattle.slub_workers.specs.Rule.{Stands, Holds, Owns, number_in, setup_in, system_begun, table_in}
+use Rattle.slub_workers.specs.Rule.{Stands, Holds, Owns, number_in, setup_in, table_in}
 use Rattle.slub_workers.specs.Ranks.{AreBack}
 use Rattle.slub_workers.specs.Round.{HasEnded}
 use Rattle.slub_workers.proofs.Backs.{back_length, back_at, back_finished, all_finished, refused_in, refused_back}

@@ -1,12 +1,12 @@
 -- What the steps on the table ask, and what they make.
 use Rattle.std.proofs.Common.{◌≡◌, ◌≢◌, ℕ, zero, suc, ◌+◌, ◌*◌, ◌<◌, ◌≤◌, Bool, true, false, List, [], ◌∷◌, length, set, refl, sym, ap, ◌∙◌, subst, arith}
-use Rattle.std.specs.Prelude.{if◌then◌else◌, cond, ◌==◌, slice_index, slice_index_or, slice_set}
+use Rattle.std.specs.Prelude.{if◌then◌else◌, cond, ◌==◌, slice_index, slice_index_or}
 use Rattle.std.proofs.lemmas.Bool.{eq-eqb, ne_eqb}
 use Rattle.std.proofs.lemmas.List.{set-get_or}
 use prog.Atomic.{either}
 use Rattle.atomic_table.specs.Table.{Me, Allows, rest}
 use Rattle.slub_core.specs.declared.step.Place.{Place}
-use Rattle.slub_core.specs.declared.step.Place.TheVariants.{LockOf, ListOf, CpuOf, SlabOf, BoardOf, MemoryOf, LinkOf}
+use Rattle.slub_core.specs.declared.step.Place.TheVariants.{LockOf}
 use Rattle.slub_core.specs.declared.step.Op.{Op}
 use Rattle.slub_core.specs.declared.step.Op.TheVariants.{Load, Store, Swap, Exchange}
 use Rattle.slub_core.specs.declared.step.Step.{Step}
@@ -17,12 +17,12 @@ use Rattle.slub_local.specs.declared.guarded.Guarded.{Guarded}
 use Rattle.slub_local.specs.declared.guarded.Guarded.TheVariants.{Nothing}
 use Rattle.slub_turns.specs.Laws.{TurnsKeepReady, PicksFit}
 use Rattle.slub_workers.specs.Begun.{Begun}
-use Rattle.slub_workers.specs.Locks.{Move, Stays, Takes, Gives, move_by, move_at, move_of, value_given, values_moved, slots_out, locks_of}
-use Rattle.slub_workers.specs.Standing.{Standing, Fork, step_in, in_hand}
+use Rattle.slub_workers.specs.Locks.{Move, Stays, Takes, Gives, move_at, move_of, value_given, values_moved, slots_out, locks_of}
+use Rattle.slub_workers.specs.Standing.{Standing, Fork, step_in}
 use Rattle.slub_workers.specs.Rule.{Holds, setup_in}
-use Rattle.slub_workers.specs.Sits.{Sits, Steps, Told, Made, slots_after}
+use Rattle.slub_workers.specs.Sits.{Steps, Told, Made, slots_after}
 use Rattle.slub_workers.proofs.StepStands.{number_at}
-use Rattle.slub_workers.proofs.StepGoesOn.{gives_last, takes_below, room_in_hand}
+use Rattle.slub_workers.proofs.StepGoesOn.{gives_last, takes_below}
 use Rattle.slub_workers.proofs.Moves.{IsWord, allowed}
 
 -- ---- which lock a step moves

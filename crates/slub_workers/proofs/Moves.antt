@@ -1,11 +1,11 @@
 -- A step that a worker's spot calls for keeps the rule, whatever kind of step it is.
-use Rattle.std.proofs.Common.{◌≡◌, ℕ, Bool, true, false, List, [], ◌∷◌, length, set, refl, sym, ap, ◌∙◌, subst, arith, length-set}
-use Rattle.std.specs.Prelude.{slice_index, slice_index_or, slice_set}
+use Rattle.std.proofs.Common.{◌≡◌, ℕ, Bool, true, false, List, [], ◌∷◌, length, set, refl, sym, ap, ◌∙◌, subst, length-set}
+use Rattle.std.specs.Prelude.{slice_index, slice_set}
 use mathlib.Core.Option.{Option, some, none}
 use lib.ListN.{get_elem?}
-use Rattle.atomic_table.specs.Table.{Act, keeps, takes, gives, Me, Valid, Allows, homes_after, carried_after, rest}
+use Rattle.atomic_table.specs.Table.{Act, keeps, takes, gives, Valid, Allows, homes_after, carried_after, rest}
 use Rattle.slub_core.specs.Setup.{Setup}
-use Rattle.slub_core.specs.Words.{word_count, after_op}
+use Rattle.slub_core.specs.Words.{word_count}
 use Rattle.slub_local.specs.declared.guarded.Guarded.{Guarded}
 use Rattle.slub_turns.specs.Laws.{TurnsKeepReady, PicksFit}
 use Rattle.slub_workers.specs.Begun.{Begun}
@@ -14,7 +14,7 @@ use Rattle.slub_workers.specs.Standing.{Standing, Fork, branch, branches, step_i
 use Rattle.slub_workers.specs.Rule.{Stands, Holds, number_in, setup_in}
 use Rattle.slub_workers.specs.Sits.{Told, slots_after}
 use Rattle.slub_workers.proofs.StepMoves.{homes_moved, IsHome}
-use Rattle.slub_workers.proofs.StepStands.{number_at, found_at, move_at, words_after, takes_home, stands_step, stays_numbered}
+use Rattle.slub_workers.proofs.StepStands.{found_at, move_at, words_after, takes_home, stands_step, stays_numbered}
 use Rattle.slub_workers.proofs.StepGoesOn.{goes_on}
 use Rattle.slub_workers.proofs.Branches.{chosen, chosen_here, set_chosen, branches_set, branches_at}
 use Rattle.slub_workers.proofs.Ties.{tied_step}

@@ -1,15 +1,14 @@
 -- The table as it is opened meets the rule.
-use Rattle.std.proofs.Common.{◌≡◌, ℕ, zero, suc, ◌+◌, ◌<◌, Bool, true, false, List, [], ◌∷◌, length, map, get_or, replicate, refl, sym, ap, ◌∙◌, subst, arith}
-use Rattle.std.specs.Prelude.{slice_index_or, Contains, All}
-use mathlib.Core.Option.{Option, some, some-injective, some-ne-none}
+use Rattle.std.proofs.Common.{◌≡◌, ℕ, zero, suc, ◌+◌, ◌<◌, Bool, true, false, List, [], ◌∷◌, length, map, get_or, refl, sym, ap, ◌∙◌, subst, arith}
+use Rattle.std.specs.Prelude.{Contains}
+use mathlib.Core.Option.{some, some-injective, some-ne-none}
 use lib.ListN.{get_elem?}
 use Rattle.atomic_table.specs.Table.{opening}
 use Rattle.slub_common.proofs.Lists.{Contains-nil}
 use Rattle.slub_core.specs.declared.spot.Spot.{Spot}
 use Rattle.slub_core.specs.declared.spot.Spot.TheVariants.{Between}
 use Rattle.slub_core.specs.Local.{Local}
-use Rattle.slub_core.specs.Run.{System, idle}
-use Rattle.slub_local.specs.declared.guarded.Guarded.{Guarded}
+use Rattle.slub_core.specs.Run.{idle}
 use Rattle.slub_local.specs.declared.guarded.Guarded.TheVariants.{Nothing}
 use Rattle.slub_turns.specs.System.{system_of}
 use Rattle.slub_turns.specs.Ready.{IsReady}

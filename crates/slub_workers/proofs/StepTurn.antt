@@ -8,7 +8,6 @@ use Rattle.slub_core.specs.declared.step.Answer.{Answer}
 use Rattle.slub_core.specs.Setup.{Setup, node_lock}
 use Rattle.slub_core.specs.Words.{number_of, after_op, answer_of}
 use Rattle.slub_core.specs.World.{World, LockValue}
-use Rattle.slub_core.specs.World as value
 use Rattle.slub_core.specs.Local.{Local, Turn, Change}
 use Rattle.slub_core.specs.Steps.{step_of, advance_at, advance_of, begun}
 use Rattle.slub_core.specs.Run.{System, idle, after_step, turn}

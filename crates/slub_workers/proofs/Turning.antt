@@ -1,5 +1,5 @@
 -- The turn of a worker at its seat, step by step.
-use Rattle.std.proofs.Common.{◌≡◌, ℕ, Bool, false, List, [], ◌∷◌, ◌++◌, length, take, drop, Option, sym, ap, ◌∙◌, subst}
+use Rattle.std.proofs.Common.{◌≡◌, ℕ, Bool, false, List, ◌++◌, length, take, drop, Option, sym, ap, ◌∙◌, subst}
 use Rattle.slub_answers.specs.declared.reply.Reply.{Reply}
 use Rattle.atomic_table.specs.Table.{Me}
 use Rattle.slub_core.specs.declared.spot.Spot.{Spot}
@@ -20,9 +20,9 @@ use Rattle.slub_turns.proofs.Turned.{step_fits}
 use Rattle.slub_turns.proofs.Alone.{back_whole}
 use Rattle.slub_workers.specs.Begun.{Begun}
 use Rattle.slub_workers.specs.Locks.{locks_of, slots_out}
-use Rattle.slub_workers.specs.Standing.{Standing, Fork, branch, begun_in, step_in, in_hand, after_turn, fork_after, all_guarded}
+use Rattle.slub_workers.specs.Standing.{Standing, Fork, begun_in, step_in, in_hand, after_turn, fork_after, all_guarded}
 use Rattle.slub_workers.specs.Rule.{setup_in}
-use Rattle.slub_workers.specs.Sits.{Sits, MayStand, Made}
+use Rattle.slub_workers.specs.Sits.{Sits, MayStand, Made, HasTurned}
 use Rattle.slub_workers.proofs.StepValues.{all_guarded_is}
 use Rattle.slub_workers.proofs.Moves.{branch_after}
 
@@ -135,3 +135,13 @@ module _ (key : Begun) (x : Standing) (me : Me Guarded (List Fork)) (values : Li
 
     pub numbered_again : rests.worker ≡ x.local.worker
     numbered_again = ap (λ (y : Standing). y.local.worker) turned_is ∙ made.number refused
+
+    pub turned_again : (step : Step) → step ≡ step_in (setup_in key) x → HasTurned key x (step, answer) standing
+    turned_again step is = record {
+      found = made.found;
+      value = made.value;
+      refused = refused;
+      step = is;
+      answer = made.answer_is ∙ ap (λ (s : Step). answer_of s.op made.found) (sym is);
+      leads = turned_is;
+    }

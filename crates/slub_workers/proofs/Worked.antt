@@ -1,5 +1,5 @@
 -- How many workers have worked.
-use Rattle.std.proofs.Common.{◌≡◌, ℕ, zero, suc, ◌+◌, List, [], ◌++◌, map, length, refl, sym, ap, ◌∙◌, arith, length-append}
+use Rattle.std.proofs.Common.{◌≡◌, ℕ, zero, suc, ◌+◌, List, [], ◌∷◌, ◌++◌, map, length, refl, sym, ap, ◌∙◌, arith, length-append}
 use Rattle.std.proofs.lemmas.List.{length-map}
 use Rattle.atomic_table.specs.Seated.{TableId}
 use Rattle.slub_workers.specs.Standing.{Standing}
@@ -28,3 +28,13 @@ worked_numbers list done todo n none e seated =
     let are : map worker_in list ≡ countdown n = e ∙ (λ i. map worker_in (none i) ++ seated i) in
     let long = seated_count list n are in
     (are ∙ ap countdown (sym long), long)
+
+-- the last of a list that has no other
+alone : {A : Type 0} (list v : List A) (x : A) → list ≡ v ++ x ∷ [] → length v ≡ 0 → list ≡ x ∷ []
+alone list [] x e none = e
+alone list (y ∷ v) x e none = absurd (omega arith)
+
+-- where one was left that has worked now
+pub worked_alone : (list done todo v : List (TableId × Standing)) (w : TableId × Standing) → todo ≡ v ++ w ∷ [] → length v ≡ 0 → map worker_in list ≡ map worker_in done ++ worker_in w ∷ []
+    → map worker_in list ≡ map worker_in done ++ map worker_in todo
+worked_alone list done todo v w e none is = is ∙ ap (λ (ws : List (TableId × Standing)). map worker_in done ++ map worker_in ws) (sym (alone todo v w e none))

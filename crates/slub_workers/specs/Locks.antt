@@ -1,5 +1,5 @@
 -- Which locks a worker has, and what a step does to them.
-use Rattle.std.specs.Prelude.{ℕ, ◌+◌, ◌==◌, cond, List, [], ◌∷◌, ◌++◌, map, slice_index_or, slice_set}
+use Rattle.std.specs.Prelude.{ℕ, ◌==◌, cond, List, [], ◌∷◌, ◌++◌, map, slice_index_or, slice_set}
 use Rattle.slub_core.specs.declared.step.Place.{Place}
 use Rattle.slub_core.specs.declared.step.Place.TheVariants.{LockOf}
 use Rattle.slub_core.specs.declared.step.Op.{Op}

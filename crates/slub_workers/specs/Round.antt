@@ -1,5 +1,5 @@
 -- A round by threads: what it asks, and what it leaves.
-use Rattle.std.specs.Prelude.{◌≡◌, ℕ, ◌≤◌, List, length, All}
+use Rattle.std.specs.Prelude.{◌≡◌, ◌≤◌, List, length, All}
 use Rattle.slub_core.specs.declared.spot.Spot.TheVariants.{Between}
 use Rattle.slub_core.specs.Local.{Local}
 use Rattle.slub_core.specs.Run.{Pick, run, IsFinished}

@@ -1,9 +1,9 @@
 -- The rule over the table: the invariants of the step machine, over the words of the table, what is
 -- guarded in its slots and in hand, and what each seat knows of its workers.
-use Rattle.std.specs.Prelude.{◌≡◌, ◌≢◌, ℕ, ◌<◌, ◌≤◌, Bool, List, [], ◌∷◌, length, map, replicate, slice_index_or, slice_set, Contains, All}
-use mathlib.Core.Option.{Option, some, none}
+use Rattle.std.specs.Prelude.{◌≡◌, ◌≢◌, ℕ, ◌<◌, Bool, List, [], ◌∷◌, length, map, replicate, slice_index_or, Contains}
+use mathlib.Core.Option.{Option, some}
 use lib.ListN.{get_elem?}
-use Rattle.atomic_table.specs.Table.{State, Me, Step as TableStep}
+use Rattle.atomic_table.specs.Table.{State}
 use Rattle.slub_core.specs.Setup.{Setup}
 use Rattle.slub_core.specs.Local.{Local}
 use Rattle.slub_core.specs.Run.{Pick, System, run}

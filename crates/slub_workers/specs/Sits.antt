@@ -1,5 +1,5 @@
 -- A worker at its seat, and what a step tells it.
-use Rattle.std.specs.Prelude.{◌≡◌, ℕ, Bool, List, [], ◌∷◌, drop, length, All}
+use Rattle.std.specs.Prelude.{◌≡◌, ℕ, Bool, List, [], ◌∷◌, drop}
 use mathlib.Core.Option.{some}
 use mathlib.Core.Option as core
 use lib.ListN.{get_elem?}
@@ -105,3 +105,16 @@ pub record Made (key : Begun) (x : Standing) (me : Me Guarded (List Fork)) (valu
   pub goes_on : MayGoOn key x found value
   pub number : (refused : Bool)
       → (after_turn (setup_in key) x found value refused).local.worker ≡ x.local.worker
+
+-- the turn of a worker that stood so was made: the step that it called for found this in its word,
+-- and was answered so; and the worker stands where the turn leads that finds this there
+pub record HasTurned (key : Begun) (x : Standing) (made : Step × Answer) (after : Standing)
+    : Type 0 where
+  pub found : ℕ
+  -- what a lock guards that is taken by it
+  pub value : Guarded
+  -- whether memory was refused in it
+  pub refused : Bool
+  pub step : made.0 ≡ step_in (setup_in key) x
+  pub answer : made.1 ≡ answer_of made.0.op found
+  pub leads : after ≡ after_turn (setup_in key) x found value refused

@@ -1,5 +1,5 @@
 -- What a worker has between two turns, and what its turn makes of it.
-use Rattle.std.specs.Prelude.{ℕ, suc, zero, Bool, true, false, false as no, List, [], ◌∷◌, length, map, slice_index_or, if◌then◌else◌}
+use Rattle.std.specs.Prelude.{ℕ, suc, Bool, true, false, false as no, List, [], ◌∷◌, length, map, slice_index_or, if◌then◌else◌}
 use Rattle.std.specs.List.{range_with_len}
 use Rattle.slub_core.specs.declared.step.Step.{Step}
 use Rattle.slub_core.specs.Setup.{Setup}
@@ -11,7 +11,7 @@ use Rattle.slub_core.specs.Steps.{step_of, advance_of, begun}
 use Rattle.slub_local.specs.declared.guarded.Guarded.{Guarded}
 use Rattle.slub_local.specs.declared.guarded.Guarded.TheVariants.{Nothing, Node, Checked, Pool}
 use Rattle.slub_local.specs.Values.{values_of, rooms_of}
-use Rattle.slub_workers.specs.Locks.{Move, move_of, values_moved}
+use Rattle.slub_workers.specs.Locks.{move_of, values_moved}
 
 -- a worker, and what the locks guard that it has, by the number of the lock
 pub record Standing : Type 0 where

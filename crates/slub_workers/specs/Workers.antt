@@ -1,5 +1,5 @@
--- The workers of a round, each with its seat, as contracts see them: at which table it sits, and how
--- it stands.
+-- The workers of a round, each with its seat, as contracts see them: at which table it sits, and
+-- how it stands.
 use Rattle.std.specs.Prelude.{◌≡◌, ℕ, zero, suc, List, [], ◌∷◌}
 use Rattle.atomic_table.specs.Seated.{TableId}
 use Rattle.slub_core.specs.Run.{IsFinished}

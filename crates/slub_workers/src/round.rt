@@ -1,6 +1,6 @@
 //! A round by threads: seats for the workers, a thread for each, and the end.
 
-ghost use Rattle.std.specs.Prelude.{◌≡◌, ◌+◌, ◌≤◌, Bool, List, [], ◌∷◌, ◌++◌, length, replicate, vec_capacity, map, All, IfOk, IfErr};
+ghost use Rattle.std.specs.Prelude.{◌≡◌, ◌+◌, ◌<◌, ◌≤◌, Bool, List, [], ◌∷◌, ◌++◌, length, replicate, vec_capacity, map, All, IfOk, IfErr};
 ghost use denote.Param.Send.{IsSync};
 ghost use Rattle.slub_core.specs.declared.spot.Spot.TheVariants.{Between};
 ghost use Rattle.slub_core.specs.Run.{IsFinished};
@@ -126,8 +126,27 @@ fn seat_all(
     list
 }
 
-/// Each worker of the list works in a thread of its own. Those that have worked stand in `done`, for which there is
-/// room.
+/// The worker works in the thread of this call. There is room for it in the list.
+fn work_last<W: Wait, G: Gate>(
+    wait: &W,
+    gate: &G,
+    shared: &Shared,
+    worker: Worker,
+    mut done: Vec<Worker>,
+) -> Vec<Worker>
+    requires worker { MayWorkAt shared.now.words.shared.key shared.now.words.shared.table_id worker }
+    requires done { All (HasWorkedAt shared.now.words.shared.table_id) done.items }
+    requires room { length done.items < vec_capacity done }
+    ensures finished { All (HasWorkedAt shared.now.words.shared.table_id) result.items }
+    ensures numbers { map worker_in result.items ≡ map worker_in done.items ++ worker_in worker ∷ [] }
+    ensures room { vec_capacity result ≡ vec_capacity done }
+{
+    done.push_reserved(worker.work(wait, gate, shared));
+    done
+}
+
+/// Each worker of the list works in a thread of its own, one of them in that of this call. Those that have worked stand
+/// in `done`, for which there is room.
 fn work_all<R: Threads + Wait + Sync, G: Gate + Sync>(
     rt: &R,
     gate: &G,
@@ -145,6 +164,9 @@ fn work_all<R: Threads + Wait + Sync, G: Gate + Sync>(
     let Some(worker) = todo.pop() else {
         return done;
     };
+    if todo.is_empty() {
+        return work_last(rt, gate, shared, worker, done);
+    }
     let (mut done, worker) = join(
         rt,
         || -> Vec<Worker>

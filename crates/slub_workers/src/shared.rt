@@ -15,6 +15,7 @@ use slub_schedule::table::Table;
 use slub_turns::machine::Machine;
 use std::alloc::Global;
 use std::snapshot::Snapshot;
+use std::sync::atomic::AtomicU64;
 
 pub(crate) type Words = atomic_table::Table<Guarded, View, Key, Ruled, Global>;
 
@@ -29,6 +30,8 @@ pub(crate) struct Shared {
     pub(crate) frames: u32,
     /// Object numbers are below this one; 0 is none.
     pub(crate) objects: u32,
+    /// How many sleep, or are about to look whether they are to.
+    pub(crate) asleep: AtomicU64,
     ghost sizes: { (setup.frames ≡ frames) × (setup.objects ≡ objects) },
     ghost words_are: { words.shared.table_id.words ≡ 1056 + 514 * frames + objects },
     ghost slots: { words.shared.table_id.slots ≡ 33 },
@@ -81,6 +84,7 @@ impl Shared {
                     setup,
                     frames,
                     objects,
+                    asleep: AtomicU64::new(0),
                 },
                 root,
                 locals,
@@ -117,6 +121,7 @@ impl Shared {
             setup,
             frames,
             objects,
+            asleep: _,
         } = self;
         let count = table.word_count();
         let mut closed = table.close_with(root);

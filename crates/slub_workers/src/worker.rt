@@ -1,7 +1,7 @@
 //! A worker at its seat, and its turns.
 
 ghost use Rattle.std.specs.Prelude.{◌≡◌};
-ghost use Rattle.slub_workers.specs.Sits.{Sits, MayStand};
+ghost use Rattle.slub_workers.specs.Sits.{Sits, MayStand, HasTurned};
 ghost use Rattle.slub_workers.specs.Workers.{HasWorkedAt, MayWorkAt, worker_in};
 
 use crate::rule::Naming;
@@ -20,6 +20,7 @@ use slub_turns::laws::{picks_fit, turns_keep_ready};
 use slub_turns::step::step_at;
 use std::marker::{Brand, Model};
 use std::sync::Wait;
+use std::sync::atomic::Ordering;
 
 /// A worker of a round by threads. Contracts see which table it has its seat at, and how it stands.
 #[derive(Drop)]
@@ -56,6 +57,7 @@ fn turn_of<N: Naming>(
     ensures sits { Sits seat.new.me standing.new }
     ensures may { MayStand shared.now.words.shared.key standing.new }
     ensures number { standing.new.local.worker ≡ standing.old.local.worker }
+    ensures turned { HasTurned shared.now.words.shared.key standing.old result standing.new }
 {
     picks_fit();
     turns_keep_ready();
@@ -86,6 +88,7 @@ impl Worker {
         requires { MayWorkAt shared.now.words.shared.key shared.now.words.shared.table_id self.old }
         ensures may { MayWorkAt shared.now.words.shared.key shared.now.words.shared.table_id self.new }
         ensures number { worker_in self.new ≡ worker_in self.old }
+        ensures turned { HasTurned shared.now.words.shared.key self.old.1 result self.new.1 }
     {
         turn_of::<Brand>(shared, &mut self.seat, &mut self.standing)
     }
@@ -142,16 +145,22 @@ fn pause<W: Wait>(wait: &W, shared: &Shared, backoff: &Backoff, step: Step, answ
     }
 }
 
-/// Sleeps while the word is this one.
+/// Sleeps while the word is this one. It is counted before it looks at the word.
 fn sleep<W: Wait>(wait: &W, shared: &Shared, word: usize, found: u64) {
     if word < shared.words.word_count() {
         let low = (found & 0xffff_ffff) as u32;
+        shared.asleep.fetch_add(1, Ordering::SeqCst);
         shared.words.shared.park(wait, word, low);
+        shared.asleep.fetch_sub(1, Ordering::SeqCst);
     }
 }
 
-/// Wakes one that sleeps on the word.
+/// Wakes one that sleeps on the word, which was changed before. Where nobody is counted now, whoever comes to sleep on
+/// the word finds it changed.
 fn wake(shared: &Shared, word: usize) {
+    if shared.asleep.load(Ordering::SeqCst) == 0 {
+        return;
+    }
     if word < shared.words.word_count() {
         shared.words.shared.wake_one(word);
     }

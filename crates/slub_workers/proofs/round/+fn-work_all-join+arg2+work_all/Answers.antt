@@ -1,8 +1,25 @@
-use Rattle.std.proofs.Common.{length, rules, ap, ◌∙◌, arith, length-append}
+use Rattle.std.proofs.Common.{length, vec_len, rules, sym, ap, ◌∙◌, arith, length-append}
+use Rattle.std.proofs.lemmas.Bool.{eqb-true}
 use Rattle.slub_workers.specs.Workers.{HasWorkedAt, MayWorkAt}
 use Rattle.slub_workers.proofs.Ranks.{all_last, all_front, all_pushed}
-use Rattle.slub_workers.proofs.Worked.{worked_count}
+use Rattle.slub_workers.proofs.Worked.{worked_count, worked_alone}
 use Rattle.slub_workers.proofs.round.+fn-work_all-join+arg2+work_all.Goals as goal
+
+pub work_last-requires-clause-worker : goal.work_last-requires-clause-worker
+work_last-requires-clause-worker g t c =
+    let s = c.args.shared.now.words.shared in
+    all_last (MayWorkAt s.key s.table_id) c.args.todo.items c.pop.new.self.items c.in-Some.worker c.in-Some.ensures.items c.requires.todo
+
+pub work_last-requires-clause-room : goal.work_last-requires-clause-room
+work_last-requires-clause-room g t c =
+    let room = c.requires.room in
+    let n = ap length c.in-Some.ensures.items ∙ length-append c.pop.new.self.items _ in
+    omega (arith, room, n)
+
+pub returns-then-is_empty-clause-numbers : goal.returns-then-is_empty-clause-numbers
+returns-then-is_empty-clause-numbers g t c =
+    let none = eqb-true (vec_len c.pop.new.self) 0 (sym c.is_empty.ensures ∙ c.if-is_empty.true) in
+    worked_alone c.work_last.result.items c.args.done.items c.args.todo.items c.pop.new.self.items c.in-Some.worker c.in-Some.ensures.items (omega (arith, none, c.pop.new.self.ok.0)) c.work_last.ensures.numbers
 
 pub join-done-requires-after_bounds : goal.join-done-requires-after_bounds
 join-done-requires-after_bounds g t c κs within =

@@ -1,4 +1,4 @@
-use Rattle.std.proofs.Common.{◌<◌, List, [], false, sym, ap, ◌∙◌, arith}
+use Rattle.std.proofs.Common.{◌<◌, List, false, sym, ap, ◌∙◌, arith}
 use Rattle.atomic_table.specs.Table.{Me}
 use Rattle.slub_local.specs.declared.guarded.Guarded.{Guarded}
 use Rattle.slub_workers.specs.Locks.{slots_out}

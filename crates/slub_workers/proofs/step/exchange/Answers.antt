@@ -1,4 +1,4 @@
-use Rattle.std.proofs.Common.{◌<◌, length, refl, ap, ◌∙◌, arith}
+use Rattle.std.proofs.Common.{length, refl, ap, ◌∙◌, arith}
 use Rattle.slub_workers.proofs.StepGoesOn.{room_in_hand}
 use Rattle.slub_workers.proofs.Makes.{exchange_asks, lost_answers, won_answers, won_takes, won_out, made_taken, made_kept, stays_other, won_below}
 use Rattle.slub_workers.proofs.step.exchange.Goals as goal

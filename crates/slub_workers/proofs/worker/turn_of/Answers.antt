@@ -1,16 +1,14 @@
 use Rattle.std.proofs.Common.{◌≡◌, ◌++◌, ◌∙◌, Bool, List, length, take, drop, sym, ap, subst}
-use Rattle.slub_core.specs.Setup.{Setup}
 use Rattle.slub_core.specs.Local.{Local}
-use Rattle.slub_local.specs.Facts.{setup_of}
 use Rattle.slub_local.specs.declared.guarded.Guarded.{Guarded}
 use Rattle.slub_local.specs.Values.{rooms_of}
 use Rattle.slub_fits.specs.Fits.{BeginFits}
 use Rattle.slub_turns.specs.Means.{the_means}
 use Rattle.slub_workers.specs.Begun.{Begun}
 use Rattle.slub_workers.specs.Standing.{Standing}
-use Rattle.slub_workers.specs.Sits.{Sits, MayStand}
+use Rattle.slub_workers.specs.Sits.{Sits, MayStand, HasTurned}
 use Rattle.slub_workers.proofs.StepGoesOn.{may_begin}
-use Rattle.slub_workers.proofs.Turning.{begins_so, may_step, steps_so, leads_so, lent_whole, settled_so, settles_so, rests_so, settles, sits_again, stands_again, numbered_again}
+use Rattle.slub_workers.proofs.Turning.{begins_so, may_step, steps_so, leads_so, lent_whole, settled_so, settles_so, rests_so, settles, sits_again, stands_again, numbered_again, turned_again}
 use Rattle.slub_workers.proofs.worker.turn_of.Goals as goal
 
 pub begin-requires : goal.begin-requires
@@ -86,12 +84,18 @@ returns g c =
     let sits = sits_again key x c.make-answer.new.seat.me values c.begin.new.local after c.spot-spot.result c.make-answer.result reply c.make-answer.ensures.made begins c.spot-spot.ensures led now c.settle-refused.new.local c.rest.new.local refused settle.0 settle.1 rooms rest in
     let may = stands_again key x c.make-answer.new.seat.me values c.begin.new.local after c.spot-spot.result c.make-answer.result reply c.make-answer.ensures.made begins c.spot-spot.ensures led now c.settle-refused.new.local c.rest.new.local refused settle.0 settle.1 rooms rest in
     let number = numbered_again key x c.make-answer.new.seat.me values c.begin.new.local after c.spot-spot.result c.make-answer.result reply c.make-answer.ensures.made begins c.spot-spot.ensures led now c.settle-refused.new.local c.rest.new.local refused settle.0 settle.1 rooms rest in
+    let step = c.step_at-step.result in
+    let calls = steps_so key c.args.shared.now.setup facts x c.deref.result.now c.begin.new.local c.spot-spot.result step (c.deref.ensures.value ∙ ap (λ (y : Standing). y.values) is) begins c.spot-spot.ensures (c.step_at-step.ensures the_means) in
+    let turned = turned_again key x c.make-answer.new.seat.me values c.begin.new.local after c.spot-spot.result c.make-answer.result reply c.make-answer.ensures.made begins c.spot-spot.ensures led now c.settle-refused.new.local c.rest.new.local refused settle.0 settle.1 rooms rest step calls in
     let whole = sym (lent_whole c.standing.inside.values.len now (take c.standing.inside.values.len (values ++ drop (length values) c.standing.inside.values.items)) (c.settle-refused.auto.values ∙ c.as_mut_slice-2.ensures.len)) in
     let P : List Guarded → Type 0 = λ v. Sits c.make-answer.new.seat.me record { local = c.rest.new.local; values = v } in
     let Q : List Guarded → Type 0 = λ v. MayStand c.args.shared.now.words.shared.key record { local = c.rest.new.local; values = v } in
+    let T : Begun → Standing → List Guarded → Type 0 = λ k y v. HasTurned k y (step, c.make-answer.result) record { local = c.rest.new.local; values = v } in
     record {
       seat = c.make-answer.ensures.seat.0;
       sits = subst P whole sits;
       may = subst Q whole (subst (λ (k : Begun). MayStand k record { local = c.rest.new.local; values = now }) r.key may);
       number = number ∙ ap (λ (y : Standing). y.local.worker) r.standing;
+      turned = subst (λ (v : List Guarded). T c.args.shared.now.words.shared.key c.args.standing.now v) whole
+          (subst (λ (y : Standing). T c.args.shared.now.words.shared.key y now) r.standing (subst (λ (k : Begun). T k x now) r.key turned));
     }

@@ -1,4 +1,4 @@
-use Rattle.std.proofs.Common.{◌≡◌, List, length, sym, ap, ◌∙◌, subst, arith}
+use Rattle.std.proofs.Common.{◌≡◌, List, sym, ◌∙◌, subst, arith}
 use Rattle.std.specs.Mem.Slots.{slots_items, slots_counts}
 use Rattle.slub_local.specs.declared.guarded.Guarded.{Guarded}
 use Rattle.slub_workers.specs.Rule.{table_in}

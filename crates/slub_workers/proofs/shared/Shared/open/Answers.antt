@@ -1,4 +1,4 @@
-use Rattle.std.proofs.Common.{◌≡◌, ℕ, ◌+◌, ◌*◌, List, length, sym, ap, ◌∙◌, subst, arith}
+use Rattle.std.proofs.Common.{◌≡◌, ℕ, List, length, sym, ap, ◌∙◌, subst, arith}
 use Rattle.atomic_table.specs.Table.{opening}
 use Rattle.slub_turns.specs.declared.machine.Machine.{Machine}
 use Rattle.slub_workers.specs.Begun.{Begun}

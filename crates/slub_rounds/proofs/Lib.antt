@@ -1,9 +1,12 @@
 pub mod Replies
 pub mod Found
 pub mod Orders
-pub mod Ended
+pub mod Telling
 pub mod Weights
 pub mod Machines
 pub mod Following
 pub mod One
 pub mod Threads
+pub mod Lawful
+pub mod Doing
+pub mod Coming

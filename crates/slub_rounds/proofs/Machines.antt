@@ -5,7 +5,7 @@ use Rattle.std.proofs.lemmas.List.FromFn.{get_or-map-range_with_len}
 use Rattle.slub_object_layout.specs.declared.event.Round.{Round}
 use Rattle.slub_trace_reader.specs.declared.trace.Trace.{Trace}
 use Rattle.slub_lists.specs.State.{State}
-use Rattle.slub_lists.specs.Coherent.{IsCoherent}
+use Rattle.slub_lists.specs.Coherent.{IsCoherent, all_on_board}
 use Rattle.slub_core.specs.Setup.{Setup, node_lock}
 use Rattle.slub_core.specs.World.{World}
 use Rattle.slub_core.specs.Run.{System, Pick, turn, run, IsFinished}
@@ -13,8 +13,6 @@ use Rattle.slub_core.specs.Law.{IsCoherentSystem}
 use Rattle.slub_core.proofs.Opens.{opens, rounds_keep}
 use Rattle.slub_core.proofs.Turns.{turn_keeps}
 use Rattle.slub_local.specs.Facts as local
-use Rattle.slub_local.specs.Facts.{Facts}
-use Rattle.slub_schedule.specs.Rounds.{IsSpent}
 use Rattle.slub_schedule.specs.Turns.{turns_of}
 use Rattle.slub_opening.specs.Opening.{IsLaidDown, setup_of}
 use Rattle.slub_opening.specs.Opening as opening
@@ -28,6 +26,7 @@ use Rattle.slub_fits.specs.Fits.{HasRooms}
 use Rattle.slub_into_words.specs.declared.beside.Beside.{Beside}
 use Rattle.slub_into_words.specs.declared.opened.Opened.{Opened}
 use Rattle.slub_into_words.specs.declared.opened.Rest.{Rest}
+use Rattle.slub_into_words.specs.Ids.{AreIds, IsStepOf}
 use Rattle.slub_into_words.specs.Opened.{IsOpened, room_of}
 use Rattle.slub_into_lists.specs.Closing.{IsEnded, IsClosed}
 use Rattle.slub_turns.specs.declared.machine.Machine.{Machine}
@@ -35,14 +34,14 @@ use Rattle.slub_turns.specs.Means.{the_means}
 use Rattle.slub_turns.specs.Ready.{IsReady, MayTurn, rooms_for, room_for}
 use Rattle.slub_turns.proofs.Ready.{begins_ready}
 use Rattle.slub_rounds.specs.declared.answers.Answers.{Answers}
-use Rattle.slub_rounds.specs.Rounds.{system_before, system_begun, world_before, IsCoherentRun, SpendsTurns}
+use Rattle.slub_rounds.specs.declared.ended.Ended.{Ended}
+use Rattle.slub_rounds.specs.Rounds.{system_before, system_begun, world_before, IsCoherentRun, StandsBeside, SpendsTurnsBySteps}
 use Rattle.slub_rounds.specs.Room.{IsTakenFor}
 use Rattle.slub_rounds.specs.declared.room.Room.{Room}
 use Rattle.slub_calls.specs.Laws.{MayDo}
 use Rattle.slub_rounds.specs.Answers.{IsRoomFor, MayTell}
 use Rattle.slub_rounds.specs.Machine.{beside_in, system_in, MayRun, IsBegun, HasEnded, HasClosed, IsSet, IsDone}
-use Rattle.slub_journal.specs.declared.journal.RoundResult.{RoundResult}
-use Rattle.slub_rounds.proofs.Ended.{are-numbered, begins, may-open, may-tell}
+use Rattle.slub_rounds.proofs.Telling.{are-numbered, begins, may-open, may-tell}
 use Rattle.slub_rounds.proofs.Weights.{begun-long}
 
 -- ---- rooms of node lists
@@ -64,11 +63,11 @@ has-rooms s b coherent cache plain =
 
 -- ---- the begin
 
-pub may-of : (s : State) (b : Beside) (trace : Trace) (round : Round) → MayRun s b trace round → MayOpen s (beside_in b)
-may-of s b trace round may = may-open s (beside_in b) may.coherent may.laid_down may.new.fits
+pub may-of : (s : State) (ids : List ℕ) (b : Beside) (trace : Trace) (round : Round) → MayRun s ids b trace round → MayOpen s (beside_in b)
+may-of s ids b trace round may = may-open s (beside_in b) may.coherent may.laid_down may.stands.fits
 
-pub ready-begun : (s : State) (b : Beside) (trace : Trace) (round : Round) (m : Machine) (rest : Rest) → MayRun s b trace round → IsBegun s b round m rest → IsReady m.setup m.table m.values.items m.locals.items
-ready-begun s b trace round m rest may begun = record {
+pub ready-begun : (s : State) (ids : List ℕ) (b : Beside) (trace : Trace) (round : Round) (m : Machine) (rest : Rest) → MayRun s ids b trace round → IsBegun s b round m rest → IsReady m.setup m.table m.values.items m.locals.items
+ready-begun s ids b trace round m rest may begun = record {
   may = subst (λ (p : Setup × System). MayTurn p.0 p.1) (λ i. (sym begun.setup i, sym begun.system i))
       (begins_ready begins-bounded s (beside_in b) (workers_of s.table round) opens_ (may_begin s (beside_in b) trace round opens_ may.does) (are-numbered s.table round));
   sizes = begun.sizes;
@@ -77,13 +76,13 @@ ready-begun s b trace round m rest may begun = record {
 }
   where
     opens_ : MayOpen s (beside_in b)
-    opens_ = may-of s b trace round may
+    opens_ = may-of s ids b trace round may
 
 pub begun-count : (s : State) (b : Beside) (round : Round) (m : Machine) (rest : Rest) → IsBegun s b round m rest → length m.locals.items ≡ round.workers
 begun-count s b round m rest begun = ap (λ (y : System). length y.locals) begun.system ∙ begun-long s (beside_in b) round
 
-pub begun-most : (s : State) (b : Beside) (trace : Trace) (round : Round) (m : Machine) (rest : Rest) → MayRun s b trace round → IsBegun s b round m rest → turns_of (system_begun s (beside_in b) round) ≡ turns_of (system_in m)
-begun-most s b trace round m rest may begun = ap turns_of (sym begun.system)
+pub begun-most : (s : State) (ids : List ℕ) (b : Beside) (trace : Trace) (round : Round) (m : Machine) (rest : Rest) → MayRun s ids b trace round → IsBegun s b round m rest → turns_of (system_begun s (beside_in b) round) ≡ turns_of (system_in m)
+begun-most s ids b trace round m rest may begun = ap turns_of (sym begun.system)
 
 -- ---- the end
 
@@ -91,16 +90,16 @@ after-coherent : (m : Setup) (o : World) (s : System) (picks : List Pick) → Is
 after-coherent m o s [] is = is
 after-coherent m o s (pick ∷ picks) is = after-coherent m o (turn m s pick) picks (turn_keeps m o s pick is)
 
-pub coherent-run : (s : State) (b : Beside) (trace : Trace) (round : Round) (picks : List Pick) → MayRun s b trace round → IsCoherentRun s (beside_in b) round picks
-coherent-run s b trace round picks may =
-    rounds_keep (setup_of s (beside_in b)) (system_before s (beside_in b) round) picks (begins s (beside_in b) trace round (may-of s b trace round may) may.does)
+pub coherent-run : (s : State) (ids : List ℕ) (b : Beside) (trace : Trace) (round : Round) (picks : List Pick) → MayRun s ids b trace round → IsCoherentRun s (beside_in b) round picks
+coherent-run s ids b trace round picks may =
+    rounds_keep (setup_of s (beside_in b)) (system_before s (beside_in b) round) picks (begins s (beside_in b) trace round (may-of s ids b trace round may) may.does)
 
-pub ended-closes : (s : State) (b : Beside) (trace : Trace) (round : Round) (m : Machine) (rest : Rest) (answers : Answers) → HasEnded s b trace round m rest answers
+pub ended-closes : (s : State) (ids : List ℕ) (b : Beside) (trace : Trace) (round : Round) (m : Machine) (rest : Rest) (answers : Answers) → HasEnded s ids b trace round m rest answers
     → IsEnded m.setup m.table m.values.items rest m.locals.items s (beside_in b) (world_before s (beside_in b) round)
-ended-closes s b trace round m rest answers ended =
+ended-closes s ids b trace round m rest answers ended =
     let d = beside_in b in
     let mm = setup_of s d in
-    let opens_ = may-of s b trace round ended.may in
+    let opens_ = may-of s ids b trace round ended.may in
     let opening = begins s d trace round opens_ ended.may.does in
     let P : System → Type 0 = λ y. IsCoherentSystem mm (world_before s d round) y in
     let Q : System → Type 0 = λ y. MayClose s d y in
@@ -115,20 +114,20 @@ ended-closes s b trace round m rest answers ended =
           (machines-may_close s d (workers_of s.table round) ended.picks opens_ (may_begin s d trace round opens_ ended.may.does) (are-numbered s.table round) (subst R ended.run ended.finished));
     }
 
-pub ended-tells : (s : State) (b : Beside) (trace : Trace) (round : Round) (m : Machine) (rest : Rest) (answers : Answers) (t : State) (d : opening.Beside) → HasEnded s b trace round m rest answers
+pub ended-tells : (s : State) (ids : List ℕ) (b : Beside) (trace : Trace) (round : Round) (m : Machine) (rest : Rest) (answers : Answers) (t : State) (d : opening.Beside) → HasEnded s ids b trace round m rest answers
     → IsClosed s (beside_in b) (system_in m) t d → MayTell s t round m.locals.items answers
-ended-tells s b trace round m rest answers t d ended closed =
+ended-tells s ids b trace round m rest answers t d ended closed =
     let P : System → Type 0 = λ y. Closes s (beside_in b) y t d in
     let R : System → Type 0 = λ y. All IsFinished y.locals in
     let T : System → Type 0 = λ y. MayTell s t round y.locals answers in
-    subst T (sym ended.run) (may-tell s t (beside_in b) d trace round ended.picks answers (may-of s b trace round ended.may) ended.may.does (subst R ended.run ended.finished) (subst P ended.run closed.closes) closed.coherent ended.room)
+    subst T (sym ended.run) (may-tell s t (beside_in b) d trace round ended.picks answers (may-of s ids b trace round ended.may) ended.may.does (subst R ended.run ended.finished) (subst P ended.run closed.closes) closed.coherent ended.room)
 
 -- ---- the whole
 
-pub has-ended : (s : State) (b : Beside) (trace : Trace) (round : Round) (m n : Machine) (rest : Rest) (answers : Answers) (picks : List Pick) → MayRun s b trace round → IsBegun s b round m rest
+pub has-ended : (s : State) (ids : List ℕ) (b : Beside) (trace : Trace) (round : Round) (m n : Machine) (rest : Rest) (answers : Answers) (picks : List Pick) → MayRun s ids b trace round → IsBegun s b round m rest
     → local.setup_of n.setup the_means ≡ local.setup_of m.setup the_means → IsReady n.setup n.table n.values.items n.locals.items → system_in n ≡ run (local.setup_of m.setup the_means) (system_in m) picks → All IsFinished n.locals.items
-    → IsRoomFor s (length round.events) round.workers answers → HasEnded s b trace round n rest answers
-has-ended s b trace round m n rest answers picks may begun kept ready ran finished room = record {
+    → IsRoomFor s (length round.events) round.workers answers → HasEnded s ids b trace round n rest answers
+has-ended s ids b trace round m n rest answers picks may begun kept ready ran finished room = record {
   may = may;
   setup = kept ∙ begun.setup;
   picks = picks;
@@ -139,51 +138,67 @@ has-ended s b trace round m n rest answers picks may begun kept ready ran finish
   room = room;
 }
 
+-- the ids that a machine closes into fit the lists
+pub ids-left : (s t : State) (ids : List ℕ) (b d : opening.Beside) (system : System) → StandsBeside s ids b → IsClosed s b system t d → AreIds (all_on_board t) d.tids
+ids-left s t ids b d system stands closed =
+    let fits = closed.again.beside in
+    let step : d.step ≡ b.step = ap (λ (m : Setup). m.step) closed.closes.stays in
+    let cpus : t.cpus ≡ s.cpus = ap (λ (m : Setup). m.cpus) closed.closes.stays in
+    let P : ℕ × ℕ → Type 0 = λ p. IsStepOf p.0 p.1 in
+    record {
+      step = d.step;
+      least = subst P (λ i. (sym cpus i, sym step i)) stands.step;
+      count = fits.tids;
+      below = fits.tid;
+      room = fits.room;
+      remainder = fits.remainder;
+    }
+
 -- by picks of whichever kind
-pub is-done : (Ending : Setup → System → List Pick → System → Type 0) (s : State) (b : Beside) (trace : Trace) (round : Round) (m n : Machine) (rest : Rest) (picks : List Pick) (after : State) (result : RoundResult)
-    → MayRun s b trace round → IsBegun s b round m rest
-    → Ending (local.setup_of m.setup the_means) (system_in m) picks (system_in n) → HasClosed s (beside_in b) round (system_in n) after result → IsDone Ending s round after result
-is-done Ending s b trace round m n rest picks after result may begun ends closed = record {
+pub is-done : (Ending : Setup → System → List Pick → System → Type 0) (s : State) (ids : List ℕ) (b : Beside) (trace : Trace) (round : Round) (m n : Machine) (rest : Rest) (picks : List Pick) (done : Ended)
+    → MayRun s ids b trace round → IsBegun s b round m rest
+    → Ending (local.setup_of m.setup the_means) (system_in m) picks (system_in n) → HasClosed s (beside_in b) round (system_in n) done → IsDone Ending s ids round done
+is-done Ending s ids b trace round m n rest picks done may begun ends closed = record {
   does = record {
     beside = beside_in b;
-    new = may.new;
+    stands = may.stands;
     means = refl;
     picks = picks;
     last = system_in n;
-    coherent = coherent-run s b trace round picks may;
+    coherent = coherent-run s ids b trace round picks may;
     ends = subst (λ (p : Setup × System). Ending p.0 p.1 picks (system_in n)) (λ i. (begun.setup i, begun.system i)) ends;
     lists = closed.lists;
     left = closed.left;
     closes = closed.closes;
     after_is = closed.after_is;
+    ids_are = closed.ids_are;
     replies = closed.told.replies;
     damages = closed.told.damages;
     ledgers = closed.told.ledgers;
   };
   coherent = closed.coherent;
   laid_down = closed.laid_down;
+  fit = closed.fit;
 }
 
-pub is-spent : (s : State) (b : Beside) (trace : Trace) (round : Round) (m n : Machine) (rest : Rest) (seed : ℕ) (picks : List Pick) → MayRun s b trace round → IsBegun s b round m rest
-    → IsSpent (local.setup_of m.setup the_means) seed (system_in m) picks (system_in n) → SpendsTurns s seed round
-is-spent s b trace round m n rest seed picks may begun spent = record {
+pub is-spent : (Spending : Setup → System → List Pick → System → Type 0) (s : State) (ids : List ℕ) (b : Beside) (trace : Trace) (round : Round) (m n : Machine) (rest : Rest) (picks : List Pick) → MayRun s ids b trace round → IsBegun s b round m rest
+    → Spending (local.setup_of m.setup the_means) (system_in m) picks (system_in n) → SpendsTurnsBySteps Spending s ids round
+is-spent Spending s ids b trace round m n rest picks may begun spent = record {
   beside = beside_in b;
-  new = may.new;
+  stands = may.stands;
   means = refl;
   picks = picks;
   last = system_in n;
-  coherent = coherent-run s b trace round picks may;
-  spent = subst (λ (p : Setup × System). IsSpent p.0 seed p.1 picks (system_in n)) (λ i. (begun.setup i, begun.system i)) spent;
+  coherent = coherent-run s ids b trace round picks may;
+  spent = subst (λ (p : Setup × System). Spending p.0 p.1 picks (system_in n)) (λ i. (begun.setup i, begun.system i)) spent;
 }
 
 -- the memory was taken, and the machine was opened
-pub is-set : (s : State) (trace : Trace) (round : Round) (room : Room) (opened : Opened) → IsCoherent s → IsLaidDown s → MayDo s trace round → IsTakenFor s round room → IsOpened s room.beside opened
-    → IsSet s room.beside trace round opened room.workers.items room.order room.turns room.answers
-is-set s trace round room opened coherent laid does taken opens = record {
-  may = record { coherent = coherent; laid_down = laid; beside = taken.beside; new = taken.new the_means; does = does };
+pub is-set : (s : State) (ids : List ℕ) (trace : Trace) (round : Round) (room : Room) (opened : Opened) → IsCoherent s → IsLaidDown s → MayDo s trace round → IsTakenFor s ids round room → IsOpened s room.beside opened
+    → IsSet s ids room.beside trace round opened room.workers.items room.answers
+is-set s ids trace round room opened coherent laid does taken opens = record {
+  may = record { coherent = coherent; laid_down = laid; beside = taken.beside; stands = taken.stands the_means; does = does };
   opens = opens;
   workers = taken.workers;
-  all = taken.order;
-  most = taken.turns;
   room = taken.answers;
 }

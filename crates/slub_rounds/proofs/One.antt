@@ -1,11 +1,10 @@
 -- A seed has one round.
-use Rattle.std.proofs.Common.{◌≡◌, ◌≢◌, ℕ, suc, ◌+◌, ◌*◌, ◌^◌, ◌<◌, ◌≤◌, List, [], ◌∷◌, length, drop, map, Option, None, refl, sym, ap, ◌∙◌, subst, arith, inl, inr, pow_mono}
-use Rattle.std.specs.Int.{IsPowerOfTwo}
+use Rattle.std.proofs.Common.{◌≡◌, ◌≢◌, ℕ, ◌<◌, List, [], ◌∷◌, length, drop, map, Option, None, refl, sym, ap, ◌∙◌, subst, arith, inl, inr}
 use Rattle.std.specs.List.{flat_map, zip}
 use Rattle.std.specs.Option.{option_map, option_map_or}
 use Rattle.std.proofs.lemmas.Bool.{cases_eq, cases_lt, eq-eqb, ne_eqb}
+use Rattle.std.proofs.lemmas.List.{ext_get_or}
 use Rattle.std.proofs.Math.ListN.{get_or-map}
-use Rattle.std.proofs.Math.Nat.{pow-suc}
 use Rattle.slub_object_layout.specs.declared.event.Event.{Event}
 use Rattle.slub_object_layout.specs.declared.event.Round.{Round}
 use Rattle.slub_cache_create.specs.Table.{Table, cache_of as live_cache}
@@ -16,6 +15,7 @@ use Rattle.slub_lists.specs.Alloc.{checked_of}
 use Rattle.slub_lists.specs.Coherent.{all_on_board, held_under, laid_down}
 use Rattle.slub_core.specs.Law.{replies_of}
 use Rattle.slub_core.specs.Run.{System, Pick}
+use Rattle.slub_core.specs.World.{world_of}
 use Rattle.slub_schedule.specs.Schedule.{AreRefusedAlike}
 use Rattle.slub_schedule.specs.Rounds.{Ends, IsSpent}
 use Rattle.slub_schedule.proofs.Picks.{rounds_unique}
@@ -24,32 +24,18 @@ use Rattle.slub_opening.specs.Table.{RestsIn}
 use Rattle.slub_opening.specs.Closing.{AreAlike}
 use Rattle.slub_opening.proofs.Telling.{words-tell}
 use Rattle.slub_bounds.proofs.Turns.{get_or-beyond}
+use Rattle.slub_into_words.proofs.Firsts.{one-step}
 use Rattle.slub_journal.specs.Lawful.{cache_numbers, found_in, reports_of, title_of}
 use Rattle.slub_turns.specs.Means.{the_means}
 use Rattle.slub_round_causes.specs.Ran.{replies_by, told_to}
-use Rattle.slub_rounds.specs.Rounds.{IsNewBeside, system_begun}
+use Rattle.slub_rounds.specs.Rounds.{StandsBeside, system_begun}
 use Rattle.slub_rounds.specs.Laws.{RoundsBySeedAreOne}
 
 -- ---- what stands beside the lists
 
-less-step : (n j k : ℕ) → n ≤ 2 ^ j → 2 ^ k < 2 * n → j < k → ⊥
-less-step n j k low high less =
-    let more : 2 ^ suc j ≤ 2 ^ k = pow_mono less in
-    let twice : 2 ^ suc j ≡ 2 ^ j * 2 ^ 1 + 0 = omega (arith, pow-suc 2 j) in
-    omega (arith, low, high, more, twice)
-
-same-step : (n x y : ℕ) → IsPowerOfTwo x → IsPowerOfTwo y → n ≤ x → x < 2 * n → n ≤ y → y < 2 * n → x ≡ y
-same-step n x y (j, is) (k, also) low high lower higher = elim (cases_lt j k) [
-  | inl less ↦ absurd (less-step n j k (omega (arith, is, low)) (omega (arith, also, higher)) less)
-  | inr most ↦ elim (cases_lt k j) [
-    | inl less ↦ absurd (less-step n k j (omega (arith, also, lower)) (omega (arith, is, high)) less)
-    | inr least ↦ let same : j ≡ k = omega (arith, most, least) in is ∙ ap (λ (i : ℕ). 2 ^ i) same ∙ sym also
-  ]
-]
-
-same-beside : (s : State) (b d : Beside) → IsNewBeside s b → IsNewBeside s d → b.means ≡ the_means → d.means ≡ the_means → b ≡ d
-same-beside s b d one other means also =
-    let step : b.step ≡ d.step = same-step s.cpus b.step d.step one.step.0 other.step.0 one.fits.step.0 one.step.1 other.fits.step.0 other.step.1 in
+same-beside : (s : State) (ids : List ℕ) (b d : Beside) → StandsBeside s ids b → StandsBeside s ids d → b.means ≡ the_means → d.means ≡ the_means → b ≡ d
+same-beside s ids b d one other means also =
+    let step : b.step ≡ d.step = one-step s.cpus b.step d.step one.step other.step in
     λ i. record {
       tids = (one.tids ∙ sym other.tids) i;
       links = (one.links ∙ sym other.links) i;
@@ -136,12 +122,20 @@ module _ (s t u : State) (table : t.table ≡ u.table) (alike : AreAlike t u) (l
       reports : (cache : ℕ) → reports_of t cache ≡ reports_of u cache
       reports cache = ap (λ (x : Option CheckedState). option_map_or (λ slabs. slabs.reports) x []) (same-checked cache)
 
+-- ---- the transaction ids
+
+-- they are those of the words
+same-ids : (t u : State) (d e : Beside) (one other : System) → one ≡ other → setup_of t d ≡ setup_of u e → RestsIn t d one → RestsIn u e other → length d.tids ≡ 512 → length e.tids ≡ 512 → d.tids ≡ e.tids
+same-ids t u d e one other same stays rests also long count = ext_get_or 0 d.tids e.tids (long ∙ sym count) (λ n below.
+    let inside : n < 512 = omega (arith, below, long) in
+    sym (rests.rests.cpu n inside).tid ∙ (λ i. ((world_of (stays i) (same i).value (same i).words).cpu n).tid) ∙ (also.rests.cpu n inside).tid)
+
 -- ---- the round
 
 pub are-one : RoundsBySeedAreOne
-are-one s seed round one other t u does = (
+are-one s ids seed round one other t u left kept does = (
   λ also refused.
-      let beside = same-beside s does.beside also.beside does.new also.new does.means also.means in
+      let beside = same-beside s ids does.beside also.beside does.stands also.stands does.means also.means in
       let last = same-last s seed round does.beside also.beside does.picks also.picks does.last also.last beside refused does.ends also.ends in
       let alike = words-tell does.lists also.lists does.left also.left does.last (does.closes.stays ∙ ap (setup_of s) beside ∙ sym also.closes.stays) does.closes.rests
       (subst (RestsIn also.lists also.left) (sym last) also.closes.rests) in
@@ -151,10 +145,13 @@ are-one s seed round one other t u does = (
         damages = does.damages
             ∙ same-found s does.lists also.lists (does.closes.table ∙ sym also.closes.table) alike does.closes.lengths.checked also.closes.lengths.checked
             ∙ sym also.damages;
+        ids = does.ids_are
+            ∙ same-ids does.lists also.lists does.left also.left does.last also.last last (does.closes.stays ∙ ap (setup_of s) beside ∙ sym also.closes.stays) does.closes.rests also.closes.rests does.closes.tids also.closes.tids
+            ∙ sym also.ids_are;
         left = subst (λ (x : State). AreAlike x u) (sym does.after_is)
             (subst (AreAlike (all_on_board does.lists)) (sym also.after_is) (alike-on-board does.lists also.lists alike));
       },
   λ spends alike.
-      let beside = same-beside s does.beside spends.beside does.new spends.new does.means spends.means in
+      let beside = same-beside s ids does.beside spends.beside does.stands spends.stands does.means spends.means in
       not-spent s seed round does.beside spends.beside does.picks spends.picks does.last spends.last beside alike does.ends spends.spent,
 )

@@ -1,28 +1,24 @@
 -- A round by threads: how it begins and ends, and that it is lawful.
-use Rattle.std.proofs.Common.{◌≡◌, ℕ, List, [], ◌∷◌, length, get_or, refl, sym, ap, ◌∙◌, subst, All, Option, None, Some, Result, Ok, Err, arith}
-use Rattle.std.specs.Prelude.{IfOk, IfErr, MatchResult}
+use Rattle.std.proofs.Common.{◌≡◌, ℕ, List, [], ◌∷◌, length, get_or, refl, sym, ap, ◌∙◌, subst, All, Option, None, Some, arith}
 use Rattle.std.proofs.lemmas.List.Elements.{All-map}
 use Rattle.std.specs.List.{range_with_len}
 use Rattle.slub_object_layout.specs.declared.event.Round.{Round}
 use Rattle.slub_trace_reader.specs.declared.trace.Trace.{Trace}
 use Rattle.slub_answers.specs.declared.reply.Reply.{Reply}
 use Rattle.slub_lists.specs.State.{State}
-use Rattle.slub_lists.specs.Coherent.{IsCoherent, all_on_board}
+use Rattle.slub_lists.specs.Coherent.{IsCoherent}
 use Rattle.slub_core.specs.declared.call.Call.{Call}
 use Rattle.slub_core.specs.declared.spot.Spot.{Spot}
 use Rattle.slub_core.specs.declared.spot.Spot.TheVariants.{Between}
 use Rattle.slub_core.specs.Setup.{Setup}
-use Rattle.slub_core.specs.Local.{Local, answered, nobody}
-use Rattle.slub_core.specs.Law.{replies_of}
-use Rattle.slub_core.specs.Run.{System, Pick}
+use Rattle.slub_core.specs.Local.{Local, answered}
+use Rattle.slub_core.specs.Run.{System}
 use Rattle.slub_core.specs.Steps.{or_step, rested, rested_at, rested_with}
 use Rattle.slub_local.specs.Facts as local
 use Rattle.slub_local.specs.Facts.{Facts}
 use Rattle.slub_local.specs.Values.{rooms_of, values_of}
 use Rattle.slub_local.specs.declared.guarded.Guarded.{Guarded}
-use Rattle.slub_schedule.specs.Rounds.{IsFinishedSystem}
 use Rattle.slub_opening.specs.Opening.{IsLaidDown, setup_of}
-use Rattle.slub_opening.specs.Closing.{Closes}
 use Rattle.slub_calls.specs.Calls.{worker_of, workers_of}
 use Rattle.slub_calls.specs.Laws.{MayDo}
 use Rattle.slub_into_words.specs.declared.beside.Beside.{Beside}
@@ -31,21 +27,16 @@ use Rattle.slub_into_words.specs.declared.opened.Rest.{Rest}
 use Rattle.slub_into_words.specs.Opened.{IsOpened}
 use Rattle.slub_into_words.specs.Rest.{IsRestOf, IsUntouched}
 use Rattle.slub_into_lists.specs.Undoing.{WasOpened}
-use Rattle.slub_journal.specs.declared.journal.RoundResult.{RoundResult}
-use Rattle.slub_round_law.specs.Round.{IsRound}
-use Rattle.slub_round_causes.specs.Laws.{RoundsAreLawful}
-use Rattle.slub_round_causes.specs.Ran.{AreReplies}
 use Rattle.slub_turns.specs.declared.machine.Machine.{Machine}
 use Rattle.slub_turns.specs.Means.{the_means}
 use Rattle.slub_workers.specs.Round.{HasWorked, MayWork}
-use Rattle.slub_rounds.specs.Laws.{RoundsByThreadsAreLawful}
 use Rattle.slub_rounds.specs.declared.answers.Answers.{Answers}
 use Rattle.slub_rounds.specs.declared.room.Room.{Room}
 use Rattle.slub_rounds.specs.Answers.{IsRoomFor}
 use Rattle.slub_rounds.specs.Room.{IsTakenFor}
-use Rattle.slub_rounds.specs.Machine.{HasEnded, IsBegun, IsDoneByThreads, IsSetForThreads, MayRun, beside_in, system_in}
-use Rattle.slub_rounds.specs.Rounds.{DoesRoundByThreads, Finishes}
-use Rattle.slub_rounds.proofs.Machines.{begun-count, has-ended, ready-begun}
+use Rattle.slub_rounds.specs.Machine.{HasEnded, IsBegun, IsSetForThreads, MayRun, beside_in, system_in}
+use Rattle.slub_rounds.specs.Rounds.{Finishes}
+use Rattle.slub_rounds.proofs.Machines.{begun-count, has-ended, is-set, ready-begun}
 
 -- ---- the begin
 
@@ -62,7 +53,7 @@ rested-between : (m : Setup) (l : Local) (spot : Spot) → l.spot ≡ Between �
 rested-between m l Between is = with-between m l.todo l is
 rested-between m l _ is = is
 
-all-between : (s : State) (b : Beside) (round : Round) (m : Machine) (rest : Rest) → IsBegun s b round m rest → All (λ (l : Local). l.spot ≡ Between) m.locals.items
+pub all-between : (s : State) (b : Beside) (round : Round) (m : Machine) (rest : Rest) → IsBegun s b round m rest → All (λ (l : Local). l.spot ≡ Between) m.locals.items
 all-between s b round m rest begun =
     let first = setup_of s (beside_in b) in
     let ws = range_with_len 0 round.workers in
@@ -70,9 +61,9 @@ all-between s b round m rest begun =
     subst (λ (ls : List Local). All (λ (l : Local). l.spot ≡ Between) ls) (sym (ap (λ (y : System). y.locals) begun.system))
     (All-map (λ (l : Local). l.spot ≡ Between) (rested first) (workers_of s.table round) (All-map (λ (l : Local). (rested first l).spot ≡ Between) (worker_of s.table round) ws each))
 
-pub may-work : (s : State) (b : Beside) (trace : Trace) (round : Round) (m : Machine) (rest : Rest) → MayRun s b trace round → IsBegun s b round m rest → MayWork m
-may-work s b trace round m rest may begun = record {
-  ready = ready-begun s b trace round m rest may begun;
+pub may-work : (s : State) (ids : List ℕ) (b : Beside) (trace : Trace) (round : Round) (m : Machine) (rest : Rest) → MayRun s ids b trace round → IsBegun s b round m rest → MayWork m
+may-work s ids b trace round m rest may begun = record {
+  ready = ready-begun s ids b trace round m rest may begun;
   between = all-between s b round m rest begun;
   workers = (let few = may.does.sound.workers.1 in omega (arith, begun-count s b round m rest begun, few));
 }
@@ -86,10 +77,10 @@ sizes-are s b round m rest begun = (
 
 -- ---- the end
 
-module _ (s : State) (b : Beside) (trace : Trace) (round : Round) (m n : Machine) (rest : Rest) (may : MayRun s b trace round) (begun : IsBegun s b round m rest) (worked : HasWorked m n) where
-  pub has-worked : (answers : Answers) → IsRoomFor s (length round.events) round.workers answers → HasEnded s b trace round n rest answers
+module _ (s : State) (ids : List ℕ) (b : Beside) (trace : Trace) (round : Round) (m n : Machine) (rest : Rest) (may : MayRun s ids b trace round) (begun : IsBegun s b round m rest) (worked : HasWorked m n) where
+  pub has-worked : (answers : Answers) → IsRoomFor s (length round.events) round.workers answers → HasEnded s ids b trace round n rest answers
   has-worked answers room =
-      has-ended s b trace round m n rest answers worked.picks may begun (ap (λ (f : Facts). local.setup_of f the_means) worked.facts) worked.ready worked.ran worked.finished room
+      has-ended s ids b trace round m n rest answers worked.picks may begun (ap (λ (f : Facts). local.setup_of f the_means) worked.facts) worked.ready worked.ran worked.finished room
 
   pub finishes : Finishes (local.setup_of m.setup the_means) (system_in m) worked.picks (system_in n)
   finishes = record { run = worked.ran; finished = worked.finished }
@@ -97,68 +88,24 @@ module _ (s : State) (b : Beside) (trace : Trace) (round : Round) (m n : Machine
 -- ---- the whole
 
 -- the memory was taken, and the lists were opened
-pub set-for : (s : State) (trace : Trace) (round : Round) (room : Room) (now : State) (opened : Opened) (memory : List ℕ) → IsCoherent s → IsLaidDown s → MayDo s trace round → IsTakenFor s round room
-    → now ≡ s → IsOpened now room.beside opened → IsUntouched now opened.rest → memory ≡ s.memory → IsSetForThreads s room.beside trace round opened room.workers.items memory room.answers
-set-for s trace round room now opened memory coherent laid does taken same opens still kept = record {
-  may = record { coherent = coherent; laid_down = laid; beside = taken.beside; new = taken.new the_means; does = does };
-  opens = subst (λ (t : State). IsOpened t room.beside opened) same opens;
+pub set-for : (s : State) (ids : List ℕ) (trace : Trace) (round : Round) (room : Room) (now : State) (opened : Opened) (memory : List ℕ) → IsCoherent s → IsLaidDown s → MayDo s trace round → IsTakenFor s ids round room
+    → now ≡ s → IsOpened now room.beside opened → IsUntouched now opened.rest → memory ≡ s.memory → IsSetForThreads s ids room.beside trace round opened room.workers.items memory room.answers
+set-for s ids trace round room now opened memory coherent laid does taken same opens still kept = record {
+  set = is-set s ids trace round room opened coherent laid does taken (subst (λ (t : State). IsOpened t room.beside opened) same opens);
   still = subst (λ (t : State). IsUntouched t opened.rest) same still;
-  workers = taken.workers;
   memory_is = kept;
-  room = taken.answers;
 }
 
 -- ---- want of memory
 
 -- the machine is opened as it was
-pub was-opened : (s : State) (b : Beside) (trace : Trace) (round : Round) (opened : Opened) (locals : List Local) (memory : List ℕ) (answers : Answers) (guards : List Guarded) (rest : Rest) → IsSetForThreads s b trace round opened locals memory answers
+pub was-opened : (s : State) (ids : List ℕ) (b : Beside) (trace : Trace) (round : Round) (opened : Opened) (locals : List Local) (memory : List ℕ) (answers : Answers) (guards : List Guarded) (rest : Rest) → IsSetForThreads s ids b trace round opened locals memory answers
     → guards ≡ opened.values.items → rest ≡ opened.rest → WasOpened s guards rest memory
-was-opened s b trace round opened locals memory answers guards rest set same is = record {
-  coherent = set.may.coherent;
-  values = ap values_of same ∙ set.opens.values;
-  rooms = ap rooms_of same ∙ set.opens.rooms;
-  waiting = subst (IsRestOf s) (sym is) set.opens.rest;
+was-opened s ids b trace round opened locals memory answers guards rest set same is = record {
+  coherent = set.set.may.coherent;
+  values = ap values_of same ∙ set.set.opens.values;
+  rooms = ap rooms_of same ∙ set.set.opens.rooms;
+  waiting = subst (IsRestOf s) (sym is) set.set.opens.rest;
   still = subst (IsUntouched s) (sym is) set.still;
   memory_is = set.memory_is;
 }
-
--- ---- the law
-
-pub threads-lawful : RoundsAreLawful → RoundsByThreadsAreLawful
-threads-lawful lawful s trace round result after coherent laid does done = subst (IsRound s round result) (sym done.after_is) (lawful s trace round result done.lists coherent laid does (record {
-  beside = done.beside;
-  fits = done.new.fits;
-  picks = done.picks;
-  finished = subst IsFinishedSystem done.ends.run done.ends.finished;
-  left = done.left;
-  closes = subst (λ end. Closes s done.beside end done.lists done.left) done.ends.run done.closes;
-  replies = subst (λ end. AreReplies round.events (replies_of end) result.replies) done.ends.run done.replies;
-  damages = done.damages;
-  ledgers = done.ledgers;
-}))
-
--- ---- what came of it
-
-module _ (s : State) (round : Round) where
-  abbrev pub Came : Result (State × RoundResult) State → Type 0
-  Came r = MatchResult r (λ done. IsDoneByThreads s round done.0 done.1) (λ after. after ≡ s)
-
-  pub does-of : (r : Result (State × RoundResult) State) → Came r → IfOk r (λ done. DoesRoundByThreads s round done.1 done.0)
-  does-of (Ok done) came = came.does
-  does-of (Err after) came = tt
-
-  pub coherent-of : (r : Result (State × RoundResult) State) → Came r → IfOk r (λ done. IsCoherent done.0)
-  coherent-of (Ok done) came = came.coherent
-  coherent-of (Err after) came = tt
-
-  pub laid-of : (r : Result (State × RoundResult) State) → Came r → IfOk r (λ done. IsLaidDown done.0)
-  laid-of (Ok done) came = came.laid_down
-  laid-of (Err after) came = tt
-
-  pub same-of : (r : Result (State × RoundResult) State) → Came r → IfErr r (λ after. after ≡ s)
-  same-of (Ok done) came = tt
-  same-of (Err after) came = came
-
-  pub lawful-of : (r : Result (State × RoundResult) State) → ((result : RoundResult) (after : State) → DoesRoundByThreads s round result after → IsRound s round result after) → Came r → IfOk r (λ done. IsRound s round done.1 done.0)
-  lawful-of (Ok done) lawful came = lawful done.1 done.0 came.does
-  lawful-of (Err after) lawful came = tt

@@ -1,5 +1,5 @@
--- What holds of rounds by steps: by a seed, and by threads.
-use Rattle.std.specs.Prelude.{◌≡◌, ℕ, ◌+◌, ◌^◌, ◌≤◌, length, slice_index, All, Contains, None, nat_eq}
+-- What holds of rounds by steps: by a seed, by threads, and in the order of the text.
+use Rattle.std.specs.Prelude.{◌≡◌, ℕ, ◌+◌, ◌^◌, ◌≤◌, List, length, slice_index, All, Contains, None, nat_eq}
 use Rattle.std.specs.List.{IsDistinct}
 use Rattle.slub_object_layout.specs.declared.event.Round.{Round}
 use Rattle.slub_trace_reader.specs.declared.trace.Trace.{Trace}
@@ -12,36 +12,49 @@ use Rattle.slub_schedule.specs.Schedule.{AreRefusedAlike}
 use Rattle.slub_calls.specs.Laws.{MayDo}
 use Rattle.slub_journal.specs.declared.journal.RoundResult.{RoundResult}
 use Rattle.slub_round_law.specs.Round.{IsRound}
-use Rattle.slub_rounds.specs.Rounds.{DoesRoundBySeed, DoesRoundByThreads, SpendsTurns}
+use Rattle.slub_rounds.specs.Rounds.{DoesRoundBySeed, DoesRoundByThreads, DoesRoundInOrder, SpendsTurns}
 
 -- a round that a seed draws is lawful in the words of the text, without a step
 abbrev pub RoundsBySeedAreLawful : Type 0
 RoundsBySeedAreLawful =
-    (s : State) (seed : ℕ) (trace : Trace) (round : Round) (result : RoundResult) (after : State)
+    (s : State) (ids : List ℕ) (seed : ℕ) (trace : Trace) (round : Round) (result : RoundResult)
+    (after : State) (ids_after : List ℕ)
     → IsCoherent s → IsLaidDown s → MayDo s trace round
-    → DoesRoundBySeed s seed round result after → IsRound s round result after
+    → DoesRoundBySeed s ids seed round result after ids_after → IsRound s round result after
 
 -- so is a round by threads, in whatever order they made their steps
 abbrev pub RoundsByThreadsAreLawful : Type 0
 RoundsByThreadsAreLawful =
-    (s : State) (trace : Trace) (round : Round) (result : RoundResult) (after : State)
+    (s : State) (ids : List ℕ) (trace : Trace) (round : Round) (result : RoundResult)
+    (after : State) (ids_after : List ℕ)
     → IsCoherent s → IsLaidDown s → MayDo s trace round
-    → DoesRoundByThreads s round result after → IsRound s round result after
+    → DoesRoundByThreads s ids round result after ids_after → IsRound s round result after
 
--- two rounds are one: the same replies and damages, and machines that are alike
-pub record AreOneRound (one other : RoundResult) (t u : State) : Type 0 where
+-- and so is one in the order of the text
+abbrev pub RoundsInOrderAreLawful : Type 0
+RoundsInOrderAreLawful =
+    (s : State) (ids : List ℕ) (trace : Trace) (round : Round) (result : RoundResult)
+    (after : State) (ids_after : List ℕ)
+    → IsCoherent s → IsLaidDown s → MayDo s trace round
+    → DoesRoundInOrder s ids round result after ids_after → IsRound s round result after
+
+-- two rounds are one: the same replies and damages, the same transaction ids after them, and
+-- machines that are alike
+pub record AreOneRound (one other : RoundResult) (t u : State) (those these : List ℕ)
+    : Type 0 where
   pub replies : one.replies ≡ other.replies
   pub damages : one.damages ≡ other.damages
+  pub ids : those ≡ these
   pub left : AreAlike t u
 
 -- a seed has one round, want of memory aside, and where it ends the turns aren't spent
 abbrev pub RoundsBySeedAreOne : Type 0
 RoundsBySeedAreOne =
-    (s : State) (seed : ℕ) (round : Round) (one other : RoundResult) (t u : State)
-    (does : DoesRoundBySeed s seed round one t)
-    → ((also : DoesRoundBySeed s seed round other u) → AreRefusedAlike does.picks also.picks
-    → AreOneRound one other t u)
-    × ((spends : SpendsTurns s seed round) → AreRefusedAlike does.picks spends.picks → ⊥)
+    (s : State) (ids : List ℕ) (seed : ℕ) (round : Round) (one other : RoundResult)
+    (t u : State) (left kept : List ℕ) (does : DoesRoundBySeed s ids seed round one t left)
+    → ((also : DoesRoundBySeed s ids seed round other u kept)
+    → AreRefusedAlike does.picks also.picks → AreOneRound one other t u left kept)
+    × ((spends : SpendsTurns s ids seed round) → AreRefusedAlike does.picks spends.picks → ⊥)
 
 -- a round that stands after this one in its trace: each number that it allocates is allocated
 -- once, and neither by this one nor on the board before

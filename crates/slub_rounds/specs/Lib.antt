@@ -1,4 +1,6 @@
 pub mod Answers
+pub mod Doing
+pub mod InOrder
 pub mod Rounds
 pub mod Room
 pub mod Machine

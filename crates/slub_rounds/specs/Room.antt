@@ -12,7 +12,7 @@ use Rattle.slub_calls.specs.Calls.{workers_of}
 use Rattle.slub_into_words.specs.Beside.{beside_of, IsBesideOf}
 use Rattle.slub_rounds.specs.declared.room.Room.{Room}
 use Rattle.slub_rounds.specs.Answers.{IsRoomFor}
-use Rattle.slub_rounds.specs.Rounds.{IsNewBeside}
+use Rattle.slub_rounds.specs.Rounds.{StandsBeside}
 
 -- as how many events the turns of a round count an act
 abbrev pub weight_in : Act → ℕ
@@ -27,11 +27,12 @@ weight_of events = sum_by (λ (e : Event). weight_in e.act) events
 abbrev pub all_workers : ℕ → List ℕ
 all_workers count = places_of (replicate count true)
 
--- the memory for a round on this machine
-pub record IsTakenFor (s : State) (round : Round) (room : Room) : Type 0 where
+-- the memory for a round on this machine, beside which these ids stand
+pub record IsTakenFor (s : State) (ids : List ℕ) (round : Round) (room : Room) : Type 0 where
   pub beside : IsBesideOf s room.beside
-  pub new : (means : Means) → IsNewBeside s (beside_of room.beside means)
+  pub stands : (means : Means) → StandsBeside s ids (beside_of room.beside means)
   pub workers : room.workers.items ≡ workers_of s.table round
   pub order : room.order ≡ all_workers round.workers
+  pub passed : room.passed.items ≡ replicate round.workers 0
   pub turns : room.turns ≡ turns_for (weight_of round.events) round.workers
   pub answers : IsRoomFor s (length round.events) round.workers room.answers

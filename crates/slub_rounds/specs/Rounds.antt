@@ -1,7 +1,6 @@
--- A round of several workers by steps, from the lists before it to the lists after it: in turns that
--- a seed draws, or in whatever order threads make their steps.
-use Rattle.std.specs.Prelude.{◌≡◌, ℕ, ◌*◌, ◌<◌, List}
-use Rattle.std.specs.Int.{IsPowerOfTwo}
+-- A round by steps, from the lists before it to the lists after it: in turns that a seed draws, in
+-- whatever order threads make their steps, or in the order of the text.
+use Rattle.std.specs.Prelude.{◌≡◌, ℕ, List}
 use Rattle.std.specs.List.{zip}
 use Rattle.slub_object_layout.specs.declared.event.Round.{Round}
 use Rattle.slub_lists.specs.State.{State}
@@ -16,20 +15,22 @@ use Rattle.slub_opening.specs.Opening.{Beside, IsBeside, setup_of}
 use Rattle.slub_opening.specs.Table.{system_of}
 use Rattle.slub_opening.specs.Closing.{Closes}
 use Rattle.slub_calls.specs.Calls.{workers_of}
-use Rattle.slub_into_words.specs.Beside.{first_tids, first_links}
+use Rattle.slub_into_words.specs.Beside.{first_links}
+use Rattle.slub_into_words.specs.Ids.{IsStepOf}
 use Rattle.slub_turns.specs.Means.{the_means}
 use Rattle.slub_journal.specs.Lawful.{AreLedgers, found_in}
 use Rattle.slub_journal.specs.declared.journal.RoundResult.{RoundResult}
 use Rattle.slub_round_causes.specs.Ran.{AreReplies}
+use Rattle.slub_rounds.specs.InOrder.{EndsInOrder, IsSpentInOrder}
 
 -- ---- the machine in words
 
--- in each round the transaction ids begin anew (`init_tid`), and no slab leads to another
-pub record IsNewBeside (s : State) (b : Beside) : Type 0 where
+-- beside the lists stand these transaction ids of the CPU words, and no slab leads to another
+pub record StandsBeside (s : State) (ids : List ℕ) (b : Beside) : Type 0 where
   pub fits : IsBeside s b
-  pub tids : b.tids ≡ first_tids s.cpus
+  pub tids : b.tids ≡ ids
   pub links : b.links ≡ first_links s.frames
-  pub step : IsPowerOfTwo b.step × (b.step < 2 * s.cpus)
+  pub step : IsStepOf s.cpus b.step
 
 -- the words of the lists, and each worker with its events to come
 abbrev pub system_before : State → Beside → Round → System
@@ -50,13 +51,15 @@ IsCoherentRun s b round picks =
 
 -- ---- the round
 
--- the lists open into words, the workers make their turns until each event has its reply, and the
--- words close into lists; then what the workers hold is put on the board. `Ending` says which picks
--- there may be, of the machine before the first turn and after the last one
+-- the lists and the ids beside them open into words, the workers make their turns until each event
+-- has its reply, and the words close into lists and ids; then what the workers hold is put on the
+-- board. `Ending` says which picks there may be, of the machine before the first turn and after the
+-- last one
 pub record DoesRoundBySteps (Ending : Setup → System → List Pick → System → Type 0) (s : State)
-    (round : Round) (result : RoundResult) (after : State) : Type 0 where
+    (ids : List ℕ) (round : Round) (result : RoundResult) (after : State)
+    (ids_after : List ℕ) : Type 0 where
   pub beside : Beside
-  pub new : IsNewBeside s beside
+  pub stands : StandsBeside s ids beside
   -- takes, gifts and orders are functions of what stands there
   pub means : beside.means ≡ the_means
   pub picks : List Pick
@@ -67,14 +70,17 @@ pub record DoesRoundBySteps (Ending : Setup → System → List Pick → System 
   pub left : Beside
   pub closes : Closes s beside last lists left
   pub after_is : after ≡ all_on_board lists
+  pub ids_are : ids_after ≡ left.tids
   pub replies : AreReplies round.events (replies_of last) result.replies
   pub damages : result.damages ≡ found_in s lists
   pub ledgers : AreLedgers s (zip round.events result.replies) round.workers result.ledgers
 
 -- by a seed: its picks are those that the seed draws, no more than the turns of the round
-abbrev pub DoesRoundBySeed : State → ℕ → Round → RoundResult → State → Type 0
-DoesRoundBySeed s seed round result after =
-    DoesRoundBySteps (λ m first picks last. Ends m seed first picks last) s round result after
+abbrev pub DoesRoundBySeed
+    : State → List ℕ → ℕ → Round → RoundResult → State → List ℕ → Type 0
+DoesRoundBySeed s ids seed round result after ids_after =
+    DoesRoundBySteps (λ m first picks last. Ends m seed first picks last)
+    s ids round result after ids_after
 
 -- after these picks, whichever they are, each worker is finished
 pub record Finishes (m : Setup) (first : System) (picks : List Pick) (last : System)
@@ -83,16 +89,36 @@ pub record Finishes (m : Setup) (first : System) (picks : List Pick) (last : Sys
   pub finished : IsFinishedSystem last
 
 -- by threads: there are some picks by which the workers come to where their threads came
-abbrev pub DoesRoundByThreads : State → Round → RoundResult → State → Type 0
-DoesRoundByThreads s round result after = DoesRoundBySteps Finishes s round result after
+abbrev pub DoesRoundByThreads : State → List ℕ → Round → RoundResult → State → List ℕ → Type 0
+DoesRoundByThreads s ids round result after ids_after =
+    DoesRoundBySteps Finishes s ids round result after ids_after
 
--- all turns of the round are made, and an event has no reply
-pub record SpendsTurns (s : State) (seed : ℕ) (round : Round) : Type 0 where
+-- in the order of the text: each event is done to its end before the next one begins
+abbrev pub DoesRoundInOrder : State → List ℕ → Round → RoundResult → State → List ℕ → Type 0
+DoesRoundInOrder s ids round result after ids_after =
+    DoesRoundBySteps (λ m first picks last. EndsInOrder m round.events first picks last)
+    s ids round result after ids_after
+
+-- ---- turns that are spent
+
+-- all turns of the round are made, and a worker is unfinished. `Spending` says which picks there
+-- may be
+pub record SpendsTurnsBySteps (Spending : Setup → System → List Pick → System → Type 0) (s : State)
+    (ids : List ℕ) (round : Round) : Type 0 where
   pub beside : Beside
-  pub new : IsNewBeside s beside
+  pub stands : StandsBeside s ids beside
   -- takes, gifts and orders are functions of what stands there
   pub means : beside.means ≡ the_means
   pub picks : List Pick
   pub last : System
   pub coherent : IsCoherentRun s beside round picks
-  pub spent : IsSpent (setup_of s beside) seed (system_begun s beside round) picks last
+  pub spent : Spending (setup_of s beside) (system_begun s beside round) picks last
+
+abbrev pub SpendsTurns : State → List ℕ → ℕ → Round → Type 0
+SpendsTurns s ids seed round =
+    SpendsTurnsBySteps (λ m first picks last. IsSpent m seed first picks last) s ids round
+
+abbrev pub SpendsTurnsInOrder : State → List ℕ → Round → Type 0
+SpendsTurnsInOrder s ids round =
+    SpendsTurnsBySteps (λ m first picks last. IsSpentInOrder m round.events first picks last)
+    s ids round

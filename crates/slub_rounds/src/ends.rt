@@ -1,6 +1,6 @@
 //! The two ends of a round on words: its begin, with the lists opened, and its close.
 
-ghost use Rattle.std.specs.Prelude.{◌≡◌};
+ghost use Rattle.std.specs.Prelude.{◌≡◌, ℕ, List};
 ghost use Rattle.slub_object_layout.specs.declared.event.Round.{Round as Events};
 ghost use Rattle.slub_trace_reader.specs.declared.trace.Trace.{Trace};
 ghost use Rattle.slub_lists.specs.State.{State};
@@ -10,10 +10,10 @@ ghost use Rattle.slub_into_words.specs.Opened.{IsOpened};
 ghost use Rattle.slub_rounds.specs.Machine.{HasClosed, HasEnded, IsBegun, beside_in, system_in};
 
 use crate::answers::{Answers, result_of};
+use crate::ended::Ended;
 use slub_into_lists::closing::close;
+use slub_into_words::ids::Ids;
 use slub_into_words::opened::{Opened, Rest};
-use slub_journal::journal::RoundResult;
-use slub_list_machine::lists::Lists;
 use slub_local::local::Local;
 use slub_object_layout::event::Round;
 use slub_turns::machine::Machine;
@@ -41,9 +41,9 @@ pub fn begun(opened: Opened, locals: Vec<Local>) -> (Machine, Rest)
 }
 
 /// Closes the machine, whose workers have all their replies, and tells what came of the round.
-pub fn closed(machine: Machine, rest: Rest, round: &Round, answers: Answers) -> (Lists, RoundResult)
-    requires { (s : State) × (b : Beside) × (trace : Trace) × HasEnded s b trace round.now machine rest answers }
-    ensures { (s : State) (b : Beside) (trace : Trace) → HasEnded s b trace round.now machine rest answers → HasClosed s (beside_in b) round.now (system_in machine) result.0 result.1 }
+pub fn closed(machine: Machine, rest: Rest, round: &Round, answers: Answers) -> Ended
+    requires { (s : State) × (ids : List ℕ) × (b : Beside) × (trace : Trace) × HasEnded s ids b trace round.now machine rest answers }
+    ensures { (s : State) (ids : List ℕ) (b : Beside) (trace : Trace) → HasEnded s ids b trace round.now machine rest answers → HasClosed s (beside_in b) round.now (system_in machine) result }
 {
     let Machine {
         setup,
@@ -51,8 +51,14 @@ pub fn closed(machine: Machine, rest: Rest, round: &Round, answers: Answers) -> 
         values,
         locals,
     } = machine;
-    let (mut lists, _beside) = close(&setup, table, values, rest, &locals);
+    let (mut lists, beside) = close(&setup, table, values, rest, &locals);
     let result = result_of(&lists, round, &locals, answers);
     lists.end_round();
-    (lists, result)
+    Ended {
+        lists,
+        ids: Ids {
+            by_word: beside.tids,
+        },
+        result,
+    }
 }

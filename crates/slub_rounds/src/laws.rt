@@ -1,6 +1,6 @@
 //! What follows from the definitions. None of these does anything.
 
-ghost use Rattle.slub_rounds.specs.Laws.{RoundsBySeedAreLawful, RoundsBySeedAreOne, RoundsByThreadsAreLawful, RoundsLeadOn};
+ghost use Rattle.slub_rounds.specs.Laws.{RoundsBySeedAreLawful, RoundsBySeedAreOne, RoundsByThreadsAreLawful, RoundsInOrderAreLawful, RoundsLeadOn};
 
 use slub_round_causes::laws::{drawn_rounds_are_lawful, rounds_are_lawful};
 
@@ -19,8 +19,16 @@ pub fn rounds_by_threads_are_lawful()
     rounds_are_lawful();
 }
 
-/// Want of memory aside, the replies and damages of a round by a seed are a function of the machine, the round and the
-/// seed, and so is whether it ends or its turns are spent; the machines that it can leave are alike.
+/// And so is one in the order of the text.
+pub fn rounds_in_order_are_lawful()
+    ensures { RoundsInOrderAreLawful }
+{
+    rounds_are_lawful();
+}
+
+/// Want of memory aside, the replies and damages of a round by a seed and the transaction ids that it leaves are a
+/// function of the machine, the ids before, the round and the seed, and so is whether it ends or its turns are spent; the
+/// machines that it can leave are alike.
 pub fn rounds_by_seed_are_one()
     ensures { RoundsBySeedAreOne }
 {}

@@ -1,16 +1,18 @@
 //! The memory of a round, taken before its first turn.
 
-ghost use Rattle.std.specs.Prelude.{◌≡◌, ◌*◌, ◌^◌, ◌≤◌, IfOk, length};
+ghost use Rattle.std.specs.Prelude.{◌≡◌, ◌*◌, ◌^◌, ◌≤◌, IfOk, length, replicate};
 ghost use Rattle.slub_trace_reader.specs.declared.trace.Trace.{Trace};
 ghost use Rattle.slub_lists.specs.Coherent.{IsCoherent};
 ghost use Rattle.slub_schedule.specs.Schedule.{marks_of, places_of};
 ghost use Rattle.slub_calls.specs.Laws.{MayDo};
+ghost use Rattle.slub_into_words.specs.Ids.{AreIds};
 ghost use Rattle.slub_rounds.specs.Room.{IsTakenFor, all_workers, weight_in, weight_of};
 
 use crate::answers::Answers;
 use slub_calls::workers::workers;
 use slub_common::no_memory::NoMemory;
 use slub_into_words::beside::Beside;
+use slub_into_words::ids::Ids;
 use slub_into_words::laws::besides_fit;
 use slub_list_machine::lists::Lists;
 use slub_local::local::Local;
@@ -28,6 +30,8 @@ pub struct Room {
     pub workers: Vec<Local>,
     /// All workers.
     pub order: Order,
+    /// By worker, how many of its events are done: none is.
+    pub passed: Vec<usize>,
     /// How many turns may be made.
     pub turns: u64,
     /// For what is answered.
@@ -35,23 +39,26 @@ pub struct Room {
 }
 
 /// Takes the memory of a round.
-pub fn take_room(alloc: Global, lists: &Lists, round: &Round) -> Result<Room, NoMemory>
+pub fn take_room(alloc: Global, lists: &Lists, ids: &Ids, round: &Round) -> Result<Room, NoMemory>
     requires coherent { IsCoherent lists.now }
     requires objects { length lists.now.board ≤ 1048577 }
     requires may_do { (trace : Trace) × MayDo lists.now trace round.now }
-    ensures { IfOk result (IsTakenFor lists.now round.now) }
+    requires ids { AreIds lists.now ids.now }
+    ensures { IfOk result (IsTakenFor lists.now ids.now round.now) }
 {
     besides_fit();
     let events = round.events.as_slice();
-    let beside = Beside::first(alloc, lists.frames(), lists.cpus())?;
+    let beside = Beside::of(alloc, ids, lists.frames(), lists.cpus())?;
     let workers = workers(alloc, lists.caches(), round)?;
     let order = all_workers(alloc, round.workers)?;
+    let passed = none_passed(alloc, round.workers)?;
     let turns = turns_for(weight_of(events), round.workers);
     let answers = Answers::open(alloc, lists, events.len(), round.workers as usize)?;
     Ok(Room {
         beside,
         workers,
         order,
+        passed,
         turns,
         answers,
     })
@@ -63,6 +70,14 @@ fn all_workers(alloc: Global, count: u32) -> Result<Order, NoMemory>
 {
     let marks = vec![in alloc; true; count as usize]?;
     Order::open(alloc, &marks)
+}
+
+/// Of each of so many workers no event is done.
+fn none_passed(alloc: Global, workers: u32) -> Result<Vec<usize>, NoMemory>
+    ensures { IfOk result (λ passed. passed.items ≡ replicate workers 0) }
+{
+    let passed = vec![in alloc; 0; workers as usize]?;
+    Ok(passed)
 }
 
 /// As how many events the turns of a round count these.

@@ -1,32 +1,34 @@
 //! A round of several workers by a seed.
 
-ghost use Rattle.std.specs.Prelude.{◌≡◌, ◌≤◌, ℕ, List, IfErr, IfOk, MatchOption, OnErr, OnOk, length};
+ghost use Rattle.std.specs.Prelude.{◌≡◌, ◌≤◌, ℕ, List, IfErr, IfOk, MatchResult, OnErr, OnOk, length};
 ghost use Rattle.slub_trace_reader.specs.declared.trace.Trace.{Trace};
 ghost use Rattle.slub_lists.specs.State.{State};
 ghost use Rattle.slub_lists.specs.Coherent.{IsCoherent};
 ghost use Rattle.slub_core.specs.Run.{Pick};
 ghost use Rattle.slub_local.specs.Facts.{setup_of};
 ghost use Rattle.slub_schedule.specs.Rounds.{Ends, IsSpent};
-ghost use Rattle.slub_schedule.specs.Turns.{turns_of};
+ghost use Rattle.slub_schedule.specs.Turns.{turns_for, turns_of};
 ghost use Rattle.slub_opening.specs.Opening.{IsLaidDown};
 ghost use Rattle.slub_calls.specs.Laws.{MayDo};
 ghost use Rattle.slub_into_words.specs.declared.beside.Beside.{Beside};
+ghost use Rattle.slub_into_words.specs.Ids.{AreIds};
 ghost use Rattle.slub_round_law.specs.Round.{IsRound};
 ghost use Rattle.slub_turns.specs.Means.{the_means};
 ghost use Rattle.slub_turns.specs.Ready.{IsReady};
-ghost use Rattle.slub_rounds.specs.Rounds.{DoesRoundBySeed, SpendsTurns};
-ghost use Rattle.slub_rounds.specs.Room.{all_workers};
+ghost use Rattle.slub_rounds.specs.Rounds.{DoesRoundBySeed};
+ghost use Rattle.slub_rounds.specs.Room.{all_workers, weight_of};
 ghost use Rattle.slub_rounds.specs.Machine.{IsDoneBySeed, IsSet, system_in};
 ghost use Rattle.slub_rounds.specs.Scheduled.{IsStopped};
 
 use crate::answers::Answers;
+use crate::ended::Ended;
 use crate::ends::{begun, closed};
 use crate::laws::rounds_by_seed_are_lawful;
 use crate::room::{Room, leave_finished, take_room};
 use slub_common::no_memory::NoMemory;
+use slub_into_words::ids::Ids;
 use slub_into_words::opened::Opened;
 use slub_into_words::opening::open;
-use slub_journal::journal::RoundResult;
 use slub_list_machine::lists::Lists;
 use slub_local::local::Local;
 use slub_object_layout::event::Round;
@@ -52,21 +54,24 @@ pub enum Stopped {
 pub fn scheduled(
     alloc: Global,
     lists: Lists,
+    ids: &Ids,
     round: &Round,
     seed: u64,
-) -> Result<(Lists, RoundResult), Stopped>
+) -> Result<Ended, Stopped>
     requires coherent { IsCoherent lists }
     requires laid_down { IsLaidDown lists }
     requires objects { length lists.board ≤ 1048577 }
     requires may_do { (trace : Trace) × MayDo lists trace round.now }
-    ensures does { IfOk result (λ done. DoesRoundBySeed lists seed round.now done.1 done.0) }
-    ensures lawful { IfOk result (λ done. IsRound lists round.now done.1 done.0) }
-    ensures coherent { IfOk result (λ done. IsCoherent done.0) }
-    ensures laid_down { IfOk result (λ done. IsLaidDown done.0) }
-    ensures stopped { IfErr result (IsStopped lists seed round.now) }
+    requires ids { AreIds lists ids.now }
+    ensures does { IfOk result (λ done. DoesRoundBySeed lists ids.now seed round.now done.result done.lists done.ids) }
+    ensures lawful { IfOk result (λ done. IsRound lists round.now done.result done.lists) }
+    ensures coherent { IfOk result (λ done. IsCoherent done.lists) }
+    ensures laid_down { IfOk result (λ done. IsLaidDown done.lists) }
+    ensures ids { IfOk result (λ done. AreIds done.lists done.ids) }
+    ensures stopped { IfErr result (IsStopped lists ids.now seed round.now) }
 {
     rounds_by_seed_are_lawful();
-    let room = match take_room(alloc, &lists, round) {
+    let room = match take_room(alloc, &lists, ids, round) {
         Ok(room) => room,
         Err(NoMemory) => return Err(Stopped::NoMemory(lists)),
     };
@@ -74,19 +79,17 @@ pub fn scheduled(
         beside,
         workers,
         order,
+        passed: _,
         turns,
         answers,
     } = room;
     match open(alloc, lists, beside) {
-        Ok(opened) => match in_words(opened, workers, order, turns, answers, round, seed) {
-            Some(done) => Ok(done),
-            None => Err(Stopped::TurnsSpent),
-        },
+        Ok(opened) => in_words(opened, workers, order, turns, answers, round, seed),
         Err(unopened) => Err(Stopped::NoMemory(unopened.lists)),
     }
 }
 
-/// Does the round on the machine in words, and closes it; None where all turns are made before.
+/// Does the round on the machine in words, and closes it.
 fn in_words(
     opened: Opened,
     locals: Vec<Local>,
@@ -95,14 +98,16 @@ fn in_words(
     answers: Answers,
     round: &Round,
     seed: u64,
-) -> Option<(Lists, RoundResult)>
-    requires { (s : State) × (b : Beside) × (trace : Trace) × IsSet s b trace round.now opened locals.items order turns answers }
-    ensures { (s : State) (b : Beside) (trace : Trace) → IsSet s b trace round.now opened locals.items order turns answers → MatchOption result (SpendsTurns s seed round.now) (λ done. IsDoneBySeed s seed round.now done.0 done.1) }
+) -> Result<Ended, Stopped>
+    requires set { (s : State) × (ids : List ℕ) × (b : Beside) × (trace : Trace) × IsSet s ids b trace round.now opened locals.items answers }
+    requires order { order ≡ all_workers round.now.workers }
+    requires turns { turns ≡ turns_for (weight_of round.now.events) round.now.workers }
+    ensures { (s : State) (ids : List ℕ) (b : Beside) (trace : Trace) → IsSet s ids b trace round.now opened locals.items answers → MatchResult result (λ done. IsDoneBySeed s ids seed round.now done) (IsStopped s ids seed round.now) }
 {
     let (mut machine, rest) = begun(opened, locals);
     match run_turns(&mut machine, order, seed, turns) {
-        Ok(()) => Some(closed(machine, rest, round, answers)),
-        Err(TurnsSpent) => None,
+        Ok(()) => Ok(closed(machine, rest, round, answers)),
+        Err(TurnsSpent) => Err(Stopped::TurnsSpent),
     }
 }
 

@@ -1,26 +1,28 @@
 //! A round of several workers by threads.
 
-ghost use Rattle.std.specs.Prelude.{◌≡◌, ◌≤◌, IfErr, IfOk, MatchResult, length};
+ghost use Rattle.std.specs.Prelude.{◌≡◌, ◌≤◌, ℕ, List, IfErr, IfOk, MatchResult, length};
 ghost use Rattle.slub_trace_reader.specs.declared.trace.Trace.{Trace};
 ghost use Rattle.slub_lists.specs.State.{State};
 ghost use Rattle.slub_lists.specs.Coherent.{IsCoherent};
 ghost use Rattle.slub_opening.specs.Opening.{IsLaidDown};
 ghost use Rattle.slub_calls.specs.Laws.{MayDo};
 ghost use Rattle.slub_into_words.specs.declared.beside.Beside.{Beside};
+ghost use Rattle.slub_into_words.specs.Ids.{AreIds};
 ghost use Rattle.slub_round_law.specs.Round.{IsRound};
 ghost use Rattle.slub_rounds.specs.Rounds.{DoesRoundByThreads};
 ghost use Rattle.slub_rounds.specs.Machine.{IsDoneByThreads, IsSetForThreads};
 
 use crate::answers::Answers;
+use crate::ended::Ended;
 use crate::ends::{begun, closed};
 use crate::laws::rounds_by_threads_are_lawful;
 use crate::room::{Room, take_room};
 use slub_common::no_memory::NoMemory;
 use slub_edges::gate::Gate;
 use slub_into_lists::undoing::put_back;
+use slub_into_words::ids::Ids;
 use slub_into_words::opened::Opened;
 use slub_into_words::opening::open;
-use slub_journal::journal::RoundResult;
 use slub_list_machine::lists::Lists;
 use slub_local::local::Local;
 use slub_object_layout::event::Round;
@@ -38,20 +40,23 @@ pub fn threaded<R: Threads + Wait + Sync, G: Gate + Sync>(
     gate: &G,
     alloc: Global,
     lists: Lists,
+    ids: &Ids,
     round: &Round,
-) -> Result<(Lists, RoundResult), Lists>
+) -> Result<Ended, Lists>
     requires coherent { IsCoherent lists }
     requires laid_down { IsLaidDown lists }
     requires objects { length lists.board ≤ 1048577 }
     requires may_do { (trace : Trace) × MayDo lists trace round.now }
-    ensures does { IfOk result (λ done. DoesRoundByThreads lists round.now done.1 done.0) }
-    ensures lawful { IfOk result (λ done. IsRound lists round.now done.1 done.0) }
-    ensures coherent { IfOk result (λ done. IsCoherent done.0) }
-    ensures laid_down { IfOk result (λ done. IsLaidDown done.0) }
+    requires ids { AreIds lists ids.now }
+    ensures does { IfOk result (λ done. DoesRoundByThreads lists ids.now round.now done.result done.lists done.ids) }
+    ensures lawful { IfOk result (λ done. IsRound lists round.now done.result done.lists) }
+    ensures coherent { IfOk result (λ done. IsCoherent done.lists) }
+    ensures laid_down { IfOk result (λ done. IsLaidDown done.lists) }
+    ensures ids { IfOk result (λ done. AreIds done.lists done.ids) }
     ensures err { IfErr result (λ after. after ≡ lists) }
 {
     rounds_by_threads_are_lawful();
-    let room = match take_room(alloc, &lists, round) {
+    let room = match take_room(alloc, &lists, ids, round) {
         Ok(room) => room,
         Err(NoMemory) => return Err(lists),
     };
@@ -64,6 +69,7 @@ pub fn threaded<R: Threads + Wait + Sync, G: Gate + Sync>(
         beside,
         workers,
         order: _,
+        passed: _,
         turns: _,
         answers,
     } = room;
@@ -94,9 +100,9 @@ fn in_threads<R: Threads + Wait + Sync, G: Gate + Sync>(
     memory: Vec<u64>,
     answers: Answers,
     round: &Round,
-) -> Result<(Lists, RoundResult), Lists>
-    requires set { (s : State) × (b : Beside) × (trace : Trace) × IsSetForThreads s b trace round.now opened locals.items memory.items answers }
-    ensures { (s : State) (b : Beside) (trace : Trace) → IsSetForThreads s b trace round.now opened locals.items memory.items answers → MatchResult result (λ done. IsDoneByThreads s round.now done.0 done.1) (λ after. after ≡ s) }
+) -> Result<Ended, Lists>
+    requires set { (s : State) × (ids : List ℕ) × (b : Beside) × (trace : Trace) × IsSetForThreads s ids b trace round.now opened locals.items memory.items answers }
+    ensures { (s : State) (ids : List ℕ) (b : Beside) (trace : Trace) → IsSetForThreads s ids b trace round.now opened locals.items memory.items answers → MatchResult result (λ done. IsDoneByThreads s ids round.now done) (λ after. after ≡ s) }
 {
     let (machine, rest) = begun(opened, locals);
     let objects = rest.board.len() as u32;

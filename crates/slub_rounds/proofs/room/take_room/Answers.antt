@@ -3,7 +3,8 @@ use Rattle.slub_object_layout.specs.declared.event.Event.{Event}
 use Rattle.slub_cache_create.specs.Table.{Table}
 use Rattle.slub_calls.specs.Calls.{workers_of}
 use Rattle.slub_schedule.specs.Turns.{turns_for}
-use Rattle.slub_into_words.specs.Beside.{first_links, first_tids}
+use Rattle.slub_into_words.specs.Beside.{first_links}
+use Rattle.slub_into_words.specs.Ids.{IsStepOf}
 use Rattle.slub_rounds.specs.Answers.{IsRoomFor}
 use Rattle.slub_rounds.specs.Room.{weight_of}
 use Rattle.slub_rounds.proofs.room.take_room.Goals as goal
@@ -15,19 +16,19 @@ returns c =
     let b = c.in_ok-beside.beside in
     let frames : c.frames.result ≡ s.frames = c.frames.ensures in
     let cpus : c.cpus.result ≡ s.cpus = c.cpus.ensures in
-    let step = c.in_ok-beside.ensures.step in
     let events : c.as_slice-events.result.now ≡ c.args.round.now.events = c.as_slice-events.ensures in
-    let fits = c.in_ok-beside.ensures.fits s c.requires.coherent (sym frames) (sym cpus) (omega (arith, few.objects)) c.requires.objects in
+    let fits = c.in_ok-beside.ensures.fits s c.requires.coherent (sym frames) (sym cpus) (omega (arith, few.objects)) c.requires.objects c.requires.ids in
     record {
       beside = fits;
-      new = λ means. record {
+      stands = λ means. record {
         fits = c.besides_fit.ensures s b means fits;
-        tids = c.in_ok-beside.ensures.tids ∙ ap first_tids cpus;
+        tids = c.in_ok-beside.ensures.tids;
         links = c.in_ok-beside.ensures.links ∙ ap first_links frames;
-        step = (step.0, omega (arith, step.2, cpus));
+        step = subst (λ n. IsStepOf n b.step) cpus c.in_ok-beside.ensures.step;
       };
       workers = c.in_ok-workers.ensures ∙ ap (λ (t : Table). workers_of t c.args.round.now) c.caches.ensures;
       order = c.in_ok-order.ensures;
+      passed = c.in_ok-passed.ensures;
       turns = c.turns_for-turns.ensures ∙ ap (λ n. turns_for n c.args.round.now.workers) (c.weight_of.ensures.weight ∙ ap (λ (es : List Event). weight_of es) events);
       answers = subst (λ (es : List Event). IsRoomFor s (length es) c.args.round.now.workers c.in_ok-answers.answers) events c.in_ok-answers.ensures;
     }

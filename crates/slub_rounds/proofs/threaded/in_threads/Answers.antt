@@ -6,38 +6,38 @@ use Rattle.slub_rounds.proofs.threaded.in_threads.Goals as goal
 
 pub threads_round-requires-clause-sizes : goal.threads_round-requires-clause-sizes
 threads_round-requires-clause-sizes g c = λ κs lives.
-    let (s, b, trace, set) = c.requires.set in
-    let sizes = sizes-are s b c.args.round.now c.begun-machine.result.0 c.begun-machine.result.1 (c.begun-machine.ensures.begun s b c.args.round.now set.opens set.workers) in
+    let (s, ids, b, trace, set) = c.requires.set in
+    let sizes = sizes-are s b c.args.round.now c.begun-machine.result.0 c.begun-machine.result.1 (c.begun-machine.ensures.begun s b c.args.round.now set.set.opens set.set.workers) in
     (sizes.0, omega (arith, sizes.1, c.len-objects.ensures))
 
 pub threads_round-requires-clause-work : goal.threads_round-requires-clause-work
 threads_round-requires-clause-work g c = λ κs lives.
-    let (s, b, trace, set) = c.requires.set in
-    may-work s b trace c.args.round.now c.begun-machine.result.0 c.begun-machine.result.1 set.may (c.begun-machine.ensures.begun s b c.args.round.now set.opens set.workers)
+    let (s, ids, b, trace, set) = c.requires.set in
+    may-work s ids b trace c.args.round.now c.begun-machine.result.0 c.begun-machine.result.1 set.set.may (c.begun-machine.ensures.begun s b c.args.round.now set.set.opens set.set.workers)
 
 pub closed-requires : goal.closed-requires
 closed-requires g c =
-    let (s, b, trace, set) = c.requires.set in
-    let begun = c.begun-machine.ensures.begun s b c.args.round.now set.opens set.workers in
-    (s, b, trace, has-worked s b trace c.args.round.now c.begun-machine.result.0 c.in-Ok.machine c.begun-machine.result.1 set.may begun c.in-Ok.ensures.worked c.args.answers set.room)
+    let (s, ids, b, trace, set) = c.requires.set in
+    let begun = c.begun-machine.ensures.begun s b c.args.round.now set.set.opens set.set.workers in
+    (s, ids, b, trace, has-worked s ids b trace c.args.round.now c.begun-machine.result.0 c.in-Ok.machine c.begun-machine.result.1 set.set.may begun c.in-Ok.ensures.worked c.args.answers set.set.room)
 
 pub returns-in-Ok : goal.returns-in-Ok
-returns-in-Ok g c = λ s b trace set.
-    let begun = c.begun-machine.ensures.begun s b c.args.round.now set.opens set.workers in
+returns-in-Ok g c = λ s ids b trace set.
+    let begun = c.begun-machine.ensures.begun s b c.args.round.now set.set.opens set.set.workers in
     let worked = c.in-Ok.ensures.worked in
-    let closed = c.closed.ensures s b trace (has-worked s b trace c.args.round.now c.begun-machine.result.0 c.in-Ok.machine c.begun-machine.result.1 set.may begun worked c.args.answers set.room) in
-    is-done Finishes s b trace c.args.round.now c.begun-machine.result.0 c.in-Ok.machine c.begun-machine.result.1 worked.picks c.closed.result.0 c.closed.result.1 set.may begun
-    (finishes s b trace c.args.round.now c.begun-machine.result.0 c.in-Ok.machine c.begun-machine.result.1 set.may begun worked) closed
+    let closed = c.closed.ensures s ids b trace (has-worked s ids b trace c.args.round.now c.begun-machine.result.0 c.in-Ok.machine c.begun-machine.result.1 set.set.may begun worked c.args.answers set.set.room) in
+    is-done Finishes s ids b trace c.args.round.now c.begun-machine.result.0 c.in-Ok.machine c.begun-machine.result.1 worked.picks c.closed.result set.set.may begun
+    (finishes s ids b trace c.args.round.now c.begun-machine.result.0 c.in-Ok.machine c.begun-machine.result.1 set.set.may begun worked) closed
 
 pub put_back-requires : goal.put_back-requires
 put_back-requires g c =
-    let (s, b, trace, set) = c.requires.set in (
+    let (s, ids, b, trace, set) = c.requires.set in (
       s,
-      was-opened s b trace c.args.round.now c.args.opened c.args.locals.items c.args.memory.items c.args.answers c.in-Err.unopened.machine.values.items c.begun-machine.result.1 set
+      was-opened s ids b trace c.args.round.now c.args.opened c.args.locals.items c.args.memory.items c.args.answers c.in-Err.unopened.machine.values.items c.begun-machine.result.1 set
           (c.in-Err.ensures.unopened.values ∙ ap (λ v. v.items) c.begun-machine.ensures.values) c.begun-machine.ensures.rest,
     )
 
 pub returns-in-Err : goal.returns-in-Err
-returns-in-Err g c = λ s b trace set.
-    c.put_back.ensures s (was-opened s b trace c.args.round.now c.args.opened c.args.locals.items c.args.memory.items c.args.answers c.in-Err.unopened.machine.values.items c.begun-machine.result.1 set
+returns-in-Err g c = λ s ids b trace set.
+    c.put_back.ensures s (was-opened s ids b trace c.args.round.now c.args.opened c.args.locals.items c.args.memory.items c.args.answers c.in-Err.unopened.machine.values.items c.begun-machine.result.1 set
     (c.in-Err.ensures.unopened.values ∙ ap (λ v. v.items) c.begun-machine.ensures.values) c.begun-machine.ensures.rest)

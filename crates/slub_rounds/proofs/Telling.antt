@@ -122,14 +122,14 @@ pub inside-round : (trace : Trace) (s : State) (round : Round) → MayDo s trace
 inside-round trace s round does = λ k d below. (does.sound.events k d below).worker
 
 -- a worker that there isn't has no event
-none-by : (worker workers : ℕ) (es : List Event) → workers ≤ worker → All (λ (e : Event). e.worker < workers) es → events_by worker es ≡ []
+pub none-by : (worker workers : ℕ) (es : List Event) → workers ≤ worker → All (λ (e : Event). e.worker < workers) es → events_by worker es ≡ []
 none-by worker workers [] past inside = refl
 none-by worker workers (e ∷ es) past inside =
     let below = All-head (λ (e : Event). e.worker < workers) e es inside in
     let other : eqb e.worker worker ≡ false = ne_eqb e.worker worker (λ same. absurd (omega arith)) in
     rw other (none-by worker workers es past (All-tail (λ (e : Event). e.worker < workers) e es inside))
 
-in_order-length : (ds : List Answered) (todo : List Call) → length (in_order ds todo) ≡ length ds + length todo
+pub in_order-length : (ds : List Answered) (todo : List Call) → length (in_order ds todo) ≡ length ds + length todo
 in_order-length [] todo = omega arith
 in_order-length (d ∷ ds) todo = in_order-length ds (d.call ∷ todo) ∙ omega arith
 

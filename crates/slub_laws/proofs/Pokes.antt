@@ -75,6 +75,7 @@ use Rattle.slub_ways.proofs.Numbers.{IsBrief, front, items-brief}
 use Rattle.slub_ways.proofs.Ready.{stands-first}
 use Rattle.slub_ways.proofs.Rests.{Rests, creates-rest, destroys-rest, rests-same, shrinks-rest, tunes-rest}
 use Rattle.slub_ways.proofs.Standing.{Stands, fits, made-numbers, next-numbers, stands-next, stands-round}
+use Rattle.slub_ways.proofs.WithoutIds.{none-stays, on-lists, opens-without}
 use Rattle.slub_laws.proofs.Moved.{rounds_done}
 
 module _ (told : List Answered) where
@@ -403,24 +404,25 @@ client-told told s trace client outcome coming after stands (made_rounds rounds)
 client-told told s trace client outcome coming after stands (made_caches answers none creates) is_told =
     quiet-told told outcome.rounds after none (classes-told told s (range_with_len 0 13) answers after stands.rest.forgotten creates is_told)
 
-item-told : (told : List Answered) (m : MachineState) (trace : Trace) (it : Item) (dn : Done) (coming : List ℕ) (after : MachineState) → Stands m.lists trace (objects_in it ++ coming) → IsSoundItem trace it → IsCoherent after.lists → Does Serial m trace it dn after → IsTold told m.lists
-    → GoesOn told (rounds_of it dn) after.lists
+item-told : (told : List Answered) (m : MachineState) (trace : Trace) (it : Item) (dn : Done) (coming : List ℕ) (after : MachineState) → m.ids ≡ None → Stands m.lists trace (objects_in it ++ coming) → IsSoundItem trace it → IsCoherent after.lists → Does Serial m trace it dn after
+    → IsTold told m.lists → GoesOn told (rounds_of it dn) after.lists
 unfolding Does
-item-told told m trace (item.Round round) (done.Round result) coming after stands sound coherent does is_told =
-    made-told told m.lists trace (record { asked = round; result = result } ∷ []) (objects_of round.events) coming after.lists stands (round-made m.lists trace round result after.lists sound coherent does.0) is_told
-item-told told m trace (item.Client client) (done.Client outcome) coming after stands sound coherent does is_told = client-told told m.lists trace client outcome coming after.lists stands (client_effect m trace client outcome after does.0) is_told
-item-told told m trace it dn coming after stands sound coherent does is_told = plain-told told m.lists trace it dn coming after.lists stands coherent does.0 is_told
+item-told told m trace (item.Round round) (done.Round result) coming after none stands sound coherent does is_told =
+    let listed = on-lists m trace round result after none does in
+    made-told told m.lists trace (record { asked = round; result = result } ∷ []) (objects_of round.events) coming after.lists stands (round-made m.lists trace round result after.lists sound coherent listed) is_told
+item-told told m trace (item.Client client) (done.Client outcome) coming after none stands sound coherent does is_told = client-told told m.lists trace client outcome coming after.lists stands (client_effect m trace client outcome after does.0) is_told
+item-told told m trace it dn coming after none stands sound coherent does is_told = plain-told told m.lists trace it dn coming after.lists stands coherent does.0 is_told
 
-all-told : (told : List Answered) (m : MachineState) (trace : Trace) (items : List Item) (dones : List Done) (after : MachineState) → Stands m.lists trace (flat_map objects_in items) → All (IsSoundItem trace) items → All IsBrief items → RunsItems Serial m trace items dones after → IsTold told m.lists
-    → RunsPoked told (rounds_among items dones)
-all-told told m trace [] [] after stands sound brief run is_told = tt
-all-told told m trace [] (dn ∷ dones) after stands sound brief run is_told = absurd run
-all-told told m trace (it ∷ items) [] after stands sound brief run is_told = absurd run
-all-told told m trace (it ∷ items) (dn ∷ dones) after stands sound brief run is_told =
+all-told : (told : List Answered) (m : MachineState) (trace : Trace) (items : List Item) (dones : List Done) (after : MachineState) → m.ids ≡ None → Stands m.lists trace (flat_map objects_in items) → All (IsSoundItem trace) items → All IsBrief items → RunsItems Serial m trace items dones after
+    → IsTold told m.lists → RunsPoked told (rounds_among items dones)
+all-told told m trace [] [] after none stands sound brief run is_told = tt
+all-told told m trace [] (dn ∷ dones) after none stands sound brief run is_told = absurd run
+all-told told m trace (it ∷ items) [] after none stands sound brief run is_told = absurd run
+all-told told m trace (it ∷ items) (dn ∷ dones) after none stands sound brief run is_told =
     let here = All-head (IsSoundItem trace) it items sound in
-    let goes = item-told told m trace it dn (flat_map objects_in items) run.0 stands here run.2 run.1 is_told in
+    let goes = item-told told m trace it dn (flat_map objects_in items) run.0 none stands here run.2 run.1 is_told in
     let next = stands-next Serial m trace it dn (flat_map objects_in items) run.0 stands here (All-head IsBrief it items brief) run.2 run.1 in
-    poked-more told (rounds_of it dn) (rounds_among items dones) goes.0 (all-told (told ++ flat_map answered_by (rounds_of it dn)) run.0 trace items dones after next (All-tail (IsSoundItem trace) it items sound) (All-tail IsBrief it items brief) run.3 goes.1)
+    poked-more told (rounds_of it dn) (rounds_among items dones) goes.0 (all-told (told ++ flat_map answered_by (rounds_of it dn)) run.0 trace items dones after (none-stays Serial m trace it dn run.0 none run.1) next (All-tail (IsSoundItem trace) it items sound) (All-tail IsBrief it items brief) run.3 goes.1)
 
 -- before the first item nothing is checked, and no number is known
 opened-told : (trace : Trace) → IsTold [] (opening_of trace)
@@ -429,8 +431,9 @@ opened-told trace = record {
   clean = λ cache slabs now. absurd (let never : None ≡ Some slabs = sym (get_or-replicate_any 32 cache None) ∙ now in cc);
 }
 
-pub poked-damages : (trace : Trace) (journal : Journal) → IsSound trace → IsLawful Serial trace journal → HasPokedDamages trace journal
-poked-damages trace journal sound lawful =
+-- each damage of a trace whose first transaction id is 0 was poked
+pub poked-damages : (trace : Trace) (journal : Journal) → IsSound trace → trace.tid ≡ 0 → IsLawful Serial trace journal → HasPokedDamages trace journal
+poked-damages trace journal sound bare lawful =
     let some = length journal.items in
-    let told = all-told [] (machine_of trace) trace (take some trace.items) journal.items lawful.machine (stands-first trace some sound lawful.coherent) (front (IsSoundItem trace) some trace.items sound.items) (front IsBrief some trace.items (items-brief trace sound)) lawful.run (opened-told trace) in
+    let told = all-told [] (machine_of trace) trace (take some trace.items) journal.items lawful.machine (opens-without trace bare) (stands-first trace some sound lawful.coherent) (front (IsSoundItem trace) some trace.items sound.items) (front IsBrief some trace.items (items-brief trace sound)) lawful.run (opened-told trace) in
     subst (RunsPoked []) (rounds_done trace journal) told

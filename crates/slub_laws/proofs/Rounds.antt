@@ -61,7 +61,7 @@ pub item-rounds : (way : Way) (m : MachineState) (trace : Trace) (it : Item) (dn
     → AreRounds m.lists (rounds_of it dn) after.lists
 unfolding Does
 item-rounds way m trace (item.Round round) (done.Round result) coming after stands sound brief does =
-    (after.lists, lawful-by way m.rounds m.lists trace round result after.lists stands.coherent stands.rest (stands-may m.lists trace round coming stands sound brief) does.0, refl)
+    (after.lists, lawful-by way m.rounds m.lists m.ids trace round result after.lists after.ids stands.coherent stands.rest (stands-may m.lists trace round coming stands sound brief) does.0, refl)
 item-rounds way m trace (item.Client client) (done.Client outcome) coming after stands sound brief does = client-rounds m.lists trace client outcome coming after.lists stands (client_effect m trace client outcome after does.0)
 item-rounds way m trace it dn coming after stands sound brief does = plain-rounds m.lists trace it dn after.lists does.0
 

@@ -10,8 +10,8 @@ ghost use Rattle.slub_object_layout.specs.declared.event.Round.{Round as Events}
 ghost use Rattle.slub_journal.specs.declared.journal.RoundResult.{RoundResult as Outcome};
 ghost use Rattle.slub_slabinfo_text.specs.Counts.{counts_of};
 ghost use Rattle.slub_trace_reader.specs.Sound.{IsSound};
-ghost use Rattle.slub_journal.specs.Lawful.{opening_of};
-ghost use Rattle.slub_ways.specs.Runs.{AreByText, IsLawful, IsReadyMachine, machine_of};
+ghost use Rattle.slub_journal.specs.Lawful.{IsBuilt, opening_of};
+ghost use Rattle.slub_ways.specs.Runs.{IsByText, IsLawful, IsReadyMachine, machine_of};
 ghost use Rattle.slub_laws.specs.Freed.{freed_times, given_times};
 ghost use Rattle.slub_laws.specs.Trimmed.{EndsTrimmed};
 ghost use Rattle.slub_laws.specs.Poked.{HasPokedDamages};
@@ -43,10 +43,10 @@ pub fn rounds_of_a_journal_are_lawful(way: Way, trace: &Trace, journal: &Journal
 
 /// Each damage that a journal tells of, in a report or as a free's answer, is a byte that was poked there in the same
 /// round or an earlier one, with the answer that it was. Every item of the trace is one that the way does in the order of
-/// the text.
+/// the text, on the lists alone: its first transaction id is 0.
 pub fn damages_of_a_journal_were_poked(way: Way, trace: &Trace, journal: &Journal)
     requires sound { IsSound trace.now }
-    requires by_text { AreByText way trace.now.items }
+    requires by_text { IsByText way trace.now }
     requires lawful { IsLawful way trace.now journal.now }
     ensures { HasPokedDamages trace.now journal.now }
 {}
@@ -58,9 +58,10 @@ pub fn given_is_freed_or_live(way: Way, trace: &Trace, journal: &Journal)
     ensures { IfSome journal.now.total (λ total. total.given ≡ total.freed + total.live) }
 {}
 
-/// The machine that is opened for a sound trace stands before its first item.
+/// The machine that is opened for a sound trace which is replayed today stands before its first item.
 pub fn opening_is_ready(trace: &Trace)
     requires sound { IsSound trace.now }
+    requires built { IsBuilt trace.now }
     requires coherent { IsCoherent (opening_of trace.now) }
     ensures { IsReadyMachine (machine_of trace.now) trace.now 0 }
 {}

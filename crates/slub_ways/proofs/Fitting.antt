@@ -1,5 +1,5 @@
 -- A round that can be done fits the machine, and is lawful by any way.
-use Rattle.std.proofs.Common.{◌≡◌, ℕ, ◌+◌, ◌<◌, List, [], ◌∷◌, length, refl, subst, sym, All, arith, inl, inr}
+use Rattle.std.proofs.Common.{◌≡◌, ℕ, ◌+◌, ◌<◌, List, [], ◌∷◌, length, refl, subst, sym, All, Option, Some, None, arith, inl, inr}
 use Rattle.std.proofs.lemmas.List.Elements.{All-cons, All-head, All-tail}
 use Rattle.slub_object_layout.specs.declared.event.Act.{Act}
 use Rattle.slub_object_layout.specs.declared.event.Act.TheVariants as act
@@ -15,11 +15,11 @@ use Rattle.slub_journal.specs.declared.journal.RoundResult.{RoundResult}
 use Rattle.slub_round_law.specs.Round.{Fits, IsRound}
 use Rattle.slub_round_law.proofs.Whole.{lawful}
 use Rattle.slub_round_causes.proofs.Whole.{drawn-lawful, rounds-lawful}
-use Rattle.slub_rounds.specs.Laws.{RoundsBySeedAreLawful, RoundsByThreadsAreLawful}
-use Rattle.slub_rounds.proofs.Threads.{threads-lawful}
+use Rattle.slub_rounds.specs.Laws.{RoundsBySeedAreLawful, RoundsByThreadsAreLawful, RoundsInOrderAreLawful}
+use Rattle.slub_rounds.proofs.Lawful.{orders-lawful, threads-lawful}
 use Rattle.slub_ways.specs.declared.way.Way.{Way}
 use Rattle.slub_ways.specs.declared.way.Way.TheVariants.{Serial, Schedule, Threads}
-use Rattle.slub_ways.specs.Ways.{DoesRoundBy, seed_after}
+use Rattle.slub_ways.specs.Ways.{DoesByText, DoesRoundBy, ids_before, seed_after}
 
 -- what sound events allocate are numbers of the machine
 within : (trace : Trace) (workers size : ℕ) (events : List Event) → size ≡ trace.objects + 1 → All (IsSoundEvent trace workers) events → All (λ object. object < size) (objects_of events)
@@ -43,22 +43,36 @@ fits s trace round may = record {
   distinct = may.distinct;
 }
 
+-- ---- rounds by steps
+
 -- one that a seed draws is lawful
 seed-lawful : RoundsBySeedAreLawful
-seed-lawful s seed trace round result after coherent laid may done =
-    drawn-lawful s done.beside seed trace round result done.picks done.last done.lists after done.left coherent laid done.new.fits may
+seed-lawful s ids seed trace round result after ids_after coherent laid may done =
+    drawn-lawful s done.beside seed trace round result done.picks done.last done.lists after done.left coherent laid done.stands.fits may
     done.ends done.closes done.replies done.damages done.ledgers done.after_is
 
 -- one by threads is
 by-threads : RoundsByThreadsAreLawful
 by-threads = threads-lawful rounds-lawful
 
--- and so is one in the order of the text
-pub lawful-by : (way : Way) (rounds : ℕ) (s : State) (trace : Trace) (round : Round) (result : RoundResult) (after : State) → IsCoherent s → IsAtRest s → MayDo s trace round
-    → DoesRoundBy way rounds s round result after → IsRound s round result after
-lawful-by Serial rounds s trace round result after coherent rest may does = lawful s round result after coherent rest (fits s trace round may) does
-lawful-by (Schedule seed) rounds s trace round result after coherent rest may (inl (few, does)) = lawful s round result after coherent rest (fits s trace round may) does
-lawful-by (Schedule seed) rounds s trace round result after coherent rest may (inr (several, does)) =
-    seed-lawful s (seed_after seed rounds) trace round result after coherent rest.laid_down may does
-lawful-by Threads rounds s trace round result after coherent rest may (inl (few, does)) = lawful s round result after coherent rest (fits s trace round may) does
-lawful-by Threads rounds s trace round result after coherent rest may (inr (several, does)) = by-threads s trace round result after coherent rest.laid_down may does
+-- and so is one of each event to its end
+in-order : RoundsInOrderAreLawful
+in-order = orders-lawful rounds-lawful
+
+-- ---- rounds by any way
+
+-- one in the order of the text, on the lists or by steps
+text-lawful : (s : State) (ids : Option (List ℕ)) (trace : Trace) (round : Round) (result : RoundResult) (after : State) (left : Option (List ℕ)) → IsCoherent s → IsAtRest s → MayDo s trace round
+    → DoesByText s ids round result after left → IsRound s round result after
+text-lawful s None trace round result after left coherent rest may does = lawful s round result after coherent rest (fits s trace round may) does.0
+text-lawful s (Some ids) trace round result after left coherent rest may does = in-order s ids trace round result after does.0 coherent rest.laid_down may does.1
+
+pub lawful-by : (way : Way) (rounds : ℕ) (s : State) (ids : Option (List ℕ)) (trace : Trace) (round : Round) (result : RoundResult) (after : State) (left : Option (List ℕ)) → IsCoherent s → IsAtRest s → MayDo s trace round
+    → DoesRoundBy way rounds s ids round result after left → IsRound s round result after
+lawful-by Serial rounds s ids trace round result after left coherent rest may does = text-lawful s ids trace round result after left coherent rest may does
+lawful-by (Schedule seed) rounds s ids trace round result after left coherent rest may (inl (few, does)) = text-lawful s ids trace round result after left coherent rest may does
+lawful-by (Schedule seed) rounds s ids trace round result after left coherent rest may (inr (several, does)) =
+    seed-lawful s (ids_before s ids) (seed_after seed rounds) trace round result after does.0 coherent rest.laid_down may does.1
+lawful-by Threads rounds s ids trace round result after left coherent rest may (inl (few, does)) = text-lawful s ids trace round result after left coherent rest may does
+lawful-by Threads rounds s ids trace round result after left coherent rest may (inr (several, does)) =
+    by-threads s (ids_before s ids) trace round result after does.0 coherent rest.laid_down may does.1

@@ -1,5 +1,6 @@
 pub mod Fitting
 pub mod Runs
+pub mod WithoutIds
 pub mod Made
 pub mod Wanted
 pub mod Numbers

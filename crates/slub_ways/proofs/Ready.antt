@@ -1,5 +1,6 @@
 -- The machine that is opened for a trace, and the one before and after an item of a number.
-use Rattle.std.proofs.Common.{◌≡◌, ℕ, zero, suc, ◌+◌, ◌<◌, ◌≤◌, List, [], ◌∷◌, ◌++◌, length, take, drop, get_or, flat_map, replicate, refl, ◌∙◌, ap, subst, arith, Option, Some, None, MatchOption, slice_get}
+use Rattle.std.proofs.Common.{◌≡◌, ◌≢◌, ℕ, zero, suc, ◌+◌, ◌<◌, ◌≤◌, eqb, if◌then◌else◌, Bool, true, false, List, [], ◌∷◌, ◌++◌, length, take, drop, get_or, flat_map, replicate, refl, ◌∙◌, ap, subst, arith, All, Option, Some, None, MatchOption, slice_get, inl, inr}
+use Rattle.std.proofs.lemmas.Bool.{eqb-false, eqb-true}
 use Rattle.std.proofs.lemmas.List.{drop_more}
 use Rattle.std.proofs.lemmas.Option.{get_or_from_slice_get, slice_get_within}
 use Rattle.slub_object_layout.specs.declared.event.Round.{Round}
@@ -12,12 +13,14 @@ use Rattle.slub_trace_reader.specs.declared.trace.Trace.{Trace}
 use Rattle.slub_trace_reader.specs.Sound.{IsSound, IsSoundItem, objects_in}
 use Rattle.slub_calls.specs.Laws.{MayDo}
 use Rattle.slub_journal.specs.declared.journal.Done.{Done}
-use Rattle.slub_journal.specs.Lawful.{IsUnheld, coming, opening_of}
+use Rattle.slub_journal.specs.Lawful.{IsBuilt, IsOwn, IsUnheld, coming, opening_of}
 use Rattle.slub_journal.specs.Reserves.{AreSoundReserves}
 use Rattle.slub_journal.proofs.Laws.{opened_ready}
 use Rattle.slub_round_law.proofs.Times.{once_times}
+use Rattle.slub_into_words.specs.Ids.{first_ids}
+use Rattle.slub_ids.proofs.Fitting.{opening-fit}
 use Rattle.slub_ways.specs.declared.way.Way.{Way}
-use Rattle.slub_ways.specs.Runs.{Does, DoesAt, IsReadyMachine, MachineState, machine_of}
+use Rattle.slub_ways.specs.Runs.{AreIdsFor, Does, DoesAt, IsReadyMachine, MachineState, machine_of, opening_ids}
 use Rattle.slub_ways.proofs.Numbers.{IsBrief, front, items-brief, items-within, length-first, numbers-few, times-first, times-later}
 use Rattle.slub_ways.proofs.Standing.{Stands, stands-may, stands-next}
 
@@ -33,9 +36,22 @@ none-dry (suc n) (suc order) = none-dry n order
 no-reserves : (trace : Trace) → AreSoundReserves trace []
 no-reserves trace = record { few = omega arith; each = λ k d within. absurd (let never : ⊥ = omega (arith, within) in never); once = λ number. omega arith }
 
-pub opened_machine_ready : (trace : Trace) → IsSound trace → IsCoherent (opening_of trace) → IsReadyMachine (machine_of trace) trace 0
-opened_machine_ready trace sound coherent = record {
+-- there are ids where the first one of the trace isn't 0, and they fit
+ids-for : (trace : Trace) → IsSound trace → IsBuilt trace → AreIdsFor trace (opening_of trace) (opening_ids trace)
+ids-for trace sound built = by (eqb trace.tid 0) refl
+  where
+    own : trace.tid ≢ 0 → IsBuilt trace → All IsOwn trace.items
+    own given (inl bare) = absurd (given bare)
+    own given (inr all) = all
+
+    by : (b : Bool) → eqb trace.tid 0 ≡ b → AreIdsFor trace (opening_of trace) (if b then None else Some (first_ids trace.tid trace.cpus))
+    by true is = eqb-true trace.tid 0 is
+    by false is = (eqb-false trace.tid 0 is, own (eqb-false trace.tid 0 is) built, opening-fit trace sound)
+
+pub opened_machine_ready : (trace : Trace) → IsSound trace → IsBuilt trace → IsCoherent (opening_of trace) → IsReadyMachine (machine_of trace) trace 0
+opened_machine_ready trace sound built coherent = record {
   lists = opened_ready trace coherent;
+  ids = ids-for trace sound built;
   reserves = no-reserves trace;
   rounds = omega arith;
   dry = λ order. (let few : length (coming trace 0) ≤ trace.objects + 1 = numbers-few trace sound in omega (arith, none-dry 11 order, few, sound.objects));

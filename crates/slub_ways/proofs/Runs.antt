@@ -1,10 +1,10 @@
 -- What the crates above stand on: an item of a number is done, a run of items grows by one, and which runs are serial.
 use Rattle.std.proofs.Common.{◌≡◌, ℕ, ◌+◌, ◌<◌, ◌≤◌, List, [], ◌∷◌, ◌++◌, length, take, get_or, refl, sym, subst, arith, Some, None, Option, MatchOption, inl, inr, slice_get, All}
+use Rattle.std.specs.Option.{option_map}
 use Rattle.std.proofs.lemmas.List.{take_more}
 use Rattle.std.proofs.lemmas.List.Elements.{All-head, All-tail}
 use Rattle.std.proofs.lemmas.Option.{slice_get-get_or, slice_get_read}
 use Rattle.slub_object_layout.specs.declared.event.Round.{Round}
-use Rattle.slub_lists.specs.State.{State}
 use Rattle.slub_lists.specs.Coherent.{IsCoherent}
 use Rattle.slub_trace_reader.specs.declared.trace.Client.{Client as Asked}
 use Rattle.slub_trace_reader.specs.declared.trace.Item.{Item}
@@ -15,11 +15,12 @@ use Rattle.slub_journal.specs.declared.journal.Done.{Done}
 use Rattle.slub_journal.specs.declared.journal.Done.TheVariants as done
 use Rattle.slub_journal.specs.declared.journal.Journal.{Journal}
 use Rattle.slub_journal.specs.declared.journal.RoundResult.{RoundResult}
-use Rattle.slub_journal.specs.Lawful.{DoesPlain, DoesPlainAt, DoesRound}
+use Rattle.slub_journal.specs.Lawful.{DoesPlain, DoesPlainAt}
+use Rattle.slub_ids.specs.Growth.{ids_after}
 use Rattle.slub_ways.specs.declared.way.Way.{Way}
 use Rattle.slub_ways.specs.declared.way.Way.TheVariants.{Serial, Schedule, Threads}
 use Rattle.slub_ways.specs.Ways.{DoesRoundBy}
-use Rattle.slub_ways.specs.Runs.{AreByText, Does, DoesAt, IsAlone, IsLawful, KeepsReserves, KeepsRounds, MachineState, RunsItems, Serves, machine_of}
+use Rattle.slub_ways.specs.Runs.{AreByText, Does, DoesAt, IsAlone, IsLawful, KeepsIds, KeepsReserves, KeepsRounds, MachineState, RunsItems, Serves, machine_of}
 use Rattle.slub_ways.proofs.Numbers.{front}
 
 -- ---- items done one after the other
@@ -52,44 +53,45 @@ does_found way m trace number it dn after within at does =
 
 -- a round
 pub does_round_at : (way : Way) (m : MachineState) (trace : Trace) (number : ℕ) (it : Item) (round : Round) (result : RoundResult) (after : MachineState) → number < length trace.items → it ≡ get_or trace.items number it → it ≡ item.Round round
-    → DoesRoundBy way m.rounds m.lists round result after.lists → KeepsReserves m after → after.rounds ≡ m.rounds + 1 → DoesAt way m trace number (done.Round result) after
+    → DoesRoundBy way m.rounds m.lists m.ids round result after.lists after.ids → KeepsReserves m after → after.rounds ≡ m.rounds + 1 → DoesAt way m trace number (done.Round result) after
 unfolding Does
 does_round_at way m trace number it round result after within at is does kept more =
     does_found way m trace number it (done.Round result) after within at (subst (λ (it : Item). Does way m trace it (done.Round result) after) (sym is) (does, kept, more))
 
 -- a client's line
 pub does_client_at : (way : Way) (m : MachineState) (trace : Trace) (number : ℕ) (it : Item) (client : Asked) (outcome : ClientDone) (after : MachineState) → number < length trace.items → it ≡ get_or trace.items number it → it ≡ item.Client client
-    → Serves m trace client outcome after → KeepsRounds m after → DoesAt way m trace number (done.Client outcome) after
+    → Serves m trace client outcome after → m.ids ≡ None → KeepsIds m after → KeepsRounds m after → DoesAt way m trace number (done.Client outcome) after
 unfolding Does
-does_client_at way m trace number it client outcome after within at is serves kept =
-    does_found way m trace number it (done.Client outcome) after within at (subst (λ (it : Item). Does way m trace it (done.Client outcome) after) (sym is) (serves, kept))
+does_client_at way m trace number it client outcome after within at is serves none still kept =
+    does_found way m trace number it (done.Client outcome) after within at (subst (λ (it : Item). Does way m trace it (done.Client outcome) after) (sym is) (serves, none, still, kept))
 
 -- ---- an item that is neither
 
-does_plain : (way : Way) (m : MachineState) (trace : Trace) (it : Item) (dn : Done) (after : MachineState) → DoesPlain m.lists trace it dn after.lists → KeepsReserves m after → KeepsRounds m after → Does way m trace it dn after
-unfolding Does DoesPlain
-does_plain way m trace (item.Round round) (done.Round result) after does kept same = absurd does
-does_plain way m trace (item.Round round) _ after does kept same = absurd does
-does_plain way m trace (item.Client client) (done.Client outcome) after does kept same = absurd does
-does_plain way m trace (item.Client client) _ after does kept same = absurd does
-does_plain way m trace _ dn after does kept same = (does, kept, same)
+-- the ids after it
+abbrev pub LeavesIds : MachineState → Trace → Item → Done → MachineState → Type 0
+LeavesIds m trace it dn after = after.ids ≡ option_map (ids_after trace m.lists it dn) m.ids
 
-pub does_plain_at : (way : Way) (m : MachineState) (trace : Trace) (number : ℕ) (dn : Done) (after : MachineState) → DoesPlainAt m.lists trace number dn after.lists → KeepsReserves m after → KeepsRounds m after → DoesAt way m trace number dn after
-does_plain_at way m trace number dn after does kept same = by (slice_get trace.items number) does
+does_plain : (way : Way) (m : MachineState) (trace : Trace) (it : Item) (dn : Done) (after : MachineState) → DoesPlain m.lists trace it dn after.lists → LeavesIds m trace it dn after → KeepsReserves m after → KeepsRounds m after → Does way m trace it dn after
+unfolding Does DoesPlain
+does_plain way m trace (item.Round round) (done.Round result) after does ids kept same = absurd does
+does_plain way m trace (item.Round round) _ after does ids kept same = absurd does
+does_plain way m trace (item.Client client) (done.Client outcome) after does ids kept same = absurd does
+does_plain way m trace (item.Client client) _ after does ids kept same = absurd does
+does_plain way m trace _ dn after does ids kept same = (does, ids, kept, same)
+
+pub does_plain_at : (way : Way) (m : MachineState) (trace : Trace) (number : ℕ) (dn : Done) (after : MachineState) → DoesPlainAt m.lists trace number dn after.lists → ((it : Item) → slice_get trace.items number ≡ Some it → LeavesIds m trace it dn after)
+    → KeepsReserves m after → KeepsRounds m after → DoesAt way m trace number dn after
+does_plain_at way m trace number dn after does ids kept same = by (slice_get trace.items number) refl does
   where
-    by : (found : Option Item) → MatchOption found ⊥ (λ it. DoesPlain m.lists trace it dn after.lists) → MatchOption found ⊥ (λ it. Does way m trace it dn after)
-    by None does = absurd does
-    by (Some it) does = does_plain way m trace it dn after does kept same
+    by : (found : Option Item) → slice_get trace.items number ≡ found → MatchOption found ⊥ (λ it. DoesPlain m.lists trace it dn after.lists) → MatchOption found ⊥ (λ it. Does way m trace it dn after)
+    by None is does = absurd does
+    by (Some it) is does = does_plain way m trace it dn after does (ids it is) kept same
 
 -- ---- items that are done in the order of the text
 
--- by every way, a round of one worker
-pub alone-done : (way : Way) (rounds : ℕ) (s : State) (round : Round) (result : RoundResult) (after : State) → round.workers ≤ 1 → DoesRound s round result after → DoesRoundBy way rounds s round result after
-alone-done Serial rounds s round result after alone does = does
-alone-done (Schedule seed) rounds s round result after alone does = inl (alone, does)
-alone-done Threads rounds s round result after alone does = inl (alone, does)
-
-alone-serially : (way : Way) (m : MachineState) (round : Round) (result : RoundResult) (after : MachineState) → round.workers ≤ 1 → DoesRoundBy way m.rounds m.lists round result after.lists → DoesRoundBy Serial m.rounds m.lists round result after.lists
+-- a round of one worker is, by every way
+alone-serially : (way : Way) (m : MachineState) (round : Round) (result : RoundResult) (after : MachineState) → round.workers ≤ 1 → DoesRoundBy way m.rounds m.lists m.ids round result after.lists after.ids
+    → DoesRoundBy Serial m.rounds m.lists m.ids round result after.lists after.ids
 alone-serially Serial m round result after alone does = does
 alone-serially (Schedule seed) m round result after alone (inl (few, serial)) = serial
 alone-serially (Schedule seed) m round result after alone (inr (several, drawn)) = absurd (let never : ⊥ = omega (arith, several, alone) in never)

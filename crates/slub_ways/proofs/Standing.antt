@@ -236,6 +236,6 @@ pub stands-next : (way : Way) (m : MachineState) (trace : Trace) (it : Item) (dn
 unfolding Does
 stands-next way m trace (item.Round round) (done.Round result) coming after stands sound brief coherent does =
     stands-after m.lists trace round coming result after.lists stands
-    (lawful-by way m.rounds m.lists trace round result after.lists stands.coherent stands.rest (stands-may m.lists trace round coming stands sound brief) does.0)
+    (lawful-by way m.rounds m.lists m.ids trace round result after.lists after.ids stands.coherent stands.rest (stands-may m.lists trace round coming stands sound brief) does.0)
 stands-next way m trace (item.Client client) (done.Client outcome) coming after stands sound brief coherent does = client-stands m.lists trace client outcome coming after.lists stands coherent (client_effect m trace client outcome after does.0)
 stands-next way m trace it dn coming after stands sound brief coherent does = plain-stands m.lists trace it dn coming after.lists stands coherent does.0

@@ -1,5 +1,5 @@
 -- What holds of rounds of every way, and of machines before an item and after it.
-use Rattle.std.specs.Prelude.{◌≡◌, ℕ, ◌+◌, ◌^◌, ◌≤◌, length, Some, slice_get, slice_index}
+use Rattle.std.specs.Prelude.{◌≡◌, ℕ, ◌+◌, ◌^◌, ◌≤◌, List, length, Option, Some, slice_get, slice_index}
 use Rattle.slub_object_layout.specs.declared.event.Round.{Round as Events}
 use Rattle.slub_trace_reader.specs.declared.trace.Item.TheVariants.{Round}
 use Rattle.slub_trace_reader.specs.declared.trace.Trace.{Trace}
@@ -18,9 +18,10 @@ use Rattle.slub_ways.specs.Runs.{DoesAt, IsReadyMachine, MachineState}
 -- a round of a trace that is done on a coherent machine at rest is lawful, whatever the way
 abbrev pub RoundsOfAnyWayAreLawful : Type 0
 RoundsOfAnyWayAreLawful =
-    (way : Way) (rounds : ℕ) (s : State) (trace : Trace) (round : Events) (result : RoundResult)
-    (after : State) → IsCoherent s → IsAtRest s → MayDo s trace round
-    → DoesRoundBy way rounds s round result after → IsRound s round result after
+    (way : Way) (rounds : ℕ) (s : State) (ids : Option (List ℕ)) (trace : Trace)
+    (round : Events) (result : RoundResult) (after : State) (left : Option (List ℕ))
+    → IsCoherent s → IsAtRest s → MayDo s trace round
+    → DoesRoundBy way rounds s ids round result after left → IsRound s round result after
 
 -- a machine that stands before a round of a sound trace can do it
 abbrev pub ReadyRoundsMayBeDone : Type 0

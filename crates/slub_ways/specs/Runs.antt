@@ -1,5 +1,6 @@
 -- Runs of items: the machine, what each item does to it by a way, and which journals are lawful.
-use Rattle.std.specs.Prelude.{◌≡◌, ℕ, ◌+◌, ◌^◌, ◌≤◌, ◌⊎◌, List, [], ◌∷◌, length, take, MatchOption, ⊤, All, slice_get, slice_index}
+use Rattle.std.specs.Prelude.{◌≡◌, ◌≢◌, ℕ, ◌+◌, ◌^◌, ◌≤◌, ◌⊎◌, ◌==◌, if◌then◌else◌, List, [], ◌∷◌, length, take, Option, Some, None, MatchOption, ⊤, All, slice_get, slice_index}
+use Rattle.std.specs.Option.{option_map}
 use Rattle.slub_lists.specs.State.{State}
 use Rattle.slub_lists.specs.Coherent.{IsCoherent}
 use Rattle.slub_trace_reader.specs.declared.trace.Client.{Client as Asked}
@@ -12,18 +13,22 @@ use Rattle.slub_journal.specs.declared.journal.Done.TheVariants as done
 use Rattle.slub_journal.specs.declared.journal.Journal.{Journal}
 use Rattle.slub_journal.specs.BulkLines.{ServesBulkLines}
 use Rattle.slub_journal.specs.Kmalloc.{ServesClasses}
-use Rattle.slub_journal.specs.Lawful.{DoesPlain, IsReady, IsTotal, coming, opening_of}
+use Rattle.slub_journal.specs.Lawful.{DoesPlain, IsOwn, IsReady, IsTotal, coming, opening_of}
 use Rattle.slub_journal.specs.Reserves.{AreReserves, AreSoundReserves, Reserve, ServesReserves}
 use Rattle.slub_ways.specs.declared.way.Way.{Way}
 use Rattle.slub_ways.specs.declared.way.Way.TheVariants.{Serial, Schedule, Threads}
+use Rattle.slub_into_words.specs.Ids.{AreIds, first_ids}
+use Rattle.slub_ids.specs.Growth.{ids_after}
 use Rattle.slub_ways.specs.Ways.{DoesRoundBy, SpendsTurnsBy}
 
 -- ---- the machine
 
--- what contracts see of the machine between two items: its lists, beside them the reserves of its
--- clients, and how many `round` lines were done
+-- what contracts see of the machine between two items: its lists, beside them the transaction ids
+-- of its CPU words, where the first one of the trace isn't 0, the reserves of its clients, and how
+-- many `round` lines were done
 pub record MachineState : Type 0 where
   pub lists : State
+  pub ids : Option (List ℕ)
   pub reserves : List Reserve
   pub rounds : ℕ
 
@@ -31,17 +36,33 @@ pub record MachineState : Type 0 where
 abbrev pub KeepsReserves : MachineState → MachineState → Type 0
 KeepsReserves m after = after.reserves ≡ m.reserves
 
+-- the ids are as they were
+abbrev pub KeepsIds : MachineState → MachineState → Type 0
+KeepsIds m after = after.ids ≡ m.ids
+
 -- no `round` line was done
 abbrev pub KeepsRounds : MachineState → MachineState → Type 0
 KeepsRounds m after = after.rounds ≡ m.rounds
 
+-- the ids before the first item of a trace; that its CPUs begin at 0 is as if it gave none
+abbrev pub opening_ids : Trace → Option (List ℕ)
+opening_ids trace = if trace.tid == 0 then None else Some (first_ids trace.tid trace.cpus)
+
 -- before the first item of a trace there is no reserve, and no round was done
 abbrev pub machine_of : Trace → MachineState
-machine_of trace = record { lists = opening_of trace; reserves = []; rounds = 0 }
+machine_of trace =
+    record { lists = opening_of trace; ids = opening_ids trace; reserves = []; rounds = 0 }
+
+-- ids stand beside the lists of a trace whose first one isn't 0, and fit them; it has no client's
+-- line
+abbrev pub AreIdsFor : Trace → State → Option (List ℕ) → Type 0
+AreIdsFor trace s None = trace.tid ≡ 0
+AreIdsFor trace s (Some ids) = (trace.tid ≢ 0) × All IsOwn trace.items × AreIds s ids
 
 -- the machine stands before the item of this number
 pub record IsReadyMachine (m : MachineState) (trace : Trace) (number : ℕ) : Type 0 where
   pub lists : IsReady m.lists trace number
+  pub ids : AreIdsFor trace m.lists m.ids
   pub reserves : AreSoundReserves trace m.reserves
   pub rounds : m.rounds ≤ number
   -- each count of wanted frames stays below 2^62, even if every number that is still to be
@@ -63,15 +84,18 @@ Serves m trace client done after =
 -- ---- items
 
 -- an item is done, by an answer of its kind: a `round` line by the way, every other one as in
--- every way
+-- every way. A client's line is served on lists beside which no ids stand
 unfoldable pub Does : Way → MachineState → Trace → Item → Done → MachineState → Type 0
 Does way m trace (item.Round round) (done.Round result) after =
-    DoesRoundBy way m.rounds m.lists round result after.lists
+    DoesRoundBy way m.rounds m.lists m.ids round result after.lists after.ids
     × KeepsReserves m after × (after.rounds ≡ m.rounds + 1)
 Does way m trace (item.Client client) (done.Client outcome) after =
-    Serves m trace client outcome after × KeepsRounds m after
+    Serves m trace client outcome after × (m.ids ≡ None) × KeepsIds m after
+    × KeepsRounds m after
 Does way m trace item done after =
-    DoesPlain m.lists trace item done after.lists × KeepsReserves m after × KeepsRounds m after
+    DoesPlain m.lists trace item done after.lists
+    × (after.ids ≡ option_map (ids_after trace m.lists item done) m.ids)
+    × KeepsReserves m after × KeepsRounds m after
 
 -- the item of this number is done
 abbrev pub DoesAt : Way → MachineState → Trace → ℕ → Done → MachineState → Type 0
@@ -99,11 +123,15 @@ AreByText Serial items = ⊤
 AreByText (Schedule seed) items = All IsAlone items
 AreByText Threads items = All IsAlone items
 
+-- every item of the trace is done in the order of the text, on the lists alone
+abbrev pub IsByText : Way → Trace → Type 0
+IsByText way trace = (trace.tid ≡ 0) × AreByText way trace.items
+
 -- ---- turns that are spent
 
--- the item is a round whose turns are all made, and an event of it has no reply
+-- the item is a round whose turns are all made, and a worker of it is unfinished
 abbrev pub ItemSpendsTurns : Way → MachineState → Item → Type 0
-ItemSpendsTurns way m (item.Round round) = SpendsTurnsBy way m.rounds m.lists round
+ItemSpendsTurns way m (item.Round round) = SpendsTurnsBy way m.rounds m.lists m.ids round
 ItemSpendsTurns way m _ = ⊥
 
 -- so is the item of this number

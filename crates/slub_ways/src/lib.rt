@@ -3,10 +3,15 @@
 //! `way` has the ways. `specs/Ways.antt` says what each makes of a round: by `Serial` its events are answered one
 //! after the other, in the order of the text; by `Schedule` the workers of a round make turns as a number draws
 //! them, and by `Threads` as their threads come to them; by both a round of one worker is as by `Serial`.
-//! `specs/Runs.antt` has the machine between two items, which is the lists, the reserves of clients and how many
-//! `round` lines were done; what each item does to it; and which journals are lawful: the items answer the trace's
-//! first items, one each, from the opening machine on, and the machine is coherent between any two steps, those of
-//! a round by schedule or by threads among them.
+//! `specs/Runs.antt` has the machine between two items, which is the lists, beside them the transaction ids of the CPU
+//! words, the reserves of clients and how many `round` lines were done; what each item does to it; and which journals
+//! are lawful: the items answer the trace's first items, one each, from the opening machine on, and the machine is
+//! coherent between any two steps, those of a round by schedule or by threads among them.
+//!
+//! Ids stand beside the lists of a trace whose first one isn't 0. Then every round is done by steps that begin at
+//! them, one in the order of the text too, each event to its end, and leaves the ids that the next item finds. Any
+//! other trace has none between its items: a round by `Serial` is done on the lists, and one of several workers by the
+//! other ways begins with first ids anew.
 //!
 //! # What it promises
 //!

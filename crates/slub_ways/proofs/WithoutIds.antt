@@ -1,0 +1,91 @@
+-- Where the first transaction id of a trace is 0 the machine has no ids, rounds in the order of the text are done on its lists alone, and no turns of them are spent.
+use Rattle.std.proofs.Common.{◌≡◌, ℕ, ◌==◌, if◌then◌else◌, List, [], ◌∷◌, length, take, ◌∙◌, ap, subst, Option, Some, None, MatchOption, slice_get, inl, inr}
+use Rattle.std.specs.Option.{option_map}
+use Rattle.slub_object_layout.specs.declared.event.Round.{Round}
+use Rattle.slub_lists.specs.State.{State}
+use Rattle.slub_trace_reader.specs.declared.trace.Item.{Item}
+use Rattle.slub_trace_reader.specs.declared.trace.Item.TheVariants as item
+use Rattle.slub_trace_reader.specs.declared.trace.Trace.{Trace}
+use Rattle.slub_into_words.specs.Ids.{first_ids}
+use Rattle.slub_journal.specs.declared.journal.Done.{Done}
+use Rattle.slub_journal.specs.declared.journal.Done.TheVariants as done
+use Rattle.slub_journal.specs.declared.journal.Journal.{Journal}
+use Rattle.slub_journal.specs.declared.journal.RoundResult.{RoundResult}
+use Rattle.slub_journal.specs.Lawful.{DoesRound}
+use Rattle.slub_ids.specs.Growth.{ids_after}
+use Rattle.slub_ways.specs.declared.way.Way.{Way}
+use Rattle.slub_ways.specs.declared.way.Way.TheVariants.{Serial, Schedule, Threads}
+use Rattle.slub_ways.specs.Ways.{AreLeft, DoesByText, DoesRoundBy, SpendsTurnsBy}
+use Rattle.slub_ways.specs.Runs.{Does, EndsSpent, IsLawful, ItemSpendsTurns, MachineState, RunsItems, machine_of, opening_ids}
+
+-- ---- before the first item
+
+pub opens-without : (trace : Trace) → trace.tid ≡ 0 → opening_ids trace ≡ None
+opens-without trace bare = ap (λ (first : ℕ). if first == 0 then None else Some (first_ids first trace.cpus)) bare
+
+-- ---- a round
+
+text-without : (s : State) (ids : Option (List ℕ)) (round : Round) (result : RoundResult) (after : State) (left : Option (List ℕ)) → ids ≡ None → DoesByText s ids round result after left → DoesRound s round result after × (left ≡ None)
+text-without s None round result after left none does = does
+text-without s (Some ids) round result after left none does = absurd (let never : ⊥ = cc in never)
+
+left-without : (ids : Option (List ℕ)) (ids_after : List ℕ) (left : Option (List ℕ)) → ids ≡ None → AreLeft ids ids_after left → left ≡ None
+left-without None ids_after left none are = are
+left-without (Some ids) ids_after left none are = absurd (let never : ⊥ = cc in never)
+
+round-without : (way : Way) (rounds : ℕ) (s : State) (ids : Option (List ℕ)) (round : Round) (result : RoundResult) (after : State) (left : Option (List ℕ)) → ids ≡ None → DoesRoundBy way rounds s ids round result after left → left ≡ None
+round-without Serial rounds s ids round result after left none does = (text-without s ids round result after left none does).1
+round-without (Schedule seed) rounds s ids round result after left none (inl (few, does)) = (text-without s ids round result after left none does).1
+round-without (Schedule seed) rounds s ids round result after left none (inr (several, does)) = left-without ids does.0 left none does.2
+round-without Threads rounds s ids round result after left none (inl (few, does)) = (text-without s ids round result after left none does).1
+round-without Threads rounds s ids round result after left none (inr (several, does)) = left-without ids does.0 left none does.2
+
+-- in the order of the text it is done on the lists
+pub on-lists : (m : MachineState) (trace : Trace) (round : Round) (result : RoundResult) (after : MachineState) → m.ids ≡ None → Does Serial m trace (item.Round round) (done.Round result) after → DoesRound m.lists round result after.lists
+unfolding Does
+on-lists m trace round result after none does = (text-without m.lists m.ids round result after.lists after.ids none does.0).0
+
+-- ---- items
+
+-- after each there are none still
+pub none-stays : (way : Way) (m : MachineState) (trace : Trace) (it : Item) (dn : Done) (after : MachineState) → m.ids ≡ None → Does way m trace it dn after → after.ids ≡ None
+unfolding Does
+none-stays way m trace (item.Round round) (done.Round result) after none does = round-without way m.rounds m.lists m.ids round result after.lists after.ids none does.0
+none-stays way m trace (item.Client client) (done.Client outcome) after none does = does.2 ∙ none
+none-stays way m trace it dn after none does = does.1 ∙ ap (λ (ids : Option (List ℕ)). option_map (ids_after trace m.lists it dn) ids) none
+
+pub none-after : (way : Way) (m : MachineState) (trace : Trace) (items : List Item) (dones : List Done) (after : MachineState) → m.ids ≡ None → RunsItems way m trace items dones after → after.ids ≡ None
+none-after way m trace [] [] after none run = ap (λ (now : MachineState). now.ids) run ∙ none
+none-after way m trace [] (dn ∷ dones) after none run = absurd run
+none-after way m trace (it ∷ items) [] after none run = absurd run
+none-after way m trace (it ∷ items) (dn ∷ dones) after none run = none-after way run.0 trace items dones after (none-stays way m trace it dn run.0 none run.1) run.3
+
+-- and at the end of a lawful journal
+pub lawful-without : (way : Way) (trace : Trace) (journal : Journal) → trace.tid ≡ 0 → (law : IsLawful way trace journal) → law.machine.ids ≡ None
+lawful-without way trace journal bare law =
+    none-after way (machine_of trace) trace (take (length journal.items) trace.items) journal.items law.machine (opens-without trace bare) law.run
+
+-- ---- turns
+
+-- without ids there are none that could be spent
+abbrev pub HasNoTurns : Way → Type 0
+HasNoTurns way = (rounds : ℕ) (s : State) (round : Round) → SpendsTurnsBy way rounds s None round → ⊥
+
+pub serial-without : HasNoTurns Serial
+serial-without rounds s round spent = spent
+
+pub threads-without : HasNoTurns Threads
+threads-without rounds s round spent = spent.1
+
+item-unspent : (way : Way) (m : MachineState) (it : Item) → HasNoTurns way → m.ids ≡ None → ItemSpendsTurns way m it → ⊥
+item-unspent way m (item.Round round) turns none spent = turns m.rounds m.lists round (subst (λ (ids : Option (List ℕ)). SpendsTurnsBy way m.rounds m.lists ids round) none spent)
+item-unspent way m _ turns none spent = spent
+
+found-unspent : (way : Way) (m : MachineState) (found : Option Item) → HasNoTurns way → m.ids ≡ None → MatchOption found ⊥ (λ it. ItemSpendsTurns way m it) → ⊥
+found-unspent way m None turns none spent = spent
+found-unspent way m (Some it) turns none spent = item-unspent way m it turns none spent
+
+-- so no journal ends by turns that are spent
+pub never-spent : (way : Way) (trace : Trace) (journal : Journal) → trace.tid ≡ 0 → HasNoTurns way → EndsSpent way trace journal → ⊥
+never-spent way trace journal bare turns ends =
+    found-unspent way ends.0.machine (slice_get trace.items (length journal.items)) turns (lawful-without way trace journal bare ends.0) ends.1

@@ -1,5 +1,5 @@
 -- Where the machine stands before and after an item: a round, a client's line or another.
-use Rattle.std.proofs.Common.{◌≡◌, ℕ, ◌+◌, ◌^◌, ◌<◌, ◌≤◌, List, length, get_or, refl, sym, ap, subst, arith, All, Option, Some, MatchOption, slice_get, slice_index}
+use Rattle.std.proofs.Common.{◌≡◌, ℕ, ◌+◌, ◌^◌, ◌<◌, ◌≤◌, List, length, get_or, refl, sym, ap, subst, arith, All, Option, Some, None, MatchOption, slice_get, slice_index}
 use Rattle.std.proofs.lemmas.Option.{slice_get_read}
 use Rattle.slub_object_layout.specs.declared.event.Round.{Round}
 use Rattle.slub_lists.specs.State.{State}
@@ -18,11 +18,13 @@ use Rattle.slub_round_law.specs.Round.{IsRound}
 use Rattle.slub_engine.specs.Steps.{KeepsSizes, KeepsUnheld}
 use Rattle.slub_engine.proofs.Ready.{item_unheld, ready_next}
 use Rattle.slub_ways.specs.declared.way.Way.{Way}
-use Rattle.slub_ways.specs.Runs.{IsReadyMachine, ItemSpendsTurns, KeepsReserves, KeepsRounds, MachineState}
+use Rattle.slub_ways.specs.Runs.{AreIdsFor, IsReadyMachine, ItemSpendsTurns, KeepsIds, KeepsReserves, KeepsRounds, MachineState}
 use Rattle.slub_items.specs.declared.machine.Stopped.{Stopped}
 use Rattle.slub_items.specs.declared.machine.Stopped.TheVariants.{NoMemory, TurnsSpent}
+use Rattle.slub_items.specs.Ids.{StandAfter}
 use Rattle.slub_items.specs.Stopped.{IsClient, IsClientAt, IsMachineStopped, IsStopped}
 use Rattle.slub_items.proofs.Rounds.{keeps_sizes, keeps_unheld}
+use Rattle.slub_items.proofs.Standing.{client_stands, round_stands}
 
 -- ---- the item of a number
 
@@ -72,9 +74,10 @@ HasRoom m trace number = (order : ℕ) → slice_index m.lists.pool.dry order + 
 
 -- a client's line leaves the machine before the next item
 pub ready_client : (m after : MachineState) (trace : Trace) (number : ℕ) (it : Item) (client : Asked) → IsSound trace → IsReadyMachine m trace number → number < length trace.items → it ≡ get_or trace.items number it → it ≡ item.Client client
-    → IsCoherent after.lists → KeepsSizes m.lists after.lists → IsAtRest after.lists → KeepsUnheld m.lists (asked_objects client) after.lists → AreSoundReserves trace after.reserves → KeepsRounds m after
+    → IsCoherent after.lists → KeepsSizes m.lists after.lists → IsAtRest after.lists → KeepsUnheld m.lists (asked_objects client) after.lists → AreSoundReserves trace after.reserves → m.ids ≡ None → KeepsIds m after → KeepsRounds m after
     → HasRoom after trace (number + 1) → IsReadyMachine after trace (number + 1)
-ready_client m after trace number it client sound ready within at is coherent sizes rest keeps reserves same room = record {
+ready_client m after trace number it client sound ready within at is coherent sizes rest keeps reserves none still same room = record {
+  ids = client_stands trace m.lists after.lists m.ids after.ids none ready.ids still;
   lists = ready_next m.lists after.lists trace number it sound ready.lists within at coherent sizes rest (subst (λ (it : Item). KeepsUnheld m.lists (objects_in it) after.lists) (sym is) keeps);
   reserves = reserves;
   rounds = omega (arith, same, ready.rounds);
@@ -83,8 +86,9 @@ ready_client m after trace number it client sound ready within at is coherent si
 
 -- so does a round
 pub ready_round : (m after : MachineState) (trace : Trace) (number : ℕ) (it : Item) (round : Round) (result : RoundResult) → IsSound trace → IsReadyMachine m trace number → number < length trace.items → it ≡ get_or trace.items number it
-    → it ≡ item.Round round → IsRound m.lists round result after.lists → KeepsReserves m after → after.rounds ≡ m.rounds + 1 → HasRoom after trace (number + 1) → IsReadyMachine after trace (number + 1)
-ready_round m after trace number it round result sound ready within at is law kept more room = record {
+    → it ≡ item.Round round → IsRound m.lists round result after.lists → StandAfter m.ids after.lists after.ids → KeepsReserves m after → after.rounds ≡ m.rounds + 1 → HasRoom after trace (number + 1) → IsReadyMachine after trace (number + 1)
+ready_round m after trace number it round result sound ready within at is law stand kept more room = record {
+  ids = round_stands trace m.lists after.lists m.ids after.ids ready.ids stand;
   lists =
       ready_next m.lists after.lists trace number it sound ready.lists within at law.coherent (keeps_sizes m.lists round result after.lists law) law.rest
       (subst (λ (objects : List ℕ). KeepsUnheld m.lists objects after.lists) (sym (ap objects_in is)) (keeps_unheld m.lists round result after.lists law));
@@ -94,9 +98,10 @@ ready_round m after trace number it round result sound ready within at is law ke
 }
 
 -- and an item that is neither
-pub ready_plain : (m after : MachineState) (trace : Trace) (number : ℕ) → IsReadyMachine m trace number → IsReady after.lists trace (number + 1) → KeepsReserves m after → KeepsRounds m after → HasRoom after trace (number + 1)
+pub ready_plain : (m after : MachineState) (trace : Trace) (number : ℕ) → IsReadyMachine m trace number → IsReady after.lists trace (number + 1) → AreIdsFor trace after.lists after.ids → KeepsReserves m after → KeepsRounds m after → HasRoom after trace (number + 1)
     → IsReadyMachine after trace (number + 1)
-ready_plain m after trace number ready lists kept same room = record {
+ready_plain m after trace number ready lists ids kept same room = record {
+  ids = ids;
   lists = lists;
   reserves = subst (AreSoundReserves trace) (sym kept) ready.reserves;
   rounds = omega (arith, same, ready.rounds);

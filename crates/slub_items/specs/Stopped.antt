@@ -1,5 +1,5 @@
 -- Why a round, or an item, wasn't done.
-use Rattle.std.specs.Prelude.{◌≡◌, ℕ, MatchOption, ⊤, slice_get}
+use Rattle.std.specs.Prelude.{◌≡◌, ℕ, List, Option, MatchOption, ⊤, slice_get}
 use Rattle.slub_object_layout.specs.declared.event.Round.{Round}
 use Rattle.slub_lists.specs.State.{State}
 use Rattle.slub_trace_reader.specs.declared.trace.Item.{Item}
@@ -17,15 +17,17 @@ use Rattle.slub_items.specs.declared.machine.Stopped.TheVariants.{NoMemory, Turn
 -- ---- rounds
 
 -- why a round wasn't done by a way, after so many `round` lines: there was no memory, and the lists
--- are as they were; or all its turns are made, and an event has no reply
-abbrev pub IsRoundStopped : Way → ℕ → State → Round → RoundStopped → Type 0
-IsRoundStopped way rounds s round (round_stopped.NoMemory lists) = lists ≡ s
-IsRoundStopped way rounds s round round_stopped.TurnsSpent = SpendsTurnsBy way rounds s round
+-- are as they were; or all its turns are made, and a worker is unfinished
+abbrev pub IsRoundStopped
+    : Way → ℕ → State → Option (List ℕ) → Round → RoundStopped → Type 0
+IsRoundStopped way rounds s ids round (round_stopped.NoMemory lists) = lists ≡ s
+IsRoundStopped way rounds s ids round round_stopped.TurnsSpent =
+    SpendsTurnsBy way rounds s ids round
 
 -- the same of a machine
 abbrev pub IsMachineStopped : Way → MachineState → Round → Stopped → Type 0
 IsMachineStopped way m round (NoMemory after) = after ≡ m
-IsMachineStopped way m round TurnsSpent = SpendsTurnsBy way m.rounds m.lists round
+IsMachineStopped way m round TurnsSpent = SpendsTurnsBy way m.rounds m.lists m.ids round
 
 -- ---- items
 
@@ -39,8 +41,8 @@ abbrev pub IsClientAt : Trace → ℕ → Type 0
 IsClientAt trace number = MatchOption (slice_get trace.items number) ⊥ IsClient
 
 -- why the item of this number wasn't done: there was no memory, where it takes some, and but for a
--- client's line the machine is as it was; or all turns of its round are made, and an event has no
--- reply
+-- client's line the machine is as it was; or all turns of its round are made, and a worker is
+-- unfinished
 abbrev pub IsStopped : Way → MachineState → Trace → ℕ → Stopped → Type 0
 IsStopped way m trace number (NoMemory after) =
     TakesMemoryAt trace number × (¬ IsClientAt trace number → after ≡ m)

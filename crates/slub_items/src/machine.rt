@@ -1,23 +1,28 @@
 //! The machine, and what an item does to it.
 
-ghost use Rattle.std.specs.Prelude.{◌≡◌, ◌+◌, ◌-◌, ◌^◌, ◌<◌, ◌≤◌, length, IfErr, IfOk, OnErr, OnOk};
+ghost use Rattle.std.specs.Prelude.{◌≡◌, ◌+◌, ◌-◌, ◌^◌, ◌<◌, ◌≤◌, length, IfErr, IfOk, IfSome, OnErr, OnOk};
 ghost use Rattle.slub_lists.specs.Coherent.{IsCoherent};
 ghost use Rattle.slub_trace_reader.specs.declared.trace.Trace.{Trace as Read};
 ghost use Rattle.slub_trace_reader.specs.Sound.{IsSound, asked_objects};
 ghost use Rattle.slub_calls.specs.Laws.{MayDo};
 ghost use Rattle.slub_journal.specs.Asked.{IsServable};
+ghost use Rattle.slub_ids.specs.Due.{AreAfter};
+ghost use Rattle.slub_into_words.specs.Ids.{AreIds};
 ghost use Rattle.slub_journal.specs.Lawful.{DoesPlainAt, IsAtRest, IsPlainAt, IsReady, IsTotal, TakesMemoryAt, all_freed, all_given, opening_of};
 ghost use Rattle.slub_journal.specs.Reserves.{AreSoundReserves};
 ghost use Rattle.slub_round_law.specs.Round.{IsRound};
 ghost use Rattle.slub_engine.specs.Steps.{KeepsSizes, KeepsUnheld};
 ghost use Rattle.slub_ways.specs.Ways.{DoesRoundBy};
-ghost use Rattle.slub_ways.specs.Runs.{DoesAt, IsReadyMachine, KeepsReserves, KeepsRounds, Serves, machine_of};
+ghost use Rattle.slub_ways.specs.Runs.{DoesAt, IsReadyMachine, KeepsIds, KeepsReserves, KeepsRounds, Serves, machine_of, opening_ids};
+ghost use Rattle.slub_items.specs.Ids.{LeavesIdsAt, StandAfter};
 ghost use Rattle.slub_items.specs.Stopped.{IsMachineStopped, IsStopped};
 
-use crate::round::by_way;
+use crate::round::{Rounded, by_way};
 use slub_common::no_memory::NoMemory;
 use slub_edges::gate::Gate;
 use slub_engine::item;
+use slub_ids::growth::{Due, settle};
+use slub_into_words::ids::Ids;
 use slub_journal::client::ClientDone;
 use slub_journal::journal::{Done, RoundResult, Total};
 use slub_list_machine::lists::Lists;
@@ -32,11 +37,12 @@ use std::marker::Model;
 use std::sync::Wait;
 use std::thread::Threads;
 
-/// The machine between two items: its lists, beside them the reserves of its clients, and how many `round` lines
-/// were done.
+/// The machine between two items: its lists, beside them the transaction ids of its CPU words, where the trace gives
+/// the first one, the reserves of its clients, and how many `round` lines were done.
 #[derive(Drop)]
 pub struct Machine {
     lists: Lists,
+    ids: Option<Ids>,
     reserves: Reserves,
     rounds: u64,
 }
@@ -46,7 +52,7 @@ impl Model for Machine {
 
     ghost Value = { MachineState };
 
-    ghost view = { λ m. record { lists = m.lists; reserves = m.reserves; rounds = m.rounds } };
+    ghost view = { λ m. record { lists = m.lists; ids = m.ids; reserves = m.reserves; rounds = m.rounds } };
 }
 
 /// Why an item wasn't done.
@@ -55,21 +61,24 @@ pub enum Stopped {
     /// There was no memory for it. The machine is as it was given, but after a client's line as the line left it so
     /// far.
     NoMemory(Machine),
-    /// All turns of the round are made, and an event has no reply.
+    /// All turns of the round are made, and a worker is unfinished.
     TurnsSpent,
 }
 
 impl Machine {
-    /// The machine before the first item of a trace: no cache, no reserve, and no round done.
+    /// The machine before the first item of a trace: no cache, no reserve, and no round done. The CPU words begin at
+    /// the first ids, where the trace gives one.
     pub fn open(alloc: Global, trace: &Trace) -> Result<Machine, NoMemory>
         requires { IsSound trace.now }
         ensures opened { IfOk result (λ machine. machine ≡ machine_of trace.now) }
         ensures coherent { IsCoherent (opening_of trace.now) }
     {
         let lists = open_lists(alloc, trace)?;
+        let ids = open_ids(alloc, trace)?;
         let reserves = Reserves::open(alloc)?;
         Ok(Machine {
             lists,
+            ids,
             reserves,
             rounds: 0,
         })
@@ -79,7 +88,8 @@ impl Machine {
     /// of a round by threads pass the gate before each of their events.
     ///
     /// The errors: `NoMemory` where none was found, only for an item that takes some, which a shrink, a destroy and a
-    /// setting don't; `TurnsSpent` only for a round of two or more workers by `Way::Schedule`.
+    /// setting don't; `TurnsSpent` only for a round of two or more workers by `Way::Schedule`, or of a trace that gives
+    /// the first transaction id.
     pub fn item<R: Threads + Wait + Sync, G: Gate + Sync>(
         mut self,
         rt: &R,
@@ -127,23 +137,27 @@ impl Machine {
         requires rest { IsAtRest self.lists }
         requires objects { length self.lists.board ≤ 1048577 }
         requires may_do { (trace : Read) × MayDo self.lists trace round.now }
+        requires ids { IfSome self.ids (AreIds self.lists) }
         requires few { self.rounds < 2 ^ 64 - 1 }
-        ensures does { IfOk result (λ done.
-            DoesRoundBy way self.rounds self.lists round.now done.1 done.0.lists) }
+        ensures does { IfOk result (λ done. DoesRoundBy way self.rounds self.lists self.ids
+            round.now done.1 done.0.lists done.0.ids) }
         ensures lawful { IfOk result (λ done. IsRound self.lists round.now done.1 done.0.lists) }
+        ensures ids { IfOk result (λ done. StandAfter self.ids done.0.lists done.0.ids) }
         ensures reserves { IfOk result (λ done. KeepsReserves self done.0) }
         ensures counted { IfOk result (λ done. done.0.rounds ≡ self.rounds + 1) }
         ensures stopped { IfErr result (IsMachineStopped way self round.now) }
     {
         let Machine {
             lists,
+            ids,
             reserves,
             rounds,
         } = self;
-        match by_way(rt, gate, alloc, lists, round, rounds, way) {
-            Ok((lists, result)) => Ok((
+        match by_way(rt, gate, alloc, lists, &ids, round, rounds, way) {
+            Ok(Rounded { lists, ids, result }) => Ok((
                 Machine {
                     lists,
+                    ids,
                     reserves,
                     rounds: rounds + 1,
                 },
@@ -151,6 +165,7 @@ impl Machine {
             )),
             Err(RoundStopped::NoMemory(lists)) => Err(Stopped::NoMemory(Machine {
                 lists,
+                ids,
                 reserves,
                 rounds,
             })),
@@ -158,22 +173,28 @@ impl Machine {
         }
     }
 
-    /// Does an item that is neither a round nor a client's line, on the lists. Where no memory is found, the machine
-    /// is as it was given.
+    /// Does an item that is neither a round nor a client's line. Where no memory is found, the machine is as it was
+    /// given.
     fn plain_item(&mut self, alloc: Global, trace: &Trace, number: usize) -> Result<Done, NoMemory>
         requires sound { IsSound trace.now }
         requires within { number < length trace.now.items }
         requires plain { IsPlainAt trace.now number }
         requires ready { IsReady self.old.lists trace.now number }
+        requires ids { IfSome self.old.ids (AreIds self.old.lists) }
         ensures done { IfOk result (λ done.
             DoesPlainAt self.old.lists trace.now number done self.new.lists) }
+        ensures ids { IfOk result (λ done.
+            LeavesIdsAt trace.now self.old.lists number done self.old.ids self.new.ids) }
         ensures reserves { KeepsReserves self.old self.new }
         ensures rounds { KeepsRounds self.old self.new }
         ensures ready { OnOk result (IsReady self.new.lists trace.now (number + 1)) }
         ensures err { OnErr result (self.new ≡ self.old) }
         ensures memory { OnErr result (TakesMemoryAt trace.now number) }
     {
-        item::item(alloc, &mut self.lists, trace, number)
+        match &mut self.ids {
+            Some(ids) => item_beside(alloc, &mut self.lists, ids, trace, number),
+            None => item::item(alloc, &mut self.lists, trace, number),
+        }
     }
 
     /// Serves a client's line. Where no memory is found, the machine is as it was left so far.
@@ -192,6 +213,7 @@ impl Machine {
         ensures unheld { KeepsUnheld self.old.lists (asked_objects client.now) self.new.lists }
         ensures rest { IsAtRest self.new.lists }
         ensures reserves { AreSoundReserves trace.now self.new.reserves }
+        ensures ids { KeepsIds self.old self.new }
         ensures rounds { KeepsRounds self.old self.new }
     {
         match client {
@@ -218,6 +240,34 @@ impl Machine {
     }
 }
 
+/// Does an item that is neither a round nor a client's line, on lists beside which ids stand. Where no memory is found,
+/// both are as they were.
+fn item_beside(
+    alloc: Global,
+    lists: &mut Lists,
+    ids: &mut Ids,
+    trace: &Trace,
+    number: usize,
+) -> Result<Done, NoMemory>
+    requires sound { IsSound trace.now }
+    requires within { number < length trace.now.items }
+    requires plain { IsPlainAt trace.now number }
+    requires ready { IsReady lists.old trace.now number }
+    requires ids { AreIds lists.old ids.old }
+    ensures done { IfOk result (λ done. DoesPlainAt lists.old trace.now number done lists.new) }
+    ensures ids { IfOk result (λ done.
+        AreAfter trace.now lists.old number done ids.old ids.new) }
+    ensures ready { OnOk result (IsReady lists.new trace.now (number + 1)) }
+    ensures same_lists { OnErr result (lists.new ≡ lists.old) }
+    ensures same_ids { OnErr result (ids.new ≡ ids.old) }
+    ensures memory { OnErr result (TakesMemoryAt trace.now number) }
+{
+    let due = Due::of(lists, trace, number);
+    let done = item::item(alloc, lists, trace, number)?;
+    settle(ids, trace, number, &due, &done);
+    Ok(done)
+}
+
 /// The lists before the first item of a trace.
 fn open_lists(alloc: Global, trace: &Trace) -> Result<Lists, NoMemory>
     requires { IsSound trace.now }
@@ -231,4 +281,16 @@ fn open_lists(alloc: Global, trace: &Trace) -> Result<Lists, NoMemory>
         trace.objects,
         trace.names.as_slice(),
     )
+}
+
+/// The transaction ids before the first item of a trace, where it gives the first one.
+fn open_ids(alloc: Global, trace: &Trace) -> Result<Option<Ids>, NoMemory>
+    requires { IsSound trace.now }
+    ensures { IfOk result (λ ids. ids ≡ opening_ids trace.now) }
+{
+    if trace.tid == 0 {
+        return Ok(None);
+    }
+    let first = Ids::first(alloc, trace.tid, trace.cpus)?;
+    Ok(Some(first))
 }

@@ -1,0 +1,83 @@
+-- The transaction ids beside the lists, after a round, a client's line or another item.
+use Rattle.std.proofs.Common.{◌≡◌, ℕ, ◌+◌, ◌^◌, ◌<◌, ◌≤◌, List, length, get_or, eqb, ap, ◌∙◌, refl, sym, subst, Option, Some, None, MatchOption, slice_get, arith}
+use Rattle.std.specs.Prelude.{IfSome}
+use Rattle.std.proofs.lemmas.Bool.{cond-false, ne_eqb}
+use Rattle.std.specs.Option.{option_map}
+use native.Mathlib.Nat.{zero-mod}
+use Rattle.slub_lists.specs.State.{State}
+use Rattle.slub_lists.specs.Coherent.{IsCoherent}
+use Rattle.slub_into_words.specs.Ids.{AreIds, IsStepOf, first_ids}
+use Rattle.slub_into_words.proofs.Firsts.{first-ids-fit, step-below}
+use Rattle.slub_ids.specs.Growth.{ids_after}
+use Rattle.slub_ids.proofs.Items.{items-keep}
+use Rattle.slub_ids.proofs.Steps.{is-step}
+use Rattle.slub_trace_reader.specs.declared.trace.Client.{Client as Asked}
+use Rattle.slub_trace_reader.specs.declared.trace.Item.{Item}
+use Rattle.slub_trace_reader.specs.declared.trace.Item.TheVariants as item
+use Rattle.slub_trace_reader.specs.declared.trace.Trace.{Trace}
+use Rattle.slub_trace_reader.specs.Grammar.{step_of}
+use Rattle.slub_trace_reader.specs.Sound.{IsSound}
+use Rattle.slub_journal.specs.declared.journal.Done.{Done}
+use Rattle.slub_journal.specs.Lawful.{DoesPlain, DoesPlainAt, IsOwn, IsReady}
+use Rattle.slub_ways.specs.Runs.{AreIdsFor, opening_ids}
+use Rattle.slub_items.specs.Ids.{LeavesIdsAt, StandAfter}
+
+-- they fit where they stand
+pub fit_beside : (trace : Trace) (s : State) (ids : Option (List ℕ)) → AreIdsFor trace s ids → IfSome ids (AreIds s)
+fit_beside trace s None are = tt
+fit_beside trace s (Some ids) are = are.2
+
+-- new ones fit, too
+pub new_fit : (s : State) → IsCoherent s → AreIds s (first_ids 0 s.cpus)
+new_fit s coherent =
+    let cpus = coherent.shaped.cpus in
+    let least : IsStepOf s.cpus (step_of s.cpus) = is-step s.cpus cpus.0 cpus.1 in
+    let below : step_of s.cpus ≤ 16 = step-below s.cpus (step_of s.cpus) cpus.1 least in
+    first-ids-fit s 0 (step_of s.cpus) cpus.0 least (zero-mod (step_of s.cpus)) (omega (arith, below)) (λ n is. omega (arith, below))
+
+-- the id of each CPU fits 32 bits
+pub first_few : (trace : Trace) → IsSound trace → trace.tid + trace.cpus ≤ 2 ^ 32
+first_few trace sound =
+    let least : IsStepOf trace.cpus (step_of trace.cpus) = is-step trace.cpus sound.cpus.0 sound.cpus.1 in
+    omega (arith, least.1, sound.tid.1)
+
+-- where the trace gives the first one, they begin at it
+pub opening_given : (trace : Trace) (ids : List ℕ) → 1 ≤ trace.tid → ids ≡ first_ids trace.tid trace.cpus → Some ids ≡ opening_ids trace
+opening_given trace ids given is = ap (λ (l : List ℕ). Some l) is ∙ sym (cond-false (eqb trace.tid 0) None (Some (first_ids trace.tid trace.cpus)) (ne_eqb trace.tid 0 (λ none. let never : ⊥ = omega (arith, given, none) in never)))
+
+-- ---- after a round
+
+pub round_stands : (trace : Trace) (s after : State) (ids left : Option (List ℕ)) → AreIdsFor trace s ids → StandAfter ids after left → AreIdsFor trace after left
+round_stands trace s after None left are none = rw none are
+round_stands trace s after (Some ids) None are stand = absurd stand
+round_stands trace s after (Some ids) (Some left) are stand = (are.0, are.1, stand)
+
+-- ---- after a client's line
+
+-- no ids stand before one
+pub none_stand : (trace : Trace) (number : ℕ) (it : Item) (client : Asked) (s : State) (ids : Option (List ℕ)) → number < length trace.items → it ≡ get_or trace.items number it → it ≡ item.Client client → AreIdsFor trace s ids → ids ≡ None
+none_stand trace number it client s None within at is are = refl
+none_stand trace number it client s (Some ids) within at is are = absurd (let here : IsOwn it = subst IsOwn (sym at) (are.1 number it within) in subst IsOwn is here)
+
+pub client_stands : (trace : Trace) (s after : State) (ids left : Option (List ℕ)) → ids ≡ None → AreIdsFor trace s ids → left ≡ ids → AreIdsFor trace after left
+client_stands trace s after None left none are same = rw same are
+client_stands trace s after (Some ids) left none are same = absurd (let never : ⊥ = cc in never)
+
+-- ---- after another item
+
+plain_stands : (trace : Trace) (it : Item) (done : Done) (s after : State) (ids left : Option (List ℕ)) → IsSound trace → s.cpus ≡ trace.cpus → IsCoherent s → IsCoherent after
+    → DoesPlain s trace it done after → AreIdsFor trace s ids → left ≡ option_map (ids_after trace s it done) ids → AreIdsFor trace after left
+plain_stands trace it done s after None left sound cpus before coherent does are is = rw is are
+plain_stands trace it done s after (Some ids) left sound cpus before coherent does are is = rw is (are.0, are.1, items-keep s trace it done after ids sound cpus before coherent are.2 does)
+
+-- the same of the item of a number
+pub leaves_at : (trace : Trace) (s : State) (number : ℕ) (done : Done) (ids left : Option (List ℕ)) → LeavesIdsAt trace s number done ids left → (it : Item) → slice_get trace.items number ≡ Some it → left ≡ option_map (ids_after trace s it done) ids
+leaves_at trace s number done ids left leaves it is = subst (λ (found : Option Item). MatchOption found ⊥ (λ it. left ≡ option_map (ids_after trace s it done) ids)) is leaves
+
+pub plain_stands_at : (trace : Trace) (number : ℕ) (done : Done) (s after : State) (ids left : Option (List ℕ)) → IsSound trace → IsReady s trace number → IsReady after trace (number + 1)
+    → DoesPlainAt s trace number done after → AreIdsFor trace s ids → LeavesIdsAt trace s number done ids left → AreIdsFor trace after left
+plain_stands_at trace number done s after ids left sound ready next does are leaves = by (slice_get trace.items number) does leaves
+  where
+    by : (found : Option Item) → MatchOption found ⊥ (λ it. DoesPlain s trace it done after) → MatchOption found ⊥ (λ it. left ≡ option_map (ids_after trace s it done) ids) → AreIdsFor trace after left
+    by None does leaves = absurd does
+    by (Some it) does leaves = plain_stands trace it done s after ids left sound ready.cpus ready.coherent next.coherent does are leaves

@@ -1,5 +1,5 @@
 -- From the parts of a run to its clauses.
-use Rattle.std.proofs.Common.{◌≡◌, ◌≢◌, ℕ, ◌<◌, ◌≤◌, MatchOption, slice_get, List, [], ◌++◌, Bool, true, false, cond, Some, None, Ok, Err, Result, refl, sym, subst, ◌∙◌, length, arith, append-nil, inl, inr}
+use Rattle.std.proofs.Common.{◌≡◌, ◌≢◌, ℕ, ◌<◌, ◌≤◌, List, [], ◌++◌, Bool, true, false, cond, Some, None, Ok, Err, Result, refl, sym, subst, ◌∙◌, length, arith, append-nil, inl, inr}
 use Rattle.std.specs.Prelude.{IfSome, Option, ◌⊎◌, IsSomeAnd, IsSome}
 use Rattle.std.specs.List.{list_any}
 use Rattle.std.proofs.lemmas.Bool.{false≢true, cases_lt}
@@ -10,15 +10,12 @@ use Rattle.slub_edges.proofs.Told.{AppendsFront-after, AppendsFront-then, Append
 use Rattle.slub_object_layout.specs.declared.layout.Layout.{Layout as SlabLayout}
 use Rattle.slub_object_layout.specs.declared.layout.LayoutRefusal.{LayoutRefusal}
 use Rattle.slub_object_layout.specs.declared.layout.Spec.{Spec}
-use Rattle.slub_object_layout.specs.declared.event.Round.{Round}
 use Rattle.slub_command.specs.declared.command.How.{How}
 use Rattle.slub_command.specs.declared.command.How.TheVariants as hows
 use Rattle.slub_command.specs.declared.command.Command.{Command}
 use Rattle.slub_command.specs.declared.command.Command.TheVariants.{Replay, Layout, Load}
 use Rattle.slub_command.specs.Command.{IsCommand}
 use Rattle.slub_slabinfo_text.specs.Texts.{layout_lines}
-use Rattle.slub_trace_reader.specs.declared.trace.Item.{Item}
-use Rattle.slub_trace_reader.specs.declared.trace.Item.TheVariants as item
 use Rattle.slub_trace_reader.specs.declared.trace.Trace.{Trace}
 use Rattle.slub_trace_reader.specs.declared.reading.Why.{Why}
 use Rattle.slub_trace_reader.specs.Grammar.{IsTrace}
@@ -26,9 +23,9 @@ use Rattle.slub_trace_reader.specs.Reads.{IsBadIn, Spells}
 use Rattle.slub_trace_reader.specs.Sound.{IsSound}
 use Rattle.slub_ways.specs.declared.way.Way.{Way}
 use Rattle.slub_ways.specs.declared.way.Way.TheVariants.{Serial, Schedule}
-use Rattle.slub_ways.specs.Runs.{EndsSpent, IsLawful, ItemSpendsTurns, MachineState}
-use Rattle.slub_ways.specs.Ways.{SpendsTurnsBy}
+use Rattle.slub_ways.specs.Runs.{IsLawful}
 use Rattle.slub_ways.proofs.Runs.{lawful-serially}
+use Rattle.slub_ways.proofs.WithoutIds.{HasNoTurns, never-spent, serial-without, threads-without}
 use Rattle.slub_journal.specs.Lawful.{IsBuilt}
 use Rattle.slub_journal.specs.declared.journal.Journal.{Journal}
 use Rattle.slub_cli.specs.declared.stop.Stop.{Stop}
@@ -40,7 +37,7 @@ use Rattle.slub_laws.proofs.Moved.{freed_was_given, given_once}
 use Rattle.slub_laws.proofs.Totals.{given_is_live}
 use Rattle.slub_laws.proofs.Rounds.{lawful-rounds}
 use Rattle.slub_laws.proofs.Pokes.{poked-damages}
-use Rattle.slub_cli.specs.Run.{AreBadWords, AsksReplay, Call, Ends, IsAsked, IsBadInput, IsBadBytes, IsCauseOf, IsDone, IsFaultLine, IsJournalOf, IsLayoutAnswer, IsLayoutCause, IsLayoutText, IsReplayCause, HoldsOver, IsLoadCause, IsReplayJournal, IsRunOf, SpendsNextRound, IsSomeTrace, IsTextOf, IsWant, NoFault, TellsReads, TookAll, TookFront, Wrote, answer_status, done_status, is_refused, lacks_memory, last_in, text_in, way_asked, way_of}
+use Rattle.slub_cli.specs.Run.{AreBadWords, AsksReplay, Call, Ends, HasNoIds, IsAsked, IsBadInput, IsBadBytes, IsCauseOf, IsDone, IsFaultLine, IsJournalOf, IsLayoutAnswer, IsLayoutCause, IsLayoutText, IsReplayCause, HoldsOver, IsLoadCause, IsReplayJournal, IsRunOf, SpendsNextRound, IsSomeTrace, IsTextOf, IsWant, NoFault, TellsReads, TookAll, TookFront, Wrote, answer_status, done_status, is_refused, lacks_memory, last_in, text_in, way_asked, way_of}
 use Rattle.slub_cli.specs.Inner.{Finishes, StopsAtReadFault, StopsAtWriteFault, Worked, Works, stop_line, stop_status}
 use Rattle.slub_cli.proofs.Words.{layout_apart, load_apart, one_layout, replay_apart, same_replay}
 
@@ -149,7 +146,7 @@ holds way trace journal sound lawful = record {
   freed_once = λ object. freed_was_given way trace journal sound lawful object;
   balance = given_is_live way trace journal sound lawful;
   rounds = lawful-rounds way trace journal sound lawful;
-  damages = λ by_text. poked-damages trace journal sound (lawful-serially way trace journal by_text lawful);
+  damages = λ by_text. poked-damages trace journal sound by_text.0 (lawful-serially way trace journal by_text.1 lawful);
 }
 
 holds_none : (way : Way) (trace : Option Trace) (journal : Journal) → trace ≡ None → IfSome trace (λ trace. HoldsOver way trace journal)
@@ -464,21 +461,10 @@ spent_some : (way : Way) (trace : Option Trace) (j : Journal) → SpendsNextRoun
 spent_some way None j spent = absurd spent.0
 spent_some way (Some trace) j spent = refl
 
--- only by schedule are there turns
-abbrev HasNoTurns : Way → Type 0
-HasNoTurns way = (m : MachineState) (round : Round) → SpendsTurnsBy way m.rounds m.lists round → ⊥
-
-no_turns : (way : Way) (m : MachineState) (it : Item) → HasNoTurns way → ItemSpendsTurns way m it → ⊥
-no_turns way m (item.Round round) none spent = none m round spent
-no_turns way m _ none spent = spent
-
-none_spent : (way : Way) (m : MachineState) (found : Option Item) → HasNoTurns way → MatchOption found ⊥ (λ it. ItemSpendsTurns way m it) → ⊥
-none_spent way m None none spent = spent
-none_spent way m (Some it) none spent = no_turns way m it none spent
-
-not_spent : (way : Way) (trace : Option Trace) (j : Journal) → HasNoTurns way → SpendsNextRound way trace j → ⊥
-not_spent way None j none spent = absurd spent.0
-not_spent way (Some trace) j none spent = let ends : EndsSpent way trace j = spent.0 in none_spent way ends.0.machine (slice_get trace.items (length j.items)) none ends.1
+-- where the trace gives no first transaction id, no turns are spent of a way that has none
+not_spent : (way : Way) (trace : Option Trace) (j : Journal) → IfSome trace HasNoIds → HasNoTurns way → SpendsNextRound way trace j → ⊥
+not_spent way None j bare turns spent = absurd spent.0
+not_spent way (Some trace) j bare turns spent = never-spent way trace j bare turns spent.0
 
 -- a run that lacks memory did not do every item, or a reply tells of it
 wanting : (trace : Option Trace) (j : Journal) → IsWant trace j → IsDone trace j → NoMemory ≡ done_status trace j
@@ -560,14 +546,14 @@ load c trace j (Some (Replay how n replies)) status asked cause seed events work
 load c trace j (Some (Layout spec cpus)) status asked cause seed events workers asks no_write = absurd (layout_apart c.words spec cpus seed events workers asked asks)
 load c trace j (Some (Load m more crew)) status asked cause seed events workers asks no_write = load_complete c (Schedule m) trace j status cause no_write
 
--- a replay in the order of the text, or by threads, has no turns that could be spent
+-- a replay in the order of the text, or by threads, has no turns that could be spent, where the trace gives no first transaction id
 unspent : (c : Call) (trace : Option Trace) (j : Journal) (asked : Option Command) → IsAsked c.words asked → IsCauseOf c asked trace j TurnsSpent → (how : How) (seed : ℕ) (replies : Bool)
-    → ((n : ℕ) → HasNoTurns (way_of how n)) → IsCommand c.words (Replay how seed replies) → ⊥
-unspent c trace j None asked cause how seed replies none asks = cause.0
-unspent c trace j (Some (Replay other n told)) asked cause how seed replies none asks =
-    not_spent (way_of how n) trace j (none n) (subst (λ h. SpendsNextRound (way_of h n) trace j) (same_replay c.words other how n seed told replies asked asks) cause)
-unspent c trace j (Some (Layout spec cpus)) asked cause how seed replies none asks = cause.0
-unspent c trace j (Some (Load m events workers)) asked cause how seed replies none asks = load_apart c.words how seed replies m events workers asks asked
+    → ((n : ℕ) → HasNoTurns (way_of how n)) → IsCommand c.words (Replay how seed replies) → IfSome trace HasNoIds → ⊥
+unspent c trace j None asked cause how seed replies turns asks bare = cause.0
+unspent c trace j (Some (Replay other n told)) asked cause how seed replies turns asks bare =
+    not_spent (way_of how n) trace j bare (turns n) (subst (λ h. SpendsNextRound (way_of h n) trace j) (same_replay c.words other how n seed told replies asked asks) cause)
+unspent c trace j (Some (Layout spec cpus)) asked cause how seed replies turns asks bare = cause.0
+unspent c trace j (Some (Load m events workers)) asked cause how seed replies turns asks bare = load_apart c.words how seed replies m events workers asks asked
 
 -- but for a write fault and want of memory, a run ends as one of bad words exactly where the words are no command
 bad_words : (c : Call) (trace : Option Trace) (j : Journal) (asked : Option Command) (status : Status) → IsAsked c.words asked → IsCauseOf c asked trace j status
@@ -606,10 +592,10 @@ promise c outcome ends = record {
   bad_words = λ apart wanting. bad_words c outcome.trace outcome.journal ends.asked outcome.status ends.is_asked ends.cause apart wanting;
   bad_trace = λ asks bad sound. bad_trace c outcome.trace outcome.journal ends.asked outcome.status ends.is_asked ends.cause ends.lawful asks bad sound;
   complete = λ asks good sound. complete c outcome.trace outcome.journal ends.asked outcome.status ends.is_asked ends.cause asks good sound;
-  serial = λ seed replies asks is.
-      unspent c outcome.trace outcome.journal ends.asked ends.is_asked (subst (λ status. IsCauseOf c ends.asked outcome.trace outcome.journal status) is ends.cause) hows.Serial seed replies (λ n m round spent. spent) asks;
-  threads = λ seed replies asks is.
-      unspent c outcome.trace outcome.journal ends.asked ends.is_asked (subst (λ status. IsCauseOf c ends.asked outcome.trace outcome.journal status) is ends.cause) hows.Threads seed replies (λ n m round spent. spent) asks;
+  serial = λ seed replies asks bare is.
+      unspent c outcome.trace outcome.journal ends.asked ends.is_asked (subst (λ status. IsCauseOf c ends.asked outcome.trace outcome.journal status) is ends.cause) hows.Serial seed replies (λ n. serial-without) asks bare;
+  threads = λ seed replies asks bare is.
+      unspent c outcome.trace outcome.journal ends.asked ends.is_asked (subst (λ status. IsCauseOf c ends.asked outcome.trace outcome.journal status) is ends.cause) hows.Threads seed replies (λ n. threads-without) asks bare;
   load = λ seed events workers asks no_write. load c outcome.trace outcome.journal ends.asked outcome.status ends.is_asked ends.cause seed events workers asks no_write;
   done = λ done no_write. all_done c outcome.trace outcome.journal ends.asked outcome.status ends.cause done no_write;
   layout = λ spec cpus asks no_write. layout c outcome.trace outcome.journal ends.asked outcome.status ends.is_asked ends.cause spec cpus asks no_write;

@@ -114,14 +114,17 @@ replay_worked c way how seed replies trace j r is asks whole = record {
 -- a load is one that is replayed today
 load_built : (seed events workers : ℕ) → IsBuilt (load_of seed events workers)
 unfolding load_of
-load_built seed events workers = refl
+load_built seed events workers = inl refl
+
+pub made_built : (seed events workers : ℕ) (trace : Trace) → trace ≡ load_of seed events workers → IsBuilt trace
+made_built seed events workers trace is = subst IsBuilt (sym is) (load_built seed events workers)
 
 -- what was made is the load, and the journal is lawful for it
 pub made_load : (seed events workers : ℕ) (trace : Trace) (j : Journal) → trace ≡ load_of seed events workers → IsSound trace → IsLawful (Schedule seed) trace j → IsLoadOf seed events workers trace j
 made_load seed events workers trace j is sound lawful = record {
   made = is;
   sound = sound;
-  built = subst IsBuilt (sym is) (load_built seed events workers);
+  built = made_built seed events workers trace is;
   lawful = lawful;
 }
 

@@ -44,7 +44,7 @@ use Rattle.slub_laws.specs.Rounds.{HasLawfulRounds}
 use Rattle.slub_load.specs.Load.{load_of}
 use Rattle.slub_ways.specs.declared.way.Way.{Way}
 use Rattle.slub_ways.specs.declared.way.Way.TheVariants.{Serial, Schedule, Threads}
-use Rattle.slub_ways.specs.Runs.{AreByText, EndsSpent, IsLawful}
+use Rattle.slub_ways.specs.Runs.{IsByText, EndsSpent, IsLawful}
 use Rattle.slub_cli.specs.declared.status.Status.{Status}
 use Rattle.slub_cli.specs.declared.status.Status.TheVariants.{Fine, Refused, BadWords, BadTrace, ReadFault, WriteFault, NoMemory, TurnsSpent}
 use Rattle.slub_cli.specs.declared.status.Outcome.{Outcome}
@@ -259,8 +259,8 @@ pub record HoldsOver (way : Way) (trace : Trace) (journal : Journal) : Type 0 wh
   -- each round is lawful by its events and replies alone
   pub rounds : HasLawfulRounds way trace journal
   -- each damage that is told of was poked there before, where every item is done in the order of
-  -- the text
-  pub damages : AreByText way trace.items → HasPokedDamages trace journal
+  -- the text, on the lists alone
+  pub damages : IsByText way trace → HasPokedDamages trace journal
 
 -- ---- the statuses
 
@@ -286,7 +286,7 @@ abbrev pub IsWant : Option Trace → Journal → Type 0
 IsWant trace journal =
     (journal.total ≡ None) ⊎ (IsDone trace journal × (done_status trace journal ≡ NoMemory))
 
--- the round after the journal's last item has made all its turns, and an event of it has no reply
+-- the round after the journal's last item has made all its turns, and a worker is unfinished
 abbrev pub SpendsNextRound : Way → Option Trace → Journal → Type 0
 SpendsNextRound way trace journal =
     IsSomeAnd trace (λ trace. EndsSpent way trace journal) × (journal.total ≡ None)
@@ -482,6 +482,10 @@ IsDoneOrCut outcome =
     (outcome.status ≡ done_status outcome.trace outcome.journal) ⊎ (outcome.status ≡ NoMemory)
     ⊎ (outcome.status ≡ TurnsSpent)
 
+-- its CPUs begin at transaction id 0, as if it gave none
+abbrev pub HasNoIds : Trace → Type 0
+HasNoIds trace = trace.tid ≡ 0
+
 -- what `run` promises of each call and its outcome. The rest follows from the first, `ends`: which
 -- status it must have
 pub record IsRunOf (c : Call) (outcome : Outcome) : Type 0 where
@@ -495,12 +499,13 @@ pub record IsRunOf (c : Call) (outcome : Outcome) : Type 0 where
   -- a trace is done to its end
   pub complete : AsksReplay c.words → IsSomeAnd c.told IsSomeTrace → NoFault c →
       IsDoneOrCut outcome
-  -- a replay in the order of the text has no turns that could be spent
+  -- a replay in the order of the text has no turns that could be spent, where the trace gives no
+  -- first transaction id
   pub serial : (seed : ℕ) (replies : Bool) → IsCommand c.words (Replay hows.Serial seed replies) →
-      outcome.status ≢ TurnsSpent
+      IfSome outcome.trace HasNoIds → outcome.status ≢ TurnsSpent
   -- nor has one by threads
   pub threads : (seed : ℕ) (replies : Bool) → IsCommand c.words (Replay hows.Threads seed replies) →
-      outcome.status ≢ TurnsSpent
+      IfSome outcome.trace HasNoIds → outcome.status ≢ TurnsSpent
   -- a load is done to its end
   pub load : (seed events workers : ℕ) → IsCommand c.words (Load seed events workers) →
       ¬ Rose c.write.0 c.write.1 → IsDoneOrCut outcome

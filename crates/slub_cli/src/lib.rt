@@ -2,9 +2,10 @@
 //!
 //! `run` does what the words of a command line ask for. A replay reads a trace whole, does its items
 //! in order, writes the text of each item as it is done and the total at the end; the rounds are done in
-//! the order of the text, by schedule, in turns that a number draws, or by threads, one for each worker. A load
-//! does so, by schedule, with a trace that it makes from a number. A layout is printed. Of these a replay alone
-//! reads the source. The contract of `run` is the whole promise of the program for what is run today:
+//! the order of the text, by schedule, in turns that a number draws, or by threads, one for each worker. Where
+//! the trace gives a first transaction id, the ids of the CPU words grow from round to round. A load does so,
+//! by schedule, with a trace that it makes from a number. A layout is printed. Of these a replay alone reads
+//! the source. The contract of `run` is the whole promise of the program for what is run today:
 //! `specs/Run.antt` has the table of statuses, the text and the law that its clauses cite.
 //!
 //! # What it promises
@@ -21,7 +22,8 @@
 //!     asked: the machine is coherent after each item, after each event in the order of the text, and at
 //!     every turn by schedule and by threads;
 //!   - *over*: over the whole run no number is given or freed twice, given less freed is live, and rounds
-//!     are lawful; where every item is done in the order of the text, damage was poked;
+//!     are lawful; where every item is done in the order of the text, and the trace gives no first transaction id,
+//!     damage was poked;
 //! - *bad_words*, *bad_trace*, *complete*, *serial*, *threads*, *load*, *done*, *layout*: which status a run must
 //!   have; `Status::number` gives its number;
 //! - *untouched*: where the words don't ask for a replay, the source is as it was.
@@ -36,6 +38,8 @@ pub mod stop;
 mod tests;
 #[cfg(test)]
 mod tests_commands;
+#[cfg(test)]
+mod tests_ids;
 #[cfg(test)]
 mod tests_pieces;
 #[cfg(test)]

@@ -222,9 +222,9 @@ fn status_of(stop: &Stop) -> Status
 /// byte of the source. Where a run ends early, one fault line says why.
 ///
 /// A replay does its rounds in the order of the text, by schedule or by threads: then `rt` starts a thread for each
-/// worker of a round, and the workers pass `gate` before each of their events. Replayed today are the traces whose
-/// CPUs start at transaction id 0 (`is_built` of `slub_journal`): another one ends the run as bytes that are no trace
-/// do.
+/// worker of a round, and the workers pass `gate` before each of their events. Replayed today are the traces that give
+/// no first transaction id, or have no client's line (`is_built` of `slub_journal`): another one ends the run as bytes
+/// that are no trace do.
 pub fn run<R: Threads + Wait + Sync, S: Source, K: Sink, G: Gate + Sync>(
     rt: &R,
     alloc: Global,

@@ -31,7 +31,7 @@ pub enum Status {
     WriteFault,
     /// Memory ran out, for the run or for one of its replies.
     NoMemory,
-    /// All turns of a scheduled round were made, and an event of it had no reply. The round isn't in the journal.
+    /// All turns of a round were made, and a worker of it was unfinished. The round isn't in the journal.
     TurnsSpent,
 }
 

@@ -23,7 +23,7 @@ pub enum Stop {
     ReadFault,
     WriteFault,
     NoMemory,
-    /// All turns of a scheduled round are made, and an event of it has no reply.
+    /// All turns of a round are made, and a worker of it is unfinished.
     TurnsSpent,
 }
 

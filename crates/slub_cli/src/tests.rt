@@ -58,7 +58,7 @@ fn first_text(alloc: Global) -> Result<String, AllocError> {
 }
 
 /// Runs words on an input, and gives the status and the bytes that were taken.
-fn ran<R: Threads + Wait + Sync + AllocGlobal>(
+pub(crate) fn ran<R: Threads + Wait + Sync + AllocGlobal>(
     rt: &R,
     words: &[&str],
     input: &str,
@@ -181,9 +181,13 @@ fn what_is_no_command_and_no_trace(rt: HostRuntime) -> Result<(), Fail> {
             "slubtrace 1\nmachine 16 2\ncache dentry 192 8 -\nround 1\nalloc 0 0 dentry 1\ndone\nslabinfo\n",
             "slub: line 8: no end\n",
         ),
-        // a trace, which is not replayed yet
+        // traces that are not replayed yet
         (
-            "slubtrace 1\nmachine 16 2 tid 4294967290\nend\n",
+            "slubtrace 3\nmachine 16 2 tid 4294967290\nkmalloc\nend\n",
+            "slub: bad trace\n",
+        ),
+        (
+            "slubtrace 3\nmachine 16 2 tid 4294967290\ncache dentry 192 8 -\nbulk 0 dentry 1 2\nend\n",
             "slub: bad trace\n",
         ),
     ] {

@@ -10,9 +10,9 @@ pub enum Act {
     /// Frees an object.
     Free { object: u32 },
     /// Writes a word, of eight bytes, of a held object.
-    Write { object: u32, word: u32, value: u64 },
+    Write { word: u16, object: u32, value: u64 },
     /// Reads a word of a held object.
-    Read { object: u32, word: u32 },
+    Read { word: u16, object: u32 },
     /// Writes one byte of a checked object's slot, counted from its address.
     Poke { object: u32, offset: i32, byte: u8 },
     /// Shrinks a cache while others work.
@@ -24,12 +24,17 @@ pub enum Act {
 /// One event of a round: who does what, and on which CPU.
 ///
 /// The CPU is 0 for a write, a read, a poke and a trim; for a flush it is the flushed CPU.
+///
+/// It has 24 bytes, and a round may have half a million: fields lie in the order of the source, so
+/// small ones stand first.
 #[derive(Clone, Copy, Debug, PartialEq, Eq)]
 pub struct Event {
     /// The line of the trace that the event stands on, from 1 on; 0 where the trace was made.
     pub line: u32,
-    pub worker: u32,
-    pub cpu: u32,
+    /// 0 to 15.
+    pub worker: u8,
+    /// 0 to 15.
+    pub cpu: u8,
     pub act: Act,
 }
 

@@ -115,31 +115,31 @@ first-few Poke checked held string nodes cpu turn = (refl, omega arith)
 first-few Trim checked held string nodes cpu turn = (refl, omega arith)
 first-few Flush checked held string nodes cpu turn = (refl, omega arith)
 
-begun_with-within : (m : Setup) (value : ℕ → LockValue) (l : Local) (calls : List Call) → IsWithin m value l → IsWithin m value (begun_with m false l calls)
-begun_with-within m value l [] ok = ok
-begun_with-within m value l (call ∷ calls) ok =
+begun_with-within : (m : Setup) (tries : Bool) (value : ℕ → LockValue) (l : Local) (calls : List Call) → IsWithin m value l → IsWithin m value (begun_with m tries l calls)
+begun_with-within m tries value l [] ok = ok
+begun_with-within m tries value l (call ∷ calls) ok =
     let known = get_or l.known call.place nobody in
     let cache = cache_for m known call.cache call.kind in
     let first = first-few call.kind (m.checks cache) known.held (string_of l).count (length (frames_in (value (node_lock cache)))) (first_cpu call.kind call.cpu) 0 in
     record { few = goes-few ok.few.put first.0 first.1; some = ok.some }
 
-begun_at-within : (m : Setup) (value : ℕ → LockValue) (l : Local) (spot : Spot) → IsWithin m value l → IsWithin m value (begun_at m false l spot)
-begun_at-within m value l Between ok = begun_with-within m value l l.todo ok
-begun_at-within m value l _ ok = ok
+begun_at-within : (m : Setup) (tries : Bool) (value : ℕ → LockValue) (l : Local) (spot : Spot) → IsWithin m value l → IsWithin m value (begun_at m tries l spot)
+begun_at-within m tries value l Between ok = begun_with-within m tries value l l.todo ok
+begun_at-within m tries value l _ ok = ok
 
-pub begun-within : (m : Setup) (value : ℕ → LockValue) (l : Local) → IsWithin m value l → IsWithin m value (begun m false l)
-begun-within m value l ok = begun_at-within m value l l.spot ok
+pub begun-within : (m : Setup) (tries : Bool) (value : ℕ → LockValue) (l : Local) → IsWithin m value l → IsWithin m value (begun m tries l)
+begun-within m tries value l ok = begun_at-within m tries value l l.spot ok
 
-begun_with-worker : (m : Setup) (l : Local) (calls : List Call) → (begun_with m false l calls).worker ≡ l.worker
-begun_with-worker m l [] = refl
-begun_with-worker m l (call ∷ calls) = refl
+begun_with-worker : (m : Setup) (tries : Bool) (l : Local) (calls : List Call) → (begun_with m tries l calls).worker ≡ l.worker
+begun_with-worker m tries l [] = refl
+begun_with-worker m tries l (call ∷ calls) = refl
 
-begun_at-worker : (m : Setup) (l : Local) (spot : Spot) → (begun_at m false l spot).worker ≡ l.worker
-begun_at-worker m l Between = begun_with-worker m l l.todo
-begun_at-worker m l _ = refl
+begun_at-worker : (m : Setup) (tries : Bool) (l : Local) (spot : Spot) → (begun_at m tries l spot).worker ≡ l.worker
+begun_at-worker m tries l Between = begun_with-worker m tries l l.todo
+begun_at-worker m tries l _ = refl
 
-pub begun-worker : (m : Setup) (l : Local) → (begun m false l).worker ≡ l.worker
-begun-worker m l = begun_at-worker m l l.spot
+pub begun-worker : (m : Setup) (tries : Bool) (l : Local) → (begun m tries l).worker ≡ l.worker
+begun-worker m tries l = begun_at-worker m tries l l.spot
 
 -- ---- what is so of a worker in a coherent machine
 

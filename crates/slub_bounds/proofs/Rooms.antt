@@ -54,8 +54,8 @@ may-count m value l knows ok =
 
 pub counts-fit : BoundedCountsFit
 unfolding world_of world_from
-counts-fit m flags opening s k is ok below =
-    let b = has-begun m opening s (record { worker = k; refused = false }) below is in
+counts-fit m flags opening s k tries is ok below =
+    let b = has-begun m opening s (record { worker = k; refused = false; tries = tries }) below is in
     let w = world_of m s.value s.words in
     let knows = knows-few w b.x (b.front ++ b.back) ok.plain b.stands in
-    subst MayCount b.local (may-count m s.value b.x.local knows (subst (IsWithin m s.value) (sym b.local) (begun-within m s.value (get_or s.locals k idle) (ok.workers k idle below))))
+    subst MayCount b.local (may-count m s.value b.x.local knows (subst (IsWithin m s.value) (sym b.local) (begun-within m tries s.value (get_or s.locals k idle) (ok.workers k idle below))))

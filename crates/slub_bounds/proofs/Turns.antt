@@ -1,5 +1,5 @@
 -- A turn of any worker keeps the bounds, and so does a run of turns.
-use Rattle.std.proofs.Common.{◌≡◌, ℕ, zero, suc, ◌<◌, ◌≤◌, Bool, false, List, [], ◌∷◌, ◌++◌, length, get_or, set, map, refl, sym, ap, ◌∙◌, subst, arith, inl, inr, Option}
+use Rattle.std.proofs.Common.{◌≡◌, ℕ, zero, suc, ◌<◌, ◌≤◌, Bool, List, [], ◌∷◌, ◌++◌, length, get_or, set, map, refl, sym, ap, ◌∙◌, subst, arith, inl, inr, Option}
 use Rattle.std.specs.Prelude.{All}
 use Rattle.std.proofs.lemmas.List.{length-set, length-map, set-get_or, get_or-set_same, get_or-set_other}
 use Rattle.std.proofs.lemmas.List.Elements.{All-head, All-tail, All-cons, All-map}
@@ -101,7 +101,7 @@ pub record Begun (m : Setup) (opening : World) (s : System) (pick : Pick) : Type
   pub x : Worker
   pub at : length front ≡ pick.worker
   pub locals : map (λ (x : Worker). x.local) (front ++ was ∷ back) ≡ s.locals
-  pub local : x.local ≡ begun m false (get_or s.locals pick.worker idle)
+  pub local : x.local ≡ begun m pick.tries (get_or s.locals pick.worker idle)
   pub stands : Stands (world_of m s.value s.words) (x ∷ (front ++ back))
   pub accounted : IsAccounted opening (world_of m s.value s.words) (x ∷ (front ++ back))
 
@@ -124,8 +124,8 @@ has-begun m opening s pick below is =
         let rest = subst (λ l. l.spot ≡ Between → TakesStep m l l.todo) (sym mine) (is.rested k idle below) in
         let stood = to_front w front back x all in
         let agrees = accounted_to_front opening w front back x ac in
-        let began = subst (λ l. Comes opening w others (begun m false l)) mine (begin w x others stood (λ _. may_begin opening w x others agrees) rest, told_begin opening w x others rest agrees) in
-        let y = joined opening w others (begun m false l) began in
+        let began = subst (λ l. Comes opening w others (begun m pick.tries l)) mine (begin pick.tries w x others stood (λ _. may_begin opening w x others agrees) rest, told_begin pick.tries opening w x others rest agrees) in
+        let y = joined opening w others (begun m pick.tries l) began in
         record { front = front; back = back; was = x; x = y.0; at = at; locals = locals; local = y.1; stands = y.2; accounted = y.3 }
 
 turn_below : (m : Setup) (flags : ℕ → Option Flags) (opening : World) (s : System) (pick : Pick) → pick.worker < length s.locals → IsCoherentSystem m opening s → IsBounded m flags s → IsBounded m flags (turn m s pick)
@@ -137,12 +137,12 @@ turn_below m flags opening s pick below is ok =
     let others = b.front ++ b.back in
     let all = All-unmap (IsWithin m s.value) f (b.front ++ b.was ∷ b.back) (subst (All (IsWithin m s.value)) (sym b.locals) ok.workers) in
     let rest = All-tail (λ (x : Worker). IsWithin m s.value x.local) b.was others (All-middle (λ (x : Worker). IsWithin m s.value x.local) b.front b.back b.was all) in
-    let begins : Carries m flags s.value k others s.value (begun m false l) =
-    record { within = begun-within m s.value l (ok.workers k idle below); worker = begun-worker m l ∙ ok.numbers k below; flags = ok.flags; others = λ k d below has. refl } in
-    let step = step_of m s.value (begun m false l) in
+    let begins : Carries m flags s.value k others s.value (begun m pick.tries l) =
+    record { within = begun-within m pick.tries s.value l (ok.workers k idle below); worker = begun-worker m pick.tries l ∙ ok.numbers k below; flags = ok.flags; others = λ k d below has. refl } in
+    let step = step_of m s.value (begun m pick.tries l) in
     let n = number_of m step.place in
     let q = get_or s.words n 0 in
-    let c = advance_of m pick.refused s.value (begun m false l) (answer_of step.op q) in
+    let c = advance_of m pick.refused s.value (begun m pick.tries l) (answer_of step.op q) in
     let carried : Carries m flags s.value k others c.value c.local =
     subst (λ b. let step = step_of m s.value b in let q = get_or s.words (number_of m step.place) 0 in let c = advance_of m pick.refused s.value b (answer_of step.op q) in Carries m flags s.value k others c.value c.local) b.local
     (steps-carry opening m flags s.value k s.value s.words pick.refused b.x others is.words ok.tuned ok.plain b.stands b.accounted (subst (Carries m flags s.value k others s.value) (sym b.local) begins)) in
@@ -187,7 +187,7 @@ idle-turn m s refused k past =
     λ i. record { words = words i; value = s.value; locals = locals i }
 
 pub no-turn : (m : Setup) (s : System) (pick : Pick) → length s.locals ≤ pick.worker → turn m s pick ≡ s
-no-turn m s pick past = ap (λ l. after_step m pick.refused s pick.worker (begun m false l)) (get_or-beyond s.locals pick.worker idle past) ∙ idle-turn m s pick.refused pick.worker past
+no-turn m s pick past = ap (λ l. after_step m pick.refused s pick.worker (begun m pick.tries l)) (get_or-beyond s.locals pick.worker idle past) ∙ idle-turn m s pick.refused pick.worker past
 
 pub turn-bounded : TurnsKeepBounds
 turn-bounded m flags opening s pick is ok = elim (cases_lt pick.worker (length s.locals)) [

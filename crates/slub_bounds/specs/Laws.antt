@@ -1,5 +1,5 @@
 -- What holds of machines in a round, and of lists into which a round closes.
-use Rattle.std.specs.Prelude.{◌≡◌, ℕ, ◌<◌, false, List, [], ◌∷◌, length, slice_index_or, Option, All}
+use Rattle.std.specs.Prelude.{◌≡◌, ℕ, ◌<◌, Bool, List, [], ◌∷◌, length, slice_index_or, Option, All}
 use Rattle.std.specs.Option.{option_map}
 use Rattle.slub_object_layout.specs.declared.layout.Flags.{Flags}
 use Rattle.slub_lists.specs.State.{State}
@@ -38,12 +38,13 @@ RunsKeepBounds =
     (m : Setup) (flags : ℕ → Option Flags) (opening : World) (s : System) (picks : List Pick)
     → IsCoherentSystem m opening s → IsBounded m flags s → BoundedAlong m flags s picks
 
--- a worker that makes its turn has room for what it counts, before its step
+-- a worker that makes its turn, be its call a try or not, has room for what it counts, before its
+-- step
 abbrev pub BoundedCountsFit : Type 0
 BoundedCountsFit =
-    (m : Setup) (flags : ℕ → Option Flags) (opening : World) (s : System) (k : ℕ)
+    (m : Setup) (flags : ℕ → Option Flags) (opening : World) (s : System) (k : ℕ) (tries : Bool)
     → IsCoherentSystem m opening s → IsBounded m flags s → k < length s.locals
-    → MayCount (begun m false (slice_index_or s.locals k idle))
+    → MayCount (begun m tries (slice_index_or s.locals k idle))
 
 -- ---- rounds
 

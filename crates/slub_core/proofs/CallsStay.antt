@@ -1,5 +1,5 @@
 -- A worker's calls in their order stay: a reply goes to the first that has none.
-use Rattle.std.proofs.Common.{◌≡◌, ℕ, suc, zero, ◌≤◌, Bool, false, Option, Some, None, List, [], ◌∷◌, length, get_or, set, map, refl, sym, ap, ◌∙◌, subst, arith, inl, inr}
+use Rattle.std.proofs.Common.{◌≡◌, ℕ, suc, zero, ◌≤◌, Bool, Option, Some, None, List, [], ◌∷◌, length, get_or, set, map, refl, sym, ap, ◌∙◌, subst, arith, inl, inr}
 use Rattle.std.specs.Prelude.{IsSome}
 use Rattle.std.proofs.lemmas.Bool.{false≢true}
 use Rattle.std.proofs.lemmas.Option.{none-some}
@@ -81,13 +81,13 @@ step-script opening w refused others l n s reply leaves some comes =
     let z = noted c.local c.reply in
     rested_at-script w.setup z z.spot ∙ settled-script opening w refused others n reply comes ∙ noted-script l n s reply leaves some
 
-pub begun-script : (m : Setup) (l : Local) (spot : Spot) → script (begun_at m false l spot) ≡ script l
-begun-script m l Between = by_todo l.todo
+pub begun-script : (m : Setup) (fast : Bool) (l : Local) (spot : Spot) → script (begun_at m fast l spot) ≡ script l
+begun-script m fast l Between = by_todo l.todo
   where
-    by_todo : (calls : List Call) → script (begun_with m false l calls) ≡ script l
+    by_todo : (calls : List Call) → script (begun_with m fast l calls) ≡ script l
     by_todo [] = refl
     by_todo (call ∷ calls) = refl
-begun-script m l _ = refl
+begun-script m fast l _ = refl
 
 -- ---- all workers
 

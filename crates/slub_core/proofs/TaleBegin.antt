@@ -118,14 +118,14 @@ told_begun opening w fast x others call calls is todo may none ac =
     })
 
 -- a worker between two calls begins its next one
-pub told_begin : (opening w : World) (x : Worker) (others : List Worker) → (x.local.spot ≡ Between → TakesStep w.setup x.local x.local.todo) → IsAccounted opening w (x ∷ others) → Accounts opening w others (begun w.setup false x.local)
-told_begin opening w x others rested ac = by_spot x.local.spot refl
+pub told_begin : (fast : Bool) (opening w : World) (x : Worker) (others : List Worker) → (x.local.spot ≡ Between → TakesStep w.setup x.local x.local.todo) → IsAccounted opening w (x ∷ others) → Accounts opening w others (begun w.setup fast x.local)
+told_begin fast opening w x others rested ac = by_spot x.local.spot refl
   where
-    by_todo : (calls : List Call) → x.local.todo ≡ calls → x.local.spot ≡ Between → MayBeginFirst w.setup x.local calls → TakesStep w.setup x.local calls → Accounts opening w others (begun_with w.setup false x.local calls)
+    by_todo : (calls : List Call) → x.local.todo ≡ calls → x.local.spot ≡ Between → MayBeginFirst w.setup x.local calls → TakesStep w.setup x.local calls → Accounts opening w others (begun_with w.setup fast x.local calls)
     by_todo [] e is may takes = (x, refl, ac)
-    by_todo (call ∷ calls) e is may takes = (record x { local = begun_call w.setup false x.local call }, refl, told_begun opening w false x others call calls is e may takes ac)
+    by_todo (call ∷ calls) e is may takes = (record x { local = begun_call w.setup fast x.local call }, refl, told_begun opening w fast x others call calls is e may takes ac)
 
-    by_spot : (spot : Spot) → x.local.spot ≡ spot → Accounts opening w others (begun_at w.setup false x.local spot)
+    by_spot : (spot : Spot) → x.local.spot ≡ spot → Accounts opening w others (begun_at w.setup fast x.local spot)
     by_spot Between is = by_todo x.local.todo refl is (may_begin opening w x others ac) (rested is)
     by_spot _ is = (x, refl, ac)
 

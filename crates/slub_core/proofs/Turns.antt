@@ -1,5 +1,5 @@
 -- A turn of any worker keeps all, and so does a run of turns.
-use Rattle.std.proofs.Common.{◌≡◌, ℕ, zero, suc, ◌<◌, ◌≤◌, Bool, false, List, [], ◌∷◌, ◌++◌, length, get_or, set, map, refl, sym, ap, ◌∙◌, subst, arith, inl, inr}
+use Rattle.std.proofs.Common.{◌≡◌, ℕ, zero, suc, ◌<◌, ◌≤◌, Bool, List, [], ◌∷◌, ◌++◌, length, get_or, set, map, refl, sym, ap, ◌∙◌, subst, arith, inl, inr}
 use Rattle.std.proofs.lemmas.List.{length-set, set-get_or}
 use Rattle.std.proofs.lemmas.List.Elements.{All-set}
 use Rattle.std.proofs.lemmas.Bool.{cases_lt}
@@ -100,19 +100,19 @@ turn_below m opening s pick below is =
         let rest = subst (λ l. l.spot ≡ Between → TakesStep m l l.todo) (sym mine) (is.rested k idle below) in
         let stood = to_front w front back x all in
         let agrees = accounted_to_front opening w front back x ac in
-        let began = subst (λ l. Comes opening w others (begun m false l)) mine (begin w x others stood (λ _. may_begin opening w x others agrees) rest, told_begin opening w x others rest agrees) in
-        let y = joined opening w others (begun m false l) began in
-        let step = step_of m s.value (begun m false l) in
+        let began = subst (λ l. Comes opening w others (begun m pick.tries l)) mine (begin pick.tries w x others stood (λ _. may_begin opening w x others agrees) rest, told_begin pick.tries opening w x others rest agrees) in
+        let y = joined opening w others (begun m pick.tries l) began in
+        let step = step_of m s.value (begun m pick.tries l) in
         let n = number_of m step.place in
         let q = get_or s.words n 0 in
-        let c = advance_of m pick.refused s.value (begun m false l) (answer_of step.op q) in
+        let c = advance_of m pick.refused s.value (begun m pick.tries l) (answer_of step.op q) in
         let v = world_of m c.value (set s.words n (after_op step.op q)) in
-        let led : Comes opening v others c.local × (script c.local ≡ script (begun m false l))
+        let led : Comes opening v others c.local × (script c.local ≡ script (begun m pick.tries l))
         = subst (λ b. let step = step_of m s.value b in let n = number_of m step.place in let q = get_or s.words n 0 in let a = answer_of step.op q in
         let c = advance_of m pick.refused s.value b a in Comes opening (world_of m c.value (set s.words n (after_op step.op q))) others c.local × (script c.local ≡ script b)) y.1
         (steps opening m s.value s.words pick.refused y.0 others is.words y.2 y.3) in
         let z = joined opening v others c.local led.0 in
-        let turned = advance_at m s.value (begun m false l) (begun m false l).spot (answer_of step.op q) in
+        let turned = advance_at m s.value (begun m pick.tries l) (begun m pick.tries l).spot (answer_of step.op q) in
         let last = settled m pick.refused (record { value = s.value; local = turned.local; reply = turned.reply }) in
         let told_last = noted last.local last.reply in
         let stands = from_front v front back z.0 z.2 in (
@@ -126,7 +126,7 @@ turn_below m opening s pick below is =
             coherent = record { placed = stands.placed; listed = stands.listed; fresh = stands.fresh; accounted = accounted_from_front opening v front back z.0 z.3 };
             rested = All-set (IsRested m) s.locals k c.local (is_rested m told_last told_last.spot refl) is.rested;
           },
-          scripts-set s.locals k c.local idle (led.1 ∙ begun-script m l l.spot),
+          scripts-set s.locals k c.local idle (led.1 ∙ begun-script m pick.tries l l.spot),
         )
 
 -- a pick of no worker changes nothing
@@ -147,7 +147,7 @@ idle-turn m s refused k past =
     λ i. record { words = words i; value = s.value; locals = locals i }
 
 no-turn : (m : Setup) (s : System) (pick : Pick) → length s.locals ≤ pick.worker → turn m s pick ≡ s
-no-turn m s pick past = ap (λ l. after_step m pick.refused s pick.worker (begun m false l)) (get_or-beyond s.locals pick.worker idle past) ∙ idle-turn m s pick.refused pick.worker past
+no-turn m s pick past = ap (λ l. after_step m pick.refused s pick.worker (begun m pick.tries l)) (get_or-beyond s.locals pick.worker idle past) ∙ idle-turn m s pick.refused pick.worker past
 
 turn_both : (m : Setup) (opening : World) (s : System) (pick : Pick) → IsCoherentSystem m opening s → IsCoherentSystem m opening (turn m s pick) × (map script (turn m s pick).locals ≡ map script s.locals)
 turn_both m opening s pick is = elim (cases_lt pick.worker (length s.locals)) [

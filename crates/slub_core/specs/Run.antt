@@ -13,10 +13,12 @@ pub record System : Type 0 where
   pub value : ℕ → LockValue
   pub locals : List Local
 
--- whose step comes next, and whether memory is refused in it
+-- whose step comes next, whether memory is refused in it, and whether a call that begins with it is
+-- a try, which ends without a reply where the fast path does: it stays the worker's next call then
 pub record Pick : Type 0 where
   pub worker : ℕ
   pub refused : Bool
+  pub tries : Bool
 
 -- a worker that has nothing to do
 abbrev pub idle : Local
@@ -66,7 +68,7 @@ after_step m refused s worker l =
 -- a worker between two calls begins the next one with its step
 abbrev pub turn : Setup → System → Pick → System
 turn m s pick = after_step m pick.refused s pick.worker
-    (begun m false (slice_index_or s.locals pick.worker idle))
+    (begun m pick.tries (slice_index_or s.locals pick.worker idle))
 
 abbrev pub run : Setup → System → List Pick → System
 run m s [] = s

@@ -1,5 +1,5 @@
 -- A turn of a worker of a coherent machine is one that the bodies can make: its step, and what is done at once after it.
-use Rattle.std.proofs.Common.{◌≡◌, ◌≤◌, Bool, false, Option, Some, None, List, [], ◌∷◌, ◌++◌, length, get_or, set, map, refl, sym, ap, ◌∙◌, subst, arith, inl, inr}
+use Rattle.std.proofs.Common.{◌≡◌, ◌≤◌, Bool, Option, Some, None, List, [], ◌∷◌, ◌++◌, length, get_or, set, map, refl, sym, ap, ◌∙◌, subst, arith, inl, inr}
 use Rattle.std.specs.Prelude.{IsSome}
 use Rattle.std.proofs.lemmas.List.{length-map, map-append}
 use Rattle.std.proofs.lemmas.Option.{none-some}
@@ -118,8 +118,8 @@ turns m opening s pick is below room =
         let rest = subst (λ l. l.spot ≡ Between → TakesStep m l l.todo) (sym mine) rested in
         let stood = to_front w front back x all in
         let agrees = accounted_to_front opening w front back x ac in
-        let began = subst (λ l. Comes opening w others (begun m false l)) mine (begin w x others stood (λ _. may_begin opening w x others agrees) rest, told_begin opening w x others rest agrees) in
-        let y = joined opening w others (begun m false l) began in
+        let began = subst (λ l. Comes opening w others (begun m pick.tries l)) mine (begin pick.tries w x others stood (λ _. may_begin opening w x others agrees) rest, told_begin pick.tries opening w x others rest agrees) in
+        let y = joined opening w others (begun m pick.tries l) began in
         record {
           begin = subst (λ (l : Local). BeginFits l l.spot) mine (begin_fits opening w x others stood agrees);
           rested = rested;

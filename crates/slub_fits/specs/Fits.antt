@@ -1,6 +1,6 @@
 -- What the bodies of the paths ask of a worker and of what the locks guard, in one turn: of its
 -- step, of what is done at once after it, and of the replies.
-use Rattle.std.specs.Prelude.{◌≡◌, ℕ, ◌+◌, ◌<◌, ◌≤◌, ◌^◌, Bool, false, List, [], ◌∷◌, length, slice_index_or, Option, IfSome}
+use Rattle.std.specs.Prelude.{◌≡◌, ℕ, ◌+◌, ◌<◌, ◌≤◌, ◌^◌, Bool, List, [], ◌∷◌, length, slice_index_or, Option, IfSome}
 use Rattle.slub_answers.specs.declared.reply.Reply.{Reply}
 use Rattle.slub_core.specs.declared.call.Call.{Call}
 use Rattle.slub_core.specs.declared.spot.Spot.{Spot}
@@ -113,11 +113,11 @@ BeginFits l Between = CallsFit l.todo
 BeginFits l _ = Unit {0}
 
 -- of a pick, whether memory is refused or not: its worker's next call takes a step, and its turn is
--- one that the bodies can make
+-- one that the bodies can make, be the call a try or not
 pub record PickFits (m : Setup) (s : System) (pick : Pick) : Type 0 where
   pub begin : BeginFits (picked s pick) (picked s pick).spot
   pub rested : IsRested m (picked s pick)
-  pub turn : (refused : Bool) → TurnFits m refused s (begun m false (picked s pick))
+  pub turn : (refused : Bool) → TurnFits m refused s (begun m pick.tries (picked s pick))
 
 -- ---- what is counted
 

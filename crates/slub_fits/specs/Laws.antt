@@ -1,5 +1,5 @@
 -- The law of what the paths ask, as it is proved.
-use Rattle.std.specs.Prelude.{◌<◌, false, length}
+use Rattle.std.specs.Prelude.{◌<◌, length}
 use Rattle.slub_core.specs.Setup.{Setup}
 use Rattle.slub_core.specs.World.{World}
 use Rattle.slub_core.specs.Steps.{begun}
@@ -13,4 +13,4 @@ abbrev pub TurnsFit : Type 0
 TurnsFit =
     (m : Setup) (opening : World) (s : System) (pick : Pick)
     → IsCoherentSystem m opening s → pick.worker < length s.locals
-    → LeavesRoom (begun m false (picked s pick)) → PickFits m s pick
+    → LeavesRoom (begun m pick.tries (picked s pick)) → PickFits m s pick

@@ -53,16 +53,16 @@ some_unfinished s all some = let e = ap (λ (ns : List ℕ). length ns) (none-un
 
 -- ---- one run
 
-same_picks : (p q : Pick) → p.worker ≡ q.worker → p.refused ≡ q.refused → p ≡ q
-same_picks p q worker refused = λ i. record { worker = worker i; refused = refused i }
+same_picks : (p q : Pick) → p.worker ≡ q.worker → p.refused ≡ q.refused → p.tries ≡ q.tries → p ≡ q
+same_picks p q worker refused tries = λ i. record { worker = worker i; refused = refused i; tries = tries i }
 
 alike : (m : Setup) (s : System) (x : ℕ) (ps qs : List Pick) → AreDrawn m s x ps → AreDrawn m s x qs → AreRefusedAlike ps qs → (length ps < length qs → IsFinishedSystem (run m s ps)) → (length qs < length ps → IsFinishedSystem (run m s qs)) → ps ≡ qs
 alike m s x [] [] one other same f g = refl
 alike m s x [] (q ∷ qs) one other same f g = absurd (some_unfinished s (f (omega arith)) other.0)
 alike m s x (p ∷ ps) [] one other same f g = absurd (some_unfinished s (g (omega arith)) one.0)
 alike m s x (p ∷ ps) (q ∷ qs) one other same f g =
-    let e : p ≡ q = same_picks p q (one.1 ∙ sym other.1) same.0 in
-    let r = alike m (turn m s p) (next x) ps qs one.2 (subst (λ (p : Pick). AreDrawn m (turn m s p) (next x) qs) (sym e) other.2) same.1
+    let e : p ≡ q = same_picks p q (one.1 ∙ sym other.1) same.0 (one.2 ∙ sym other.2) in
+    let r = alike m (turn m s p) (next x) ps qs one.3 (subst (λ (p : Pick). AreDrawn m (turn m s p) (next x) qs) (sym e) other.3) same.1
     (λ fewer. f (omega arith)) (λ fewer. subst (λ (p : Pick). IsFinishedSystem (run m (turn m s p) qs)) (sym e) (g (omega arith))) in
     λ i. e i ∷ r i
 
@@ -103,10 +103,10 @@ make refused m zero k s x = elim (cases_lt 0 (length (unfinished s))) [
 ]
 make refused m (suc n) k s x = elim (cases_lt 0 (length (unfinished s))) [
   | inl some ↦ (
-      let pick : Pick = record { worker = chosen s (number_from x); refused = refused k } in
+      let pick : Pick = record { worker = chosen s (number_from x); refused = refused k; tries = false } in
       let r = make refused m n (suc k) (turn m s pick) (next x) in
       let more : ((length r.0 ≤ n) × IsFinishedSystem r.1) ⊎ ((length r.0 ≡ n) × (1 ≤ length (unfinished r.1))) = r.5 in
-      (pick ∷ r.0, r.1, (some, refl, r.2), r.3, (refl, r.4), elim more [ inl f ↦ inl (omega (arith, f.0), f.1) | inr u ↦ inr (omega (arith, u.0), u.1) ])
+      (pick ∷ r.0, r.1, (some, refl, refl, r.2), r.3, (refl, r.4), elim more [ inl f ↦ inl (omega (arith, f.0), f.1) | inr u ↦ inr (omega (arith, u.0), u.1) ])
       )
   | inr none ↦ ([], s, tt, refl, tt, inl (omega arith, all_finished 0 s.locals (omega arith)))
 ]

@@ -41,16 +41,21 @@ unfinished s = places_of (marks_of s.locals)
 
 -- ---- the picks
 
+-- a call that begins with the turn is no try: it goes on until it has its reply
+abbrev pub IsCall : Pick → Type 0
+IsCall pick = pick.tries ≡ false
+
 -- of the u unfinished workers the one at place number mod u
 abbrev pub chosen : System → ℕ → ℕ
 chosen s number = slice_index (unfinished s) (number % length (unfinished s))
 
 -- the picks are those that the generator draws from x on: before each turn a number, which chooses
--- among those that are unfinished then. Whether memory is refused in a turn is left open
+-- among those that are unfinished then. No call is a try; whether memory is refused in a turn is
+-- left open
 abbrev pub AreDrawn : Setup → System → ℕ → List Pick → Type 0
 AreDrawn m s x [] = Unit {0}
 AreDrawn m s x (pick ∷ picks) =
-    (1 ≤ length (unfinished s)) × (pick.worker ≡ chosen s (number_from x))
+    (1 ≤ length (unfinished s)) × (pick.worker ≡ chosen s (number_from x)) × IsCall pick
     × AreDrawn m (turn m s pick) (next x) picks
 
 -- memory is refused in the same turns, as far as both go

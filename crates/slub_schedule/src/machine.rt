@@ -1,6 +1,6 @@
 //! A round by schedule, on any machine whose workers make turns.
 
-ghost use Rattle.std.specs.Prelude.{◌≡◌, ◌+◌, ◌<◌, ◌≤◌, Bool, List, length, slice_index_or, OnOk, OnErr};
+ghost use Rattle.std.specs.Prelude.{◌≡◌, ◌+◌, ◌<◌, ◌≤◌, Bool, false, List, length, slice_index_or, OnOk, OnErr};
 ghost use Rattle.slub_core.specs.Setup.{Setup};
 ghost use Rattle.slub_core.specs.Run.{System, Pick, idle, turn};
 ghost use Rattle.slub_schedule.specs.Schedule.{is_finished, unfinished};
@@ -21,13 +21,14 @@ pub trait Machine {
     /// What a turn asks of it, and leaves so.
     ghost is_ready: { Self → Type 0 };
 
-    /// The turn of a worker, which says whether the worker is finished by it. Memory may be refused.
+    /// The turn of a worker, which says whether the worker is finished by it. Memory may be refused, and a call that
+    /// begins with it is no try.
     fn turn(&mut self, worker: usize) -> bool
         requires ready { is_ready self.old }
         requires worker { worker < length (system self.old).locals }
         ensures ready { is_ready self.new }
         ensures setup { setup self.new ≡ setup self.old }
-        ensures turned { (refused : Bool) × (system self.new ≡ turn (setup self.old) (system self.old) (record { worker = worker; refused = refused })) }
+        ensures turned { (refused : Bool) × (system self.new ≡ turn (setup self.old) (system self.old) (record { worker = worker; refused = refused; tries = false })) }
         ensures finished { result ≡ is_finished (slice_index_or (system self.new).locals worker idle) };
 }
 

@@ -9,9 +9,9 @@ use Rattle.slub_fits.specs.Fits.{PickFits}
 use Rattle.slub_turns.specs.System.{system_of, alone, picked_alone}
 
 pub fits_alone : (m : Setup) (table : WordTable) (guarded : List Guarded) (locals : List Local) (local : Local) (pick : Pick) → local ≡ get_or locals pick.worker idle
-    → PickFits m (system_of table guarded locals) pick → PickFits m (alone table guarded local) picked_alone
+    → PickFits m (system_of table guarded locals) pick → PickFits m (alone table guarded local) (picked_alone pick.tries)
 fits_alone m table guarded locals local pick is fits =
-    let P : Local → Type 0 = λ l. PickFits m (alone table guarded l) picked_alone in
+    let P : Local → Type 0 = λ l. PickFits m (alone table guarded l) (picked_alone pick.tries) in
     subst P (sym is) (record {
       begin = fits.begin;
       rested = fits.rested;
@@ -19,12 +19,12 @@ fits_alone m table guarded locals local pick is fits =
     })
 
 -- the worker's turn in the machine in which it is one of several
-pub turn_among : (m : Setup) (table after : WordTable) (guarded now : List Guarded) (locals : List Local) (local l : Local) (worker : ℕ) (refused : Bool) → local ≡ get_or locals worker idle
-    → alone after now l ≡ turn m (alone table guarded local) (record { worker = 0; refused = refused })
-    → system_of after now (set locals worker l) ≡ turn m (system_of table guarded locals) (record { worker = worker; refused = refused })
-turn_among m table after guarded now locals local l worker refused is turned =
+pub turn_among : (m : Setup) (table after : WordTable) (guarded now : List Guarded) (locals : List Local) (local l : Local) (worker : ℕ) (refused tries : Bool) → local ≡ get_or locals worker idle
+    → alone after now l ≡ turn m (alone table guarded local) (record { worker = 0; refused = refused; tries = tries })
+    → system_of after now (set locals worker l) ≡ turn m (system_of table guarded locals) (record { worker = worker; refused = refused; tries = tries })
+turn_among m table after guarded now locals local l worker refused tries is turned =
     let among : System → System = λ t. record { words = t.words; value = t.value; locals = set locals worker (get_or t.locals 0 idle) } in
-    let pick : Pick = record { worker = 0; refused = refused } in
+    let pick : Pick = record { worker = 0; refused = refused; tries = tries } in
     ap among turned ∙ ap (λ (k : Local). among (turn m (alone table guarded k) pick)) is
 
 -- what was lent as a whole comes back as a whole

@@ -27,7 +27,7 @@ keeps_ready keep m s pick may = record {
 
 pub picks_are_fit : BoundedCountsFit → PicksFit
 picks_are_fit fit m s pick may within =
-    let room = fit m may.flags may.opening s pick.worker may.coherent may.bounded within in
+    let room = fit m may.flags may.opening s pick.worker pick.tries may.coherent may.bounded within in
     turns m may.opening s pick may.coherent within (record { put = room.put; count = room.count })
 
 -- a round begins with such a machine

@@ -25,7 +25,7 @@ step_fits step k l spot is at fits =
     subst Q (sym at) (subst P (sym is) fits)
 
 -- the step, its word and its answer are those of the definitions
-module _ (m : Setup) (table : WordTable) (values : List Guarded) (local l : Local) (spot : Spot) (step : Step) (is : l ≡ begun m false local) (at : spot ≡ l.spot)
+module _ (m : Setup) (tries : Bool) (table : WordTable) (values : List Guarded) (local l : Local) (spot : Spot) (step : Step) (is : l ≡ begun m tries local) (at : spot ≡ l.spot)
     (made : step ≡ step_at m (values_of values) l spot) where
   abbrev the_step : Local → Spot → Step
   the_step x s = step_at m (values_of values) x s
@@ -33,7 +33,7 @@ module _ (m : Setup) (table : WordTable) (values : List Guarded) (local l : Loca
   abbrev word_under : Step → ℕ
   word_under t = get_or table.words (number_of m t.place) 0
 
-  pub step_is : step ≡ step_at m (values_of values) (begun m false local) (begun m false local).spot
+  pub step_is : step ≡ step_at m (values_of values) (begun m tries local) (begun m tries local).spot
   step_is = made ∙ ap (λ (s : Spot). the_step l s) at ∙ ap (λ (x : Local). the_step x x.spot) is
 
   module _ (answer : Answer) (after : Local) (reply : Option Reply) (told : answer ≡ answer_of step.op (get_or table.words (number_of m step.place) 0))
@@ -41,12 +41,12 @@ module _ (m : Setup) (table : WordTable) (values : List Guarded) (local l : Loca
     abbrev led_to : Local → Spot → Answer → Change
     led_to x s a = change_of (advance_at m (values_of values) x s a) (values_of values)
 
-    pub answer_is : ways.changed values after reply ≡ after_answer m (alone table values local) (begun m false local)
+    pub answer_is : ways.changed values after reply ≡ after_answer m (alone table values local) (begun m tries local)
     answer_is =
         ap (λ (t : Turn). change_of t (values_of values)) led
         ∙ ap (λ (a : Answer). led_to l spot a) (told ∙ ap (λ (t : Step). answer_of t.op (word_under t)) step_is)
-        ∙ ap (λ (s : Spot). led_to l s (answer_of (the_step (begun m false local) (begun m false local).spot).op (word_under (the_step (begun m false local) (begun m false local).spot)))) at
-        ∙ ap (λ (x : Local). led_to x x.spot (answer_of (the_step (begun m false local) (begun m false local).spot).op (word_under (the_step (begun m false local) (begun m false local).spot)))) is
+        ∙ ap (λ (s : Spot). led_to l s (answer_of (the_step (begun m tries local) (begun m tries local).spot).op (word_under (the_step (begun m tries local) (begun m tries local).spot)))) at
+        ∙ ap (λ (x : Local). led_to x x.spot (answer_of (the_step (begun m tries local) (begun m tries local).spot).op (word_under (the_step (begun m tries local) (begun m tries local).spot)))) is
 
 -- what is asked of what is done at once: what fits all values with room in the node lists fits these
 guarded_fits : (m : Setup) (guarded : List Guarded) (c : Change) → HasRooms m (rooms_of guarded) → values_of guarded ≡ c.value → ChangeFits m c → GuardedFits guarded c
@@ -67,13 +67,13 @@ settled_fits m guarded s l k reply fits room is =
     }
 
 -- all of the turn
-pub turn_is : (m : Setup) (table after : WordTable) (values now : List Guarded) (local k l : Local) (step : Step) (c : Change) (refused : Bool)
-    → step ≡ step_at m (values_of values) (begun m false local) (begun m false local).spot
+pub turn_is : (m : Setup) (tries : Bool) (table after : WordTable) (values now : List Guarded) (local k l : Local) (step : Step) (c : Change) (refused : Bool)
+    → step ≡ step_at m (values_of values) (begun m tries local) (begun m tries local).spot
     → after.words ≡ set table.words (number_of m step.place) (after_op step.op (get_or table.words (number_of m step.place) 0))
-    → c ≡ after_answer m (alone table values local) (begun m false local)
+    → c ≡ after_answer m (alone table values local) (begun m tries local)
     → values_of now ≡ (settled m refused c).value → k ≡ noted (settled m refused c).local (settled m refused c).reply → l ≡ rested m k
-    → alone after now l ≡ turn m (alone table values local) (record { worker = 0; refused = refused })
-turn_is m table after values now local k l step c refused made words led value settle rest =
+    → alone after now l ≡ turn m (alone table values local) (record { worker = 0; refused = refused; tries = tries })
+turn_is m tries table after values now local k l step c refused made words led value settle rest =
     let words_are = words ∙ ap (λ (t : Step). set table.words (number_of m t.place) (after_op t.op (get_or table.words (number_of m t.place) 0))) made in
     let values_are = value ∙ ap (λ (x : Change). (settled m refused x).value) led in
     let local_is = rest ∙ ap (λ (x : Local). rested m x) settle ∙ ap (λ (x : Change). rested m (noted (settled m refused x).local (settled m refused x).reply)) led in

@@ -1,5 +1,5 @@
 -- The machine of a round as the step machine's definitions have it.
-use Rattle.std.specs.Prelude.{◌≡◌, false, List, [], ◌∷◌}
+use Rattle.std.specs.Prelude.{◌≡◌, Bool, false, List, [], ◌∷◌}
 use Rattle.slub_core.specs.Local.{Local}
 use Rattle.slub_core.specs.Run.{System, Pick}
 use Rattle.slub_local.specs.Facts.{Facts}
@@ -19,8 +19,8 @@ system_of table guarded locals = record {
 abbrev pub alone : WordTable → List Guarded → Local → System
 alone table guarded local = system_of table guarded (local ∷ [])
 
-abbrev pub picked_alone : Pick
-picked_alone = record { worker = 0; refused = false }
+abbrev pub picked_alone : Bool → Pick
+picked_alone tries = record { worker = 0; refused = false; tries = tries }
 
 -- the table is of a machine of these sizes
 pub record IsTableFor (facts : Facts) (table : WordTable) : Type 0 where

@@ -1,6 +1,6 @@
 //! Between two calls: the replies that take no step, and the begin of a call.
 
-ghost use Rattle.std.specs.Prelude.{◌≡◌, ◌<◌, false, map};
+ghost use Rattle.std.specs.Prelude.{◌≡◌, ◌<◌, map};
 ghost use Rattle.slub_core.specs.Setup.{Means};
 ghost use Rattle.slub_core.specs.Steps as core;
 ghost use Rattle.slub_local.specs.Facts.{setup_of, cache_of};
@@ -169,27 +169,27 @@ fn first_cpu(kind: CallKind, cpu: u32) -> u8
     }
 }
 
-/// A worker begins this call.
-fn begin_call(setup: &Setup, local: &mut Local, call: &Call)
+/// A worker begins this call; as a try, where `tries` says so.
+fn begin_call(setup: &Setup, local: &mut Local, call: &Call, tries: bool)
     requires { call.now.cpu < 256 }
-    ensures { (means : Means) → local.new ≡ core.begun_call (setup_of setup.now means) false local.old call.now }
+    ensures { (means : Means) → local.new ≡ core.begun_call (setup_of setup.now means) tries local.old call.now }
 {
     let known = local.known_at(call.place);
     let cache = cache_for(setup, known, call);
     let spot = first_spot(call.kind, setup.checks(cache), known.held);
     let cpu = first_cpu(call.kind, call.cpu);
-    local.begin(spot, cache, cpu, call.place, false);
+    local.begin(spot, cache, cpu, call.place, tries);
 }
 
-/// A worker between two calls begins its next one.
-pub fn begin(setup: &Setup, local: &mut Local)
+/// A worker between two calls begins its next one; as a try, where `tries` says so.
+pub fn begin(setup: &Setup, local: &mut Local, tries: bool)
     requires { BeginFits local.old local.old.spot }
-    ensures { (means : Means) → local.new ≡ core.begun (setup_of setup.now means) false local.old }
+    ensures { (means : Means) → local.new ≡ core.begun (setup_of setup.now means) tries local.old }
 {
     if let Spot::Between = local.spot() {
         if local.has_call() {
             let call = local.call();
-            begin_call(setup, local, &call);
+            begin_call(setup, local, &call, tries);
         }
     }
 }

@@ -58,6 +58,7 @@ impl machine::Machine for Machine {
             &mut self.table,
             self.values.as_mut_slice(),
             local,
+            false,
         );
         is_finished(local)
     }

@@ -21,11 +21,11 @@ turn_of-refused-requires-clause-fits c =
     let items : List Guarded = c.args.self.now.values.items in
     let locals : List Local = c.args.self.now.locals.items in
     let local : Local = c.index_mut-local.result.now in
-    let pick : Pick = record { worker = c.args.worker; refused = false } in
+    let pick : Pick = record { worker = c.args.worker; refused = false; tries = false } in
     let is : local ≡ get_or locals c.args.worker idle = get_or_read locals c.args.worker local c.requires.worker c.index_mut-local.ensures.value idle in
-    let fits : PickFits m (alone table items local) picked_alone = fits_alone m table items locals local pick is (c.picks_fit.ensures m (system_of table items locals) pick c.requires.ready.may c.requires.worker) in
+    let fits : PickFits m (alone table items local) (picked_alone false) = fits_alone m table items locals local pick is (c.picks_fit.ensures m (system_of table items locals) pick c.requires.ready.may c.requires.worker) in
     let lent : items ≡ c.as_mut_slice.result.now = sym c.as_mut_slice.ensures.value in
-    let P : List Guarded → Type 0 = λ g. PickFits m (alone table g local) picked_alone in
+    let P : List Guarded → Type 0 = λ g. PickFits m (alone table g local) (picked_alone false) in
     let Q : List Guarded → Type 0 = λ g. HasRooms m (rooms_of g) in
     (the_means, subst Q lent c.requires.ready.rooms, subst P lent fits)
 
@@ -40,9 +40,9 @@ returns-clause-turned c =
     let local : Local = c.index_mut-local.result.now in
     let l : Local = c.turn_of-refused.new.local in
     let refused : Bool = c.turn_of-refused.result in
-    let pick : Pick = record { worker = c.args.worker; refused = refused } in
+    let pick : Pick = record { worker = c.args.worker; refused = refused; tries = false } in
     let is : local ≡ get_or locals c.args.worker idle = get_or_read locals c.args.worker local c.requires.worker c.index_mut-local.ensures.value idle in
-    let turned = turn_among m table after c.as_mut_slice.result.now now locals local l c.args.worker refused is (c.turn_of-refused.ensures.turned the_means) in
+    let turned = turn_among m table after c.as_mut_slice.result.now now locals local l c.args.worker refused false is (c.turn_of-refused.ensures.turned the_means) in
     let back = back_whole c.args.self.now.values.len now items (c.turn_of-refused.auto.values ∙ c.as_mut_slice.ensures.len) in
     (refused, ap (λ (g : List Guarded). system_of after g (set locals c.args.worker l)) back ∙ turned ∙ ap (λ (g : List Guarded). turn m (system_of table g locals) pick) c.as_mut_slice.ensures.value)
 
@@ -54,7 +54,7 @@ returns-clause-ready c =
     let now : List Guarded = c.turn_of-refused.new.values in
     let locals : List Local = c.args.self.now.locals.items in
     let (refused, turned) = returns-clause-turned c in
-    let pick : Pick = record { worker = c.args.worker; refused = refused } in
+    let pick : Pick = record { worker = c.args.worker; refused = refused; tries = false } in
     let back = back_whole c.args.self.now.values.len now items (c.turn_of-refused.auto.values ∙ c.as_mut_slice.ensures.len) in
     let rooms : rooms_of (take c.args.self.now.values.len (now ++ drop (length now) items)) ≡ rooms_of items =
     ap (λ (g : List Guarded). rooms_of g) back ∙ c.turn_of-refused.ensures.rooms ∙ ap (λ (g : List Guarded). rooms_of g) c.as_mut_slice.ensures.value in

@@ -16,8 +16,8 @@ use Rattle.slub_workers.specs.Locks.{locks_of}
 use Rattle.slub_workers.specs.Standing.{Standing, Fork, branch, branches, locals_of}
 use Rattle.slub_workers.specs.Rule.{Stands, Holds, Owns, number_in, setup_in, table_in}
 use Rattle.slub_workers.specs.Ranks.{AreBack}
-use Rattle.slub_workers.specs.Round.{HasEnded}
-use Rattle.slub_workers.proofs.Backs.{back_length, back_at, back_finished, all_finished, refused_in, refused_back}
+use Rattle.slub_workers.specs.Round.{HasClosed}
+use Rattle.slub_workers.proofs.Backs.{back_length, back_at, back_between, all_between, refused_in, refused_back, untried_back}
 use Rattle.slub_workers.proofs.Branches.{branches_at}
 use Rattle.slub_workers.proofs.Opening.{place_or, to_map, has_none}
 use Rattle.slub_workers.proofs.StepReady.{many-guards}
@@ -49,7 +49,7 @@ owns_at owner fs id [] k f o at = absurd (some-ne-none f (sym at))
 owns_at owner fs id (x ∷ v) zero f o at = subst (λ (y : Fork). get_elem? fs (number_in y) ≡ some y) (some-injective x f at) o.0
 owns_at owner fs id (x ∷ v) (suc k) f o at = owns_at owner fs id v k f o.3 at
 
-module _ (key : Begun) (id : ℕ) (v : List Fork) (locals : List Local) (words : List ℕ) (xs : List Guarded) (back : AreBack 0 v locals) (count : length locals ≡ length key.locals)
+module _ (t : Bool) (key : Begun) (id : ℕ) (v : List Fork) (locals : List Local) (words : List ℕ) (xs : List Guarded) (back : AreBack t 0 v locals) (count : length locals ≡ length key.locals)
     (final : Final (Seen (Holds key) id v) words xs) where
   holds : Holds key final.0
   holds = final.1.0
@@ -57,7 +57,7 @@ module _ (key : Begun) (id : ℕ) (v : List Fork) (locals : List Local) (words :
   -- whether memory was refused to it or not, a worker has its number
   numbered : (k : ℕ) (f : Fork) → get_elem? v k ≡ some f → number_in f ≡ k
   numbered k f at =
-      let b = back_at 0 v locals k f back at in
+      let b = back_at t 0 v locals k f back at in
       let there = owns_at holds.owner holds.forks id v k f (holds.tied id v final.1.1) at in
       let stands = holds.stand (λ _. b.1.refused) in
       let x = branch b.1.refused f in
@@ -67,12 +67,12 @@ module _ (key : Begun) (id : ℕ) (v : List Fork) (locals : List Local) (words :
 
   all_of : v ≡ holds.forks
   all_of =
-      let n = back_length 0 v locals back in
+      let n = back_length t 0 v locals back in
       let m = holds.count in
       same_at v holds.forks (omega arith) (λ k f at. subst (λ (i : ℕ). get_elem? holds.forks i ≡ some f) (numbered k f at) (owns_at holds.owner holds.forks id v k f (holds.tied id v final.1.1) at))
 
   abbrev refused : ℕ → Bool
-  refused = refused_in 0 v locals back 0 false
+  refused = refused_in t 0 v locals back 0 false
 
   abbrev workers : List Standing
   workers = branches refused holds.forks
@@ -81,13 +81,17 @@ module _ (key : Begun) (id : ℕ) (v : List Fork) (locals : List Local) (words :
   stand = holds.stand refused
 
   locals_are : locals_of workers ≡ locals
-  locals_are = ap (λ (fs : List Fork). locals_of (branches refused fs)) (sym all_of) ∙ refused_back 0 0 v locals back false
+  locals_are = ap (λ (fs : List Fork). locals_of (branches refused fs)) (sym all_of) ∙ refused_back t 0 0 v locals back false
 
   -- none of them has a lock
   no_lock : (lock k : ℕ) (x : Standing) → get_elem? workers k ≡ some x → ¬ Contains (locks_of x.local) lock
   no_lock lock k x at has =
       let there : get_elem? locals k ≡ some x.local = ap (λ (ls : List Local). get_elem? ls k) (sym locals_are) ∙ to_map (λ (y : Standing). y.local) workers k x at in
-      has_none x.local lock (back_finished 0 v locals k x.local back there).between has
+      has_none x.local lock (back_between t 0 v locals k x.local back there) has
+
+  -- nor has one tried
+  untried : t ≡ false → (k : ℕ) (x : Standing) → get_elem? workers k ≡ some x → x.tried ≡ false
+  untried none k x at = untried_back t 0 0 v locals back false k x (ap (λ (fs : List Fork). get_elem? (branches refused fs) k) all_of ∙ at) none
 
   many : length stand.guards ≡ 33
   many = many-guards (setup_in key) stand.guards stand.ready.full
@@ -100,14 +104,15 @@ module _ (key : Begun) (id : ℕ) (v : List Fork) (locals : List Local) (words :
       let home : get_elem? final.0.homes k ≡ some (some g) = stand.home k (omega arith) (no_lock k) in
       sym (place_or xs k g Nothing (final.4 k g home)))
 
-  pub ends : (facts : Facts) (table : WordTable) → length xs ≡ 33 → facts ≡ key.facts → table ≡ table_in key words → HasEnded key record { facts = facts; table = table; guards = xs; locals = locals }
+  pub ends : (facts : Facts) (table : WordTable) → length xs ≡ 33 → facts ≡ key.facts → table ≡ table_in key words → HasClosed key t record { facts = facts; table = table; guards = xs; locals = locals }
   ends facts table slots facts_is table_is =
       let g = guards_are slots in
-      let t : table_in key final.0.words ≡ table = ap (λ (w : List ℕ). table_in key w) final.2 ∙ sym table_is in
+      let e : table_in key final.0.words ≡ table = ap (λ (w : List ℕ). table_in key w) final.2 ∙ sym table_is in
       record {
         facts = facts_is;
-        ready = subst (λ (y : (Facts × WordTable) × (List Guarded × List Local)). IsReady y.0.0 y.0.1 y.1.0 y.1.1) (λ i. ((sym facts_is i, t i), (g i, locals_are i))) stand.ready;
+        ready = subst (λ (y : (Facts × WordTable) × (List Guarded × List Local)). IsReady y.0.0 y.0.1 y.1.0 y.1.1) (λ i. ((sym facts_is i, e i), (g i, locals_are i))) stand.ready;
         picks = stand.picks;
-        ran = sym (stand.ran ∙ (λ i. system_of (t i) (g i) (locals_are i)));
-        finished = all_finished 0 v locals back;
+        calls = λ none. stand.calls (untried none);
+        ran = sym (stand.ran ∙ (λ i. system_of (e i) (g i) (locals_are i)));
+        between = all_between t 0 v locals back;
       }

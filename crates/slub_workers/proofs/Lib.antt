@@ -26,3 +26,7 @@ pub mod Closing
 pub mod Ranks
 pub mod Worked
 pub mod Copies
+pub mod Try
+pub mod Calls
+pub mod CallTurns
+pub mod Ended

@@ -34,16 +34,16 @@ local_is front back x ls k at is = sym (middle_local front back x) ∙ ap (λ j.
 abbrev pub StandsAt : Setup → Local → Type 0
 StandsAt m l = (z : Worker) × (z.local ≡ l) × IsAtSpot m z
 
-pub stands_at : (m : Setup) (opening : World) (s : System) (worker : ℕ) → IsCoherentSystem m opening s → worker < length s.locals → StandsAt m (begun m false (slice_index_or s.locals worker idle))
+pub stands_at : (m : Setup) (tries : Bool) (opening : World) (s : System) (worker : ℕ) → IsCoherentSystem m opening s → worker < length s.locals → StandsAt m (begun m tries (slice_index_or s.locals worker idle))
 unfolding world_of world_from
-stands_at m opening s worker is below =
+stands_at m tries opening s worker is below =
     let r = split is.workers worker (let e = ap (λ ls. length ls) is.locals in let g = length-map is.workers (λ (x : Worker). x.local) in omega arith) in
     let w = world_of m s.value s.words in
     let all : Stands w is.workers = record { chains = is.chains; placed = is.coherent.placed; listed = is.coherent.listed; fresh = is.coherent.fresh } in
     by_split r.0 r.2 r.1 r.4 (sym (ap (map (λ (x : Worker). x.local)) r.3) ∙ is.locals) (subst (Stands w) r.3 all) (subst (IsAccounted opening w) r.3 is.coherent.accounted)
   where
     by_split : (front back : List Worker) (x : Worker) → length front ≡ worker → map (λ (x : Worker). x.local) (front ++ x ∷ back) ≡ s.locals → Stands (world_of m s.value s.words) (front ++ x ∷ back) → IsAccounted opening (world_of m s.value s.words) (front ++ x ∷ back)
-        → StandsAt m (begun m false (slice_index_or s.locals worker idle))
+        → StandsAt m (begun m tries (slice_index_or s.locals worker idle))
     by_split front back x at locals all ac =
         let w = world_of m s.value s.words in
         let l = slice_index_or s.locals worker idle in
@@ -52,8 +52,8 @@ stands_at m opening s worker is below =
         let rest = subst (λ l. l.spot ≡ Between → TakesStep m l l.todo) (sym mine) (is.rested worker idle below) in
         let stood = to_front w front back x all in
         let agrees = accounted_to_front opening w front back x ac in
-        let began = begin w x others stood (λ _. may_begin opening w x others agrees) rest in
-        (began.0, began.1 ∙ ap (λ k. begun m false k) mine, (All-head (IsAtWork w) began.0 others began.2.fresh.workers).spot)
+        let began = begin tries w x others stood (λ _. may_begin opening w x others agrees) rest in
+        (began.0, began.1 ∙ ap (λ k. begun m tries k) mine, (All-head (IsAtWork w) began.0 others began.2.fresh.workers).spot)
 
 -- ---- its cache, and its locks
 
@@ -85,15 +85,15 @@ by_move m l Stays stands for = tt
 by_move m l (Takes lock) stands for = lock_below m l lock stands for
 by_move m l (Gives lock) stands for = lock_below m l lock stands for
 
-pub move_below : (m : Setup) (opening : World) (s : System) (worker found : ℕ) (v : ℕ → LockValue) → IsCoherentSystem m opening s → worker < length s.locals
-    → let l = begun m false (slice_index_or s.locals worker idle) in MovesBelow (move_of (step_of m v l) found) 33
-move_below m opening s worker found v is below =
-    let l = begun m false (slice_index_or s.locals worker idle) in
-    by_move m l (move_of (step_of m v l) found) (stands_at m opening s worker is below) (lock_is m v l found)
+pub move_below : (m : Setup) (tries : Bool) (opening : World) (s : System) (worker found : ℕ) (v : ℕ → LockValue) → IsCoherentSystem m opening s → worker < length s.locals
+    → let l = begun m tries (slice_index_or s.locals worker idle) in MovesBelow (move_of (step_of m v l) found) 33
+move_below m tries opening s worker found v is below =
+    let l = begun m tries (slice_index_or s.locals worker idle) in
+    by_move m l (move_of (step_of m v l) found) (stands_at m tries opening s worker is below) (lock_is m v l found)
 
 pub has_below : (m : Setup) (opening : World) (s : System) (worker lock : ℕ) → IsCoherentSystem m opening s → worker < length s.locals
     → Contains (locks_of (slice_index_or s.locals worker idle)) lock → lock < 33
 has_below m opening s worker lock is below has =
     let l = begun m false (slice_index_or s.locals worker idle) in
-    lock_below m l lock (stands_at m opening s worker is below)
+    lock_below m l lock (stands_at m false opening s worker is below)
     (has_lock_for l lock (subst (λ ls. Contains ls lock) (sym (begun_locks m false (slice_index_or s.locals worker idle))) has))

@@ -90,50 +90,50 @@ either_is false x y = refl
 
 -- ---- what a step asks
 
-module _ (keep : TurnsKeepReady) (fit : PicksFit) (key kk : Begun) (same_key : kk ≡ key) (slots id : ℕ) (x : Standing) (before me : Me Guarded (List Fork)) (values : List Guarded) (step : Step)
-    (st : Steps kk x before values step) (same : me.0 ≡ before.0) where
+module _ (keep : TurnsKeepReady) (fit : PicksFit) (key kk : Begun) (same_key : kk ≡ key) (slots id : ℕ) (tries : Bool) (x : Standing) (before me : Me Guarded (List Fork)) (values : List Guarded) (step : Step)
+    (st : Steps kk tries x before values step) (same : me.0 ≡ before.0) where
   asks_at : (i : ℕ) (f told : ℕ → ℕ)
       → ((lock n : ℕ) → move_of step n ≡ Gives lock → me.1 ≡ (lock, value_given lock x.values) ∷ rest me.1)
-      → ((words : List ℕ) → length words ≡ word_count (setup_in kk) → IsWord kk x words i f told)
-      → Allows (Holds key) slots id me i f (λ n after. Told kk x (told n) me after)
+      → ((words : List ℕ) → length words ≡ word_count (setup_in kk) → IsWord kk tries x words i f told)
+      → Allows (Holds key) slots id me i f (λ n after. Told kk tries x (told n) me after)
   asks_at i f told given word =
-      let one = allowed keep fit kk slots id x st.sits.fork st.sits.refused st.sits.here me.1 i f told (λ lock n e. given lock n (ap (λ (s : Step). move_of s n) st.is ∙ e)) word in
-      let two : Allows (Holds kk) slots id me i f (λ n after. Told kk x (told n) me after) =
-      subst (λ (v : List Fork). Allows (Holds kk) slots id (v, me.1) i f (λ n after. Told kk x (told n) (v, me.1) after)) (sym (same ∙ st.sits.view)) one in
-      subst (λ (k : Begun). Allows (Holds k) slots id me i f (λ n after. Told kk x (told n) me after)) same_key two
+      let one = allowed keep fit kk slots id tries x st.sits.fork st.sits.refused st.sits.here me.1 i f told (λ lock n e. given lock n (ap (λ (s : Step). move_of s n) st.is ∙ e)) word in
+      let two : Allows (Holds kk) slots id me i f (λ n after. Told kk tries x (told n) me after) =
+      subst (λ (v : List Fork). Allows (Holds kk) slots id (v, me.1) i f (λ n after. Told kk tries x (told n) (v, me.1) after)) (sym (same ∙ st.sits.view)) one in
+      subst (λ (k : Begun). Allows (Holds k) slots id me i f (λ n after. Told kk tries x (told n) me after)) same_key two
 
   -- on its word
   asks : (word : ℕ) (f : ℕ → ℕ) → word ≡ number_of (setup_in kk) step.place → ((n : ℕ) → after_op step.op n ≡ f n)
       → ((lock n : ℕ) → move_of step n ≡ Gives lock → me.1 ≡ (lock, value_given lock x.values) ∷ rest me.1)
-      → Allows (Holds key) slots id me word f (λ n after. Told kk x n me after)
+      → Allows (Holds key) slots id me word f (λ n after. Told kk tries x n me after)
   asks word f number after given =
       let m = setup_in kk in
-      let at : word ≡ number_at kk x = number ∙ ap (λ (s : Step). number_of m s.place) st.is in
+      let at : word ≡ number_at kk tries x = number ∙ ap (λ (s : Step). number_of m s.place) st.is in
       asks_at word f (λ n. n) given (λ words long. record {
         found = ap (λ (k : ℕ). slice_index words k) at;
         after = ap (λ (y : ℕ). set words word y) (sym (after (slice_index words word)) ∙ ap (λ (s : Step). after_op s.op (slice_index words word)) st.is)
-            ∙ ap (λ (k : ℕ). set words k (after_op (step_in m x).op (slice_index words k))) at;
+            ∙ ap (λ (k : ℕ). set words k (after_op (step_in m tries x).op (slice_index words k))) at;
       })
 
-  pub load_asks : (word : ℕ) → word ≡ number_of (setup_in kk) step.place → step.op ≡ Load → Allows (Holds key) slots id me word (λ n. n) (λ n after. Told kk x n me after)
+  pub load_asks : (word : ℕ) → word ≡ number_of (setup_in kk) step.place → step.op ≡ Load → Allows (Holds key) slots id me word (λ n. n) (λ n after. Told kk tries x n me after)
   load_asks word number op =
       asks word (λ n. n) number (λ n. ap (λ (o : Op). after_op o n) op)
       (λ lock n e. absurd (stays_given lock (sym (stays_load step.place n) ∙ ap (λ (o : Op). move_at step.place o n) (sym op) ∙ e)))
 
-  pub swap_asks : (word v : ℕ) → word ≡ number_of (setup_in kk) step.place → step.op ≡ Swap v → Allows (Holds key) slots id me word (λ _. v) (λ n after. Told kk x n me after)
+  pub swap_asks : (word v : ℕ) → word ≡ number_of (setup_in kk) step.place → step.op ≡ Swap v → Allows (Holds key) slots id me word (λ _. v) (λ n after. Told kk tries x n me after)
   swap_asks word v number op =
       asks word (λ _. v) number (λ n. ap (λ (o : Op). after_op o n) op)
       (λ lock n e. absurd (stays_given lock (sym (stays_swap step.place v n) ∙ ap (λ (o : Op). move_at step.place o n) (sym op) ∙ e)))
 
   pub exchange_asks : (word from to : ℕ) → word ≡ number_of (setup_in kk) step.place → step.op ≡ Exchange from to
-      → Allows (Holds key) slots id me word (λ n. either (n == from) to n) (λ n after. Told kk x n me after)
+      → Allows (Holds key) slots id me word (λ n. either (n == from) to n) (λ n after. Told kk tries x n me after)
   exchange_asks word from to number op =
       asks word (λ n. either (n == from) to n) number (λ n. ap (λ (o : Op). after_op o n) op ∙ either_is (n == from) to n)
       (λ lock n e. absurd (swaps_give_none step.place from to n lock (ap (λ (o : Op). move_at step.place o n) (sym op) ∙ e)))
 
   pub store_asks : (word v : ℕ) → word ≡ number_of (setup_in kk) step.place → step.op ≡ Store v
       → ((lock n : ℕ) → move_of step n ≡ Gives lock → me.1 ≡ (lock, value_given lock x.values) ∷ rest me.1)
-      → Allows (Holds key) slots id me word (λ _. v) (λ _ after. (found : ℕ) × Told kk x found me after)
+      → Allows (Holds key) slots id me word (λ _. v) (λ _ after. (found : ℕ) × Told kk tries x found me after)
   store_asks word v number op given s h count at small =
       let r = asks word (λ _. v) number (λ n. ap (λ (o : Op). after_op o n) op) given s h count at small in (r.0, r.1, r.2, r.3, (_, r.4))
 
@@ -144,17 +144,17 @@ module _ (keep : TurnsKeepReady) (fit : PicksFit) (key kk : Begun) (same_key : k
   outside (w ∷ ws) (suc i) v far = let r = outside ws i v (omega arith) in (r.0, ap (λ (t : List ℕ). w ∷ t) r.1)
 
   pub outside_asks : (count : ℕ) → count ≤ number_of (setup_in kk) step.place → count ≡ word_count (setup_in kk)
-      → Allows (Holds key) slots id me 0 (λ n. n) (λ n after. Told kk x 0 me after)
+      → Allows (Holds key) slots id me 0 (λ n. n) (λ n after. Told kk tries x 0 me after)
   outside_asks count far all =
       let m = setup_in kk in
-      let at : number_of m step.place ≡ number_at kk x = ap (λ (s : Step). number_of m s.place) st.is in
+      let at : number_of m step.place ≡ number_at kk tries x = ap (λ (s : Step). number_of m s.place) st.is in
       asks_at 0 (λ n. n) (λ _. 0)
       (λ lock n e.
-      let low = (gives_last kk x keep fit st.may lock n (ap (λ (s : Step). move_of s n) (sym st.is) ∙ e)).0 in
+      let low = (gives_last kk tries x keep fit st.may lock n (ap (λ (s : Step). move_of s n) (sym st.is) ∙ e)).0 in
       let here : number_of m step.place ≡ lock = ap (λ (p : Place). number_of m p) (given_place step.place step.op n lock e) in
       absurd (omega arith))
       (λ words long.
-      let past = outside words (number_at kk x) (after_op (step_in m x).op (slice_index_or words (number_at kk x) 0)) (omega arith) in
+      let past = outside words (number_at kk tries x) (after_op (step_in m tries x).op (slice_index_or words (number_at kk tries x) 0)) (omega arith) in
       record { found = past.0; after = set-get_or words 0 0 ∙ sym past.1 })
 
   pub outside_stays : (count : ℕ) → count ≤ number_of (setup_in kk) step.place → count ≡ word_count (setup_in kk) → move_of step 0 ≡ Stays
@@ -163,21 +163,21 @@ module _ (keep : TurnsKeepReady) (fit : PicksFit) (key kk : Begun) (same_key : k
       by_move : (mv : Move) → move_of step 0 ≡ mv → move_of step 0 ≡ Stays
       by_move Stays e = e
       by_move (Takes lock) e =
-          let low = takes_below kk x keep fit st.may lock 0 (ap (λ (s : Step). move_of s 0) (sym st.is) ∙ e) in
+          let low = takes_below kk tries x keep fit st.may lock 0 (ap (λ (s : Step). move_of s 0) (sym st.is) ∙ e) in
           let here : number_of (setup_in kk) step.place ≡ lock = ap (λ (p : Place). number_of (setup_in kk) p) (taken_place step.place step.op 0 lock e) in
           absurd (omega arith)
       by_move (Gives lock) e =
-          let low = (gives_last kk x keep fit st.may lock 0 (ap (λ (s : Step). move_of s 0) (sym st.is) ∙ e)).0 in
+          let low = (gives_last kk tries x keep fit st.may lock 0 (ap (λ (s : Step). move_of s 0) (sym st.is) ∙ e)).0 in
           let here : number_of (setup_in kk) step.place ≡ lock = ap (λ (p : Place). number_of (setup_in kk) p) (given_place step.place step.op 0 lock e) in
           absurd (omega arith)
 
 -- ---- what a step makes
 
 -- no lock is moved
-pub made_kept : (kk : Begun) (x : Standing) (before after : Me Guarded (List Fork)) (values : List Guarded) (step : Step) (n : ℕ) (answer : Answer)
-    → Steps kk x before values step → move_of step n ≡ Stays → answer ≡ answer_of step.op n → Told kk x n before after → Made kk x after values answer
-made_kept kk x before after values step n answer st stays is t =
-    let mv : move_of (step_in (setup_in kk) x) n ≡ Stays = ap (λ (s : Step). move_of s n) (sym st.is) ∙ stays in
+pub made_kept : (kk : Begun) (tries : Bool) (x : Standing) (before after : Me Guarded (List Fork)) (values : List Guarded) (step : Step) (n : ℕ) (answer : Answer)
+    → Steps kk tries x before values step → move_of step n ≡ Stays → answer ≡ answer_of step.op n → Told kk tries x n before after → Made kk tries x after values answer
+made_kept kk tries x before after values step n answer st stays is t =
+    let mv : move_of (step_in (setup_in kk) tries x) n ≡ Stays = ap (λ (s : Step). move_of s n) (sym st.is) ∙ stays in
     record {
       found = n;
       value = t.value;
@@ -196,22 +196,22 @@ first_of v [] = v
 first_of v (y ∷ ys) = y.1
 
 -- once a lock is won, its slot is out
-pub won_slot : (kk : Begun) (x : Standing) (before mid : Me Guarded (List Fork)) (values : List Guarded) (step : Step) (n lock : ℕ) → Steps kk x before values step → move_of step n ≡ Takes lock
-    → (t : Told kk x n before mid) → mid.1 ≡ (lock, t.value) ∷ before.1
-won_slot kk x before mid values step n lock st takes t = t.slots ∙ ap (λ (k : Move). slots_after k t.value before.1) (ap (λ (s : Step). move_of s n) (sym st.is) ∙ takes)
+pub won_slot : (kk : Begun) (tries : Bool) (x : Standing) (before mid : Me Guarded (List Fork)) (values : List Guarded) (step : Step) (n lock : ℕ) → Steps kk tries x before values step → move_of step n ≡ Takes lock
+    → (t : Told kk tries x n before mid) → mid.1 ≡ (lock, t.value) ∷ before.1
+won_slot kk tries x before mid values step n lock st takes t = t.slots ∙ ap (λ (k : Move). slots_after k t.value before.1) (ap (λ (s : Step). move_of s n) (sym st.is) ∙ takes)
 
-pub won_out : (kk : Begun) (x : Standing) (before mid : Me Guarded (List Fork)) (values : List Guarded) (step : Step) (n lock : ℕ) → Steps kk x before values step → move_of step n ≡ Takes lock
-    → Told kk x n before mid → (old : Guarded) × (mid.1 ≡ (lock, old) ∷ rest mid.1)
-won_out kk x before mid values step n lock st takes t =
-    let w = won_slot kk x before mid values step n lock st takes t in
+pub won_out : (kk : Begun) (tries : Bool) (x : Standing) (before mid : Me Guarded (List Fork)) (values : List Guarded) (step : Step) (n lock : ℕ) → Steps kk tries x before values step → move_of step n ≡ Takes lock
+    → Told kk tries x n before mid → (old : Guarded) × (mid.1 ≡ (lock, old) ∷ rest mid.1)
+won_out kk tries x before mid values step n lock st takes t =
+    let w = won_slot kk tries x before mid values step n lock st takes t in
     (t.value, w ∙ ap (λ (c : List (ℕ × Guarded)). (lock, t.value) ∷ c) (sym (ap rest w)))
 
-pub made_taken : (kk : Begun) (x : Standing) (before mid after : Me Guarded (List Fork)) (values now : List Guarded) (step : Step) (n lock : ℕ) (r : Guarded) (answer : Answer)
-    → Steps kk x before values step → move_of step n ≡ Takes lock → answer ≡ answer_of step.op n → Told kk x n before mid
-    → mid.1 ≡ (lock, r) ∷ rest mid.1 → after ≡ (mid.0, (lock, Nothing) ∷ rest mid.1) → now ≡ set values lock r → Made kk x after now answer
-made_taken kk x before mid after values now step n lock r answer st takes is t read wrote put =
-    let mv : move_of (step_in (setup_in kk) x) n ≡ Takes lock = ap (λ (s : Step). move_of s n) (sym st.is) ∙ takes in
-    let w = won_slot kk x before mid values step n lock st takes t in
+pub made_taken : (kk : Begun) (tries : Bool) (x : Standing) (before mid after : Me Guarded (List Fork)) (values now : List Guarded) (step : Step) (n lock : ℕ) (r : Guarded) (answer : Answer)
+    → Steps kk tries x before values step → move_of step n ≡ Takes lock → answer ≡ answer_of step.op n → Told kk tries x n before mid
+    → mid.1 ≡ (lock, r) ∷ rest mid.1 → after ≡ (mid.0, (lock, Nothing) ∷ rest mid.1) → now ≡ set values lock r → Made kk tries x after now answer
+made_taken kk tries x before mid after values now step n lock r answer st takes is t read wrote put =
+    let mv : move_of (step_in (setup_in kk) tries x) n ≡ Takes lock = ap (λ (s : Step). move_of s n) (sym st.is) ∙ takes in
+    let w = won_slot kk tries x before mid values step n lock st takes t in
     let value : r ≡ t.value = ap (first_of Nothing) (sym read ∙ w) in
     record {
       found = n;
@@ -226,30 +226,30 @@ made_taken kk x before mid after values now step n lock r answer st takes is t r
     }
 
 -- before a lock is given back its slot is out, and nothing lies there
-pub holds_slot : (keep : TurnsKeepReady) (fit : PicksFit) (kk : Begun) (x : Standing) (me : Me Guarded (List Fork)) (values : List Guarded) (step : Step) (lock v : ℕ) → Steps kk x me values step
+pub holds_slot : (keep : TurnsKeepReady) (fit : PicksFit) (kk : Begun) (tries : Bool) (x : Standing) (me : Me Guarded (List Fork)) (values : List Guarded) (step : Step) (lock v : ℕ) → Steps kk tries x me values step
     → step.place ≡ LockOf lock → step.op ≡ Store v → (lock < 33) × (me.1 ≡ (lock, Nothing) ∷ rest me.1)
-holds_slot keep fit kk x me values step lock v st place op =
+holds_slot keep fit kk tries x me values step lock v st place op =
     let gives : move_of step 0 ≡ Gives lock = (λ i. move_at (place i) (op i) 0) in
-    let g = gives_last kk x keep fit st.may lock 0 (ap (λ (s : Step). move_of s 0) (sym st.is) ∙ gives) in
+    let g = gives_last kk tries x keep fit st.may lock 0 (ap (λ (s : Step). move_of s 0) (sym st.is) ∙ gives) in
     let out : me.1 ≡ (lock, Nothing) ∷ slots_out g.1.0 = st.sits.slots ∙ ap slots_out g.1.1 in
     (g.0, out ∙ ap (λ (c : List (ℕ × Guarded)). (lock, Nothing) ∷ c) (sym (ap rest out)))
 
 -- once the value lies there
-pub put_back : (kk : Begun) (x : Standing) (me mid : Me Guarded (List Fork)) (values : List Guarded) (step : Step) (lock v : ℕ) (given : Guarded) → Steps kk x me values step
+pub put_back : (kk : Begun) (tries : Bool) (x : Standing) (me mid : Me Guarded (List Fork)) (values : List Guarded) (step : Step) (lock v : ℕ) (given : Guarded) → Steps kk tries x me values step
     → step.place ≡ LockOf lock → step.op ≡ Store v → given ≡ slice_index_or values lock Nothing → mid ≡ (me.0, (lock, given) ∷ rest me.1)
     → (k n : ℕ) → move_of step n ≡ Gives k → mid.1 ≡ (k, value_given k x.values) ∷ rest mid.1
-put_back kk x me mid values step lock v given st place op is put k n gives =
+put_back kk tries x me mid values step lock v given st place op is put k n gives =
     let same : lock ≡ k = ap lock_of (sym (λ i. move_at (place i) (op i) n) ∙ gives) in
     let out : mid.1 ≡ (lock, given) ∷ rest me.1 = ap (λ (u : Me Guarded (List Fork)). u.1) put in
     let value : given ≡ value_given lock x.values = is ∙ ap (λ (g : List Guarded). slice_index_or g lock Nothing) st.hand in
     out ∙ (λ i. (same i, (value ∙ ap (λ (j : ℕ). value_given j x.values) same) i) ∷ sym (ap rest out) i)
 
-pub made_given : (kk : Begun) (x : Standing) (me mid after : Me Guarded (List Fork)) (values now : List Guarded) (step : Step) (n lock v : ℕ) (given : Guarded) (answer : Answer)
-    → Steps kk x me values step → step.place ≡ LockOf lock → step.op ≡ Store v → answer ≡ answer_of step.op n → me.1 ≡ (lock, Nothing) ∷ rest me.1 → mid ≡ (me.0, (lock, given) ∷ rest me.1)
-    → Told kk x n mid after → now ≡ set values lock Nothing → Made kk x after now answer
-made_given kk x me mid after values now step n lock v given answer st place op is held put t left =
+pub made_given : (kk : Begun) (tries : Bool) (x : Standing) (me mid after : Me Guarded (List Fork)) (values now : List Guarded) (step : Step) (n lock v : ℕ) (given : Guarded) (answer : Answer)
+    → Steps kk tries x me values step → step.place ≡ LockOf lock → step.op ≡ Store v → answer ≡ answer_of step.op n → me.1 ≡ (lock, Nothing) ∷ rest me.1 → mid ≡ (me.0, (lock, given) ∷ rest me.1)
+    → Told kk tries x n mid after → now ≡ set values lock Nothing → Made kk tries x after now answer
+made_given kk tries x me mid after values now step n lock v given answer st place op is held put t left =
     let gives : move_of step n ≡ Gives lock = (λ i. move_at (place i) (op i) n) in
-    let mv : move_of (step_in (setup_in kk) x) n ≡ Gives lock = ap (λ (s : Step). move_of s n) (sym st.is) ∙ gives in
+    let mv : move_of (step_in (setup_in kk) tries x) n ≡ Gives lock = ap (λ (s : Step). move_of s n) (sym st.is) ∙ gives in
     let out : mid.1 ≡ (lock, given) ∷ rest me.1 = ap (λ (u : Me Guarded (List Fork)). u.1) put in
     let slots' : slots_out (locks_of x.local) ≡ (lock, Nothing) ∷ rest me.1 = sym st.sits.slots ∙ held in
     record {
@@ -299,6 +299,6 @@ counted kk words frames objects sizes are = are ∙ (λ i. 1056 + 514 * sym size
 pub gives_none : (step : Step) (n lock : ℕ) → ((k : ℕ) → step.place ≢ LockOf k) → move_of step n ≡ Gives lock → ⊥
 gives_none step n lock other e = other lock (given_place step.place step.op n lock e)
 
-pub won_below : (keep : TurnsKeepReady) (fit : PicksFit) (kk : Begun) (x : Standing) (me : Me Guarded (List Fork)) (values : List Guarded) (step : Step) (n lock : ℕ) → Steps kk x me values step
+pub won_below : (keep : TurnsKeepReady) (fit : PicksFit) (kk : Begun) (tries : Bool) (x : Standing) (me : Me Guarded (List Fork)) (values : List Guarded) (step : Step) (n lock : ℕ) → Steps kk tries x me values step
     → move_of step n ≡ Takes lock → lock < 33
-won_below keep fit kk x me values step n lock st takes = takes_below kk x keep fit st.may lock n (ap (λ (s : Step). move_of s n) (sym st.is) ∙ takes)
+won_below keep fit kk tries x me values step n lock st takes = takes_below kk tries x keep fit st.may lock n (ap (λ (s : Step). move_of s n) (sym st.is) ∙ takes)

@@ -51,22 +51,22 @@ carried_is (Takes lock) c y = refl
 carried_is (Gives lock) [] y = refl
 carried_is (Gives lock) (x ∷ c) y = refl
 
-pub branch_after : (m : Setup) (x : Standing) (found : ℕ) (y : Guarded) (b : Bool) → after_turn m x found y b ≡ branch b (fork_after m x found y)
-branch_after m x found y true = refl
-branch_after m x found y false = refl
+pub branch_after : (m : Setup) (tries : Bool) (x : Standing) (found : ℕ) (y : Guarded) (b : Bool) → after_turn m tries x found y b ≡ branch b (fork_after m tries x found y)
+branch_after m tries x found y true = refl
+branch_after m tries x found y false = refl
 
 -- ---- the step
 
 -- the word i becomes what the step makes of its own word, and what is found there tells what that is
-pub record IsWord (key : Begun) (x : Standing) (words : List ℕ) (i : ℕ) (f told : ℕ → ℕ) : Type 0 where
-  pub found : told (slice_index words i) ≡ found_at key words x
-  pub after : slice_set words i (f (slice_index words i)) ≡ words_after key words x
+pub record IsWord (key : Begun) (tries : Bool) (x : Standing) (words : List ℕ) (i : ℕ) (f told : ℕ → ℕ) : Type 0 where
+  pub found : told (slice_index words i) ≡ found_at key words tries x
+  pub after : slice_set words i (f (slice_index words i)) ≡ words_after key words tries x
 
-module _ (keep : TurnsKeepReady) (fit : PicksFit) (key : Begun) (slots id : ℕ) (x : Standing) (fork : Fork) (refused : Bool) (is : x ≡ branch refused fork)
+module _ (keep : TurnsKeepReady) (fit : PicksFit) (key : Begun) (slots id : ℕ) (tries : Bool) (x : Standing) (fork : Fork) (refused : Bool) (is : x ≡ branch refused fork)
     (c : List (ℕ × Guarded)) (i : ℕ) (f told : ℕ → ℕ)
-    (given : (lock n : ℕ) → move_of (step_in (setup_in key) x) n ≡ Gives lock → c ≡ (lock, value_given lock x.values) ∷ rest c)
-    (word : (words : List ℕ) → length words ≡ word_count (setup_in key) → IsWord key x words i f told) where
-  pub allowed : Allows (Holds key) slots id (fork ∷ [], c) i f (λ n after. Told key x (told n) (fork ∷ [], c) after)
+    (given : (lock n : ℕ) → move_of (step_in (setup_in key) tries x) n ≡ Gives lock → c ≡ (lock, value_given lock x.values) ∷ rest c)
+    (word : (words : List ℕ) → length words ≡ word_count (setup_in key) → IsWord key tries x words i f told) where
+  pub allowed : Allows (Holds key) slots id (fork ∷ [], c) i f (λ n after. Told key tries x (told n) (fork ∷ [], c) after)
   allowed s h count at small =
       let m = setup_in key in
       let w : ℕ = number_in fork in
@@ -77,23 +77,23 @@ module _ (keep : TurnsKeepReady) (fit : PicksFit) (key : Begun) (slots id : ℕ)
       let any : ℕ → Bool = λ _. false in
       let long : length s.words ≡ word_count m = (st any).ready.may.coherent.words in
       let at_word = word s.words long in
-      let found : ℕ = found_at key s.words x in
-      let mv : Move = move_at key s.words x in
-      let home = takes_home key s.words s.homes (branches (chosen w refused any) h.forks) w x keep fit (st any) h.slots (here any) in
+      let found : ℕ = found_at key s.words tries x in
+      let mv : Move = move_at key s.words tries x in
+      let home = takes_home key s.words s.homes (branches (chosen w refused any) h.forks) w tries x keep fit (st any) h.slots (here any) in
       let y : Guarded = home.0 in
-      let fork' : Fork = fork_after m x found y in
-      let numbered : (b : Bool) → (after_turn m x found y b).local.worker ≡ w = λ b.
-      stays_numbered key s.words s.homes (branches (chosen w refused any) h.forks) w x keep fit (st any) h.slots (here any) y home.1 b in
+      let fork' : Fork = fork_after m tries x found y in
+      let numbered : (b : Bool) → (after_turn m tries x found y b).local.worker ≡ w = λ b.
+      stays_numbered key s.words s.homes (branches (chosen w refused any) h.forks) w tries x keep fit (st any) h.slots (here any) y home.1 b in
       let number : x.local.worker ≡ w = (st any).numbers w x (here any) in
       let homes_is = homes_are mv s.homes c y x.values (λ lock e. given lock found e) in
       let stand : (r : ℕ → Bool) → Stands key (slice_set s.words i (f (slice_index s.words i))) (homes_after s.homes c (act_of mv y)) (branches r (set h.forks w fork')) = λ r.
       let all = branches (chosen w refused r) h.forks in
-      let after = stands_step key s.words s.homes all w x keep fit (st r) h.slots (here r) y home.1 (r w) in
-      let workers : set all w (after_turn m x found y (r w)) ≡ branches r (set h.forks w fork') =
-      set_chosen w refused r h.forks (after_turn m x found y (r w)) ∙ ap (λ (z : Standing). set (branches r h.forks) w z) (branch_after m x found y (r w)) ∙ sym (branches_set w r h.forks fork') in
+      let after = stands_step key s.words s.homes all w tries x keep fit (st r) h.slots (here r) y home.1 (r w) in
+      let workers : set all w (after_turn m tries x found y (r w)) ≡ branches r (set h.forks w fork') =
+      set_chosen w refused r h.forks (after_turn m tries x found y (r w)) ∙ ap (λ (z : Standing). set (branches r h.forks) w z) (branch_after m tries x found y (r w)) ∙ sym (branches_set w r h.forks fork') in
       subst (λ (ws : List ℕ). Stands key ws (homes_after s.homes c (act_of mv y)) (branches r (set h.forks w fork'))) (sym at_word.after) (
-      subst (λ (hs : List (Option Guarded)). Stands key (words_after key s.words x) hs (branches r (set h.forks w fork'))) homes_is (
-      subst (λ (xs : List Standing). Stands key (words_after key s.words x) (homes_moved mv x.values s.homes) xs) workers after
+      subst (λ (hs : List (Option Guarded)). Stands key (words_after key s.words tries x) hs (branches r (set h.forks w fork'))) homes_is (
+      subst (λ (xs : List Standing). Stands key (words_after key s.words tries x) (homes_moved mv x.values s.homes) xs) workers after
       )
       ) in (
         fork' ∷ [],
@@ -107,11 +107,11 @@ module _ (keep : TurnsKeepReady) (fit : PicksFit) (key : Begun) (slots id : ℕ)
           slots = homes_count mv s.homes c y ∙ h.slots;
           count = length-set h.forks w fork' ∙ h.count;
         },
-        subst (λ (n : ℕ). Told key x n (fork ∷ [], c) (fork' ∷ [], carried_after c (act_of mv y))) (sym at_word.found) (record {
+        subst (λ (n : ℕ). Told key tries x n (fork ∷ [], c) (fork' ∷ [], carried_after c (act_of mv y))) (sym at_word.found) (record {
           value = y;
           view = refl;
           slots = carried_is mv c y;
-          goes_on = goes_on key s.words s.homes (branches (chosen w refused any) h.forks) w x keep fit (st any) h.slots (here any) y home.1;
+          goes_on = goes_on key s.words s.homes (branches (chosen w refused any) h.forks) w tries x keep fit (st any) h.slots (here any) y home.1;
           number = λ b. numbered b ∙ sym number;
         }),
       )

@@ -1,6 +1,7 @@
 -- The table as it is opened meets the rule.
 use Rattle.std.proofs.Common.{◌≡◌, ℕ, zero, suc, ◌+◌, ◌<◌, Bool, true, false, List, [], ◌∷◌, length, map, get_or, refl, sym, ap, ◌∙◌, subst, arith}
 use Rattle.std.specs.Prelude.{Contains}
+use Rattle.std.proofs.lemmas.List.Elements.{All-nil}
 use mathlib.Core.Option.{some, some-injective, some-ne-none}
 use lib.ListN.{get_elem?}
 use Rattle.atomic_table.specs.Table.{opening}
@@ -10,6 +11,7 @@ use Rattle.slub_core.specs.declared.spot.Spot.TheVariants.{Between}
 use Rattle.slub_core.specs.Local.{Local}
 use Rattle.slub_core.specs.Run.{idle}
 use Rattle.slub_local.specs.declared.guarded.Guarded.TheVariants.{Nothing}
+use Rattle.slub_schedule.specs.Schedule.{IsCall}
 use Rattle.slub_turns.specs.System.{system_of}
 use Rattle.slub_turns.specs.Ready.{IsReady}
 use Rattle.slub_workers.specs.Begun.{Begun}
@@ -109,6 +111,7 @@ module _ (key : Begun) (o : MayBegin key) where
     guards = key.guards;
     picks = [];
     ready = subst (λ (ls : List Local). IsReady key.facts key.table key.guards ls) (sym (first_locals key.locals)) o.ready;
+    calls = λ none. All-nil IsCall;
     ran = ap (λ (ls : List Local). system_of key.table key.guards ls) (sym (first_locals key.locals));
     numbers = λ k x at. let t = from_map standing_first key.locals k x at in ap (λ (y : Standing). y.local.worker) (sym t.2) ∙ number-first k t.0 t.1;
     home = λ lock low none. to_map some key.guards lock (get_or key.guards lock Nothing) (at_place key.guards lock Nothing (let n = many in omega arith));

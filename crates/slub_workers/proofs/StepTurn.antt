@@ -1,5 +1,5 @@
 -- The turn of a worker with what it has in hand is its turn in the whole machine.
-use Rattle.std.proofs.Common.{◌≡◌, ℕ, ◌<◌, Bool, true, false, List, length, get_or, set, Contains, sym, ap, ◌∙◌, subst, arith}
+use Rattle.std.proofs.Common.{◌≡◌, ℕ, ◌<◌, Bool, true, List, length, get_or, set, Contains, sym, ap, ◌∙◌, subst, arith}
 use Rattle.std.proofs.lemmas.List.{length-map, map-set, get_or_past}
 use mathlib.Core.Option.{some}
 use lib.ListN.{get_elem?}
@@ -28,25 +28,25 @@ use Rattle.slub_workers.proofs.StepMoves.{AreInHand, IsTaken, moved-below, moved
 
 -- ---- the step that it makes, and what comes of it
 
-abbrev pub word_of : Setup → Standing → ℕ
-word_of m x = number_of m (step_in m x).place
+abbrev pub word_of : Setup → Bool → Standing → ℕ
+word_of m tries x = number_of m (step_in m tries x).place
 
-abbrev pub found_of : Setup → List ℕ → Standing → ℕ
-found_of m words x = get_or words (word_of m x) 0
+abbrev pub found_of : Setup → List ℕ → Bool → Standing → ℕ
+found_of m words tries x = get_or words (word_of m tries x) 0
 
-abbrev pub move_made : Setup → List ℕ → Standing → Move
-move_made m words x = move_of (step_in m x) (found_of m words x)
+abbrev pub move_made : Setup → List ℕ → Bool → Standing → Move
+move_made m words tries x = move_of (step_in m tries x) (found_of m words tries x)
 
-abbrev pub words_made : Setup → List ℕ → Standing → List ℕ
-words_made m words x = set words (word_of m x) (after_op (step_in m x).op (found_of m words x))
+abbrev pub words_made : Setup → List ℕ → Bool → Standing → List ℕ
+words_made m words tries x = set words (word_of m tries x) (after_op (step_in m tries x).op (found_of m words tries x))
 
 -- with the values of all locks, and with those that it has in hand
-abbrev pub change_made : Setup → Bool → List ℕ → List Guarded → Standing → Change
-change_made m refused words values x = advance_of m refused (values_of values) (begun_in m x) (answer_of (step_in m x).op (found_of m words x))
+abbrev pub change_made : Setup → Bool → List ℕ → List Guarded → Bool → Standing → Change
+change_made m refused words values tries x = advance_of m refused (values_of values) (begun_in m tries x) (answer_of (step_in m tries x).op (found_of m words tries x))
 
 -- what the locks guard after it
-abbrev pub guards_after : Setup → Bool → List ℕ → List Guarded → Standing → List Guarded
-guards_after m refused words guards x = all_guarded (rooms_of guards) (change_made m refused words guards x).value
+abbrev pub guards_after : Setup → Bool → List ℕ → List Guarded → Bool → Standing → List Guarded
+guards_after m refused words guards tries x = all_guarded (rooms_of guards) (change_made m refused words guards tries x).value
 
 -- all workers
 abbrev pub whole : List ℕ → List Guarded → List Standing → System
@@ -71,85 +71,85 @@ pub record IsAmong (m : Setup) (opening : World) (words : List ℕ) (guards : Li
   pub room : length x.values ≡ 33
   pub many : length guards ≡ 33
 
-module _ {m : Setup} {opening : World} {words : List ℕ} {guards : List Guarded} {all : List Standing} {w : ℕ} {x : Standing} (me : IsAmong m opening words guards all w x) where
+module _ {m : Setup} {opening : World} {words : List ℕ} {guards : List Guarded} {all : List Standing} {w : ℕ} {x : Standing} (me : IsAmong m opening words guards all w x) (tries : Bool) where
   -- the values that it has in hand are those of the machine
-  used : uses_values (begun_in m x).spot ≡ true → values_of x.values (node_lock (begun_in m x).cache) ≡ values_of guards (node_lock (begun_in m x).cache)
+  used : uses_values (begun_in m tries x).spot ≡ true → values_of x.values (node_lock (begun_in m tries x).cache) ≡ values_of guards (node_lock (begun_in m tries x).cache)
   used uses =
-      let l = begun_in m x in
-      ap value_in (me.hand (node_lock l.cache) (subst (λ (locks : List ℕ). Contains locks (node_lock l.cache)) (begun_locks m false x.local) (contains_node l (uses_node l.spot uses))))
+      let l = begun_in m tries x in
+      ap value_in (me.hand (node_lock l.cache) (subst (λ (locks : List ℕ). Contains locks (node_lock l.cache)) (begun_locks m tries x.local) (contains_node l (uses_node l.spot uses))))
 
-  pub step-same : step_in m x ≡ step_of m (values_of guards) (begun_in m x)
-  step-same = let l = begun_in m x in step_alike m (values_of x.values) (values_of guards) l l.spot used
+  pub step-same : step_in m tries x ≡ step_of m (values_of guards) (begun_in m tries x)
+  step-same = let l = begun_in m tries x in step_alike m (values_of x.values) (values_of guards) l l.spot used
 
   -- where the answer leads
   abbrev pub answer : Answer
-  answer = answer_of (step_in m x).op (found_of m words x)
+  answer = answer_of (step_in m tries x).op (found_of m words tries x)
 
   abbrev pub answered : Turn
-  answered = advance_at m (values_of guards) (begun_in m x) (begun_in m x).spot answer
+  answered = advance_at m (values_of guards) (begun_in m tries x) (begun_in m tries x).spot answer
 
   -- its locks
-  pub locks-moved : MovesLocks (move_made m words x) (locks_of x.local) (locks_of answered.local)
+  pub locks-moved : MovesLocks (move_made m words tries x) (locks_of x.local) (locks_of answered.local)
   locks-moved =
-      let l = begun_in m x in
+      let l = begun_in m tries x in
       let v = values_of guards in
-      let n = found_of m words x in
+      let n = found_of m words tries x in
       let P : Step → Type 0 = λ step. MovesLocks (move_of step n) (locks_of l) (locks_of (advance_at m v l l.spot (answer_of step.op n)).local) in
-      subst (λ (locks : List ℕ). MovesLocks (move_made m words x) locks (locks_of answered.local)) (begun_locks m false x.local) (subst P (sym step-same) (advance_locks m v l n))
+      subst (λ (locks : List ℕ). MovesLocks (move_made m words tries x) locks (locks_of answered.local)) (begun_locks m tries x.local) (subst P (sym step-same) (advance_locks m v l n))
 
-  pub move-below : MovesBelow (move_made m words x) 33
+  pub move-below : MovesBelow (move_made m words tries x) 33
   move-below =
-      let P : Local → Type 0 = λ l. MovesBelow (move_of (step_of m (values_of x.values) (begun m false l)) (found_of m words x)) 33 in
-      subst P (local-is all w x me.here) (move_below m opening (whole words guards all) w (found_of m words x) (values_of x.values) me.coherent (worker-below all w x me.here))
+      let P : Local → Type 0 = λ l. MovesBelow (move_of (step_of m (values_of x.values) (begun m tries l)) (found_of m words tries x)) 33 in
+      subst P (local-is all w x me.here) (move_below m tries opening (whole words guards all) w (found_of m words tries x) (values_of x.values) me.coherent (worker-below all w x me.here))
 
   has-below : (lock : ℕ) → Contains (locks_of x.local) lock → lock < 33
   has-below lock has = has_below m opening (whole words guards all) w lock me.coherent (worker-below all w x me.here) (subst (λ (l : Local). Contains (locks_of l) lock) (sym (local-is all w x me.here)) has)
 
   pub answered-below : (lock : ℕ) → Contains (locks_of answered.local) lock → lock < 33
-  answered-below lock has = moved-below (move_made m words x) 33 (locks_of x.local) (locks_of answered.local) locks-moved move-below has-below lock has
+  answered-below lock has = moved-below (move_made m words tries x) 33 (locks_of x.local) (locks_of answered.local) locks-moved move-below has-below lock has
 
   -- ---- once its step took this, where it took a lock
 
-  module _ (y : Guarded) (taken : IsTaken (move_made m words x) guards y) where
+  module _ (y : Guarded) (taken : IsTaken (move_made m words tries x) guards y) where
     abbrev pub held : List Guarded
-    held = in_hand m x (found_of m words x) y
+    held = in_hand m tries x (found_of m words tries x) y
 
     pub length-held : length held ≡ 33
-    length-held = moved-length (move_made m words x) y x.values ∙ me.room
+    length-held = moved-length (move_made m words tries x) y x.values ∙ me.room
 
     pub held-hand : AreInHand (locks_of answered.local) held guards
     held-hand =
-        let below : MovesBelow (move_made m words x) (length x.values) = subst (λ (n : ℕ). MovesBelow (move_made m words x) n) (sym me.room) move-below in
-        moved-hand (move_made m words x) y x.values guards (locks_of x.local) (locks_of answered.local) locks-moved below taken me.hand
+        let below : MovesBelow (move_made m words tries x) (length x.values) = subst (λ (n : ℕ). MovesBelow (move_made m words tries x) n) (sym me.room) move-below in
+        moved-hand (move_made m words tries x) y x.values guards (locks_of x.local) (locks_of answered.local) locks-moved below taken me.hand
 
-    sees : uses_values (begun_in m x).spot ≡ true → values_of guards (node_lock (begun_in m x).cache) ≡ values_of held (node_lock (begun_in m x).cache)
+    sees : uses_values (begun_in m tries x).spot ≡ true → values_of guards (node_lock (begun_in m tries x).cache) ≡ values_of held (node_lock (begun_in m tries x).cache)
     sees uses =
-        let l = begun_in m x in
-        let still : held ≡ x.values = ap (λ (move : Move). values_moved move y x.values) (uses_no_lock m (values_of x.values) l l.spot (found_of m words x) uses) in
+        let l = begun_in m tries x in
+        let still : held ≡ x.values = ap (λ (move : Move). values_moved move y x.values) (uses_no_lock m (values_of x.values) l l.spot (found_of m words tries x) uses) in
         sym (used uses) ∙ ap (λ (g : List Guarded). values_of g (node_lock l.cache)) (sym still)
 
-    pub answered-same : answered ≡ advance_at m (values_of held) (begun_in m x) (begun_in m x).spot answer
-    answered-same = let l = begun_in m x in advance_alike m (values_of guards) (values_of held) l l.spot answer sees
+    pub answered-same : answered ≡ advance_at m (values_of held) (begun_in m tries x) (begun_in m tries x).spot answer
+    answered-same = let l = begun_in m tries x in advance_alike m (values_of guards) (values_of held) l l.spot answer sees
 
     module _ (refused : Bool) where
       abbrev turned : Standing
-      turned = after_turn m x (found_of m words x) y refused
+      turned = after_turn m tries x (found_of m words tries x) y refused
 
       abbrev change : Change
-      change = change_made m refused words guards x
+      change = change_made m refused words guards tries x
 
-      alike : AreAlike (locks_of change.local) (values_of guards) (values_of held) change (change_made m refused words held x)
-      alike = advance_of_alike m refused (values_of guards) (values_of held) (begun_in m x) answer sees (λ lock has. ap value_in (sym (held-hand lock has)))
+      alike : AreAlike (locks_of change.local) (values_of guards) (values_of held) change (change_made m refused words held tries x)
+      alike = advance_of_alike m refused (values_of guards) (values_of held) (begun_in m tries x) answer sees (λ lock has. ap value_in (sym (held-hand lock has)))
 
       changed-locks : locks_of change.local ≡ locks_of answered.local
-      changed-locks = advance_of_locks m refused (values_of guards) (begun_in m x) answer
+      changed-locks = advance_of_locks m refused (values_of guards) (begun_in m tries x) answer
 
       -- where it stands
       pub local-same : turned.local ≡ change.local
       local-same = sym alike.local
 
-      pub turned-locks : MovesLocks (move_made m words x) (locks_of x.local) (locks_of turned.local)
-      turned-locks = subst (λ (locks : List ℕ). MovesLocks (move_made m words x) (locks_of x.local) locks) (sym changed-locks ∙ ap (λ (l : Local). locks_of l) alike.local) locks-moved
+      pub turned-locks : MovesLocks (move_made m words tries x) (locks_of x.local) (locks_of turned.local)
+      turned-locks = subst (λ (locks : List ℕ). MovesLocks (move_made m words tries x) (locks_of x.local) locks) (sym changed-locks ∙ ap (λ (l : Local). locks_of l) alike.local) locks-moved
 
       as-changed : (lock : ℕ) → Contains (locks_of turned.local) lock → Contains (locks_of change.local) lock
       as-changed lock has = subst (λ (l : Local). Contains (locks_of l) lock) local-same has
@@ -162,15 +162,15 @@ module _ {m : Setup} {opening : World} {words : List ℕ} {guards : List Guarded
 
       -- what it has in hand
       pub length-turned : length turned.values ≡ 33
-      length-turned = length-all (rooms_of held) (change_made m refused words held x).value ∙ length-rooms held ∙ length-held
+      length-turned = length-all (rooms_of held) (change_made m refused words held tries x).value ∙ length-rooms held ∙ length-held
 
-      pub turned-hand : AreInHand (locks_of turned.local) turned.values (guards_after m refused words guards x)
+      pub turned-hand : AreInHand (locks_of turned.local) turned.values (guards_after m refused words guards tries x)
       turned-hand lock has =
           let long = length-held in
           let below = turned-below lock has in
           let now = as-changed lock has in
-          as-new held (change_made m refused words held x).value lock (omega arith)
-          ∙ ap (λ (g : Guarded). guarded_as (room_in g) ((change_made m refused words held x).value lock)) (held-hand lock (as-answered lock has))
+          as-new held (change_made m refused words held tries x).value lock (omega arith)
+          ∙ ap (λ (g : Guarded). guarded_as (room_in g) ((change_made m refused words held tries x).value lock)) (held-hand lock (as-answered lock has))
           ∙ ap (λ (v : LockValue). guarded_as (room_in (get_or guards lock Nothing)) v) (sym (alike.here lock now))
           ∙ sym (as-new guards change.value lock (omega arith))
 
@@ -178,23 +178,23 @@ module _ {m : Setup} {opening : World} {words : List ℕ} {guards : List Guarded
       else-value : (lock : ℕ) → ¬ Contains (locks_of turned.local) lock → change.value lock ≡ values_of guards lock
       else-value lock hasnt = alike.one lock (λ has. hasnt (subst (λ (l : Local). Contains (locks_of l) lock) alike.local has))
 
-      pub else-stays : (lock : ℕ) → lock < 33 → ¬ Contains (locks_of turned.local) lock → get_or (guards_after m refused words guards x) lock Nothing ≡ get_or guards lock Nothing
+      pub else-stays : (lock : ℕ) → lock < 33 → ¬ Contains (locks_of turned.local) lock → get_or (guards_after m refused words guards tries x) lock Nothing ≡ get_or guards lock Nothing
       else-stays lock below hasnt = as-before guards change.value lock (omega arith) (else-value lock hasnt)
 
-      pub values-after : values_of (guards_after m refused words guards x) ≡ change.value
+      pub values-after : values_of (guards_after m refused words guards tries x) ≡ change.value
       values-after = values-all guards change.value (λ lock past. else-value lock (λ has. let below = turned-below lock has in absurd (omega arith)) ∙ ap value_in (get_or_past guards lock Nothing past))
 
       -- the turn in the whole machine
-      pub turn-is : turn m (whole words guards all) (record { worker = w; refused = refused }) ≡ whole (words_made m words x) (guards_after m refused words guards x) (set all w turned)
+      pub turn-is : turn m (whole words guards all) (record { worker = w; refused = refused; tries = tries }) ≡ whole (words_made m words tries x) (guards_after m refused words guards tries x) (set all w turned)
       turn-is =
           let s = whole words guards all in
-          let l = begun_in m x in
+          let l = begun_in m tries x in
           let by_step : Step → System = λ step.
           let n = number_of m step.place in
           let q = get_or words n 0 in
           let c = advance_of m refused (values_of guards) l (answer_of step.op q) in
           record { words = set words n (after_op step.op q); value = c.value; locals = set (locals_of all) w c.local } in
-          let begin : turn m s (record { worker = w; refused = refused }) ≡ after_step m refused s w l = ap (λ (k : Local). after_step m refused s w (begun m false k)) (local-is all w x me.here) in
-          let steps : after_step m refused s w l ≡ by_step (step_in m x) = ap by_step (sym step-same) in
+          let begin : turn m s (record { worker = w; refused = refused; tries = tries }) ≡ after_step m refused s w l = ap (λ (k : Local). after_step m refused s w (begun m tries k)) (local-is all w x me.here) in
+          let steps : after_step m refused s w l ≡ by_step (step_in m tries x) = ap by_step (sym step-same) in
           let locals : set (locals_of all) w change.local ≡ locals_of (set all w turned) = ap (λ (k : Local). set (locals_of all) w k) (sym local-same) ∙ sym (map-set local_in all w turned) in
-          begin ∙ steps ∙ (λ i. record { words = words_made m words x; value = sym values-after i; locals = locals i })
+          begin ∙ steps ∙ (λ i. record { words = words_made m words tries x; value = sym values-after i; locals = locals i })

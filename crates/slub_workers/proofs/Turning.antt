@@ -1,5 +1,5 @@
 -- The turn of a worker at its seat, step by step.
-use Rattle.std.proofs.Common.{◌≡◌, ℕ, Bool, false, List, ◌++◌, length, take, drop, Option, sym, ap, ◌∙◌, subst}
+use Rattle.std.proofs.Common.{◌≡◌, ℕ, Bool, ◌||◌, List, ◌++◌, length, take, drop, Option, sym, ap, ◌∙◌, subst}
 use Rattle.slub_answers.specs.declared.reply.Reply.{Reply}
 use Rattle.atomic_table.specs.Table.{Me}
 use Rattle.slub_core.specs.declared.spot.Spot.{Spot}
@@ -32,18 +32,19 @@ use Rattle.slub_workers.proofs.Moves.{branch_after}
 abbrev round_of : (key : Begun) (facts : Facts) → key.facts ≡ facts → setup_of facts the_means ≡ setup_in key
 round_of key facts same = ap (λ (f : Facts). setup_of f the_means) (sym same)
 
-pub begins_so : (key : Begun) (facts : Facts) → key.facts ≡ facts → (x : Standing) (local l : Local) → local ≡ x.local → l ≡ begun (setup_of facts the_means) false local → l ≡ begun_in (setup_in key) x
-begins_so key facts same x local l is begins = begins ∙ ap (λ (m : Setup). begun m false local) (round_of key facts same) ∙ ap (λ (k : Local). begun (setup_in key) false k) is
+pub begins_so : (key : Begun) (facts : Facts) → key.facts ≡ facts → (given tries : Bool) → given ≡ tries → (x : Standing) (local l : Local) → local ≡ x.local → l ≡ begun (setup_of facts the_means) given local → l ≡ begun_in (setup_in key) tries x
+begins_so key facts same given tries alike x local l is begins =
+    begins ∙ ap (λ (b : Bool). begun (setup_of facts the_means) b local) alike ∙ ap (λ (m : Setup). begun m tries local) (round_of key facts same) ∙ ap (λ (k : Local). begun (setup_in key) tries k) is
 
-pub may_step : (key : Begun) (facts : Facts) → key.facts ≡ facts → (x : Standing) (l : Local) (spot : Spot) → l ≡ begun_in (setup_in key) x → spot ≡ l.spot
-    → StepFits (setup_in key).step (begun_in (setup_in key) x) (begun_in (setup_in key) x).spot → StepFits facts.step l spot
-may_step key facts same x l spot begins at fits =
+pub may_step : (key : Begun) (facts : Facts) → key.facts ≡ facts → (tries : Bool) (x : Standing) (l : Local) (spot : Spot) → l ≡ begun_in (setup_in key) tries x → spot ≡ l.spot
+    → StepFits (setup_in key).step (begun_in (setup_in key) tries x) (begun_in (setup_in key) tries x).spot → StepFits facts.step l spot
+may_step key facts same tries x l spot begins at fits =
     let P : ℕ → Type 0 = λ n. StepFits n l spot in
-    subst P (ap (λ (f : Facts). f.step) same) (step_fits key.facts.step (begun_in (setup_in key) x) l spot begins at fits)
+    subst P (ap (λ (f : Facts). f.step) same) (step_fits key.facts.step (begun_in (setup_in key) tries x) l spot begins at fits)
 
-pub steps_so : (key : Begun) (facts : Facts) → key.facts ≡ facts → (x : Standing) (seen : List Guarded) (l : Local) (spot : Spot) (step : Step) → seen ≡ x.values → l ≡ begun_in (setup_in key) x
-    → spot ≡ l.spot → step ≡ step_at (setup_of facts the_means) (values_of seen) l spot → step ≡ step_in (setup_in key) x
-steps_so key facts same x seen l spot step hand begins at is =
+pub steps_so : (key : Begun) (facts : Facts) → key.facts ≡ facts → (tries : Bool) (x : Standing) (seen : List Guarded) (l : Local) (spot : Spot) (step : Step) → seen ≡ x.values → l ≡ begun_in (setup_in key) tries x
+    → spot ≡ l.spot → step ≡ step_at (setup_of facts the_means) (values_of seen) l spot → step ≡ step_in (setup_in key) tries x
+steps_so key facts same tries x seen l spot step hand begins at is =
     let m = setup_in key in
     is ∙ ap (λ (n : Setup). step_at n (values_of seen) l spot) (round_of key facts same)
     ∙ ap (λ (g : List Guarded). step_at m (values_of g) l spot) hand
@@ -78,15 +79,15 @@ lent_whole = back_whole
 -- ---- the turn
 
 -- after its step, where the answer leads it
-module _ (key : Begun) (x : Standing) (me : Me Guarded (List Fork)) (values : List Guarded) (l after : Local) (spot : Spot) (answer : Answer) (reply : Option Reply) (made : Made key x me values answer)
-    (begins : l ≡ begun_in (setup_in key) x) (at : spot ≡ l.spot) (led : ways.turned after reply ≡ advance_at (setup_in key) (values_of values) l spot answer) where
+module _ (key : Begun) (tries : Bool) (x : Standing) (me : Me Guarded (List Fork)) (values : List Guarded) (l after : Local) (spot : Spot) (answer : Answer) (reply : Option Reply) (made : Made key tries x me values answer)
+    (begins : l ≡ begun_in (setup_in key) tries x) (at : spot ≡ l.spot) (led : ways.turned after reply ≡ advance_at (setup_in key) (values_of values) l spot answer) where
   abbrev hand : List Guarded
-  hand = in_hand (setup_in key) x made.found made.value
+  hand = in_hand (setup_in key) tries x made.found made.value
 
   abbrev start : Change
   start =
-      let k = begun_in (setup_in key) x in
-      change_of (advance_at (setup_in key) (values_of hand) k k.spot (answer_of (step_in (setup_in key) x).op made.found)) (values_of hand)
+      let k = begun_in (setup_in key) tries x in
+      change_of (advance_at (setup_in key) (values_of hand) k k.spot (answer_of (step_in (setup_in key) tries x).op made.found)) (values_of hand)
 
   start_is : ways.changed values after reply ≡ start
   start_is =
@@ -95,8 +96,8 @@ module _ (key : Begun) (x : Standing) (me : Me Guarded (List Fork)) (values : Li
       ap (λ (t : Turn). change_of t (values_of values)) led
       ∙ ap (λ (s : Spot). f values l s answer) at
       ∙ ap (λ (k : Local). f values k k.spot answer) begins
-      ∙ ap (λ (g : List Guarded). f g (begun_in m x) (begun_in m x).spot answer) made.values_are
-      ∙ ap (λ (a : Answer). f hand (begun_in m x) (begun_in m x).spot a) made.answer_is
+      ∙ ap (λ (g : List Guarded). f g (begun_in m tries x) (begun_in m tries x).spot answer) made.values_are
+      ∙ ap (λ (a : Answer). f hand (begun_in m tries x) (begun_in m tries x).spot a) made.answer_is
 
   pub settles : SettledFits (setup_in key) values (ways.changed values after reply)
   settles =
@@ -106,27 +107,27 @@ module _ (key : Begun) (x : Standing) (me : Me Guarded (List Fork)) (values : Li
   -- all of the turn
   module _ (now : List Guarded) (settles_to rests : Local) (refused : Bool) (value : values_of now ≡ (settled (setup_in key) refused (ways.changed values after reply)).value)
       (settle : settles_to ≡ noted (settled (setup_in key) refused (ways.changed values after reply)).local (settled (setup_in key) refused (ways.changed values after reply)).reply)
-      (rooms : rooms_of now ≡ rooms_of values) (rest : rests ≡ rested (setup_in key) settles_to) where
+      (rooms : rooms_of now ≡ rooms_of values) (rest : rests ≡ rested (setup_in key) settles_to) (tried : Bool) (tried_is : tried ≡ (x.tried || tries)) where
     abbrev pub standing : Standing
-    standing = record { local = rests; values = now }
+    standing = record { local = rests; values = now; tried = tried; answer = answer }
 
-    pub turned_is : standing ≡ after_turn (setup_in key) x made.found made.value refused
+    pub turned_is : standing ≡ after_turn (setup_in key) tries x made.found made.value refused
     turned_is =
         let m = setup_in key in
-        let local : rests ≡ (after_turn m x made.found made.value refused).local =
+        let local : rests ≡ (after_turn m tries x made.found made.value refused).local =
         rest ∙ ap (λ (k : Local). rested m k) settle ∙ ap (λ (c : Change). rested m (noted (settled m refused c).local (settled m refused c).reply)) start_is in
         let guards : all_guarded (rooms_of hand) (settled m refused start).value ≡ now =
         all_guarded_is _ _ _ (value ∙ ap (λ (c : Change). (settled m refused c).value) start_is) (rooms ∙ ap rooms_of made.values_are) in
-        λ i. record { local = local i; values = sym guards i }
+        λ i. record { local = local i; values = sym guards i; tried = tried_is i; answer = made.answer_is i }
 
     pub sits_again : Sits me standing
     sits_again =
         let m = setup_in key in
         record {
-          fork = fork_after m x made.found made.value;
+          fork = fork_after m tries x made.found made.value;
           refused = refused;
           view = made.view;
-          here = turned_is ∙ branch_after m x made.found made.value refused;
+          here = turned_is ∙ branch_after m tries x made.found made.value refused;
           slots = made.slots refused ∙ ap (λ (y : Standing). slots_out (locks_of y.local)) (sym turned_is);
         }
 
@@ -136,7 +137,7 @@ module _ (key : Begun) (x : Standing) (me : Me Guarded (List Fork)) (values : Li
     pub numbered_again : rests.worker ≡ x.local.worker
     numbered_again = ap (λ (y : Standing). y.local.worker) turned_is ∙ made.number refused
 
-    pub turned_again : (step : Step) → step ≡ step_in (setup_in key) x → HasTurned key x (step, answer) standing
+    pub turned_again : (step : Step) → step ≡ step_in (setup_in key) tries x → HasTurned key tries x (step, answer) standing
     turned_again step is = record {
       found = made.found;
       value = made.value;

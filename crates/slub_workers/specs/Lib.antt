@@ -8,3 +8,8 @@ pub mod Sits
 pub mod Workers
 pub mod Round
 pub mod Ranks
+pub mod Tables
+pub mod Turns
+pub mod Try
+pub mod Calls
+pub mod Ends

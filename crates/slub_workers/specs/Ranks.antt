@@ -1,10 +1,9 @@
 -- Lists of workers: those that are to have seats, and those that are back.
-use Rattle.std.specs.Prelude.{◌≡◌, ℕ, suc, Bool, List, [], ◌∷◌, map}
+use Rattle.std.specs.Prelude.{◌≡◌, ℕ, suc, Bool, false, List, [], ◌∷◌, map}
 use mathlib.Core.Option.{some}
 use lib.ListN.{get_elem?}
 use Rattle.slub_core.specs.declared.spot.Spot.TheVariants.{Between}
 use Rattle.slub_core.specs.Local.{Local}
-use Rattle.slub_core.specs.Run.{IsFinished}
 use Rattle.slub_workers.specs.Begun.{Begun}
 use Rattle.slub_workers.specs.Standing.{Fork, branch, one_way}
 use Rattle.slub_workers.specs.Rule.{standing_first}
@@ -28,15 +27,17 @@ view_of ls = map (λ l. one_way (standing_first l)) ls
 
 -- ---- when they are back
 
--- the worker stands in one of the two ways that the first seat knows of
-pub record IsBack (worker : ℕ) (f : Fork) (l : Local) : Type 0 where
+-- the worker stands in one of the two ways that the first seat knows of, between two calls, and
+-- where none has tried it hasn't
+pub record IsBack (tried : Bool) (worker : ℕ) (f : Fork) (l : Local) : Type 0 where
   pub refused : Bool
   pub stands : l ≡ (branch refused f).local
+  pub untried : tried ≡ false → (branch refused f).tried ≡ false
   pub number : l.worker ≡ worker
-  pub finished : IsFinished l
+  pub between : l.spot ≡ Between
 
 -- in rising number, from this one on
-abbrev pub AreBack : ℕ → List Fork → List Local → Type 0
-AreBack n [] [] = Unit {0}
-AreBack n (f ∷ fs) (l ∷ ls) = IsBack n f l × AreBack (suc n) fs ls
-AreBack n _ _ = ⊥
+abbrev pub AreBack : Bool → ℕ → List Fork → List Local → Type 0
+AreBack tried n [] [] = Unit {0}
+AreBack tried n (f ∷ fs) (l ∷ ls) = IsBack tried n f l × AreBack tried (suc n) fs ls
+AreBack tried n _ _ = ⊥

@@ -1,8 +1,9 @@
 -- A round by threads: what it asks, and what it leaves.
-use Rattle.std.specs.Prelude.{◌≡◌, ◌≤◌, List, length, All}
+use Rattle.std.specs.Prelude.{◌≡◌, ◌≤◌, Bool, false, List, length, All}
 use Rattle.slub_core.specs.declared.spot.Spot.TheVariants.{Between}
 use Rattle.slub_core.specs.Local.{Local}
 use Rattle.slub_core.specs.Run.{Pick, run, IsFinished}
+use Rattle.slub_schedule.specs.Schedule.{IsCall}
 use Rattle.slub_turns.specs.declared.machine.Machine.{Machine}
 use Rattle.slub_turns.specs.Ready.{IsReady}
 use Rattle.slub_workers.specs.Begun.{Begun}
@@ -34,11 +35,23 @@ pub record MayBegin (key : Begun) : Type 0 where
 abbrev pub MayWork : Machine → Type 0
 MayWork m = MayBegin (begun_by m)
 
--- every worker is finished, and the machine is one that some order of the workers' steps leads to
+-- every worker is between two calls, and the machine is one that some order of the workers' steps
+-- leads to, in which no call is a try where none has tried
+pub record HasClosed (key : Begun) (tried : Bool) (last : Begun) : Type 0 where
+  pub facts : last.facts ≡ key.facts
+  pub ready : IsReady last.facts last.table last.guards last.locals
+  pub picks : List Pick
+  pub calls : tried ≡ false → All IsCall picks
+  pub ran : system_begun last ≡ run (setup_in key) (system_begun key) picks
+  pub between : All (λ (l : Local). l.spot ≡ Between) last.locals
+
+-- every worker is finished, and the machine is one that some order of the workers' steps leads to,
+-- in which no call is a try
 pub record HasEnded (key last : Begun) : Type 0 where
   pub facts : last.facts ≡ key.facts
   pub ready : IsReady last.facts last.table last.guards last.locals
   pub picks : List Pick
+  pub calls : All IsCall picks
   pub ran : system_begun last ≡ run (setup_in key) (system_begun key) picks
   pub finished : All IsFinished last.locals
 

@@ -1,15 +1,17 @@
 -- The rule over the table: the invariants of the step machine, over the words of the table, what is
 -- guarded in its slots and in hand, and what each seat knows of its workers.
-use Rattle.std.specs.Prelude.{◌≡◌, ◌≢◌, ℕ, ◌<◌, Bool, List, [], ◌∷◌, length, map, replicate, slice_index_or, Contains}
+use Rattle.std.specs.Prelude.{◌≡◌, ◌≢◌, ℕ, ◌<◌, Bool, false, List, [], ◌∷◌, length, map, replicate, slice_index_or, Contains, All}
 use mathlib.Core.Option.{Option, some}
 use lib.ListN.{get_elem?}
 use Rattle.atomic_table.specs.Table.{State}
+use Rattle.slub_core.specs.declared.step.Answer.TheVariants.{Done}
 use Rattle.slub_core.specs.Setup.{Setup}
 use Rattle.slub_core.specs.Local.{Local}
 use Rattle.slub_core.specs.Run.{Pick, System, run}
 use Rattle.slub_local.specs.Facts.{Facts, setup_of}
 use Rattle.slub_local.specs.declared.guarded.Guarded.{Guarded}
 use Rattle.slub_local.specs.declared.guarded.Guarded.TheVariants.{Nothing}
+use Rattle.slub_schedule.specs.Schedule.{IsCall}
 use Rattle.slub_schedule.specs.Table.{WordTable}
 use Rattle.slub_turns.specs.Means.{the_means}
 use Rattle.slub_turns.specs.System.{system_of}
@@ -48,6 +50,9 @@ pub record Stands (key : Begun) (words : List ℕ) (homes : List (Option Guarded
   pub ready : IsReady (facts_in key) (table_in key words) guards (locals_of all)
   pub ran : run (setup_in key) (system_begun key) picks
       ≡ system_of (table_in key words) guards (locals_of all)
+  -- where no worker has tried, no call was a try
+  pub calls : ((k : ℕ) (x : Standing) → get_elem? all k ≡ some x → x.tried ≡ false)
+      → All IsCall picks
   pub numbers : (k : ℕ) (x : Standing) → get_elem? all k ≡ some x → x.local.worker ≡ k
   -- a lock that no worker has: what it guards is at home
   pub home : (lock : ℕ) → lock < 33
@@ -90,9 +95,9 @@ pub record Holds (key : Begun) (s : State Guarded (List Fork)) : Type 0 where
   pub slots : length s.homes ≡ 33
   pub count : length forks ≡ length key.locals
 
--- before the first turn a worker has no lock
+-- before the first turn a worker has no lock and no answer
 abbrev pub standing_first : Local → Standing
-standing_first l = record { local = l; values = replicate 33 Nothing }
+standing_first l = record { local = l; values = replicate 33 Nothing; tried = false; answer = Done }
 
 abbrev pub first_view : Begun → List Fork
 first_view key = map (λ l. one_way (standing_first l)) key.locals

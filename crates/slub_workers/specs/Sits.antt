@@ -42,79 +42,85 @@ slots_after (Takes lock) value out = (lock, value) ∷ out
 slots_after (Gives lock) value out = drop 1 out
 
 -- what is done at once after the answer fits, and so does all that a worker does next
-pub record MayGoOn (key : Begun) (x : Standing) (found : ℕ) (value : Guarded) : Type 0 where
+pub record MayGoOn (key : Begun) (tries : Bool) (x : Standing) (found : ℕ) (value : Guarded)
+    : Type 0 where
   pub settles : let m = setup_in key in
-      let values = in_hand m x found value in
-      let l = begun_in m x in
+      let values = in_hand m tries x found value in
+      let l = begun_in m tries x in
       SettledFits m values (change_of
-      (advance_at m (values_of values) l l.spot (answer_of (step_in m x).op found))
+      (advance_at m (values_of values) l l.spot (answer_of (step_in m tries x).op found))
       (values_of values))
-  pub stands : (refused : Bool) → MayStand key (after_turn (setup_in key) x found value refused)
+  pub stands : (refused : Bool)
+      → MayStand key (after_turn (setup_in key) tries x found value refused)
   -- the slots of its locks are then those that it had, with the one that it took or without the
   -- one that it gave
   pub locks : (refused : Bool)
       → let m = setup_in key in
-      slots_out (locks_of (after_turn m x found value refused).local)
-      ≡ slots_after (move_of (step_in m x) found) Nothing (slots_out (locks_of x.local))
+      slots_out (locks_of (after_turn m tries x found value refused).local)
+      ≡ slots_after (move_of (step_in m tries x) found) Nothing (slots_out (locks_of x.local))
 
 -- the step of the worker that stands so was made, and found this
-pub record Told (key : Begun) (x : Standing) (found : ℕ) (before after : Me Guarded (List Fork))
-    : Type 0 where
+pub record Told (key : Begun) (tries : Bool) (x : Standing) (found : ℕ)
+    (before after : Me Guarded (List Fork)) : Type 0 where
   pub value : Guarded
-  pub view : after.0 ≡ fork_after (setup_in key) x found value ∷ []
-  pub slots : after.1 ≡ slots_after (move_of (step_in (setup_in key) x) found) value before.1
-  pub goes_on : MayGoOn key x found value
+  pub view : after.0 ≡ fork_after (setup_in key) tries x found value ∷ []
+  pub slots : after.1
+      ≡ slots_after (move_of (step_in (setup_in key) tries x) found) value before.1
+  pub goes_on : MayGoOn key tries x found value
   pub number : (refused : Bool)
-      → (after_turn (setup_in key) x found value refused).local.worker ≡ x.local.worker
+      → (after_turn (setup_in key) tries x found value refused).local.worker ≡ x.local.worker
 
 abbrev pub told
-    : Begun → Standing → TableStep Guarded → Me Guarded (List Fork) → ℕ → Me Guarded (List Fork)
-    → Type 0
-told key x step before found after = Told key x found before after
+    : Begun → Bool → Standing → TableStep Guarded → Me Guarded (List Fork) → ℕ
+    → Me Guarded (List Fork) → Type 0
+told key tries x step before found after = Told key tries x found before after
 
 -- the same of a store, which doesn't find what was there
 abbrev pub told_stored
-    : Begun → Standing → TableStep Guarded → Me Guarded (List Fork) → ℕ → Me Guarded (List Fork)
-    → Type 0
-told_stored key x step before stored after = (found : ℕ) × Told key x found before after
+    : Begun → Bool → Standing → TableStep Guarded → Me Guarded (List Fork) → ℕ
+    → Me Guarded (List Fork) → Type 0
+told_stored key tries x step before stored after =
+    (found : ℕ) × Told key tries x found before after
 
 -- the same of a step outside of the table, where each word is 0
 abbrev pub told_outside
-    : Begun → Standing → TableStep Guarded → Me Guarded (List Fork) → ℕ → Me Guarded (List Fork)
-    → Type 0
-told_outside key x step before found after = Told key x 0 before after
+    : Begun → Bool → Standing → TableStep Guarded → Me Guarded (List Fork) → ℕ
+    → Me Guarded (List Fork) → Type 0
+told_outside key tries x step before found after = Told key tries x 0 before after
 
 -- a worker that sits so is about to make this step
-pub record Steps (key : Begun) (x : Standing) (me : Me Guarded (List Fork)) (values : List Guarded)
-    (step : Step) : Type 0 where
+pub record Steps (key : Begun) (tries : Bool) (x : Standing) (me : Me Guarded (List Fork))
+    (values : List Guarded) (step : Step) : Type 0 where
   pub sits : Sits me x
   pub may : MayStand key x
   pub hand : values ≡ x.values
-  pub is : step ≡ step_in (setup_in key) x
+  pub is : step ≡ step_in (setup_in key) tries x
 
 -- the same, once what a lock guards is in the worker's hand or in its slot
-pub record Made (key : Begun) (x : Standing) (me : Me Guarded (List Fork)) (values : List Guarded)
-    (answer : Answer) : Type 0 where
+pub record Made (key : Begun) (tries : Bool) (x : Standing) (me : Me Guarded (List Fork))
+    (values : List Guarded) (answer : Answer) : Type 0 where
   pub found : ℕ
   pub value : Guarded
-  pub answer_is : answer ≡ answer_of (step_in (setup_in key) x).op found
-  pub values_are : values ≡ in_hand (setup_in key) x found value
-  pub view : me.0 ≡ fork_after (setup_in key) x found value ∷ []
+  pub answer_is : answer ≡ answer_of (step_in (setup_in key) tries x).op found
+  pub values_are : values ≡ in_hand (setup_in key) tries x found value
+  pub view : me.0 ≡ fork_after (setup_in key) tries x found value ∷ []
   pub slots : (refused : Bool)
-      → me.1 ≡ slots_out (locks_of (after_turn (setup_in key) x found value refused).local)
-  pub goes_on : MayGoOn key x found value
+      → me.1
+      ≡ slots_out (locks_of (after_turn (setup_in key) tries x found value refused).local)
+  pub goes_on : MayGoOn key tries x found value
   pub number : (refused : Bool)
-      → (after_turn (setup_in key) x found value refused).local.worker ≡ x.local.worker
+      → (after_turn (setup_in key) tries x found value refused).local.worker ≡ x.local.worker
 
 -- the turn of a worker that stood so was made: the step that it called for found this in its word,
--- and was answered so; and the worker stands where the turn leads that finds this there
-pub record HasTurned (key : Begun) (x : Standing) (made : Step × Answer) (after : Standing)
-    : Type 0 where
+-- and was answered so; and the worker stands where the turn leads that finds this there. A call
+-- that began with it is a try where `tries` says so
+pub record HasTurned (key : Begun) (tries : Bool) (x : Standing) (made : Step × Answer)
+    (after : Standing) : Type 0 where
   pub found : ℕ
   -- what a lock guards that is taken by it
   pub value : Guarded
   -- whether memory was refused in it
   pub refused : Bool
-  pub step : made.0 ≡ step_in (setup_in key) x
+  pub step : made.0 ≡ step_in (setup_in key) tries x
   pub answer : made.1 ≡ answer_of made.0.op found
-  pub leads : after ≡ after_turn (setup_in key) x found value refused
+  pub leads : after ≡ after_turn (setup_in key) tries x found value refused

@@ -1,6 +1,7 @@
 -- What a worker has between two turns, and what its turn makes of it.
-use Rattle.std.specs.Prelude.{ℕ, suc, Bool, true, false, false as no, List, [], ◌∷◌, length, map, slice_index_or, if◌then◌else◌}
+use Rattle.std.specs.Prelude.{ℕ, suc, Bool, true, false, ◌||◌, List, [], ◌∷◌, length, map, slice_index_or, if◌then◌else◌}
 use Rattle.std.specs.List.{range_with_len}
+use Rattle.slub_core.specs.declared.step.Answer.{Answer}
 use Rattle.slub_core.specs.declared.step.Step.{Step}
 use Rattle.slub_core.specs.Setup.{Setup}
 use Rattle.slub_core.specs.Words.{answer_of}
@@ -13,17 +14,20 @@ use Rattle.slub_local.specs.declared.guarded.Guarded.TheVariants.{Nothing, Node,
 use Rattle.slub_local.specs.Values.{values_of, rooms_of}
 use Rattle.slub_workers.specs.Locks.{move_of, values_moved}
 
--- a worker, and what the locks guard that it has, by the number of the lock
+-- a worker, what the locks guard that it has, by the number of the lock, whether a turn of it was
+-- one in which a call that begins is a try, and what its last step was answered
 pub record Standing : Type 0 where
   pub local : Local
   pub values : List Guarded
+  pub tried : Bool
+  pub answer : Answer
 
--- where it stands when it has begun its call, and the step that it makes there
-abbrev pub begun_in : Setup → Standing → Local
-begun_in m x = begun m false x.local
+-- where it stands when it has begun its call, as a try or not, and the step that it makes there
+abbrev pub begun_in : Setup → Bool → Standing → Local
+begun_in m tries x = begun m tries x.local
 
-abbrev pub step_in : Setup → Standing → Step
-step_in m x = step_of m (values_of x.values) (begun_in m x)
+abbrev pub step_in : Setup → Bool → Standing → Step
+step_in m tries x = step_of m (values_of x.values) (begun_in m tries x)
 
 -- ---- its turn
 
@@ -41,16 +45,21 @@ all_guarded rooms values =
     (range_with_len 0 (length rooms))
 
 -- what it has in hand once its step found this; `value` is what a lock guards that it took
-abbrev pub in_hand : Setup → Standing → ℕ → Guarded → List Guarded
-in_hand m x found value = values_moved (move_of (step_in m x) found) value x.values
+abbrev pub in_hand : Setup → Bool → Standing → ℕ → Guarded → List Guarded
+in_hand m tries x found value = values_moved (move_of (step_in m tries x) found) value x.values
 
 -- after its turn, in which memory is refused or isn't
-abbrev pub after_turn : Setup → Standing → ℕ → Guarded → Bool → Standing
-after_turn m x found value refused =
-    let values = in_hand m x found value in
-    let c = advance_of m refused (values_of values) (begun_in m x)
-    (answer_of (step_in m x).op found) in
-    record { local = c.local; values = all_guarded (rooms_of values) c.value }
+abbrev pub after_turn : Setup → Bool → Standing → ℕ → Guarded → Bool → Standing
+after_turn m tries x found value refused =
+    let values = in_hand m tries x found value in
+    let c = advance_of m refused (values_of values) (begun_in m tries x)
+    (answer_of (step_in m tries x).op found) in
+    record {
+      local = c.local;
+      values = all_guarded (rooms_of values) c.value;
+      tried = x.tried || tries;
+      answer = answer_of (step_in m tries x).op found;
+    }
 
 -- ---- memory may be refused
 
@@ -66,10 +75,10 @@ branch refused f = if refused then f.refused else f.granted
 abbrev pub one_way : Standing → Fork
 one_way x = record { refused = x; granted = x }
 
-abbrev pub fork_after : Setup → Standing → ℕ → Guarded → Fork
-fork_after m x found value = record {
-  refused = after_turn m x found value true;
-  granted = after_turn m x found value no;
+abbrev pub fork_after : Setup → Bool → Standing → ℕ → Guarded → Fork
+fork_after m tries x found value = record {
+  refused = after_turn m tries x found value true;
+  granted = after_turn m tries x found value false;
 }
 
 -- of all workers, in rising number, where memory is refused to those that are named

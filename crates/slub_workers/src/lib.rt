@@ -8,14 +8,21 @@
 //!
 //! `round` does a round: it opens the table (`shared`), gives each worker a seat (`worker`), lets them make their turns
 //! until each event has its reply, and closes the table. `step` makes one step on it.
+//!
+//! The same, call by call: `round::open` gives the table and its `workers`; a worker makes its next call by `call`,
+//! which may wait for a lock, or tries it by `fast`, the fast path alone, which never waits; `Workers::end` takes the
+//! seats back, and `Shared::close` gives the machine. A table that was opened has to be closed.
 #![tactic(auto)]
 
+pub mod call;
+pub mod fast;
 mod number;
 pub mod round;
 mod rule;
-mod shared;
+pub mod shared;
 mod standing;
 mod step;
 #[cfg(test)]
 mod tests;
-mod worker;
+pub mod worker;
+pub mod workers;

@@ -1,22 +1,26 @@
 //! A round by threads: seats for the workers, a thread for each, and the end.
 
-ghost use Rattle.std.specs.Prelude.{◌≡◌, ◌+◌, ◌<◌, ◌≤◌, Bool, List, [], ◌∷◌, ◌++◌, length, replicate, vec_capacity, map, All, IfOk, IfErr};
+ghost use Rattle.std.specs.Prelude.{◌≡◌, ◌||◌, ◌+◌, ◌<◌, ◌≤◌, Bool, false, List, [], ◌∷◌, ◌++◌, length, replicate, vec_capacity, map, All, IfOk, IfErr};
 ghost use denote.Param.Send.{IsSync};
 ghost use Rattle.slub_core.specs.declared.spot.Spot.TheVariants.{Between};
 ghost use Rattle.slub_core.specs.Run.{IsFinished};
 ghost use Rattle.slub_local.specs.declared.guarded.Guarded.TheVariants.{Nothing};
 ghost use Rattle.slub_workers.specs.Standing.{Fork, branch, one_way};
 ghost use Rattle.slub_workers.specs.Rule.{standing_first};
-ghost use Rattle.slub_workers.specs.Ranks.{AreBack, AreFresh, view_of};
-ghost use Rattle.slub_workers.specs.Round.{HasWorked, IsUnchanged, MayWork};
+ghost use Rattle.slub_workers.specs.Ends.{AreGathered, AreSeated, HaveEnded, IsIdleAt, IsRoom};
+ghost use Rattle.slub_workers.specs.Ranks.{AreFresh, view_of};
+ghost use Rattle.slub_workers.specs.Round.{HasWorked, IsUnchanged, MayWork, begun_by};
 ghost use Rattle.slub_workers.specs.Seats.{all_but_last};
+ghost use Rattle.slub_workers.specs.Tables.{begun_at, table_of};
 ghost use Rattle.slub_workers.specs.Workers.{HasWorkedAt, MayWorkAt, countdown, worker_in};
 
 use crate::rule::{Deals, Returns};
 use crate::shared::{Opened, Shared, Unopened, WorkerSeat};
 use crate::standing::Standing;
 use crate::worker::Worker;
+use crate::workers::{Ended, Rest, Workers};
 use slub_common::no_memory::NoMemory;
+use slub_core::step::Answer;
 use slub_edges::gate::Gate;
 use slub_local::guarded::Guarded;
 use slub_local::local::Local;
@@ -95,7 +99,12 @@ fn seat_one(shared: &Shared, root: &mut WorkerSeat, local: Local, values: Vec<Gu
     let seat = shared.words.shared.split_seat::<Deals>(root);
     Worker {
         seat,
-        standing: Standing { local, values },
+        standing: Standing {
+            local,
+            values,
+            tried: false,
+            answer: Answer::Done,
+        },
     }
 }
 
@@ -182,55 +191,97 @@ fn work_all<R: Threads + Wait + Sync, G: Gate + Sync>(
     done
 }
 
-/// A worker that has worked gives its seat back.
-fn take_back(shared: &Shared, root: &mut WorkerSeat, worker: Worker) -> Local
+/// A worker that is between two calls gives its seat back. The worker, and whether it has tried.
+fn take_back(shared: &Shared, root: &mut WorkerSeat, worker: Worker) -> (Local, bool)
     requires table { (root.old.table_id ≡ shared.now.words.shared.table_id) × (worker.0 ≡ shared.now.words.shared.table_id) }
-    requires finished { IsFinished worker.1.local }
+    requires between { worker.1.local.spot ≡ Between }
     ensures table { root.new.table_id ≡ root.old.table_id }
-    ensures root { (refused : Bool) × (f : Fork) × (result ≡ (branch refused f).local) × (root.new.me ≡ (root.old.me.0 ++ f ∷ [], root.old.me.1)) }
-    ensures local { result ≡ worker.1.local }
+    ensures root { (refused : Bool) × (f : Fork) × (result.0 ≡ (branch refused f).local) × (result.1 ≡ (branch refused f).tried) × (root.new.me ≡ (root.old.me.0 ++ f ∷ [], root.old.me.1)) }
+    ensures worker { (result.0 ≡ worker.1.local) × (result.1 ≡ worker.1.tried) }
 {
     let Worker { seat, standing } = worker;
     shared.words.shared.join_seat::<Returns>(root, seat);
-    let Standing { local, values: _ } = standing;
-    local
+    let Standing {
+        local,
+        values: _,
+        tried,
+        answer: _,
+    } = standing;
+    (local, tried)
 }
 
-/// All workers are back, in rising number. There is room for them.
+/// Whether one has tried, with one worker more.
+fn one_tried(tried: bool, more: bool) -> bool
+    ensures { result ≡ (tried || more) }
+{
+    tried || more
+}
+
+/// All workers give their seats back, in rising number. There is room for them.
 fn take_all(
     shared: &Shared,
-    root: &mut WorkerSeat,
+    mut root: WorkerSeat,
+    words: Vec<u64>,
+    values: Vec<Guarded>,
     mut list: Vec<Worker>,
     mut locals: Vec<Local>,
-) -> Vec<Local>
-    requires table { root.old.table_id ≡ shared.now.words.shared.table_id }
-    requires view { root.old.me ≡ ([], []) }
-    requires list { All (HasWorkedAt shared.now.words.shared.table_id) list.items }
+) -> Ended
+    requires table { root.table_id ≡ shared.now.words.shared.table_id }
+    requires view { root.me ≡ ([], []) }
+    requires words { (words.items ≡ []) × (shared.now.words.shared.table_id.words ≤ vec_capacity words) }
+    requires values { (values.items ≡ []) × (33 ≤ vec_capacity values) }
+    requires list { All (IsIdleAt shared.now.words.shared.table_id) list.items }
     requires numbers { map worker_in list.items ≡ countdown (length list.items) }
     requires room { (locals.items ≡ []) × (length list.items ≤ vec_capacity locals) }
-    ensures table { root.new.table_id ≡ root.old.table_id }
-    ensures back { AreBack 0 root.new.me.0 result.items }
-    ensures count { length result.items ≡ length list.items }
+    ensures { HaveEnded shared.now.words.shared.table_id list.items result }
 {
+    let mut tried = false;
     while let Some(worker) = list.pop() {
-        locals.push_reserved(take_back(shared, root, worker));
+        let (local, more) = take_back(shared, &mut root, worker);
+        tried = one_tried(tried, more);
+        locals.push_reserved(local);
     }
-    locals
+    Ended {
+        root,
+        words,
+        values,
+        locals,
+        tried,
+    }
 }
 
-/// The workers of the machine, which has so many frames and object numbers, make their turns, each in a thread of its
-/// own, until each of their calls has a reply. All memory is taken first.
-pub fn threads_round<R: Threads + Wait + Sync, G: Gate + Sync>(
-    rt: &R,
-    gate: &G,
+impl Workers {
+    /// All workers give their seats back. Each is between two calls.
+    pub fn end(self, shared: &Shared) -> Ended
+        requires idle { All (IsIdleAt (table_of shared.now)) self.list.items }
+        requires numbers { map worker_in self.list.items ≡ countdown (length self.list.items) }
+        requires room { IsRoom (table_of shared.now) (length self.list.items) self.rest }
+        ensures { HaveEnded (table_of shared.now) self.list.items result }
+    {
+        let Workers { list, rest } = self;
+        let Rest {
+            root,
+            words,
+            values,
+            locals,
+            done: _,
+        } = rest;
+        take_all(shared, root, words, values, list, locals)
+    }
+}
+
+/// Opens a table with the machine, which has so many frames and object numbers, and gives each of its workers a seat.
+/// All memory of a round is taken here.
+pub fn open(
     alloc: Global,
     frames: u32,
     objects: u32,
     machine: Machine,
-) -> Result<Machine, Unopened>
+) -> Result<(Shared, Workers), Unopened>
     requires sizes { (frames ≡ machine.table.frames) × (objects ≡ machine.table.objects) }
     requires work { MayWork machine }
-    ensures worked { IfOk result (HasWorked machine) }
+    ensures key { IfOk result (λ r. begun_at r.0 ≡ begun_by machine) }
+    ensures seated { IfOk result (λ r. AreSeated (begun_at r.0) (table_of r.0) r.1) }
     ensures unopened { IfErr result (λ u. IsUnchanged machine u.machine) }
 {
     let Ok(room) = take_room(alloc, &machine) else {
@@ -248,8 +299,58 @@ pub fn threads_round<R: Threads + Wait + Sync, G: Gate + Sync>(
         mut root,
         mut locals,
     } = Shared::open(alloc, frames, objects, machine)?;
-    let workers = seat_all(&shared, &mut root, &mut locals, hands, workers);
-    let done = work_all(rt, gate, &shared, workers, done);
-    let locals = take_all(&shared, &mut root, done, locals);
-    Ok(shared.close(root, words, values, locals))
+    let list = seat_all(&shared, &mut root, &mut locals, hands, workers);
+    let rest = Rest {
+        root,
+        words,
+        values,
+        locals,
+        done,
+    };
+    Ok((shared, Workers { list, rest }))
+}
+
+/// Each worker of a table that was opened makes its turns, in a thread of its own, until each of its calls has a reply;
+/// and all give their seats back.
+fn work<R: Threads + Wait + Sync, G: Gate + Sync>(
+    rt: &R,
+    gate: &G,
+    shared: &Shared,
+    workers: Workers,
+) -> Ended
+    requires seated { AreSeated (begun_at shared.now) (table_of shared.now) workers }
+    ensures ended { AreGathered (table_of shared.now) (length (begun_at shared.now).locals) result }
+    ensures untried { result.tried ≡ false }
+    ensures finished { All IsFinished result.locals.items }
+{
+    let Workers { list, rest } = workers;
+    let Rest {
+        root,
+        words,
+        values,
+        locals,
+        done,
+    } = rest;
+    let list = work_all(rt, gate, shared, list, done);
+    take_all(shared, root, words, values, list, locals)
+}
+
+/// The workers of the machine, which has so many frames and object numbers, make their turns, each in a thread of its
+/// own, until each of their calls has a reply. All memory is taken first.
+pub fn threads_round<R: Threads + Wait + Sync, G: Gate + Sync>(
+    rt: &R,
+    gate: &G,
+    alloc: Global,
+    frames: u32,
+    objects: u32,
+    machine: Machine,
+) -> Result<Machine, Unopened>
+    requires sizes { (frames ≡ machine.table.frames) × (objects ≡ machine.table.objects) }
+    requires work { MayWork machine }
+    ensures worked { IfOk result (HasWorked machine) }
+    ensures unopened { IfErr result (λ u. IsUnchanged machine u.machine) }
+{
+    let (shared, workers) = open(alloc, frames, objects, machine)?;
+    let ended = work(rt, gate, &shared, workers);
+    Ok(shared.close(ended))
 }

@@ -36,20 +36,26 @@ impl TableRule<Guarded, View, Key> for Ruled {
     ghost first = { first_view };
 }
 
-/// How the worker stands that steps, and what its round began with.
+/// How the worker stands that steps, whether a call that begins with the step is a try, and what the round began with.
 pub trait Naming {
+    ghost use Rattle.std.specs.Prelude.{Bool};
     ghost use Rattle.slub_workers.specs.Standing.{Standing};
     ghost use Rattle.slub_workers.specs.Begun.{Begun};
 
     ghost standing: { Standing };
 
+    ghost tries: { Bool };
+
     ghost key: { Begun };
 }
 
 impl Naming for Brand {
+    ghost use Rattle.std.specs.Prelude.{false};
     ghost use Rattle.slub_workers.specs.Nobody.{nobody, no_key};
 
     ghost standing = { nobody };
+
+    ghost tries = { false };
 
     ghost key = { no_key };
 }
@@ -62,7 +68,7 @@ pub struct Does<N> {
 impl<N: Naming> Play<Guarded, View> for Does<N> {
     ghost use Rattle.slub_workers.specs.Sits.{told};
 
-    ghost then = { told N.key N.standing };
+    ghost then = { told N.key N.tries N.standing };
 }
 
 /// The same, of a store, which tells of no word.
@@ -73,7 +79,7 @@ pub struct Stores<N> {
 impl<N: Naming> Play<Guarded, View> for Stores<N> {
     ghost use Rattle.slub_workers.specs.Sits.{told_stored};
 
-    ghost then = { told_stored N.key N.standing };
+    ghost then = { told_stored N.key N.tries N.standing };
 }
 
 /// The same, of a step outside of the table: a load that tells of no word.
@@ -84,7 +90,7 @@ pub struct Misses<N> {
 impl<N: Naming> Play<Guarded, View> for Misses<N> {
     ghost use Rattle.slub_workers.specs.Sits.{told_outside};
 
-    ghost then = { told_outside N.key N.standing };
+    ghost then = { told_outside N.key N.tries N.standing };
 }
 
 /// The last worker of a view gets a seat of its own.

@@ -3,10 +3,10 @@
 ghost use Rattle.std.specs.Prelude.{◌≡◌, ℕ, ◌+◌, ◌*◌, ◌<◌, ◌≤◌, [], false, slice_index_or, IfOk, IfErr, length, vec_capacity};
 ghost use Rattle.std.specs.Mem.Slots.{slots_items, slots_filled, slots_len, IsFull};
 ghost use Rattle.slub_workers.specs.Rule.{first_view};
-ghost use Rattle.slub_workers.specs.Ranks.{AreBack};
-ghost use Rattle.slub_workers.specs.Round.{HasEnded, IsUnchanged, MayWork, begun_by};
+ghost use Rattle.slub_workers.specs.Round.{HasClosed, IsUnchanged, MayWork, begun_by};
 
 use crate::rule::{Key, Ruled, View};
+use crate::workers::Ended;
 use atomic_table::{Closed, Refused, Seat};
 use slub_local::guarded::Guarded;
 use slub_local::local::Local;
@@ -21,8 +21,8 @@ pub(crate) type Words = atomic_table::Table<Guarded, View, Key, Ruled, Global>;
 
 pub(crate) type WorkerSeat = Seat<Guarded, View>;
 
-/// The table of a round.
-pub(crate) struct Shared {
+/// The table that the workers of a round share.
+pub struct Shared {
     /// What a lock guards lies in the slot of its number.
     pub(crate) words: Words,
     pub(crate) setup: Setup,
@@ -100,21 +100,14 @@ impl Shared {
         }
     }
 
-    /// The machine as the last step left it, where all workers are back and are finished. It takes no memory: there is
-    /// room for the words and for what the locks guard.
-    pub(crate) fn close(
-        self,
-        root: WorkerSeat,
-        words: Vec<u64>,
-        values: Vec<Guarded>,
-        locals: Vec<Local>,
-    ) -> Machine
-        requires root { root.table_id ≡ self.words.shared.table_id }
-        requires count { length locals.items ≡ length self.words.shared.key.locals }
-        requires back { AreBack 0 root.me.0 locals.items }
-        requires words { (words.items ≡ []) × (self.words.shared.table_id.words ≤ vec_capacity words) }
-        requires values { (values.items ≡ []) × (33 ≤ vec_capacity values) }
-        ensures { HasEnded self.words.shared.key (begun_by result) }
+    ghost use Rattle.slub_workers.specs.Ends.{AreGathered};
+
+    /// The machine as the last step left it, where all workers have given their seats back. It takes no memory: there
+    /// is room for the words and for what the locks guard.
+    pub fn close(self, ended: Ended) -> Machine
+        requires ended { AreGathered self.words.shared.table_id (length self.words.shared.key.locals) ended }
+        ensures closed { HasClosed self.words.shared.key ended.tried (begun_by result) }
+        ensures locals { result.locals ≡ ended.locals }
     {
         let Shared {
             words: table,
@@ -123,6 +116,13 @@ impl Shared {
             objects,
             asleep: _,
         } = self;
+        let Ended {
+            root,
+            words,
+            values,
+            locals,
+            tried: _,
+        } = ended;
         let count = table.word_count();
         let mut closed = table.close_with(root);
         let words = words_of(&closed, count, words);

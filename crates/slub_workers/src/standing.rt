@@ -1,5 +1,6 @@
 //! What a worker has between two turns.
 
+use slub_core::step::Answer;
 use slub_local::guarded::Guarded;
 use slub_local::local::Local;
 use std::marker::Model;
@@ -10,6 +11,10 @@ pub struct Standing {
     pub(crate) local: Local,
     /// By the number of the lock; `Guarded::Nothing` of a lock that it hasn't.
     pub(crate) values: Vec<Guarded>,
+    /// A turn of it was one in which a call that begins is a try.
+    pub(crate) tried: bool,
+    /// What its last step was answered; `Answer::Done` before the first one.
+    pub(crate) answer: Answer,
 }
 
 impl Model for Standing {
@@ -17,7 +22,7 @@ impl Model for Standing {
 
     ghost Value = { Standing };
 
-    ghost view = { λ x. record { local = x.local; values = x.values.items } };
+    ghost view = { λ x. record { local = x.local; values = x.values.items; tried = x.tried; answer = x.answer } };
 }
 
 /// Where a worker stands when memory was refused in its turn, and when it wasn't. No value of it is made.

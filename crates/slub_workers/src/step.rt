@@ -23,9 +23,9 @@ pub(crate) fn make<N: Naming>(
 ) -> Answer
     requires key { N.key ≡ shared.now.words.shared.key }
     requires seat { seat.old.table_id ≡ shared.now.words.shared.table_id }
-    requires steps { Steps N.key N.standing seat.old.me values.old step }
+    requires steps { Steps N.key N.tries N.standing seat.old.me values.old step }
     ensures seat { (seat.new.table_id ≡ seat.old.table_id) × (seat.new.id ≡ seat.old.id) }
-    ensures made { Made N.key N.standing seat.new.me values.new result }
+    ensures made { Made N.key N.tries N.standing seat.new.me values.new result }
 {
     picks_fit();
     turns_keep_ready();
@@ -53,12 +53,12 @@ fn store<N: Naming>(
 ) -> Answer
     requires key { N.key ≡ shared.now.words.shared.key }
     requires seat { seat.old.table_id ≡ shared.now.words.shared.table_id }
-    requires steps { Steps N.key N.standing seat.old.me values.old step }
+    requires steps { Steps N.key N.tries N.standing seat.old.me values.old step }
     requires op { step.op ≡ Op.Store value }
     requires word { word ≡ number_of (setup_in N.key) step.place }
     requires within { word < shared.now.words.shared.table_id.words }
     ensures seat { (seat.new.table_id ≡ seat.old.table_id) × (seat.new.id ≡ seat.old.id) }
-    ensures made { Made N.key N.standing seat.new.me values.new result }
+    ensures made { Made N.key N.tries N.standing seat.new.me values.new result }
 {
     picks_fit();
     turns_keep_ready();
@@ -84,12 +84,12 @@ fn exchange<N: Naming>(
 ) -> Answer
     requires key { N.key ≡ shared.now.words.shared.key }
     requires seat { seat.old.table_id ≡ shared.now.words.shared.table_id }
-    requires steps { Steps N.key N.standing seat.old.me values.old step }
+    requires steps { Steps N.key N.tries N.standing seat.old.me values.old step }
     requires op { step.op ≡ Op.Exchange from to }
     requires word { word ≡ number_of (setup_in N.key) step.place }
     requires within { word < shared.now.words.shared.table_id.words }
     ensures seat { (seat.new.table_id ≡ seat.old.table_id) × (seat.new.id ≡ seat.old.id) }
-    ensures made { Made N.key N.standing seat.new.me values.new result }
+    ensures made { Made N.key N.tries N.standing seat.new.me values.new result }
 {
     picks_fit();
     turns_keep_ready();

@@ -1,8 +1,8 @@
 //! A worker at its seat, and its turns.
 
-ghost use Rattle.std.specs.Prelude.{◌≡◌};
+ghost use Rattle.std.specs.Prelude.{◌≡◌, ◌||◌, false};
 ghost use Rattle.slub_workers.specs.Sits.{Sits, MayStand, HasTurned};
-ghost use Rattle.slub_workers.specs.Workers.{HasWorkedAt, MayWorkAt, worker_in};
+ghost use Rattle.slub_workers.specs.Workers.{HasWorkedAt, MayTurnAt, MayWorkAt, worker_in};
 
 use crate::rule::Naming;
 use crate::shared::{Shared, WorkerSeat};
@@ -24,7 +24,7 @@ use std::sync::atomic::Ordering;
 
 /// A worker of a round by threads. Contracts see which table it has its seat at, and how it stands.
 #[derive(Drop)]
-pub(crate) struct Worker {
+pub struct Worker {
     pub(crate) seat: WorkerSeat,
     pub(crate) standing: Standing,
 }
@@ -41,14 +41,24 @@ impl Model for Worker {
     ghost invariant = { λ w. Sits w.seat.me w.standing };
 }
 
-/// The turn of a worker: it begins a call where it is in none, makes a step on the table, and goes where the answer
-/// leads, with what is done at once after it and the replies that take no step. The step, and what it answered.
+/// Whether a worker has tried, once it makes a turn more.
+fn tried_with(tried: bool, tries: bool) -> bool
+    ensures { result ≡ (tried || tries) }
+{
+    tried || tries
+}
+
+/// The turn of a worker: it begins a call where it is in none (as a try, where `tries` says so), makes a step on the
+/// table, and goes where the answer leads, with what is done at once after it and the replies that take no step. The
+/// step, and what it answered.
 fn turn_of<N: Naming>(
     shared: &Shared,
     seat: &mut WorkerSeat,
     standing: &mut Standing,
+    tries: bool,
 ) -> (Step, Answer)
     requires standing { N.standing ≡ standing.old }
+    requires tries { N.tries ≡ tries }
     requires key { N.key ≡ shared.now.words.shared.key }
     requires seat { seat.old.table_id ≡ shared.now.words.shared.table_id }
     requires sits { Sits seat.old.me standing.old }
@@ -57,14 +67,16 @@ fn turn_of<N: Naming>(
     ensures sits { Sits seat.new.me standing.new }
     ensures may { MayStand shared.now.words.shared.key standing.new }
     ensures number { standing.new.local.worker ≡ standing.old.local.worker }
-    ensures turned { HasTurned shared.now.words.shared.key standing.old result standing.new }
+    ensures turned { HasTurned shared.now.words.shared.key tries standing.old result standing.new }
 {
     picks_fit();
     turns_keep_ready();
-    begin(&shared.setup, &mut standing.local);
+    standing.tried = tried_with(standing.tried, tries);
+    begin(&shared.setup, &mut standing.local, tries);
     let spot = standing.local.spot();
     let step = step_at(&shared.setup, &standing.values, &standing.local, spot);
     let answer = make::<N>(shared, seat, standing.values.as_mut_slice(), step);
+    standing.answer = answer;
     let reply = advance_at(
         &shared.setup,
         &standing.values,
@@ -83,17 +95,17 @@ fn turn_of<N: Naming>(
 }
 
 impl Worker {
-    /// Makes a turn. The step of it, and what it answered.
-    fn turn(&mut self, shared: &Shared) -> (Step, Answer)
-        requires { MayWorkAt shared.now.words.shared.key shared.now.words.shared.table_id self.old }
-        ensures may { MayWorkAt shared.now.words.shared.key shared.now.words.shared.table_id self.new }
+    /// Makes a turn; a call that begins with it is a try, where `tries` says so. The step of it, and what it answered.
+    pub(crate) fn turn(&mut self, shared: &Shared, tries: bool) -> (Step, Answer)
+        requires { MayTurnAt shared.now.words.shared.key shared.now.words.shared.table_id self.old }
+        ensures may { MayTurnAt shared.now.words.shared.key shared.now.words.shared.table_id self.new }
         ensures number { worker_in self.new ≡ worker_in self.old }
-        ensures turned { HasTurned shared.now.words.shared.key self.old.1 result self.new.1 }
+        ensures turned { HasTurned shared.now.words.shared.key tries self.old.1 result self.new.1 }
     {
-        turn_of::<Brand>(shared, &mut self.seat, &mut self.standing)
+        turn_of::<Brand>(shared, &mut self.seat, &mut self.standing, tries)
     }
 
-    /// Makes turns until each of its calls has a reply. It passes the gate before each of its events.
+    /// Makes turns until each of its calls has a reply; none is a try. It passes the gate before each of its events.
     pub(crate) fn work<W: Wait, G: Gate>(mut self, wait: &W, gate: &G, shared: &Shared) -> Worker
         requires { MayWorkAt shared.now.words.shared.key shared.now.words.shared.table_id self }
         ensures worked { HasWorkedAt shared.now.words.shared.table_id result }
@@ -106,7 +118,7 @@ impl Worker {
             if is_finished(&self.standing.local) {
                 return self;
             }
-            let (step, answer) = self.turn(shared);
+            let (step, answer) = self.turn(shared, false);
             pause(wait, shared, &backoff, step, answer);
         }
         unreachable!()
@@ -136,7 +148,13 @@ fn number_of(event: usize) -> u32 {
 
 /// After a step: where a lock is lost the worker sleeps until the word changes, and where it is given back one that
 /// sleeps is woken. After another exchange that is lost the worker waits a little.
-fn pause<W: Wait>(wait: &W, shared: &Shared, backoff: &Backoff, step: Step, answer: Answer) {
+pub(crate) fn pause<W: Wait>(
+    wait: &W,
+    shared: &Shared,
+    backoff: &Backoff,
+    step: Step,
+    answer: Answer,
+) {
     match (step.place, answer) {
         (Place::LockOf(lock), Answer::Lost(found)) => sleep(wait, shared, lock as usize, found),
         (Place::LockOf(lock), Answer::Done) => wake(shared, lock as usize),

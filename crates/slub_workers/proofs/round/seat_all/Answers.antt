@@ -1,4 +1,4 @@
-use Rattle.std.proofs.Common.{◌≡◌, List, [], length, replicate, sym, ap, ◌∙◌, subst, arith}
+use Rattle.std.proofs.Common.{◌≡◌, List, [], length, replicate, refl, sym, ap, ◌∙◌, subst, arith}
 use Rattle.atomic_table.specs.Seated.{TableId}
 use Rattle.atomic_table.specs.Table.{Me}
 use Rattle.slub_core.specs.Local.{Local}
@@ -40,7 +40,7 @@ loop-local-preserved c =
     let front : all_but_last c.loop-local.root.me.0 ≡ view_of left =
     ap (λ (m : Me Guarded (List Fork)). all_but_last m.0) inv.view ∙ ap (λ (ls : List Local). all_but_last (view_of ls)) popped ∙ ap all_but_last (view-snoc left l)
     ∙ front-snoc (view_of left) (one_way (standing_first l)) in
-    let may : MayWorkAt key table c.seat_one.result = subst (λ (w : TableId × Standing). MayWorkAt key table w) (sym s.worker) (inv.table, fresh.may) in
+    let may : MayWorkAt key table c.seat_one.result = subst (λ (w : TableId × Standing). MayWorkAt key table w) (sym s.worker) ((inv.table, fresh.may), refl) in
     record {
       table = s.root.0 ∙ inv.table;
       view = s.root.1 ∙ ap (λ (v : List Fork). (v, [])) front;

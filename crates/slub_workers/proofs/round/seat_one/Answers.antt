@@ -1,5 +1,6 @@
 use Rattle.std.proofs.Common.{◌<◌, List, false, sym, ap, ◌∙◌, arith}
 use Rattle.atomic_table.specs.Table.{Me}
+use Rattle.slub_core.specs.declared.step.Answer.TheVariants.{Done}
 use Rattle.slub_local.specs.declared.guarded.Guarded.{Guarded}
 use Rattle.slub_workers.specs.Locks.{slots_out}
 use Rattle.slub_workers.specs.Standing.{Fork, one_way}
@@ -25,6 +26,6 @@ invariant_of-result c =
       fork = f;
       refused = false;
       view = ap (λ (m : Me Guarded (List Fork)). m.0) me ∙ ap (λ (m : Me Guarded (List Fork)). last_alone m.0) r.last.1 ∙ end-snoc r.last.0 f;
-      here = λ i. record { local = c.args.local; values = r.values i };
+      here = λ i. record { local = c.args.local; values = r.values i; tried = false; answer = Done };
       slots = ap (λ (m : Me Guarded (List Fork)). m.1) me ∙ sym (ap slots_out (no_locks c.args.local r.between));
     }

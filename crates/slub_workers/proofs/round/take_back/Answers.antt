@@ -13,6 +13,6 @@ join_seat-requires c =
     let sits = c.worker.invariant in
     let count = c.args.shared.now.words_are in
     let many : 0 < c.args.shared.now.words.shared.table_id.words = omega arith in
-    let between : c.worker.inside.standing.local.spot ≡ Between = ap (λ (w : TableId × Standing). w.1.local.spot) c.worker.view_is ∙ r.finished.between in
+    let between : c.worker.inside.standing.local.spot ≡ Between = ap (λ (w : TableId × Standing). w.1.local.spot) c.worker.view_is ∙ r.between in
     let slots = sits.slots ∙ ap slots_out (no_locks c.worker.inside.standing.local between) in
     (r.table.0, ap (λ (w : TableId × Standing). w.0) c.worker.view_is ∙ r.table.1, slots, many, returns_as _ _ _ _ _ sits.fork sits.view)

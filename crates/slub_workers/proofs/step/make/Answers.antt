@@ -15,7 +15,7 @@ load-requires g c =
     let count = c.word_count.ensures in (
       r.seat,
       omega (arith, many),
-      outside_asks c.turns_keep_ready.ensures c.picks_fit.ensures s.words.shared.key g.N.Naming.key r.key _ _ g.N.Naming.standing c.args.seat.now.me c.args.seat.now.me c.args.values.now c.args.step r.steps refl
+      outside_asks c.turns_keep_ready.ensures c.picks_fit.ensures s.words.shared.key g.N.Naming.key r.key _ _ g.N.Naming.tries g.N.Naming.standing c.args.seat.now.me c.args.seat.now.me c.args.values.now c.args.step r.steps refl
           s.words.shared.table_id.words (omega (arith, here, far, count)) all,
     )
 
@@ -28,9 +28,9 @@ returns-then-word-word_count-clause-made g c =
     let here = c.number-word.ensures (setup_in g.N.Naming.key) sizes.0 sizes.1 in
     let far = c.if-word-word_count.true in
     let count = c.word_count.ensures in
-    let stays = outside_stays c.turns_keep_ready.ensures c.picks_fit.ensures s.words.shared.key g.N.Naming.key r.key 0 0 g.N.Naming.standing c.args.seat.now.me c.args.seat.now.me c.args.values.now c.args.step r.steps refl
+    let stays = outside_stays c.turns_keep_ready.ensures c.picks_fit.ensures s.words.shared.key g.N.Naming.key r.key 0 0 g.N.Naming.tries g.N.Naming.standing c.args.seat.now.me c.args.seat.now.me c.args.values.now c.args.step r.steps refl
     s.words.shared.table_id.words (omega (arith, here, far, count)) all in
-    made_kept g.N.Naming.key g.N.Naming.standing c.args.seat.now.me c.load.new.seat.me c.args.values.now c.args.step 0 c.answer_outside.result r.steps stays c.answer_outside.ensures c.load.ensures.2
+    made_kept g.N.Naming.key g.N.Naming.tries g.N.Naming.standing c.args.seat.now.me c.load.new.seat.me c.args.values.now c.args.step 0 c.answer_outside.result r.steps stays c.answer_outside.ensures c.load.ensures.2
 
 pub load-requires-in-Load : goal.load-requires-in-Load
 load-requires-in-Load g c =
@@ -41,7 +41,7 @@ load-requires-in-Load g c =
     let count = c.word_count.ensures in (
       r.seat,
       omega (arith, near, count),
-      load_asks c.turns_keep_ready.ensures c.picks_fit.ensures s.words.shared.key g.N.Naming.key r.key _ _ g.N.Naming.standing c.args.seat.now.me c.args.seat.now.me c.args.values.now c.args.step r.steps refl
+      load_asks c.turns_keep_ready.ensures c.picks_fit.ensures s.words.shared.key g.N.Naming.key r.key _ _ g.N.Naming.tries g.N.Naming.standing c.args.seat.now.me c.args.seat.now.me c.args.values.now c.args.step r.steps refl
           c.number-word.result (c.number-word.ensures (setup_in g.N.Naming.key) sizes.0 sizes.1) c.in-Load.is,
     )
 
@@ -60,7 +60,7 @@ swap-requires g c =
     let count = c.word_count.ensures in (
       r.seat,
       omega (arith, near, count),
-      swap_asks c.turns_keep_ready.ensures c.picks_fit.ensures s.words.shared.key g.N.Naming.key r.key _ _ g.N.Naming.standing c.args.seat.now.me c.args.seat.now.me c.args.values.now c.args.step r.steps refl
+      swap_asks c.turns_keep_ready.ensures c.picks_fit.ensures s.words.shared.key g.N.Naming.key r.key _ _ g.N.Naming.tries g.N.Naming.standing c.args.seat.now.me c.args.seat.now.me c.args.values.now c.args.step r.steps refl
           c.number-word.result c.in-Swap.value (c.number-word.ensures (setup_in g.N.Naming.key) sizes.0 sizes.1) c.in-Swap.is,
     )
 
@@ -74,10 +74,10 @@ pub returns-in-Load-clause-made : goal.returns-in-Load-clause-made
 returns-in-Load-clause-made g c =
     let n = c.load-in-Load.result in
     let a = load_answers c.args.step n c.in-Load.is in
-    made_kept g.N.Naming.key g.N.Naming.standing c.args.seat.now.me c.load-in-Load.new.seat.me c.args.values.now c.args.step n _ c.requires.steps a.0 a.1 c.load-in-Load.ensures.2
+    made_kept g.N.Naming.key g.N.Naming.tries g.N.Naming.standing c.args.seat.now.me c.load-in-Load.new.seat.me c.args.values.now c.args.step n _ c.requires.steps a.0 a.1 c.load-in-Load.ensures.2
 
 pub returns-in-Swap-clause-made : goal.returns-in-Swap-clause-made
 returns-in-Swap-clause-made g c =
     let n = c.swap.result in
     let a = swap_answers c.args.step c.in-Swap.value n c.in-Swap.is in
-    made_kept g.N.Naming.key g.N.Naming.standing c.args.seat.now.me c.swap.new.seat.me c.args.values.now c.args.step n _ c.requires.steps a.0 a.1 c.swap.ensures.2
+    made_kept g.N.Naming.key g.N.Naming.tries g.N.Naming.standing c.args.seat.now.me c.swap.new.seat.me c.args.values.now c.args.step n _ c.requires.steps a.0 a.1 c.swap.ensures.2

@@ -2,12 +2,12 @@ use Rattle.std.proofs.Common.{◌≡◌, List, sym, ◌∙◌, subst, arith}
 use Rattle.std.specs.Mem.Slots.{slots_items, slots_counts}
 use Rattle.slub_local.specs.declared.guarded.Guarded.{Guarded}
 use Rattle.slub_workers.specs.Rule.{table_in}
-use Rattle.slub_workers.specs.Round.{HasEnded}
+use Rattle.slub_workers.specs.Round.{HasClosed}
 use Rattle.slub_workers.proofs.Closing.{ends}
 use Rattle.slub_workers.proofs.shared.Shared.close.Goals as goal
 
-pub returns : goal.returns
-returns c =
+pub returns-clause-closed : goal.returns-clause-closed
+returns-clause-closed c =
     let self = c.args.self in
     let key = self.words.shared.key in
     let closed = c.close_with-closed in
@@ -17,5 +17,5 @@ returns c =
     let m = closed.ensures.counts.1 in
     let k = self.slots in
     let table : c.open.result ≡ table_in key words = c.open.ensures ∙ (λ i. record { frames = sym self.table.0 i; objects = sym self.table.1 i; words = c.words_of-words.ensures i }) in
-    subst (λ (guards : List Guarded). HasEnded key record { facts = self.setup; table = c.open.result; guards = guards; locals = c.args.locals.items }) (sym c.values_of-values.ensures.values)
-    (ends key c.args.root.id c.args.root.me.0 c.args.locals.items words xs c.requires.back c.requires.count closed.ensures.values.2 self.setup c.open.result (omega arith) (sym self.facts) table)
+    subst (λ (guards : List Guarded). HasClosed key c.args.ended.tried record { facts = self.setup; table = c.open.result; guards = guards; locals = c.args.ended.locals.items }) (sym c.values_of-values.ensures.values)
+    (ends c.args.ended.tried key c.args.ended.root.id c.args.ended.root.me.0 c.args.ended.locals.items words xs c.requires.ended.back c.requires.ended.all closed.ensures.values.2 self.setup c.open.result (omega arith) (sym self.facts) table)

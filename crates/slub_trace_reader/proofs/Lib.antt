@@ -2,12 +2,12 @@ pub mod ClassNames
 pub mod ClientTexts
 pub mod Fields
 mod Fronts
-mod FirstBytes
 pub mod LineTexts
 pub mod LinesBelow
 pub mod Readable
 pub mod Runs
 pub mod Places
+mod QuickLines
 pub mod ReadingLaws
 pub mod Readings
 pub mod Reasons

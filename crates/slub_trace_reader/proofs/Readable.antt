@@ -6,9 +6,9 @@ use Rattle.std.proofs.lemmas.Bool.{false≢true}
 use Rattle.std.proofs.lemmas.Bool.Decides.{nat_tests}
 use Rattle.std.proofs.lemmas.List.{append-nil}
 use Rattle.std.proofs.lemmas.List.Elements.{All-cons, All-nil, All-head, All-tail, All-push}
-use Rattle.slub_object_layout.specs.declared.event.Act.{Act}
-use Rattle.slub_object_layout.specs.declared.event.Act.TheVariants as act
-use Rattle.slub_object_layout.specs.declared.event.Event.{Event}
+use Rattle.slub_events.specs.declared.event.Act.{Act}
+use Rattle.slub_events.specs.declared.event.Act.TheVariants as act
+use Rattle.slub_events.specs.declared.event.Event.{Event}
 use Rattle.slub_trace_reader.specs.declared.line.Line.{Line}
 use Rattle.slub_trace_reader.specs.declared.line.Line.TheVariants.{Passed, Slubtrace, Machine, Cache, Shrink, Destroy, Tune, Slabinfo, Client, Round, Alloc, Free, Write, Read, Poke, Trim, Flush, Done, End}
 use Rattle.slub_trace_reader.specs.declared.place.Place.{Place}
@@ -54,13 +54,13 @@ stays objects (act.Alloc place x) same o t was new known is = by (eqb x o) refl
         let equal : x ≡ o = grind (arith, nat_tests, here) in
         absurd (false≢true (sym (subst (λ k. list_any (nat_eq k) objects ≡ false) equal new) ∙ known))
     by false here = is
-stays objects (act.Write x at value) same o t was new known is = ap (λ b. (same && eqb x o && eqb at t) || b) is ∙ last (same && eqb x o && eqb at t)
+stays objects (act.Write at x value) same o t was new known is = ap (λ b. (same && eqb x o && eqb at t) || b) is ∙ last (same && eqb x o && eqb at t)
   where
     last : (b : Bool) → (b || true) ≡ true
     last true = refl
     last false = refl
 stays objects (act.Free x) same o t was new known is = is
-stays objects (act.Read x at) same o t was new known is = is
+stays objects (act.Read at x) same o t was new known is = is
 stays objects (act.Poke x offset byte) same o t was new known is = is
 stays objects (act.Trim place) same o t was new known is = is
 stays objects act.Flush same o t was new known is = is
@@ -91,10 +91,10 @@ same_number n = grind (arith, nat_tests)
 
 -- one more is written
 put_new : (events : List Event) (objects : List ℕ) (line worker cpu object word value : ℕ) → list_any (nat_eq object) objects ≡ true
-    → IsPut (events ++ record { line = line; worker = worker; cpu = cpu; act = act.Write object word value } ∷ []) objects (worker, object, word)
+    → IsPut (events ++ record { line = line; worker = worker; cpu = cpu; act = act.Write word object value } ∷ []) objects (worker, object, word)
 unfolding IsPut
 put_new events objects line worker cpu object word value known = (
-  ap (λ es. is_written es worker object word) (past_more [] events (record { line = line; worker = worker; cpu = cpu; act = act.Write object word value }))
+  ap (λ es. is_written es worker object word) (past_more [] events (record { line = line; worker = worker; cpu = cpu; act = act.Write word object value }))
       ∙ ap (λ b. (b && eqb object object && eqb word word) || is_written (past [] events) worker object word) (same_number worker)
       ∙ ap (λ b. (true && b && eqb word word) || is_written (past [] events) worker object word) (same_number object)
       ∙ ap (λ b. (true && true && b) || is_written (past [] events) worker object word) (same_number word),
@@ -162,7 +162,7 @@ write_more a worker object word value First is known read = absurd is
 write_more a worker object word value Second is known read = absurd is
 write_more a worker object word value Between is known read = absurd is
 write_more a worker object word value (Within workers) is known read =
-    let e : Event = record { line = a.count + 1; worker = worker; cpu = 0; act = act.Write object word value } in (
+    let e : Event = record { line = a.count + 1; worker = worker; cpu = 0; act = act.Write word object value } in (
       readable_more [] a.events e read.0 tt,
       puts_with (IsPut (a.events ++ e ∷ []) a.objects) a.written (worker, object, word)
           (subst (λ os. All (IsPut (a.events ++ e ∷ []) os) a.written) (append-nil a.objects) (puts_stay a.events a.objects [] e a.written tt read.1))
@@ -212,7 +212,7 @@ read_after a text (Free worker cpu object) read good =
     read_more a (after a (Free worker cpu object)) (record { line = a.count + 1; worker = worker; cpu = cpu; act = act.Free object }) [] a.place good.stands refl (sym (append-nil a.objects)) refl tt (λ puts. tt) read
 read_after a text (Write worker object word value) read good = write_more a worker object word value a.place good.stands (head_known a object good.known) read
 read_after a text (Read worker object word) read good =
-    read_more a (after a (Read worker object word)) (record { line = a.count + 1; worker = worker; cpu = 0; act = act.Read object word }) [] a.place good.stands refl (sym (append-nil a.objects)) refl tt
+    read_more a (after a (Read worker object word)) (record { line = a.count + 1; worker = worker; cpu = 0; act = act.Read word object }) [] a.place good.stands refl (sym (append-nil a.objects)) refl tt
     (λ puts. put_found a.events a.objects a.written worker object word puts good.written) read
 read_after a text (Poke worker object negative offset byte) read good =
     read_more a (after a (Poke worker object negative offset byte)) (record { line = a.count + 1; worker = worker; cpu = 0; act = act.Poke object (offset_of negative offset) byte }) [] a.place good.stands refl (sym (append-nil a.objects)) refl tt (λ puts. tt) read

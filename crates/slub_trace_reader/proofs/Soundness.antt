@@ -10,9 +10,9 @@ use Rattle.std.proofs.lemmas.List.{append-nil}
 use Rattle.std.proofs.lemmas.List.Sums.{fold-append}
 use Rattle.std.proofs.lemmas.List.Elements.{All-cons, All-nil, All-append, All-head, All-tail}
 use Rattle.std.proofs.lemmas.Map.Keys.{IsDistinct-push}
-use Rattle.slub_object_layout.specs.declared.event.Act.{Act}
-use Rattle.slub_object_layout.specs.declared.event.Act.TheVariants as act
-use Rattle.slub_object_layout.specs.declared.event.Event.{Event}
+use Rattle.slub_events.specs.declared.event.Act.{Act}
+use Rattle.slub_events.specs.declared.event.Act.TheVariants as act
+use Rattle.slub_events.specs.declared.event.Event.{Event}
 use Rattle.slub_object_layout.specs.Name.{IsName}
 use Rattle.slub_trace_reader.specs.declared.client.ClientLine.{ClientLine}
 use Rattle.slub_trace_reader.specs.declared.client.ClientLine.TheVariants.{Kmalloc, Kget, Krealloc, Bulk, Bulkfree, Mempool, Mget, Mput}
@@ -74,8 +74,8 @@ pub record Grows (s t : Trace) : Type 0 where
 grown_act : (s t : Trace) (a : Act) → Grows s t → IsSoundAct s a → IsSoundAct t a
 grown_act s t (act.Alloc place object) g is = (omega (arith, g.names, is.0), is.1, omega (arith, g.objects, is.2))
 grown_act s t (act.Free object) g is = (is.0, omega (arith, g.objects, is.1))
-grown_act s t (act.Write object word value) g is = (is.0, omega (arith, g.objects, is.1), is.2)
-grown_act s t (act.Read object word) g is = (is.0, omega (arith, g.objects, is.1), is.2)
+grown_act s t (act.Write word object value) g is = (is.0, omega (arith, g.objects, is.1), is.2)
+grown_act s t (act.Read word object) g is = (is.0, omega (arith, g.objects, is.1), is.2)
 grown_act s t (act.Poke object offset byte) g is = (is.0, omega (arith, g.objects, is.1), is.2, is.3)
 grown_act s t (act.Trim place) g is = omega (arith, g.names, is)
 grown_act s t act.Flush g is = tt
@@ -593,12 +593,12 @@ listed_after a text (Free worker cpu object) read head listed good =
     (record { worker = good.range.0; cpu = good.range.1; act = (good.range.2.0, any_within 0 object a.objects (one_known a object good.known)); idle = tt }) (sym (append-nil a.objects))
 listed_after a text (Write worker object word value) read head listed good =
     let here = in_round a a.place good.stands head in
-    let e : Event = record { line = a.count + 1; worker = worker; cpu = 0; act = act.Write object word value } in
+    let e : Event = record { line = a.count + 1; worker = worker; cpu = 0; act = act.Write word object value } in
     event_listed a (after a (Write worker object word value)) e listed refl refl refl refl (stays a (after a (Write worker object word value)) refl refl refl)
     (record { worker = good.range.0; cpu = omega (arith, here.0.cpus.0); act = (good.range.1.0, any_within 0 object a.objects (one_known a object good.known), good.range.2); idle = refl }) (sym (append-nil a.objects))
 listed_after a text (Read worker object word) read head listed good =
     let here = in_round a a.place good.stands head in
-    let e : Event = record { line = a.count + 1; worker = worker; cpu = 0; act = act.Read object word } in
+    let e : Event = record { line = a.count + 1; worker = worker; cpu = 0; act = act.Read word object } in
     event_listed a (after a (Read worker object word)) e listed refl refl refl refl (stays a (after a (Read worker object word)) refl refl refl)
     (record { worker = good.range.0; cpu = omega (arith, here.0.cpus.0); act = (good.range.1.0, any_within 0 object a.objects (one_known a object good.known), good.range.2); idle = refl }) (sym (append-nil a.objects))
 listed_after a text (Poke worker object negative offset byte) read head listed good =

@@ -1,5 +1,5 @@
 -- Words of a line: what is written is read with its number cut at 2 ^ 64, and what is read is written.
-use Rattle.std.proofs.Common.{◌≡◌, ◌≢◌, ℕ, zero, suc, ◌+◌, ◌-◌, ◌*◌, ◌≤◌, Bool, true, false, cond, not, ◌&&◌, Option, Some, None, List, [], ◌∷◌, ◌++◌, refl, sym, ap, ◌∙◌, arith, eqb, leb, nat_eq, inl, inr, subst, unwrap_or, ◌⊎◌}
+use Rattle.std.proofs.Common.{◌≡◌, ◌≢◌, ℕ, zero, suc, ◌+◌, ◌-◌, ◌*◌, ◌<◌, ◌≤◌, All, Bool, true, false, cond, not, ◌&&◌, Option, Some, None, List, [], ◌∷◌, ◌++◌, refl, sym, ap, ◌∙◌, arith, eqb, leb, nat_eq, inl, inr, subst, unwrap_or, ◌⊎◌}
 use Rattle.std.specs.Prelude.{option_map, option_and_then, codes}
 use Rattle.std.specs.List.{list_all}
 use Rattle.std.specs.Cmp.Lexicographic.{pointwise, bytes_decides}
@@ -51,18 +51,22 @@ or_some (Some y) p x is = inl is
 
 -- ---- words
 
-digits_word : (cs : List ℕ) → list_all is_digit cs ≡ true → IsWord cs
-digits_word [] is = All-nil (λ c. c ≢ 32)
-digits_word (c ∷ cs) is =
+digits_lack : (b : ℕ) (cs : List ℕ) → b < 48 → list_all is_digit cs ≡ true → All (λ c. c ≢ b) cs
+digits_lack b [] low is = All-nil (λ c. c ≢ b)
+digits_lack b (c ∷ cs) low is =
     let parts = and_parts (is_digit c) (list_all is_digit cs) is in
     let range = digit_within c parts.0 in
-    All-cons (λ c. c ≢ 32) c cs (λ same. absurd (let never : ⊥ = omega arith in never)) (digits_word cs parts.1)
+    All-cons (λ d. d ≢ b) c cs (λ same. absurd (let never : ⊥ = omega arith in never)) (digits_lack b cs low parts.1)
+
+-- a number has no byte below the digits
+pub number_lacks : (b : ℕ) (word : List ℕ) → b < 48 → is_number word ≡ true → All (λ c. c ≢ b) word
+number_lacks b [] low is = absurd (false≢true is)
+number_lacks b (c ∷ []) low is = digits_lack b (c ∷ []) low (rw is refl)
+number_lacks b (c ∷ d ∷ cs) low is = digits_lack b (c ∷ d ∷ cs) low (and_parts (not (eqb c 48)) (list_all is_digit (c ∷ d ∷ cs)) is).1
 
 -- a number has no space
 pub number_word : (word : List ℕ) → is_number word ≡ true → IsWord word
-number_word [] is = absurd (false≢true is)
-number_word (c ∷ []) is = digits_word (c ∷ []) (rw is refl)
-number_word (c ∷ d ∷ cs) is = digits_word (c ∷ d ∷ cs) (and_parts (not (eqb c 48)) (list_all is_digit (c ∷ d ∷ cs)) is).1
+number_word word is = number_lacks 32 word (omega arith) is
 
 pub number_at_found : (word : List ℕ) (n : ℕ) (rest : List ℕ) → Writes word n → number_at (word ++ 32 ∷ rest) ≡ Some (cut_number n, rest)
 unfolding number_at
@@ -78,11 +82,15 @@ number_at_some bytes p is =
     let f = number_some s.0.0 t.0 t.1 in
     (s.0.0, f.0, f.1, (field_some bytes s.0.0 s.0.1 s.1).0 ∙ ap (λ (q : ℕ × List ℕ). s.0.0 ++ 32 ∷ q.1) same, ap (λ (q : ℕ × List ℕ). q.0) (sym same) ∙ f.2)
 
+-- a name has no byte below the dash
+pub name_lacks : (b : ℕ) (name : List ℕ) → b < 45 → IsName name → All (λ c. c ≢ b) name
+name_lacks b [] below is k d low = absurd is
+name_lacks b (c ∷ cs) below is zero d low = λ same. grind arith
+name_lacks b (c ∷ cs) below is (suc k) d low = λ same. let one = is.1 k d (grind arith) in grind arith
+
 -- a name has no space
 name_word : (name : List ℕ) → IsName name → IsWord name
-name_word [] is k d low = absurd is
-name_word (c ∷ cs) is zero d low = λ same. grind arith
-name_word (c ∷ cs) is (suc k) d low = λ same. let one = is.1 k d (grind arith) in grind arith
+name_word name is = name_lacks 32 name (omega arith) is
 
 pub name_found : (name : List ℕ) → IsName name → name_of name ≡ Some name
 unfolding name_of

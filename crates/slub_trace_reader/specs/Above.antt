@@ -2,9 +2,9 @@
 use Rattle.std.specs.Prelude.{ℕ, ◌+◌, Bool, true, false, ◌&&◌, ◌||◌, nat_eq, List, [], ◌∷◌, ◌++◌, unwrap_or, if◌then◌else◌, pos, neg_ℤ, ℤ, fold, max}
 use Rattle.std.specs.List.{list_any, position_or_len}
 use Rattle.std.specs.Str.{bytes_eq}
-use Rattle.slub_object_layout.specs.declared.event.Act.{Act}
-use Rattle.slub_object_layout.specs.declared.event.Act.TheVariants as act
-use Rattle.slub_object_layout.specs.declared.event.Event.{Event}
+use Rattle.slub_events.specs.declared.event.Act.{Act}
+use Rattle.slub_events.specs.declared.event.Act.TheVariants as act
+use Rattle.slub_events.specs.declared.event.Event.{Event}
 use Rattle.slub_object_layout.specs.declared.layout.Setting.{Setting}
 use Rattle.slub_object_layout.specs.declared.layout.Setting.TheVariants as setting
 use Rattle.slub_object_layout.specs.declared.layout.Spec.{Spec}
@@ -199,9 +199,9 @@ after a (Alloc worker cpu name object) =
     { objects = a.objects ++ object ∷ [] }
 after a (Free worker cpu object) = with_event a worker cpu (act.Free object)
 after a (Write worker object word value) =
-    record (with_event a worker 0 (act.Write object word value))
+    record (with_event a worker 0 (act.Write word object value))
     { written = with_one is_spot a.written (worker, object, word) }
-after a (Read worker object word) = with_event a worker 0 (act.Read object word)
+after a (Read worker object word) = with_event a worker 0 (act.Read word object)
 after a (Poke worker object negative offset byte) =
     with_event a worker 0 (act.Poke object (offset_of negative offset) byte)
 after a (Trim worker name) = with_event a worker 0 (act.Trim (place_of name a.names))

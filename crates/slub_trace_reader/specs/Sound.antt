@@ -2,10 +2,10 @@
 use Rattle.std.specs.Prelude.{◌≡◌, ℕ, ◌+◌, ◌-◌, ◌^◌, ◌<◌, ◌≤◌, pos, neg_ℤ, ◌≤ℤ◌, Bool, true, false, ◌==◌, ◌&&◌, ◌||◌, if◌then◌else◌, List, [], ◌∷◌, length, Option, Some, None, All, filter_map, flat_map, nat_eq, ⊤}
 use Rattle.std.specs.List.{IsDistinct, range_with_len}
 use Rattle.std.specs.Str.{bytes_eq}
-use Rattle.slub_object_layout.specs.declared.event.Act.{Act}
-use Rattle.slub_object_layout.specs.declared.event.Act.TheVariants as act
-use Rattle.slub_object_layout.specs.declared.event.Event.{Event}
-use Rattle.slub_object_layout.specs.declared.event.Round.{Round as Events}
+use Rattle.slub_events.specs.declared.event.Act.{Act}
+use Rattle.slub_events.specs.declared.event.Act.TheVariants as act
+use Rattle.slub_events.specs.declared.event.Event.{Event}
+use Rattle.slub_events.specs.declared.event.Round.{Round as Events}
 use Rattle.slub_object_layout.specs.Name.{IsName}
 use Rattle.slub_object_layout.specs.declared.layout.Setting.{Setting}
 use Rattle.slub_object_layout.specs.declared.layout.Setting.TheVariants.{MinPartial, CpuPartial}
@@ -22,8 +22,8 @@ use Rattle.slub_trace_reader.specs.Grammar.{IsAskedSize, IsTid}
 abbrev pub allocated : Act → Option ℕ
 allocated (act.Alloc place object) = Some object
 allocated (act.Free object) = None
-allocated (act.Write object word value) = None
-allocated (act.Read object word) = None
+allocated (act.Write word object value) = None
+allocated (act.Read word object) = None
 allocated (act.Poke object offset byte) = None
 allocated (act.Trim place) = None
 allocated act.Flush = None
@@ -70,9 +70,9 @@ abbrev pub IsSoundAct : Trace → Act → Type 0
 IsSoundAct trace (act.Alloc place object) =
     (place < length trace.names) × (1 ≤ object) × (object ≤ trace.objects)
 IsSoundAct trace (act.Free object) = (1 ≤ object) × (object ≤ trace.objects)
-IsSoundAct trace (act.Write object word value) =
+IsSoundAct trace (act.Write word object value) =
     (1 ≤ object) × (object ≤ trace.objects) × (word ≤ 4095)
-IsSoundAct trace (act.Read object word) = (1 ≤ object) × (object ≤ trace.objects) × (word ≤ 4095)
+IsSoundAct trace (act.Read word object) = (1 ≤ object) × (object ≤ trace.objects) × (word ≤ 4095)
 IsSoundAct trace (act.Poke object offset byte) =
     (1 ≤ object) × (object ≤ trace.objects) × (neg_ℤ (pos 32768) ≤ℤ offset) × (offset ≤ℤ pos 32767)
 IsSoundAct trace (act.Trim place) = place < length trace.names
@@ -82,8 +82,8 @@ IsSoundAct trace act.Flush = ⊤
 abbrev pub IsSoundCpu : Act → ℕ → Type 0
 IsSoundCpu (act.Alloc place object) cpu = ⊤
 IsSoundCpu (act.Free object) cpu = ⊤
-IsSoundCpu (act.Write object word value) cpu = cpu ≡ 0
-IsSoundCpu (act.Read object word) cpu = cpu ≡ 0
+IsSoundCpu (act.Write word object value) cpu = cpu ≡ 0
+IsSoundCpu (act.Read word object) cpu = cpu ≡ 0
 IsSoundCpu (act.Poke object offset byte) cpu = cpu ≡ 0
 IsSoundCpu (act.Trim place) cpu = cpu ≡ 0
 IsSoundCpu act.Flush cpu = ⊤
@@ -101,7 +101,7 @@ pub record IsSoundEvent (trace : Trace) (workers : ℕ) (event : Event) : Type 0
 abbrev pub written_after : Act → Bool → ℕ → ℕ → Bool → Bool
 written_after (act.Alloc place other) same object word before =
     if other == object then false else before
-written_after (act.Write other at value) same object word before =
+written_after (act.Write at other value) same object word before =
     (same && (other == object) && (at == word)) || before
 written_after _ same object word before = before
 
@@ -115,7 +115,7 @@ is_written (event ∷ events) worker object word =
 
 -- a read is of a word that its worker wrote before in the round
 abbrev pub IsReadable : List Event → Event → Act → Type 0
-IsReadable before event (act.Read object word) =
+IsReadable before event (act.Read word object) =
     is_written before event.worker object word ≡ true
 IsReadable before event _ = ⊤
 

@@ -1,5 +1,5 @@
 -- For proofs and private clauses: what the reader keeps of the lines above.
-use Rattle.std.specs.Prelude.{◌≡◌, ℕ, ◌+◌, ◌*◌, ◌<◌, ◌≤◌, ◌^◌, false, length, fold, get_or, max, nat_eq, Option, Some, None, ⊤}
+use Rattle.std.specs.Prelude.{◌≡◌, ℕ, ◌+◌, ◌*◌, ◌<◌, ◌≤◌, ◌^◌, ◌++◌, ◌∷◌, [], false, length, fold, get_or, max, nat_eq, Option, Some, None, ⊤}
 use Rattle.std.specs.List.{list_any}
 use Rattle.slub_trace_reader.specs.declared.client.ClientLine.{ClientLine}
 use Rattle.slub_trace_reader.specs.declared.client.ClientLine.TheVariants.{Kmalloc, Kget, Krealloc, Bulk, Bulkfree, Mempool, Mget, Mput}
@@ -9,7 +9,8 @@ use Rattle.slub_trace_reader.specs.declared.objects.Objects.{Objects}
 use Rattle.slub_trace_reader.specs.declared.reading.Why.{Why}
 use Rattle.slub_trace_reader.specs.declared.reading.Why.TheVariants.{Unfinished, AfterEnd, Form, Range, TooManyRounds, UnknownCache, ObjectTwice, UnknownObject, ReadBeforeWrite, NoEnd}
 use Rattle.slub_trace_reader.specs.declared.state.State.{State}
-use Rattle.slub_trace_reader.specs.Above.{Above, workers_in}
+use Rattle.slub_events.specs.declared.event.Act.TheVariants as act
+use Rattle.slub_trace_reader.specs.Above.{Above, workers_in, with_event}
 use Rattle.slub_trace_reader.specs.Grammar.{MayStand, InRange, HasRoom, HasCache, IsFresh, IsKnown, IsWritten}
 
 -- what the lines above say, as it is kept
@@ -30,6 +31,12 @@ above s = record {
   items = s.items;
   events = s.events;
 }
+
+-- one allocation more, from the cache whose name has this place
+abbrev pub with_alloc : Above → ℕ → ℕ → ℕ → ℕ → Above
+with_alloc a worker cpu cache object =
+    record (with_event a worker cpu (act.Alloc cache object))
+    { objects = a.objects ++ object ∷ [] }
 
 -- the marks say which numbers are among them
 abbrev pub IsMarked : Objects → Type 0

@@ -292,14 +292,15 @@ impl State {
         }
     }
 
-    fn was_written(&self, worker: u32, object: u32, word: u32) -> bool
+    pub(crate) fn was_written(&self, worker: u8, object: u32, word: u16) -> bool
         ensures { result ≡ list_any (is_spot (worker, object, word)) self.now.written.keys }
     {
         self.written.contains(&(worker, object, word))
     }
 
     fn is_written(&self, line: &Line) -> bool
-        requires { InRange (above self.now) line.now }
+        requires modest { IsModest (above self.now) }
+        requires range { InRange (above self.now) line.now }
         ensures { IsTrue result ↔ IsWritten (above self.now) line.now }
     {
         match line {
@@ -309,7 +310,7 @@ impl State {
                 word,
             } => {
                 let worker = self.worker(*worker);
-                self.was_written(worker, *object as u32, *word as u32)
+                self.was_written(worker, *object as u32, *word as u16)
             }
             _ => true,
         }
@@ -317,7 +318,8 @@ impl State {
 
     /// The first reason that a line of some form is bad for.
     fn lacks(&self, line: &Line) -> Option<Why>
-        requires { IsMarked self.now.objects }
+        requires marked { IsMarked self.now.objects }
+        requires modest { IsModest (above self.now) }
         ensures { Lacks (above self.now) line.now result }
     {
         if !self.place.takes(line, self.version) {

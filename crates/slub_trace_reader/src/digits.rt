@@ -35,7 +35,7 @@ fn digits(first: u8, bytes: &[u8]) -> Option<(u64, &[u8])>
 
 /// The number in front, and what follows it; None where there is none, or it is near to what 64
 /// bits hold.
-fn front(bytes: &[u8]) -> Option<(u64, &[u8])>
+pub(crate) fn front(bytes: &[u8]) -> Option<(u64, &[u8])>
     ensures front { IfSome result (λ x. IsFront bytes.now x.0 x.1.now) }
     ensures small { IfSome result (λ x. x.0 < 2 ^ 64) }
 {

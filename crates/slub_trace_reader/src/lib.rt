@@ -12,7 +12,8 @@
 //!
 //! Each line costs steps in its length alone, and takes no memory but for what it adds: names and
 //! written words are looked up by their hashes (few names one by one), objects by marks, and
-//! numbers are read in place.
+//! numbers are read in place. Nearly all lines of a long trace are taken as soon as they are told,
+//! from the bytes that are left (`quick`).
 //! `read_trace` alone takes memory from the caller's allocator.
 //!
 //! # What it promises
@@ -35,6 +36,7 @@ mod names;
 mod numbers;
 mod objects;
 pub mod place;
+mod quick;
 pub mod reading;
 mod state;
 mod taking;

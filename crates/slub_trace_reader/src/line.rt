@@ -4,7 +4,7 @@
 //! word that is no name, a letter of FLAGS twice and a byte in upper case are of no form. A number
 //! may have any length, and is out of range where it is too great. The offset `-0` is 0.
 
-ghost use Rattle.std.specs.Prelude.{◌≡◌, ◌↔◌, IsTrue, get_or};
+ghost use Rattle.std.specs.Prelude.{◌≡◌, ◌↔◌, IsTrue};
 ghost use Rattle.slub_trace_reader.specs.Lines.{IsPassed};
 ghost use Rattle.slub_trace_reader.specs.Forms.{slubtrace_line, machine_end, machine_line, cache_line, shrink_line, destroy_line, tune_line, round_line, alloc_line, free_line, write_line, read_line, poke_line, trim_line, flush_line, plain_line, event_line, item_line, line_of, is_passed};
 
@@ -100,38 +100,9 @@ pub enum Line {
     End,
 }
 
-/// The line that a text says; None where it has none of the forms. The forms that stand most
-/// often are told by their first bytes.
-pub(crate) fn say(text: &[u8]) -> Option<Line>
-    ensures { result ≡ line_of text.now }
-{
-    let first = byte_at(text, 0);
-    let second = byte_at(text, 1);
-    if first == b'a' {
-        return alloc(text);
-    }
-    if first == b'f' && second == b'r' {
-        return free(text);
-    }
-    if first == b'w' {
-        return write(text);
-    }
-    if first == b'r' && second == b'e' {
-        return read(text);
-    }
-    any_line(text)
-}
-
-/// The byte at a place, 0 past the end.
-fn byte_at(text: &[u8], at: usize) -> u8
-    ensures { result ≡ get_or text.now at 0 }
-{
-    text.get(at).copied().unwrap_or(0)
-}
-
-/// The line that a text says, each form tried in turn.
+/// The line that a text says, each form tried in turn; None where it has none of them.
 #[tactic(auto, unfolding(crate::specs::Forms::line_of))]
-fn any_line(text: &[u8]) -> Option<Line>
+pub(crate) fn say(text: &[u8]) -> Option<Line>
     ensures { result ≡ line_of text.now }
 {
     if let Some(line) = plain(text) {

@@ -1,12 +1,15 @@
 //! The object numbers that lines may allocate.
 
-ghost use Rattle.std.specs.Prelude.{◌≡◌, ◌^◌, ◌<◌, [], OnOk, nat_eq};
+ghost use Rattle.std.specs.Prelude.{◌≡◌, ◌^◌, ◌<◌, ◌∷◌, ◌++◌, [], OnOk, nat_eq, false};
 ghost use Rattle.std.specs.List.{list_any};
 ghost use Rattle.slub_trace_reader.specs.Above.{with_one};
 ghost use Rattle.slub_trace_reader.specs.State.{IsMarked};
 
 use slub_common::sequence::Sequence;
 use std::alloc::{AllocError, Global};
+
+/// How many marks are made at a time.
+const MARKS: usize = 1024;
 
 /// Object numbers, each once and in the order in which they came. A look takes one step.
 #[derive(Drop)]
@@ -36,6 +39,22 @@ impl Objects {
         self.marks.get(object as usize).copied().unwrap_or(false)
     }
 
+    /// Puts a number that is new behind the others.
+    pub(crate) fn add(&mut self, object: u32) -> Result<(), AllocError>
+        requires marked { IsMarked self.old }
+        requires fresh { list_any (nat_eq object) self.old.keys ≡ false }
+        ensures put { OnOk result (self.new.keys ≡ self.old.keys ++ object ∷ []) }
+        ensures marked { OnOk result (IsMarked self.new) }
+    {
+        self.keys.push(object)?;
+        let at = object as usize;
+        if self.marks.len() <= at {
+            self.marks.resize(at + MARKS, false)?;
+        }
+        self.marks[at] = true;
+        Ok(())
+    }
+
     /// Puts a number behind the others, where it is new.
     pub(crate) fn put(&mut self, object: u32) -> Result<(), AllocError>
         requires marked { IsMarked self.old }
@@ -45,12 +64,6 @@ impl Objects {
         if self.has(object) {
             return Ok(());
         }
-        self.keys.push(object)?;
-        let at = object as usize;
-        if self.marks.len() <= at {
-            self.marks.resize(at + 1, false)?;
-        }
-        self.marks[at] = true;
-        Ok(())
+        self.add(object)
     }
 }

@@ -8,7 +8,7 @@ ghost use Rattle.std.specs.Prelude.{◌≡◌, ◌-◌, ◌<◌, ◌≤◌, ◌^
 ghost use Rattle.slub_trace_reader.specs.declared.reading.TraceFault.TheVariants.{NoMemory};
 ghost use Rattle.slub_trace_reader.specs.Faults.{why_text, Finished};
 ghost use Rattle.slub_trace_reader.specs.Grammar.{IsTrace, IsOneLine};
-ghost use Rattle.slub_trace_reader.specs.Parsing.{fault_of, Refuses, Takes, StopsAt, Tells};
+ghost use Rattle.slub_trace_reader.specs.Parsing.{fault_of, Refuses, Takes, TakesFront, StopsAt, StopsFront, Tells};
 ghost use Rattle.slub_trace_reader.specs.State.{above, IsModest, Keeps};
 ghost use Rattle.slub_trace_reader.specs.Reads.{Reads};
 ghost use Rattle.slub_trace_reader.specs.Sound.{IsSound};
@@ -144,6 +144,30 @@ fn take_line(alloc: Global, state: &mut State, text: &[u8]) -> Result<(), TraceF
     }
 }
 
+/// Takes the next line, and answers what follows it; None where no line feed is left.
+fn take_next<'a>(
+    alloc: Global,
+    state: &mut State,
+    bytes: &'a [u8],
+) -> Result<Option<&'a [u8]>, TraceFault>
+    requires room { state.old.count < 2 ^ 28 }
+    requires keeps { Keeps state.old }
+    requires modest { IsModest (above state.old) }
+    ensures taken { IfOk result (λ rest. IfSome rest (λ rest. TakesFront (above state.old) bytes.now rest.now (above state.new))) }
+    ensures none { IfOk result (λ rest. IfNone rest ((state.new ≡ state.old) × IsOneLine bytes.now)) }
+    ensures keeps { OnOk result (Keeps state.new) }
+    ensures refused { IfErr result (StopsFront (above state.old) bytes.now) }
+{
+    if let Some(rest) = state.take_front(bytes)? {
+        return Ok(Some(rest));
+    }
+    let Some((text, rest)) = cut(bytes, b'\n') else {
+        return Ok(None);
+    };
+    take_line(alloc, state, text)?;
+    Ok(Some(rest))
+}
+
 /// What all lines say.
 fn read_lines(alloc: Global, bytes: &[u8]) -> Result<State, TraceFault>
     requires { length bytes.now ≤ 16777216 }
@@ -153,11 +177,7 @@ fn read_lines(alloc: Global, bytes: &[u8]) -> Result<State, TraceFault>
 {
     let mut state = State::new(alloc);
     let mut rest = bytes;
-    while let Some((text, more)) = cut(rest, b'\n') {
-        match take_line(alloc, &mut state, text) {
-            Ok(()) => {}
-            Err(fault) => return Err(fault),
-        }
+    while let Some(more) = take_next(alloc, &mut state, rest)? {
         rest = more;
     }
     let next = state.count + 1;

@@ -1,23 +1,22 @@
 //! What the lines above say, kept so that a look takes one step.
 
-ghost use Rattle.std.specs.Prelude.{◌≡◌, ◌+◌, ◌-◌, ◌<◌, ◌≤◌, ◌^◌, List, [], fold, max, length, OnOk, IfOk, IfErr, true};
+ghost use Rattle.std.specs.Prelude.{◌≡◌, ◌+◌, ◌-◌, ◌<◌, ◌≤◌, ◌^◌, List, [], fold, max, length, OnOk, IfOk, IfErr, true, false, nat_eq};
 ghost use Rattle.std.specs.List.{list_any};
 ghost use Rattle.std.specs.Str.{bytes_eq};
-ghost use Rattle.slub_object_layout.specs.declared.event.Act.TheVariants as act;
+ghost use Rattle.slub_events.specs.declared.event.Act.TheVariants as act;
 ghost use Rattle.slub_trace_reader.specs.declared.trace.Item.TheVariants as item;
 ghost use Rattle.slub_trace_reader.specs.Above.{start, after, with_event, with_item, with_name, place_of, workers_in, trace_of, offset_of, setting_of};
 ghost use Rattle.slub_trace_reader.specs.Grammar.{InRange};
-ghost use Rattle.slub_trace_reader.specs.State.{above, Keeps, IsFit, IsHead, IsItem, IsEvent};
+ghost use Rattle.slub_trace_reader.specs.State.{above, with_alloc, Keeps, IsModest, IsFit, IsHead, IsItem, IsEvent};
 
 use crate::line::{Knob, Line};
 use crate::names::place_among;
-use crate::numbers::allocate;
 use crate::objects::Objects;
 use crate::place::Place;
 use crate::trace::{Item, Trace};
 use indexmap::IndexSet;
 use slub_common::sequence::Sequence;
-use slub_object_layout::event::{Act, Event, Round};
+use slub_events::event::{Act, Event, Round};
 use slub_object_layout::layout::{Flags, Setting, Spec};
 use slub_object_layout::name::Name;
 use std::alloc::{AllocError, Global};
@@ -44,7 +43,7 @@ pub(crate) struct State {
     /// The rounds, each client's line counted as two.
     pub(crate) rounds: u32,
     /// The worker, object and word of each write of this round.
-    pub(crate) written: IndexSet<(u32, u32, u32)>,
+    pub(crate) written: IndexSet<(u8, u32, u16)>,
     pub(crate) items: Sequence<Item>,
     /// The events of the round that isn't ended.
     pub(crate) events: Sequence<Event>,
@@ -76,7 +75,7 @@ impl State {
     }
 
     /// One event more, on the line that comes next.
-    fn push_event(&mut self, worker: u32, cpu: u32, act: Act) -> Result<(), AllocError>
+    pub(crate) fn push_event(&mut self, worker: u8, cpu: u8, act: Act) -> Result<(), AllocError>
         requires room { self.old.count < 2 ^ 28 }
         requires keeps { Keeps self.old }
         ensures pushed { OnOk result (above self.new ≡ with_event (above self.old) worker cpu act) }
@@ -115,12 +114,12 @@ impl State {
     }
 
     /// The number of a worker of this round.
-    pub(crate) fn worker(&self, worker: u128) -> u32
-        requires { worker < workers_in self.now.place }
+    pub(crate) fn worker(&self, worker: u128) -> u8
+        requires modest { IsModest (above self.now) }
+        requires within { worker < workers_in self.now.place }
         ensures { result ≡ worker }
     {
-        let _workers = self.place.workers();
-        worker as u32
+        worker as u8
     }
 
     /// The number of a CPU of the machine.
@@ -145,11 +144,30 @@ impl State {
         Ok(())
     }
 
+    /// One allocation more, of a number that is new, from the cache whose name has this place.
+    pub(crate) fn put_alloc(
+        &mut self,
+        worker: u8,
+        cpu: u8,
+        cache: u32,
+        object: u32,
+    ) -> Result<(), AllocError>
+        requires room { self.old.count < 2 ^ 28 }
+        requires keeps { Keeps self.old }
+        requires fresh { list_any (nat_eq object) self.old.objects.keys ≡ false }
+        ensures put { OnOk result (above self.new ≡ with_alloc (above self.old) worker cpu cache object) }
+        ensures keeps { OnOk result (Keeps self.new) }
+    {
+        self.objects.add(object)?;
+        self.greatest = self.greatest.max(object);
+        self.push_event(worker, cpu, Act::Alloc { cache, object })
+    }
+
     /// Takes an `alloc` line.
     fn take_alloc(
         &mut self,
-        worker: u32,
-        cpu: u32,
+        worker: u8,
+        cpu: u8,
         name: &Name,
         object: u32,
     ) -> Result<(), AllocError>
@@ -160,16 +178,15 @@ impl State {
         ensures keeps { OnOk result (Keeps self.new) }
     {
         let cache = self.find(name);
-        self.greatest = allocate(&mut self.objects, self.greatest, object, 1)?;
-        self.push_event(worker, cpu, Act::Alloc { cache, object })
+        self.put_alloc(worker, cpu, cache, object)
     }
 
     /// Takes a `write` line.
-    fn take_write(
+    pub(crate) fn take_write(
         &mut self,
-        worker: u32,
+        worker: u8,
         object: u32,
-        word: u32,
+        word: u16,
         value: u64,
     ) -> Result<(), AllocError>
         requires room { self.old.count < 2 ^ 28 }
@@ -182,8 +199,8 @@ impl State {
             worker,
             0,
             Act::Write {
-                object,
                 word,
+                object,
                 value,
             },
         )
@@ -305,6 +322,7 @@ impl State {
     fn take_event(&mut self, line: &Line) -> Result<(), AllocError>
         requires room { self.old.count < 2 ^ 28 }
         requires keeps { Keeps self.old }
+        requires modest { IsModest (above self.old) }
         requires event { IsEvent line.now }
         requires fit { IsFit (above self.old) line.now }
         ensures taken { OnOk result (above self.new ≡ after (above self.old) line.now) }
@@ -317,7 +335,7 @@ impl State {
                 name,
                 object,
             } => {
-                let (worker, cpu) = (self.worker(*worker), self.cpu(*cpu));
+                let (worker, cpu) = (self.worker(*worker), self.cpu(*cpu) as u8);
                 self.take_alloc(worker, cpu, name, *object as u32)
             }
             Line::Free {
@@ -325,7 +343,7 @@ impl State {
                 cpu,
                 object,
             } => {
-                let (worker, cpu) = (self.worker(*worker), self.cpu(*cpu));
+                let (worker, cpu) = (self.worker(*worker), self.cpu(*cpu) as u8);
                 let object = *object as u32;
                 self.push_event(worker, cpu, Act::Free { object })
             }
@@ -336,7 +354,7 @@ impl State {
                 value,
             } => {
                 let worker = self.worker(*worker);
-                self.take_write(worker, *object as u32, *word as u32, *value as u64)
+                self.take_write(worker, *object as u32, *word as u16, *value as u64)
             }
             Line::Read {
                 worker,
@@ -344,8 +362,8 @@ impl State {
                 word,
             } => {
                 let worker = self.worker(*worker);
-                let (object, word) = (*object as u32, *word as u32);
-                self.push_event(worker, 0, Act::Read { object, word })
+                let (word, object) = (*word as u16, *object as u32);
+                self.push_event(worker, 0, Act::Read { word, object })
             }
             Line::Poke {
                 worker,
@@ -373,7 +391,7 @@ impl State {
                 self.push_event(worker, 0, Act::Trim { cache })
             }
             Line::Flush { worker, cpu } => {
-                let (worker, cpu) = (self.worker(*worker), self.cpu(*cpu));
+                let (worker, cpu) = (self.worker(*worker), self.cpu(*cpu) as u8);
                 self.push_event(worker, cpu, Act::Flush)
             }
             _ => Ok(()),
@@ -384,6 +402,7 @@ impl State {
     pub(crate) fn take(&mut self, alloc: Global, line: &Line) -> Result<(), AllocError>
         requires room { self.old.count < 2 ^ 28 }
         requires keeps { Keeps self.old }
+        requires modest { IsModest (above self.old) }
         requires fit { IsFit (above self.old) line.now }
         ensures taken { OnOk result (above self.new ≡ after (above self.old) line.now) }
         ensures keeps { OnOk result (Keeps self.new) }

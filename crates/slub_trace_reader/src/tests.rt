@@ -9,7 +9,7 @@ use crate::reading::{TraceFault, Why, read_trace};
 use crate::trace::{Item, Trace};
 use slub_edges::edges::{Failed, Source};
 use slub_edges::memory::MemSource;
-use slub_object_layout::event::{Act, Event};
+use slub_events::event::{Act, Event};
 use std::alloc::Global;
 use std::test::Fail;
 
@@ -71,7 +71,7 @@ fn items_are_read(rt: HostRuntime) -> Result<(), Fail> {
     Ok(())
 }
 
-fn event(line: u32, worker: u32, cpu: u32, act: Act) -> Event {
+fn event(line: u32, worker: u8, cpu: u8, act: Act) -> Event {
     Event {
         line,
         worker,

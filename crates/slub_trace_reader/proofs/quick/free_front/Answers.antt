@@ -1,0 +1,7 @@
+use Rattle.slub_trace_reader.proofs.QuickLines.{free_in_front}
+use Rattle.slub_trace_reader.proofs.quick.free_front.Goals as goal
+
+pub returns : goal.returns
+returns c =
+    free_in_front c.args.bytes.now c.in_ok-past.past.now c.in_ok-worker.past_worker.now c.in_ok-cpu.past_cpu.now c.in_ok-object.rest.now
+    c.in_ok-worker.worker c.in_ok-cpu.cpu c.in_ok-object.object c.in_ok-past.ensures c.in_ok-worker.ensures c.in_ok-cpu.ensures c.in_ok-object.ensures

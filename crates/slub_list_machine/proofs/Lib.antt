@@ -1,4 +1,5 @@
 pub mod Gathering
 pub mod Laying
 pub mod Opening
+pub mod Stored
 pub mod Undoing

@@ -25,6 +25,7 @@ mod flush;
 pub mod flush_cpu;
 pub mod free;
 pub mod lists;
+mod memory;
 pub mod node;
 mod partial;
 pub mod parts;

@@ -6,6 +6,7 @@ ghost use Rattle.slub_lists.specs.Alloc.{no_lists};
 ghost use Rattle.slub_lists.specs.Coherent.{IsCoherent, all_on_board, opening};
 ghost use Rattle.slub_lists.specs.Shrink.{is_slab_of};
 
+use crate::memory::Memory;
 use crate::node::Node;
 use slub_cache_create::caches::Caches;
 use slub_common::front_list::FrontList;
@@ -40,7 +41,7 @@ pub struct Lists {
     pub(crate) cpu_lists: Vec<CpuLists>,
     pub(crate) nodes: Vec<Node>,
     pub(crate) checked: Vec<Option<CheckedSlabs>>,
-    pub(crate) memory: Vec<u64>,
+    pub(crate) memory: Memory,
     pub(crate) board: Vec<Option<Held>>,
     pub(crate) gone: Vec<Option<Held>>,
     pub(crate) live: Vec<u64>,
@@ -61,7 +62,7 @@ impl Model for Lists {
       cpu_lists = l.cpu_lists.items;
       nodes = l.nodes.items;
       checked = l.checked.items;
-      memory = l.memory.items;
+      memory = l.memory;
       board = l.board.items;
       gone = l.gone.items;
       live = l.live.items;
@@ -113,7 +114,7 @@ impl Lists {
             cpu_lists: open_cpu_lists(alloc, CACHES_MAX * cpus as usize)?,
             nodes: open_nodes(alloc)?,
             checked: open_checked(alloc)?,
-            memory: zeros(alloc, FRAME_WORDS * frames as usize)?,
+            memory: Memory::open(alloc, FRAME_WORDS * frames as usize)?,
             board: open_board(alloc, objects as usize + 1)?,
             gone: open_board(alloc, objects as usize + 1)?,
             live: zeros(alloc, CACHES_MAX)?,
@@ -244,7 +245,7 @@ fn open_board(alloc: Global, count: usize) -> Result<Vec<Option<Held>>, NoMemory
 
 /// So many words that are 0.
 fn zeros(alloc: Global, count: usize) -> Result<Vec<u64>, NoMemory>
-    requires { count ≤ 2097152 }
+    requires { count ≤ 32 }
     ensures { IfOk result (λ words. words.items ≡ replicate count 0) }
 {
     Ok(vec![in alloc; 0; count]?)

@@ -4,6 +4,7 @@ ghost use Rattle.std.specs.Prelude.{◌≡◌};
 ghost use Rattle.slub_list_machine.specs.Parts.{state_of};
 
 use crate::lists::Lists;
+use crate::memory::Memory;
 use crate::node::Node;
 use slub_cache_create::caches::Caches;
 use slub_lists::lists::{CpuLists, FreeList, Held, Slab};
@@ -41,7 +42,7 @@ pub struct Parts {
 }
 
 impl Lists {
-    /// The machine taken apart; it takes no memory, and copies nothing.
+    /// The machine taken apart; it takes no memory, and copies nothing but words that are 0.
     pub fn into_parts(self) -> Parts
         ensures { state_of result ≡ self }
     {
@@ -70,7 +71,7 @@ impl Lists {
             cpu_lists,
             nodes,
             checked,
-            memory,
+            memory: memory.into_words(),
             board,
             gone,
             live,
@@ -91,7 +92,7 @@ impl Lists {
             cpu_lists: parts.cpu_lists,
             nodes: parts.nodes,
             checked: parts.checked,
-            memory: parts.memory,
+            memory: Memory::from_words(parts.memory),
             board: parts.board,
             gone: parts.gone,
             live: parts.live,

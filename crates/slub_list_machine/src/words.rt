@@ -105,7 +105,7 @@ impl Lists {
             return;
         }
         let at = word_at(held, layout, word);
-        self.memory[at] = value;
+        self.memory.write(at, value);
     }
 
     /// A word of an object that is held.
@@ -118,7 +118,7 @@ impl Lists {
     {
         match &self.checked[held.cache as usize] {
             Some(slabs) => slabs.word(slot_of(held), word),
-            None => self.memory[word_at(held, layout, word)],
+            None => self.memory.read(word_at(held, layout, word)),
         }
     }
 

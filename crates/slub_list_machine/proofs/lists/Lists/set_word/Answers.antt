@@ -28,8 +28,8 @@ returns-then-is_checked-clause-coherent c = swaps-coherent c.args.self.now c.set
 pub word_at-at-requires-clause-inside : goal.word_at-at-requires-clause-inside
 word_at-at-requires-clause-inside c = place-inside-slab c.args.self.now c.args.held.now c.args.layout.now c.requires.held c.requires.live c.requires.coherent
 
-pub index_mut-requires : goal.index_mut-requires
-index_mut-requires c = omega (arith, word-inside c.args.self.now c.args.held.now c.args.layout.now c.requires.held c.requires.live c.requires.coherent c.args.word c.requires.word, c.word_at-at.ensures, ap (λ (s : State). length s.memory) c.self.view_is, c.self.inside.memory.ok)
+pub write-requires : goal.write-requires
+write-requires c = omega (arith, word-inside c.args.self.now c.args.held.now c.args.layout.now c.requires.held c.requires.live c.requires.coherent c.args.word c.requires.word, c.word_at-at.ensures, ap (λ (s : State). length s.memory) c.self.view_is)
 
 pub returns-clause-coherent : goal.returns-clause-coherent
 returns-clause-coherent c =

@@ -1,4 +1,4 @@
-use Rattle.std.proofs.Common.{◌≡◌, ◌∙◌, Some, None, get_or, length, ap, sym, subst, arith}
+use Rattle.std.proofs.Common.{◌≡◌, ◌∙◌, Some, None, get_or, ap, sym, subst, arith}
 use Rattle.std.proofs.lemmas.Grind.{common_steps}
 use Rattle.slub_red_zone.specs.declared.checked.Slot.{Slot}
 use Rattle.slub_red_zone.specs.State.{IsUsed}
@@ -6,7 +6,7 @@ use Rattle.slub_red_zone.specs.Steps.{word_of as slab_word_of}
 use Rattle.slub_lists.specs.State.{State}
 use Rattle.slub_lists.specs.Alloc.{checked_of}
 use Rattle.slub_lists.specs.Words.{word_at}
-use Rattle.slub_lists.proofs.ObjectWords.{cache-inside, memory-read, place-inside-slab, read-inside, slab-read, used-word, word-inside}
+use Rattle.slub_lists.proofs.ObjectWords.{cache-inside, memory-read, place-inside-slab, read-inside, slab-read, used-word}
 use Rattle.slub_list_machine.proofs.lists.Lists.word.Goals as goal
 
 -- of a checked cache the object is used
@@ -30,14 +30,9 @@ returns-in-Some c =
 pub word_at-requires-clause-inside : goal.word_at-requires-clause-inside
 word_at-requires-clause-inside c = place-inside-slab c.args.self.now c.args.held.now c.args.layout.now c.requires.held c.requires.live c.requires.coherent
 
-pub index-requires-in-None : goal.index-requires-in-None
-index-requires-in-None c = omega (arith, word-inside c.args.self.now c.args.held.now c.args.layout.now c.requires.held c.requires.live c.requires.coherent c.args.word c.requires.word, c.word_at.ensures, ap (λ (s : State). length s.memory) c.self.view_is, c.self.inside.memory.ok)
-
 pub returns-in-None : goal.returns-in-None
 returns-in-None c =
     let read = subst (λ (s : State). c.index.result.now ≡ get_or s.checked c.args.held.now.cache c.index.result.now) c.self.view_is c.index.ensures in
     let none : checked_of c.args.self.now c.args.held.now.cache ≡ None = sym (read-inside c.args.self.now.checked c.args.held.now.cache c.index.result.now None (cache-inside c.args.self.now c.args.held.now c.requires.held c.requires.coherent) read) ∙ c.in-None.is in
-    let value = subst (λ (s : State). c.index-in-None.result.now ≡ get_or s.memory c.word_at.result c.index-in-None.result.now) c.self.view_is c.index-in-None.ensures in
-    let at = subst (λ n. c.index-in-None.result.now ≡ get_or c.args.self.now.memory n c.index-in-None.result.now) c.word_at.ensures value in
-    read-inside c.args.self.now.memory (word_at c.args.layout.now c.args.held.now c.args.word) c.index-in-None.result.now 0 (word-inside c.args.self.now c.args.held.now c.args.layout.now c.requires.held c.requires.live c.requires.coherent c.args.word c.requires.word) at
-    ∙ memory-read c.args.self.now c.args.layout.now c.args.held.now c.args.word none
+    let value = subst (λ (s : State). c.read.result ≡ get_or s.memory c.word_at.result 0) c.self.view_is c.read.ensures in
+    value ∙ ap (λ n. get_or c.args.self.now.memory n 0) c.word_at.ensures ∙ memory-read c.args.self.now c.args.layout.now c.args.held.now c.args.word none

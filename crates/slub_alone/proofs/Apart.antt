@@ -30,7 +30,7 @@ use Rattle.slub_opening.specs.Rests.{Rests}
 use Rattle.slub_opening.proofs.Cpus.{current-at, cpu-alone, cpu-bare, cpu-object}
 use Rattle.slub_alone.proofs.Bits.{object_once}
 
-times_length : (j : ℕ) (xs : List ℕ) → times j xs ≤ length xs
+pub times_length : (j : ℕ) (xs : List ℕ) → times j xs ≤ length xs
 times_length j [] = omega arith
 times_length j (x ∷ xs) = let r = times_length j xs in let c = times-first j x xs in let b : one_if (eqb x j) ≤ 1 = cond_both (eqb x j) 1 0 (λ n. n ≤ 1) (λ e. omega arith) (λ e. omega arith) in omega arith
 

@@ -18,7 +18,7 @@ use Rattle.slub_core.specs.World.{World, world_of}
 use Rattle.slub_core.proofs.Opens.{rounds_keep}
 use Rattle.slub_core.proofs.Packed.{slab_in-bits, list_in-bits}
 use Rattle.slub_opening.specs.Opening.{Beside, setup_of, opened}
-use Rattle.slub_opening.specs.Rests.{IsBetween, Rests, held_on, held_in, held_among, held_under, named}
+use Rattle.slub_opening.specs.Rests.{IsBetween, Rests, held_on, held_in, held_among, held_under}
 use Rattle.slub_opening.specs.Table.{board_number, words_of, system_of}
 use Rattle.slub_opening.specs.Laws.{MayOpen}
 use Rattle.slub_opening.proofs.Opened.{opened-rests}

@@ -31,7 +31,7 @@ pub same_word : (c : SlabWord) → SameSlab c c
 same_word c = record { objects = refl; cache = refl; frozen = refl; listed = refl }
 
 -- the slab at a frame, by what its word says
-abbrev slab_by : World → ℕ → ℕ → ℕ → Bool → Option Slab
+abbrev pub slab_by : World → ℕ → ℕ → ℕ → Bool → Option Slab
 slab_by w f o k z =
     let n = cond (nat_lt 0 o) o (objects_in_values w.value w.setup.locks f) in
     cond (nat_lt 0 n)

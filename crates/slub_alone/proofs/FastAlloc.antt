@@ -6,6 +6,7 @@ use Rattle.std.proofs.lemmas.Bool.{cases_eq, false≢true, eq-eqb, ne_eqb, le-lt
 use Rattle.std.proofs.lemmas.List.{get_or-set_same, get_or-set_other, set-get_or, length-set}
 use Rattle.std.proofs.lemmas.List.Elements.{All-get_or, All-set}
 use Rattle.slub_common.specs.Times.{times}
+use Rattle.slub_answers.specs.Kinds.{is_given}
 use Rattle.slub_answers.specs.declared.reply.Reply.{Reply}
 use Rattle.slub_answers.specs.declared.reply.Reply.TheVariants.{Given, NoSuchCache}
 use Rattle.slub_object_layout.specs.Layout.{address_of}
@@ -63,6 +64,7 @@ use Rattle.slub_alone.proofs.Bits.{bits_in, keeps_small, object_once, memory_of,
 use Rattle.slub_alone.proofs.Changed.{rests_changed, setup_same, same_word}
 use Rattle.slub_alone.proofs.CpuWords.{cpu_here, cpus_changed}
 use Rattle.slub_alone.proofs.Ended.{alone_keeps, ends_at_rest, replies_of}
+use Rattle.slub_alone.proofs.Knows.{known_ends, knows_given}
 use Rattle.slub_alone.proofs.Names.{named_other, named_held, named_new}
 use Rattle.slub_alone.proofs.Turns.{machine, turn_goes, settle_goes, settle_tells, then_turn}
 use Rattle.slub_alone.proofs.Workers.{AtFront, at_front, may_call, once_named, IsWithCalls, rested_calls}
@@ -399,7 +401,7 @@ module _ (opening : World) (s : State) (b : Beside) (system : System) (x : ℕ) 
       by (Some live) e has_it = from-unchecked (checked_of s k) _ _ is.unchecked
           (subst (λ free. MatchResult (from_free s k call.cpu (batch_of live.layout) free) (λ stocked. Gives stocked live.layout k call.cpu l.worker call.object reply after) (λ bare. AllocatesNew bare live.layout k call.cpu l.worker call.object reply after)) (sym first.1) (gives live e))
 
-  pops : AllocatesAlone opening s b system x call place 3 d
+  pub pops : AllocatesAlone opening s b system x call place 3 d
   pops = record {
     reply = reply;
     after = after;
@@ -410,13 +412,18 @@ module _ (opening : World) (s : State) (b : Beside) (system : System) (x : ℕ) 
       sized = copied_length w (512 * s.frames) ∙ sym rest.lists.shaped.memory;
       words = λ other word h away there plain is_word. sym (copied m system.value system.words _) ∙ resting.contents other word h (sym (get_or-set_other s.board call.object other (Some held) None away) ∙ there) plain is_word;
     };
-    replies = replies_of opening s given b d system x 3 call reply told words system.value next whole refl refl same
+    known = known_ends s b system x 3 told words system.value next.there whole refl ∙ knows_given l.known call.place known.object call.object s.board held after refl on_board object;
+    replies = replies_of opening s given b d system x 3 call reply told words system.value next whole refl refl refl refl same
         (ends_at_rest opening (set_cpu w n v) s given b d system (machine words system.value (set system.locals x (rested m told))) rest same refl refl lengths accounted (length-set b.tids n (tid_of b n + 1 * b.step) ∙ rest.beside.tids) refl refl ended says ends (whole_cpu m system.words n (cpu_bits v) refl small rest.whole));
   }
     where
       same : setup_of given d ≡ setup_of s b
       same = setup_same s b w system.locals s.frees (set s.cpu_lists (cpu_place s k call.cpu) left) (memory_of w (512 * s.frames)) (set s.board call.object (Some held)) s.gone (set s.live k (get_or s.live k 0 + 1)) (set b.tids n (tid_of b n + 1 * b.step))
           (update w.cpu n v) w.slab w.memory (set system.locals x (rested m told)) (length-set s.board call.object (Some held))
+
+  pub pops_gives : is_given pops.reply ≡ true
+  unfolding pops
+  pops_gives = refl
 
 pub fast_pops : FastAllocationsArePops
 fast_pops opening s b system x call place k rest next is ids some = pops opening s b system x call place k rest next is ids some

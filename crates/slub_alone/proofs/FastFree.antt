@@ -53,15 +53,18 @@ use Rattle.slub_opening.specs.Rests.{IsBetween, IsCpuOf, KeepsWord, Rests, named
 use Rattle.slub_opening.specs.Closing.{HasLengths}
 use Rattle.slub_opening.proofs.Names.{as_held}
 use Rattle.slub_opening.proofs.Rows.{comes-back}
-use Rattle.slub_alone.specs.Alone.{own_pick, alone, worker_at, known_at, IsAtRest, IsNext, HasIds, grown}
+use Rattle.slub_alone.specs.Alone.{own_pick, alone, worker_at, known_at, IsNext, HasIds, grown}
+use Rattle.slub_alone.specs.Ready.{IsReady}
 use Rattle.slub_alone.specs.Laws.{IsFree, FreesAlone, FastFreesArePushes}
 use Rattle.slub_alone.proofs.Apart.{pointer_own, cpu_stands, own_stands, word_apart}
 use Rattle.slub_alone.proofs.Bits.{bits_in, current_frame, whole_cpu, whole_memory}
 use Rattle.slub_alone.proofs.Changed.{rests_changed, setup_same, same_word}
 use Rattle.slub_alone.proofs.CpuWords.{cpu_here, cpus_changed}
-use Rattle.slub_alone.proofs.Ended.{alone_keeps, ends_at_rest, replies_of}
+use Rattle.slub_alone.proofs.Ended.{replies_of}
+use Rattle.slub_alone.proofs.Knows.{known_ends, knows_freed}
 use Rattle.slub_alone.proofs.Names.{named_other, named_lost}
-use Rattle.slub_alone.proofs.Start.{IsStart, starts, HasObject, has_object, begin_held}
+use Rattle.slub_alone.proofs.Ready.{IsReadyStart, ready_starts, ready_object, along, ends_ready}
+use Rattle.slub_alone.proofs.Start.{HasObject, begin_held}
 use Rattle.slub_alone.proofs.Turns.{machine, turn_goes, settle_goes, settle_tells, then_turn}
 use Rattle.slub_alone.proofs.Workers.{at_front, once_named, IsWithCalls, rested_calls}
 
@@ -84,7 +87,7 @@ frees_held s cpu worker object k after named lives plain frees =
 pub layout_of : (s : State) (k : ℕ) (live : Cache) → cache_of s k ≡ Some live → layout_at s k ≡ live.layout
 layout_of s k live e = ap (λ o. option_map_or (λ (live : Cache). live.layout) o no_layout) e
 
-module _ (opening : World) (s : State) (b : Beside) (system : System) (x : ℕ) (call : Call) (rest : IsAtRest opening s b system) (next : IsNext system x call) (is : IsFree s (worker_at system x) call)
+module _ (opening : World) (s : State) (b : Beside) (system : System) (x : ℕ) (call : Call) (rest : IsReady opening s b system x) (next : IsNext system x call) (is : IsFree s (worker_at system x) call)
     (ids : HasIds b (cpu_number (known_at (worker_at system x) call).cache call.cpu) 1) (current : (lists_of s (known_at (worker_at system x) call).cache call.cpu).current ≡ Some (known_at (worker_at system x) call).frame) where
   abbrev m : Setup
   m = setup_of s b
@@ -110,14 +113,14 @@ module _ (opening : World) (s : State) (b : Beside) (system : System) (x : ℕ) 
   abbrev held : Held
   held = as_held l.worker o
 
-  begin : IsStart opening s b system x call
-  begin = starts opening s b system x call rest next
+  begin : IsReadyStart opening s b system x call
+  begin = ready_starts opening s b system x call rest next
 
   names : names_object call.kind ≡ true
   names = ap names_object is.kind
 
   has : HasObject s system x call
-  has = has_object opening s b system x call rest next names is.held
+  has = ready_object opening s b system x call rest next names is.held
 
   resting : Rests s b w system.locals
   resting = rest.rests.rests
@@ -225,7 +228,7 @@ module _ (opening : World) (s : State) (b : Beside) (system : System) (x : ℕ) 
   -- ---- where they end
 
   ended : IsCoherentSystem m opening (machine words system.value (set system.locals x (rested m told)))
-  ended = subst (IsCoherentSystem m opening) whole (alone_keeps m opening x 3 system rest.coherent)
+  ended = subst (IsCoherentSystem m opening) whole (along opening s b system x next.there rest 2)
 
   index_small : o.index + 1 < 2 ^ 16
   index_small = let few = objects-few s o.frame has.slab.0 begin.consistent has.slab.1 in omega (arith, few.1, has.slab.3)
@@ -345,8 +348,9 @@ module _ (opening : World) (s : State) (b : Beside) (system : System) (x : ℕ) 
     reply = reply;
     after = after;
     frees = frees;
-    replies = replies_of opening s after b d system x 3 call reply told words system.value next whole refl refl same
-        (ends_at_rest opening (set_cpu (set_memory w p value) n v) s after b d system (machine words system.value (set system.locals x (rested m told))) rest same refl refl lengths accounted (length-set b.tids n (tid_of b n + 1 * b.step) ∙ rest.beside.tids) refl refl ended says ends (whole_cpu m words1 n (cpu_bits v) refl small (whole_memory m system.words p value refl begin.table.objects rest.whole)));
+    known = known_ends s b system x 3 told words system.value next.there whole refl ∙ knows_freed l.known call.place o.object call.object l.worker s after held has.named (eq-eqb l.worker l.worker refl) has.on_board refl has.object;
+    replies = replies_of opening s after b d system x 3 call reply told words system.value next whole refl refl refl refl same
+        (ends_ready opening (set_cpu (set_memory w p value) n v) s after b d system (machine words system.value (set system.locals x (rested m told))) rest same refl refl lengths accounted (length-set b.tids n (tid_of b n + 1 * b.step) ∙ rest.beside.tids) refl refl ended says ends (whole_cpu m words1 n (cpu_bits v) refl small (whole_memory m system.words p value refl begin.table.objects rest.whole)));
   }
     where
       same : setup_of after d ≡ setup_of s b

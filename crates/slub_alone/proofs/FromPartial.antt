@@ -12,6 +12,7 @@ use Rattle.slub_core.specs.declared.spot.PutOnList.TheVariants.{OfRest}
 use Rattle.slub_core.specs.PutOnList.{way_of_front}
 use Rattle.slub_common.proofs.Sums.{element-counted}
 use Rattle.slub_cpu_partial.specs.declared.words.ListWord.{ListWord}
+use Rattle.slub_answers.specs.Kinds.{is_given}
 use Rattle.slub_answers.specs.declared.reply.Reply.{Reply}
 use Rattle.slub_answers.specs.declared.reply.Reply.TheVariants.{Given, NoSuchCache}
 use Rattle.slub_object_layout.specs.Layout.{address_of}
@@ -68,6 +69,7 @@ use Rattle.slub_alone.proofs.Install.{install_turns}
 use Rattle.slub_alone.proofs.Apart.{IsSlabAt, slab_word, plain_word}
 use Rattle.slub_alone.proofs.FastFree.{layout_of}
 use Rattle.slub_alone.proofs.Ended.{alone_keeps, ends_at_rest, replies_of}
+use Rattle.slub_alone.proofs.Knows.{known_ends, knows_given}
 use Rattle.slub_alone.proofs.Names.{named_other, named_held, named_new}
 use Rattle.slub_alone.proofs.Turns.{machine, turn_goes, settle_goes, then_turn}
 use Rattle.slub_alone.proofs.Workers.{at_front, once_named, IsWithCalls, rested_calls}
@@ -529,7 +531,8 @@ module _ (opening : World) (s : State) (b : Beside) (system : System) (x : ℕ) 
         sized = copied_length w (512 * s.frames) ∙ sym rest.lists.shaped.memory;
         words = λ other word h away there plain is_word. sym (copied m system.value system.words _) ∙ resting.contents other word h (sym (get_or-set_other s.board call.object other (Some held) None away) ∙ there) plain is_word;
       };
-      replies = replies_of opening s given b b2 system x turns call reply told words system.value next whole refl refl same
+      known = known_ends s b system x turns told words system.value next.there whole refl ∙ knows_given l.known call.place known.object call.object s.board held after refl on_board object;
+      replies = replies_of opening s given b b2 system x turns call reply told words system.value next whole refl refl refl refl same
           (ends_at_rest opening u s given b b2 system (machine words system.value (set system.locals x (rested m told))) rest same refl refl lengths accounted (length-set b.tids n (tid_of b n + 1 * b.step) ∙ rest.beside.tids) refl refl ended says ends
           (whole_cpu m words2 n (cpu_bits v) refl small (whole_slab m words1 f e refl (omega (arith, table1.length, within.1)) fit_e whole1)));
     }
@@ -569,13 +572,17 @@ module _ (opening : World) (s : State) (b : Beside) (system : System) (x : ℕ) 
     unfolding list_in
     only_says = world_of-list m system.value system.words n 0 begin.table small
 
-    takes_only : AllocatesAlone opening s b system x call place 7 (grown b n 1)
+    pub takes_only : AllocatesAlone opening s b system x call place 7 (grown b n 1)
     takes_only = takes 7 l.list_word l.put only_words no_list_word only_start (length-set system.words (list_base + n) 0)
         (get_or-set_other system.words (list_base + n) (cpu_base + n) 0 0 (λ e. absurd (omega (arith, e, small))))
         (get_or-set_other system.words (list_base + n) (slab_base + f) 0 0 (λ e. absurd (omega (arith, e, small))))
         (get_or-set_other system.words (list_base + n) (memory_base m + p) 0 0 (λ e. absurd (omega (arith, e, small))))
         only_says (whole_list m system.words n refl small (omega (arith, small, begin.table.length)) rest.whole) begin.between.packed.list_word
         (sym (ap (length {A = ℕ}) none)) (subst (λ fs. Links w.link 0 fs 0) (sym none) refl)
+
+    pub takes_only_gives : is_given takes_only.reply ≡ true
+    unfolding takes_only takes
+    takes_only_gives = refl
 
   -- ---- the first of several
 
@@ -676,7 +683,7 @@ module _ (opening : World) (s : State) (b : Beside) (system : System) (x : ℕ) 
     fit_rest : IsListFit rest_word
     fit_rest = (subst (λ g. g < 2 ^ 16) strings.1.0 (resting.words.link f), (let old = (resting.words.list n).1 in omega (arith, old)))
 
-    takes_first : AllocatesAlone opening s b system x call place 10 (grown b n 1)
+    pub takes_first : AllocatesAlone opening s b system x call place 10 (grown b n 1)
     takes_first = takes 10 no_list_word (l.put + 0) put_back rest_word several_start (length-set system.words (list_base + n) (list_bits rest_word))
         (get_or-set_other system.words (list_base + n) (cpu_base + n) (list_bits rest_word) 0 (λ e. absurd (omega (arith, e, small))))
         (get_or-set_other system.words (list_base + n) (slab_base + f) (list_bits rest_word) 0 (λ e. absurd (omega (arith, e, small))))
@@ -688,6 +695,10 @@ module _ (opening : World) (s : State) (b : Beside) (system : System) (x : ℕ) 
       where
         longer : (gs : List ℕ) → length (f ∷ g ∷ gs) ≡ 1 + length (g ∷ gs)
         longer gs = omega arith
+
+    pub takes_first_gives : is_given takes_first.reply ≡ true
+    unfolding takes_first takes
+    takes_first_gives = refl
 
 pub only_kept : OnlyPartialSlabsAreTaken
 only_kept opening s b system x call place k f rest next is ids empty current only = takes_only opening s b system x call place k f [] rest next is ids empty current only refl

@@ -65,17 +65,20 @@ use Rattle.slub_opening.proofs.Rows.{comes-back}
 use Rattle.slub_opening.proofs.Words.{chain-empty}
 use Rattle.slub_core.specs.Alloc.{single_string}
 use Rattle.slub_cache_create.specs.declared.caches.Cache.{Cache}
-use Rattle.slub_alone.specs.Alone.{own_pick, alone, worker_at, known_at, IsAtRest, IsNext}
-use Rattle.slub_alone.specs.Laws.{IsFree, FreesAlone, HasRoom, frozen, partial, FullSlabsAreListed}
+use Rattle.slub_alone.specs.Alone.{own_pick, alone, worker_at, known_at, IsNext}
+use Rattle.slub_alone.specs.Ready.{IsReady}
+use Rattle.slub_alone.specs.Laws.{IsFree, FreesAlone, HasRoom, FullSlabsAreListed}
 use Rattle.slub_alone.proofs.Apart.{IsSlabAt, slab_word, plain_word, pointer_own, cpu_stands, own_stands, word_apart}
 use Rattle.slub_alone.proofs.Bits.{whole_memory, whole_slab, whole_list_word, whole_link}
 use Rattle.slub_alone.proofs.Changed.{SameSlab, setup_same, same_word, rests_relisted, slab_kept}
 use Rattle.slub_alone.proofs.CpuWords.{cpu_here, cpu_changed, cpu_other}
-use Rattle.slub_alone.proofs.Ended.{alone_keeps, ends_at_rest, replies_of}
+use Rattle.slub_alone.proofs.Ended.{replies_of}
+use Rattle.slub_alone.proofs.Knows.{known_ends, knows_freed}
 use Rattle.slub_alone.proofs.FastFree.{frees_held, layout_of}
 use Rattle.slub_alone.proofs.Names.{named_other, named_lost}
 use Rattle.slub_alone.proofs.Room.{not_long, put_with_room}
-use Rattle.slub_alone.proofs.Start.{IsStart, starts, HasObject, has_object, begin_held}
+use Rattle.slub_alone.proofs.Ready.{IsReadyStart, ready_starts, ready_object, along, ends_ready}
+use Rattle.slub_alone.proofs.Start.{HasObject, begin_held}
 use Rattle.slub_alone.proofs.Turns.{machine, turn_goes, settle_goes, settle_rests, settle_tells_once, then_turn}
 use Rattle.slub_alone.proofs.Workers.{AtFront, at_front, once_named, IsWithCalls, rested_calls}
 
@@ -92,7 +95,7 @@ not_current f None away = refl
 not_current f (Some c) away = ne_eqb c f (λ e. away (ap Some e))
 
 -- a string stands as long as the links of its slabs do
-links_same : (g h : ℕ → ℕ) (front : ℕ) (fs : List ℕ) → ((j : ℕ) → 1 ≤ times j fs → h j ≡ g j) → Links g front fs 0 → Links h front fs 0
+pub links_same : (g h : ℕ → ℕ) (front : ℕ) (fs : List ℕ) → ((j : ℕ) → 1 ≤ times j fs → h j ≡ g j) → Links g front fs 0 → Links h front fs 0
 links_same g h front [] same c = c
 links_same g h front (x ∷ fs) same c =
     let first : 1 ≤ times x (x ∷ fs) = (let t = times-first x x fs in let o : one_if (eqb x x) ≡ 1 = ap one_if (eq-eqb x x refl) in omega (arith, t, o)) in
@@ -104,7 +107,7 @@ no_third true true false d e = refl
 no_third true false c d e = refl
 no_third false b c d e = refl
 
-module _ (opening : World) (s : State) (b : Beside) (system : System) (x : ℕ) (call : Call) (rest : IsAtRest opening s b system) (next : IsNext system x call) (is : IsFree s (worker_at system x) call)
+module _ (opening : World) (s : State) (b : Beside) (system : System) (x : ℕ) (call : Call) (rest : IsReady opening s b system x) (next : IsNext system x call) (is : IsFree s (worker_at system x) call)
     (unfrozen : is_frozen s (known_at (worker_at system x) call).frame ≡ false) (full : own_free s (known_at (worker_at system x) call).frame ≡ [])
     (room : HasRoom s (known_at (worker_at system x) call).cache call.cpu) where
   abbrev m : Setup
@@ -134,14 +137,14 @@ module _ (opening : World) (s : State) (b : Beside) (system : System) (x : ℕ) 
   abbrev held : Held
   held = as_held l.worker o
 
-  begin : IsStart opening s b system x call
-  begin = starts opening s b system x call rest next
+  begin : IsReadyStart opening s b system x call
+  begin = ready_starts opening s b system x call rest next
 
   names : names_object call.kind ≡ true
   names = ap names_object is.kind
 
   has : HasObject s system x call
-  has = has_object opening s b system x call rest next names is.held
+  has = ready_object opening s b system x call rest next names is.held
 
   resting : Rests s b w system.locals
   resting = rest.rests.rests
@@ -414,7 +417,7 @@ module _ (opening : World) (s : State) (b : Beside) (system : System) (x : ℕ) 
   relies : (1 ≤ z.inuse) × (lw.count + 1 ≤ s.frames - 1)
   relies =
       let sys : System = machine words2 system.value (set system.locals x linking) in
-      let coherent = subst (IsCoherentSystem m opening) start (alone_keeps m opening x 6 system rest.coherent) in
+      let coherent = subst (IsCoherentSystem m opening) start (along opening s b system x next.there rest 5) in
       let front : AtFront m opening sys x = at_front m opening sys x (omega (arith, next.there, length-set system.locals x linking)) coherent in
       let mine = front.local ∙ get_or-set_same system.locals x linking idle next.there in
       let noted = (at_work (world_of m system.value words2) front.worker front.others front.stands).spot.noted.list in
@@ -427,7 +430,7 @@ module _ (opening : World) (s : State) (b : Beside) (system : System) (x : ℕ) 
   -- ---- where they end
 
   ended : IsCoherentSystem m opening (machine words system.value (set system.locals x (rested m listed_it)))
-  ended = subst (IsCoherentSystem m opening) whole (alone_keeps m opening x 8 system rest.coherent)
+  ended = subst (IsCoherentSystem m opening) whole (along opening s b system x next.there rest 7)
 
   fit_list : IsListFit longer
   fit_list = let many = relies.1 in (omega (arith, within.1, rest.lists.shaped.frames.1), omega (arith, many, rest.lists.shaped.frames.1))
@@ -604,8 +607,9 @@ module _ (opening : World) (s : State) (b : Beside) (system : System) (x : ℕ) 
     reply = reply;
     after = after;
     frees = frees;
-    replies = replies_of opening s after b b system x 8 call reply listed_it words system.value next whole refl refl same
-        (ends_at_rest opening u s after b b system (machine words system.value (set system.locals x (rested m listed_it))) rest same refl refl lengths accounted rest.beside.tids refl refl ended says ends
+    known = known_ends s b system x 8 listed_it words system.value next.there whole refl ∙ knows_freed l.known call.place o.object call.object l.worker s after held has.named (eq-eqb l.worker l.worker refl) has.on_board refl has.object;
+    replies = replies_of opening s after b b system x 8 call reply listed_it words system.value next whole refl refl refl refl same
+        (ends_ready opening u s after b b system (machine words system.value (set system.locals x (rested m listed_it))) rest same refl refl lengths accounted rest.beside.tids refl refl ended says ends
         (whole_list_word m words3 n longer refl small (omega (arith, small, table3.length)) fit_list (whole_link m words2 f lw.front refl begin.table.objects (whole_slab m words1 f v refl (omega (arith, table1.length, within.1)) fit (whole_memory m system.words p value refl begin.table.objects rest.whole)))));
   }
     where

@@ -1,5 +1,5 @@
 -- A free of an object of a slab that isn't current on the CPU and stays where it is: the CPU word and the slab word are loaded, the slab's freelist's head is stored in the object, and the object is put on that freelist.
-use Rattle.std.proofs.Common.{◌≡◌, ◌≢◌, ℕ, ◌+◌, ◌-◌, ◌*◌, ◌<◌, ◌≤◌, ◌&&◌, eqb, cond, Bool, true, false, List, [], ◌∷◌, length, get_or, set, Option, Some, None, inl, inr, refl, ap, sym, ◌∙◌, subst, arith}
+use Rattle.std.proofs.Common.{◌≡◌, ◌≢◌, ℕ, suc, ◌+◌, ◌-◌, ◌*◌, ◌<◌, ◌≤◌, ◌&&◌, eqb, cond, Bool, true, false, List, [], ◌∷◌, length, get_or, set, Option, Some, None, inl, inr, refl, ap, sym, ◌∙◌, subst, arith}
 use Rattle.std.specs.Prelude.{nat_lt, nat_le, not, is_some}
 use Rattle.std.specs.Option.{option_map_or}
 use Rattle.std.proofs.lemmas.Bool.{cases_eq, cases_Bool, false≢true, eq-eqb, ne_eqb, cond-true, cond-false, leb-true, lt-ltb}
@@ -58,16 +58,21 @@ use Rattle.slub_core.specs.Alloc.{node_of as node_in, with_node}
 use Rattle.slub_core.specs.declared.spot.DiscardSpot.TheVariants.{Unmake}
 use Rattle.slub_core.specs.declared.spot.Discard.TheVariants.{FromFree}
 use Rattle.slub_cache_create.specs.declared.caches.Cache.{Cache}
-use Rattle.slub_alone.specs.Alone.{AreWhole, own_pick, alone, worker_at, known_at, IsAtRest, IsNext}
+use Rattle.slub_alone.specs.Alone.{AreWhole, own_pick, alone, worker_at, known_at, IsNext}
+use Rattle.slub_alone.specs.Ready.{IsReady}
 use Rattle.slub_alone.specs.Laws.{IsFree, FreesAlone, StaysThere, frozen, partial, FreesInPlaceArePuts, LastOfListedAreKept}
 use Rattle.slub_alone.proofs.Apart.{IsSlabAt, slab_word, plain_word, pointer_own, cpu_stands, own_stands, word_apart}
 use Rattle.slub_alone.proofs.Bits.{whole_memory, whole_slab, whole_lock}
 use Rattle.slub_alone.proofs.Changed.{SameSlab, rests_changed, setup_same, same_word}
 use Rattle.slub_alone.proofs.CpuWords.{cpu_here}
-use Rattle.slub_alone.proofs.Ended.{alone_keeps, ends_at_rest, replies_of}
+use Rattle.slub_alone.proofs.Ended.{replies_of}
+use Rattle.slub_alone.proofs.Knows.{known_ends, knows_freed}
 use Rattle.slub_alone.proofs.FastFree.{frees_held, layout_of}
 use Rattle.slub_alone.proofs.Names.{named_other, named_lost}
-use Rattle.slub_alone.proofs.Start.{IsStart, starts, HasObject, has_object, begin_held}
+use Rattle.slub_alone.proofs.NewSlabFill.{alone_then}
+use Rattle.slub_alone.proofs.OnNode.{node_away}
+use Rattle.slub_alone.proofs.Ready.{IsReadyStart, ready_starts, ready_object, along, ends_ready}
+use Rattle.slub_alone.proofs.Start.{HasObject, begin_held}
 use Rattle.slub_alone.proofs.Turns.{machine, turn_goes, settle_goes, settle_rests, settle_tells, settle_tells_once, then_turn}
 use Rattle.slub_alone.proofs.Workers.{AtFront, at_front, once_named, IsWithCalls, rested_calls}
 
@@ -129,7 +134,7 @@ stays_settled s layout k cpu f i below (partial some which) = go (own_free s f) 
           ∙ cond-false {A = State} (is_spare (with_freed s f i) layout.min_partial k f && nat_lt 0 (times f (node_of s k))) (discarded (without_slab (with_freed s f i) k f) f) (with_freed s f i) spared
     ]
 
-module _ (opening : World) (s : State) (b : Beside) (system : System) (x : ℕ) (call : Call) (rest : IsAtRest opening s b system) (next : IsNext system x call) (is : IsFree s (worker_at system x) call)
+module _ (opening : World) (s : State) (b : Beside) (system : System) (x : ℕ) (call : Call) (rest : IsReady opening s b system x) (next : IsNext system x call) (is : IsFree s (worker_at system x) call)
     (away : (lists_of s (known_at (worker_at system x) call).cache call.cpu).current ≢ Some (known_at (worker_at system x) call).frame) where
   abbrev m : Setup
   m = setup_of s b
@@ -158,14 +163,14 @@ module _ (opening : World) (s : State) (b : Beside) (system : System) (x : ℕ) 
   abbrev held : Held
   held = as_held l.worker o
 
-  begin : IsStart opening s b system x call
-  begin = starts opening s b system x call rest next
+  begin : IsReadyStart opening s b system x call
+  begin = ready_starts opening s b system x call rest next
 
   names : names_object call.kind ≡ true
   names = ap names_object is.kind
 
   has : HasObject s system x call
-  has = has_object opening s b system x call rest next names is.held
+  has = ready_object opening s b system x call rest next names is.held
 
   resting : Rests s b w system.locals
   resting = rest.rests.rests
@@ -196,7 +201,7 @@ module _ (opening : World) (s : State) (b : Beside) (system : System) (x : ℕ) 
   pub some : 1 ≤ z.objects
   some = plain_word s b w system.locals begin.front.stands.chains resting begin.front.stands.listed.shaped f o.index has.slab.0 has.slab.1 has.slab.3 (ap (checked_of s) has.slab.2 ∙ is.unchecked)
 
-  slab_at_it : IsSlabAt s w f
+  pub slab_at_it : IsSlabAt s w f
   slab_at_it = slab_word s b w system.locals resting f some
 
   same_slab : has.slab.0 ≡ slab_at_it.slab
@@ -277,15 +282,83 @@ module _ (opening : World) (s : State) (b : Beside) (system : System) (x : ℕ) 
   pub fit : IsSlabFit v
   fit = (let few = objects-few s f has.slab.0 begin.consistent has.slab.1 in omega (arith, few.1, has.slab.3), let old = (resting.words.slab f).1 in omega arith, (resting.words.slab f).2, (resting.words.slab f).3)
 
+  abbrev put : World
+  put = set_slab (set_memory w p value) f v
+
+  -- the lists with the object on its slab's freelist
+  abbrev pub freed : State
+  freed = with_gone (with_freed (with_taken s call.object o.cache) f o.index) call.object l.worker held
+
+  pub frees_below : f < length s.frees
+  frees_below = omega (arith, within.1, rest.lists.shaped.frees)
+
+  -- ---- the object is there, and the worker between two calls
+
+  module _ (end : Local) (known_is : end.known ≡ set l.known call.place lost) (worker_is : end.worker ≡ l.worker) (between : IsBetween w.setup end) (worded : IsWorded put) (once : (j : ℕ) → times_named put (set system.locals x end) j ≤ 1) (in_use : 1 ≤ z.inuse) where
+    free_is : get_or (set s.frees f (o.index ∷ own_free s f)) f [] ≡ o.index ∷ own_free s f
+    free_is = get_or-set_same s.frees f (o.index ∷ own_free s f) [] frees_below
+
+    stands : (g : ℕ) → IsChain (pointer put (w.slab g).cache g) (w.slab g).head (own_free s g)
+    stands g = own_stands s call.object held begin.consistent has.named p (pointer_own s call.object held begin.consistent has.named) b w system.locals resting w.cpu (update w.slab f v) value g
+
+    leads_back : pointer put z.cache f o.index ≡ z.head
+    leads_back = ap (λ k. pointer put k f o.index) cache
+        ∙ ap (λ (m : Setup). hardened o.cache (pointer_at m o.cache f o.index) (update w.memory p value (pointer_at m o.cache f o.index))) resting.setup
+        ∙ ap (hardened o.cache p) (update_same w.memory p value) ∙ comes-back o.cache p z.head
+
+    own_ends : (g : ℕ) → IsFreelistOf put g (get_or (set s.frees f (o.index ∷ own_free s f)) g [])
+    own_ends g = elim (cases_eq g f) [
+      | inl e ↦ subst (λ g. IsFreelistOf put g (get_or (set s.frees f (o.index ∷ own_free s f)) g [])) (sym e) (subst (IsFreelistOf put f) (sym free_is) at_it)
+      | inr d ↦ subst (IsFreelistOf put g) (sym (get_or-set_other s.frees f g (o.index ∷ own_free s f) [] d)) (record {
+        chain = subst (λ (c : SlabWord). IsChain (pointer put c.cache g) c.head (own_free s g)) (sym (update_other w.slab f v g d)) (stands g);
+        in_use = subst (λ (c : SlabWord). c.inuse + length (own_free s g) ≡ c.objects) (sym (update_other w.slab f v g d)) (resting.own g).in_use;
+      })
+    ]
+      where
+        at_it : IsFreelistOf put f (o.index ∷ own_free s f)
+        at_it = record {
+          chain = subst (λ (c : SlabWord). IsChain (pointer put c.cache f) c.head (o.index ∷ own_free s f)) (sym (update_same w.slab f v))
+              (omega arith, subst (λ h. IsChain (pointer put z.cache f) h (own_free s f)) (sym leads_back) (stands f));
+          in_use = subst (λ (c : SlabWord). c.inuse + length (o.index ∷ own_free s f) ≡ c.objects) (sym (update_same w.slab f v)) (let u = own.in_use in omega (arith, u, in_use));
+        }
+
+    pub freed_rests : Rests freed b put (set system.locals x end)
+    freed_rests = rests_changed s b w system.locals (set s.frees f (o.index ∷ own_free s f)) s.cpu_lists s.memory (set s.board call.object None) (set s.gone call.object (Some held)) (set s.live o.cache (get_or s.live o.cache 0 - 1)) b.tids
+        w.cpu (update w.slab f v) (update w.memory p value) (set system.locals x end) resting
+        (length-set s.board call.object None)
+        worded
+        (All-set (IsBetween w.setup) system.locals x end between resting.workers)
+        (λ n below. let c = resting.cpu n below in record {
+          tid = c.tid;
+          current = c.current;
+          free = cpu_stands s call.object held begin.consistent has.named p (pointer_own s call.object held begin.consistent has.named) b w system.locals resting w.cpu (update w.slab f v) value n below;
+          count = c.count;
+          partial = c.partial;
+        })
+        (each_updated w.slab f v (λ g (c : SlabWord). SameSlab (w.slab g) c) (record { objects = refl; cache = refl; frozen = refl; listed = refl }) (λ g d. same_word (w.slab g)))
+        own_ends names_are once words_are
+      where
+        names_are : (j : ℕ) → get_or (set s.board call.object None) j None ≡ named_in put (set system.locals x end) j
+        names_are j = elim (cases_eq j call.object) [
+          | inl e ↦ ap (λ o. get_or (set s.board call.object None) o None) e ∙ get_or-set_same s.board call.object None None has.on_board
+              ∙ sym (named_lost put system.locals x call.place end lost next.there has.place known_is refl is.held j (has.object ∙ sym e) (resting.once j))
+          | inr d ↦ get_or-set_other s.board call.object j None None d ∙ resting.named j ∙ sym (named_other put system.locals x call.place end lost worker_is known_is refl j (λ e. d (sym e ∙ has.object)))
+        ]
+
+        words_are : (j word : ℕ) (h : Held) → get_or (set s.board call.object None) j None ≡ Some h → KeepsWord s put h word
+        words_are j word h there plain inside = elim (cases_eq j call.object) [
+          | inl e ↦ absurd (let none = ap (λ o. get_or (set s.board call.object None) o None) e ∙ get_or-set_same s.board call.object None None has.on_board in cc (none, there))
+          | inr d ↦
+              let before : held_under s j ≡ Some h = sym (get_or-set_other s.board call.object j None None d) ∙ there in
+              update_other w.memory p value (word_at (layout_at s h.cache) h word) (word_apart s call.object held begin.consistent has.named j word h before d inside) ∙ resting.contents j word h before plain inside
+        ]
+
   -- ---- where such turns end
 
-  module _ (turns : ℕ) (words : List ℕ) (whole : alone m x turns system ≡ machine words system.value (set system.locals x (rested m told))) (says : world_of m system.value words ≡ set_slab (set_memory w p value) f v) (are_whole : AreWhole m words) (in_use : 1 ≤ z.inuse)
+  module _ (turns : ℕ) (words : List ℕ) (whole : alone m x (suc turns) system ≡ machine words system.value (set system.locals x (rested m told))) (says : world_of m system.value words ≡ put) (are_whole : AreWhole m words) (in_use : 1 ≤ z.inuse)
       (settles : (live : Cache) → cache_of s o.cache ≡ Some live → settled (with_freed (with_taken s call.object o.cache) f o.index) live.layout o.cache call.cpu f (own_free s f) ≡ with_freed (with_taken s call.object o.cache) f o.index) where
     ended : IsCoherentSystem m opening (machine words system.value (set system.locals x (rested m told)))
-    ended = subst (IsCoherentSystem m opening) whole (alone_keeps m opening x turns system rest.coherent)
-
-    abbrev after : State
-    after = with_gone (with_freed (with_taken s call.object o.cache) f o.index) call.object l.worker held
+    ended = subst (IsCoherentSystem m opening) whole (along opening s b system x next.there rest turns)
 
     calls : IsWithCalls told (rested m told)
     calls = rested_calls m told refl
@@ -296,7 +369,7 @@ module _ (opening : World) (s : State) (b : Beside) (system : System) (x : ℕ) 
     worker_is : (rested m told).worker ≡ l.worker
     worker_is = ap (λ (l : Local). l.worker) calls.same
 
-    once : (j : ℕ) → times_named (set_slab (set_memory w p value) f v) (set system.locals x (rested m told)) j ≤ 1
+    once : (j : ℕ) → times_named put (set system.locals x (rested m told)) j ≤ 1
     once j = subst (λ w. times_named w (set system.locals x (rested m told)) j ≤ 1) says (once_named m opening (machine words system.value (set system.locals x (rested m told))) ended j)
 
     worker_rests : IsBetween w.setup (rested m told)
@@ -311,73 +384,17 @@ module _ (opening : World) (s : State) (b : Beside) (system : System) (x : ℕ) 
       some = All-set (λ (k : Known). k.held ≡ true → 1 ≤ k.object) l.known call.place lost (λ e. absurd (false≢true e)) begin.between.some;
     })
 
-    frees_below : f < length s.frees
-    frees_below = omega (arith, within.1, rest.lists.shaped.frees)
-
-    free_is : get_or (set s.frees f (o.index ∷ own_free s f)) f [] ≡ o.index ∷ own_free s f
-    free_is = get_or-set_same s.frees f (o.index ∷ own_free s f) [] frees_below
-
-    stands : (g : ℕ) → IsChain (pointer (set_slab (set_memory w p value) f v) (w.slab g).cache g) (w.slab g).head (own_free s g)
-    stands g = own_stands s call.object held begin.consistent has.named p (pointer_own s call.object held begin.consistent has.named) b w system.locals resting w.cpu (update w.slab f v) value g
-
-    leads_back : pointer (set_slab (set_memory w p value) f v) z.cache f o.index ≡ z.head
-    leads_back = ap (λ k. pointer (set_slab (set_memory w p value) f v) k f o.index) cache
-        ∙ ap (λ (m : Setup). hardened o.cache (pointer_at m o.cache f o.index) (update w.memory p value (pointer_at m o.cache f o.index))) resting.setup
-        ∙ ap (hardened o.cache p) (update_same w.memory p value) ∙ comes-back o.cache p z.head
-
-    own_ends : (g : ℕ) → IsFreelistOf (set_slab (set_memory w p value) f v) g (get_or (set s.frees f (o.index ∷ own_free s f)) g [])
-    own_ends g = elim (cases_eq g f) [
-      | inl e ↦ subst (λ g. IsFreelistOf (set_slab (set_memory w p value) f v) g (get_or (set s.frees f (o.index ∷ own_free s f)) g [])) (sym e) (subst (IsFreelistOf (set_slab (set_memory w p value) f v) f) (sym free_is) at_it)
-      | inr d ↦ subst (IsFreelistOf (set_slab (set_memory w p value) f v) g) (sym (get_or-set_other s.frees f g (o.index ∷ own_free s f) [] d)) (record {
-        chain = subst (λ (c : SlabWord). IsChain (pointer (set_slab (set_memory w p value) f v) c.cache g) c.head (own_free s g)) (sym (update_other w.slab f v g d)) (stands g);
-        in_use = subst (λ (c : SlabWord). c.inuse + length (own_free s g) ≡ c.objects) (sym (update_other w.slab f v g d)) (resting.own g).in_use;
-      })
-    ]
-      where
-        at_it : IsFreelistOf (set_slab (set_memory w p value) f v) f (o.index ∷ own_free s f)
-        at_it = record {
-          chain = subst (λ (c : SlabWord). IsChain (pointer (set_slab (set_memory w p value) f v) c.cache f) c.head (o.index ∷ own_free s f)) (sym (update_same w.slab f v))
-              (omega arith, subst (λ h. IsChain (pointer (set_slab (set_memory w p value) f v) z.cache f) h (own_free s f)) (sym leads_back) (stands f));
-          in_use = subst (λ (c : SlabWord). c.inuse + length (o.index ∷ own_free s f) ≡ c.objects) (sym (update_same w.slab f v)) (let u = own.in_use in omega (arith, u, in_use));
-        }
-
-    ends : Rests after b (set_slab (set_memory w p value) f v) (set system.locals x (rested m told))
-    ends = rests_changed s b w system.locals (set s.frees f (o.index ∷ own_free s f)) s.cpu_lists s.memory (set s.board call.object None) (set s.gone call.object (Some held)) (set s.live o.cache (get_or s.live o.cache 0 - 1)) b.tids
-        w.cpu (update w.slab f v) (update w.memory p value) (set system.locals x (rested m told)) resting
-        (length-set s.board call.object None)
+    ends : Rests freed b put (set system.locals x (rested m told))
+    ends = freed_rests (rested m told) known_is worker_is worker_rests
         (let front = at_front m opening (machine words system.value (set system.locals x (rested m told))) x (omega (arith, next.there, length-set system.locals x (rested m told))) ended in subst IsWorded says front.stands.fresh.worded)
-        (All-set (IsBetween w.setup) system.locals x (rested m told) worker_rests resting.workers)
-        (λ n below. let c = resting.cpu n below in record {
-          tid = c.tid;
-          current = c.current;
-          free = cpu_stands s call.object held begin.consistent has.named p (pointer_own s call.object held begin.consistent has.named) b w system.locals resting w.cpu (update w.slab f v) value n below;
-          count = c.count;
-          partial = c.partial;
-        })
-        (each_updated w.slab f v (λ g (c : SlabWord). SameSlab (w.slab g) c) (record { objects = refl; cache = refl; frozen = refl; listed = refl }) (λ g d. same_word (w.slab g)))
-        own_ends names_are once words_are
-      where
-        names_are : (j : ℕ) → get_or (set s.board call.object None) j None ≡ named_in (set_slab (set_memory w p value) f v) (set system.locals x (rested m told)) j
-        names_are j = elim (cases_eq j call.object) [
-          | inl e ↦ ap (λ o. get_or (set s.board call.object None) o None) e ∙ get_or-set_same s.board call.object None None has.on_board
-              ∙ sym (named_lost (set_slab (set_memory w p value) f v) system.locals x call.place (rested m told) lost next.there has.place known_is refl is.held j (has.object ∙ sym e) (resting.once j))
-          | inr d ↦ get_or-set_other s.board call.object j None None d ∙ resting.named j ∙ sym (named_other (set_slab (set_memory w p value) f v) system.locals x call.place (rested m told) lost worker_is known_is refl j (λ e. d (sym e ∙ has.object)))
-        ]
-
-        words_are : (j word : ℕ) (h : Held) → get_or (set s.board call.object None) j None ≡ Some h → KeepsWord s (set_slab (set_memory w p value) f v) h word
-        words_are j word h there plain inside = elim (cases_eq j call.object) [
-          | inl e ↦ absurd (let none = ap (λ o. get_or (set s.board call.object None) o None) e ∙ get_or-set_same s.board call.object None None has.on_board in cc (none, there))
-          | inr d ↦
-              let before : held_under s j ≡ Some h = sym (get_or-set_other s.board call.object j None None d) ∙ there in
-              update_other w.memory p value (word_at (layout_at s h.cache) h word) (word_apart s call.object held begin.consistent has.named j word h before d inside) ∙ resting.contents j word h before plain inside
-        ]
+        once in_use
 
     -- ---- on lists
 
-    accounted : IsAccounted after
+    accounted : IsAccounted freed
     accounted = taken-accounted s call.object held begin.consistent has.named
 
-    lengths : HasLengths after
+    lengths : HasLengths freed
     lengths = record {
       slabs = rest.lists.shaped.slabs;
       frees = length-set s.frees f (o.index ∷ own_free s f) ∙ rest.lists.shaped.frees;
@@ -389,23 +406,24 @@ module _ (opening : World) (s : State) (b : Beside) (system : System) (x : ℕ) 
       live = length-set s.live o.cache (get_or s.live o.cache 0 - 1) ∙ rest.lists.shaped.live;
     }
 
-    frees : Frees s call.cpu l.worker call.object reply after
-    frees = frees_held s call.cpu l.worker call.object o after has.named has.lives is.unchecked (λ live e. (
+    frees : Frees s call.cpu l.worker call.object reply freed
+    frees = frees_held s call.cpu l.worker call.object o freed has.named has.lives is.unchecked (λ live e. (
       ap (λ layout. Freed (address_of f o.index layout)) (layout_of s o.cache live e),
       sym (ap (λ h. with_gone (cond {A = State} h (freed_here (with_taken s call.object o.cache) o.cache call.cpu o.index) (freed_there (with_taken s call.object o.cache) live.layout o.cache call.cpu f o.index)) call.object l.worker held) (not_current f (lists_of s o.cache call.cpu).current away)
           ∙ ap (λ t. with_gone t call.object l.worker held) (settles live e)),
     ))
 
-    puts : FreesAlone opening s b system x call turns b
+    puts : FreesAlone opening s b system x call (suc turns) b
     puts = record {
       reply = reply;
-      after = after;
+      after = freed;
       frees = frees;
-      replies = replies_of opening s after b b system x turns call reply told words system.value next whole refl refl same
-          (ends_at_rest opening (set_slab (set_memory w p value) f v) s after b b system (machine words system.value (set system.locals x (rested m told))) rest same refl refl lengths accounted rest.beside.tids refl refl ended says ends are_whole);
+      known = known_ends s b system x (suc turns) told words system.value next.there whole refl ∙ knows_freed l.known call.place o.object call.object l.worker s freed held has.named (eq-eqb l.worker l.worker refl) has.on_board refl has.object;
+      replies = replies_of opening s freed b b system x (suc turns) call reply told words system.value next whole refl refl refl refl same
+          (ends_ready opening put s freed b b system (machine words system.value (set system.locals x (rested m told))) rest same refl refl lengths accounted rest.beside.tids refl refl ended says ends are_whole);
     }
       where
-        same : setup_of after b ≡ setup_of s b
+        same : setup_of freed b ≡ setup_of s b
         same = setup_same s b w system.locals (set s.frees f (o.index ∷ own_free s f)) s.cpu_lists s.memory (set s.board call.object None) (set s.gone call.object (Some held)) (set s.live o.cache (get_or s.live o.cache 0 - 1)) b.tids
             w.cpu (update w.slab f v) (update w.memory p value) (set system.locals x (rested m told)) (length-set s.board call.object None)
 
@@ -488,7 +506,7 @@ module _ (opening : World) (s : State) (b : Beside) (system : System) (x : ℕ) 
     in_use : 1 ≤ z.inuse
     in_use =
         let sys : System = machine system.words system.value (set system.locals x seen) in
-        let coherent = subst (IsCoherentSystem m opening) start (alone_keeps m opening x 2 system rest.coherent) in
+        let coherent = subst (IsCoherentSystem m opening) start (along opening s b system x next.there rest 1) in
         let front : AtFront m opening sys x = at_front m opening sys x (omega (arith, next.there, length-set system.locals x seen)) coherent in
         let mine = front.local ∙ get_or-set_same system.locals x seen idle next.there in
         let noted = (at_work (world_of m system.value system.words) front.worker front.others front.stands).spot.noted.in_use in
@@ -506,19 +524,19 @@ module _ (opening : World) (s : State) (b : Beside) (system : System) (x : ℕ) 
         by (partial free which) = partial free which
 
     put_in_place : FreesAlone opening s b system x call 4 b
-    put_in_place = puts 4 words whole says (whole_slab m words1 f v refl (let long = length-set system.words (memory_base m + p) value in omega (arith, long, begin.table.length, within.1)) fit (whole_memory m system.words p value refl begin.table.objects rest.whole)) in_use
-        (λ live e. stays_settled (with_taken s call.object o.cache) live.layout o.cache call.cpu f o.index (omega (arith, within.1, rest.lists.shaped.frees)) stays_taken)
+    put_in_place = puts 3 words whole says (whole_slab m words1 f v refl (let long = length-set system.words (memory_base m + p) value in omega (arith, long, begin.table.length, within.1)) fit (whole_memory m system.words p value refl begin.table.objects rest.whole)) in_use
+        (λ live e. stays_settled (with_taken s call.object o.cache) live.layout o.cache call.cpu f o.index frees_below stays_taken)
 
   -- ---- under the node lock
 
-  module _ (on_node : 1 ≤ times f (node_of s o.cache)) (one : inuse_of s f ≡ 1) (few_slabs : length (node_of s o.cache) < (layout_at s o.cache).min_partial) where
+  module _ (on_node : 1 ≤ times f (node_of s o.cache)) (one : inuse_of s f ≡ 1) where
     marked : z.listed ≡ true
     marked = listed_is ∙ lt-ltb 0 (times f (node_of s o.cache)) on_node
 
-    marks : (1 ≤ z.head) × (z.frozen ≡ false)
+    pub marks : (1 ≤ z.head) × (z.frozen ≡ false)
     marks = begin.front.stands.listed.shaped.marks f marked
 
-    inuse_one : z.inuse ≡ 1
+    pub inuse_one : z.inuse ≡ 1
     inuse_one = let u = own.in_use in let y = objects_is in omega (arith, one, u, y)
 
     is_last : is_last_listed z ≡ true
@@ -527,7 +545,7 @@ module _ (opening : World) (s : State) (b : Beside) (system : System) (x : ℕ) 
     abbrev j : ℕ
     j = node_lock o.cache
 
-    j_small : j < 33
+    pub j_small : j < 33
     j_small = omega (arith, has.inside)
 
     abbrev a : ℕ
@@ -560,7 +578,7 @@ module _ (opening : World) (s : State) (b : Beside) (system : System) (x : ℕ) 
     abbrev lock4 : List ℕ
     lock4 = set lock3 j 0
 
-    lock_free : w.lock j ≡ 0
+    pub lock_free : w.lock j ≡ 0
     lock_free = resting.locks j j_small
 
     lock_hit : eqb (get_or system.words j 0) 0 ≡ true
@@ -572,7 +590,7 @@ module _ (opening : World) (s : State) (b : Beside) (system : System) (x : ℕ) 
     slab_still : get_or lock2 (slab_base + f) 0 ≡ r
     slab_still = get_or-set_other lock1 (memory_base m + p) (slab_base + f) value 0 (λ e. absurd (omega (arith, e, within.1, begin.table.objects))) ∙ slab_there
 
-    slab_hit : eqb (get_or lock2 (slab_base + f) 0) (slab_bits z) ≡ true
+    pub slab_hit : eqb (get_or lock2 (slab_base + f) 0) (slab_bits z) ≡ true
     slab_hit = eq-eqb (get_or lock2 (slab_base + f) 0) (slab_bits z) (slab_still ∙ sym (rest.whole.slab f within.1) ∙ ap slab_bits (sym slab_reads))
 
     lturn2 : turn m (machine system.words system.value (set system.locals x loaded)) (own_pick x) ≡ machine system.words system.value (set system.locals x waits)
@@ -608,93 +626,103 @@ module _ (opening : World) (s : State) (b : Beside) (system : System) (x : ℕ) 
     lturn5 : turn m (machine lock1 system.value (set system.locals x again)) (own_pick x) ≡ machine lock2 system.value (set system.locals x stored)
     lturn5 = turn_goes m lock1 lock2 system.value system.locals x again again stored (record { place = MemoryOf p; op = Store value }) Done next.there refl refl refl refl (settle_goes m system.value again stored Done refl refl refl)
 
-    short : nat_le (layout_at s o.cache).min_partial (length (frames_in (system.value j))) ≡ false
-    short = elim (cases_Bool (nat_le (layout_at s o.cache).min_partial (length (frames_in (system.value j))))) [
-      | inr no_more ↦ no_more
-      | inl enough ↦ absurd (
-          let le = leb-true (layout_at s o.cache).min_partial (length (frames_in (system.value j))) enough in
-          let same = ap (λ v. length (frames_in v)) (sym (ap (λ value. value j) (value_of m system.value system.words)) ∙ resting.values j j_small) ∙ ap (length {A = ℕ}) (sym (resting.nodes o.cache)) in
-          omega (arith, le, same, few_slabs))
+    pub chain_some : 0 < length (own_free s f)
+    chain_some = elim (cases_eq (length (own_free s f)) 0) [
+      | inl none ↦ absurd (let t = chain-empty (pointer w z.cache f) z.head (own_free s f) own.chain none in omega (arith, t, marks.0))
+      | inr d ↦ omega (arith, d)
     ]
 
-    lturn6 : turn m (machine lock2 system.value (set system.locals x stored)) (own_pick x) ≡ machine lock3 system.value (set system.locals x giving)
-    lturn6 = turn_goes m lock2 lock3 system.value system.locals x stored stored giving (record { place = SlabOf f; op = Exchange (slab_bits z) (slab_bits v) }) Won next.there refl refl
-        (ap (λ h. set lock2 (slab_base + f) (cond {A = ℕ} h (slab_bits v) (get_or lock2 (slab_base + f) 0))) slab_hit) (ap (λ h. cond {A = Answer} h Won (Lost (get_or lock2 (slab_base + f) 0))) slab_hit)
-        (settle_tells_once m system.value stored (at (loses stored) (InFree TakeOff)) giving Won reply refl (ap off short) refl refl)
-      where
-        mid : Local
-        mid = answered (at (loses stored) (InFree TakeOff)) reply
-
-        off : Bool → Change
-        off h = record {
-          value = cond {A = ℕ → LockValue} h (with_node system.value mid (without (node_in system.value mid) (here mid).frame)) system.value;
-          local = cond {A = Local} h (at (with_hand mid (bare_hand (here mid).frame)) (InDiscard Unmake FromFree)) (at mid (InFree GiveFree));
-          reply = None;
-        }
-
-    lturn7 : turn m (machine lock3 system.value (set system.locals x giving)) (own_pick x) ≡ machine lock4 system.value (set system.locals x (rested m told))
-    lturn7 = turn_goes m lock3 lock4 system.value system.locals x giving giving (rested m told) (record { place = LockOf j; op = Store 0 }) Done next.there refl refl refl refl (settle_rests m system.value giving told Done refl refl)
-
-    lock_whole : alone m x 7 system ≡ machine lock4 system.value (set system.locals x (rested m told))
-    lock_whole = ap (alone m x 7) (ap (machine system.words system.value) (sym (set-get_or system.locals x idle)))
-        ∙ then_turn m x 6 (machine system.words system.value (set system.locals x l)) (machine system.words system.value (set system.locals x loaded)) (machine lock4 system.value (set system.locals x (rested m told))) turn1
-        (then_turn m x 5 (machine system.words system.value (set system.locals x loaded)) (machine system.words system.value (set system.locals x waits)) (machine lock4 system.value (set system.locals x (rested m told))) lturn2
-        (then_turn m x 4 (machine system.words system.value (set system.locals x waits)) (machine lock1 system.value (set system.locals x locked)) (machine lock4 system.value (set system.locals x (rested m told))) lturn3
-        (then_turn m x 3 (machine lock1 system.value (set system.locals x locked)) (machine lock1 system.value (set system.locals x again)) (machine lock4 system.value (set system.locals x (rested m told))) lturn4
-        (then_turn m x 2 (machine lock1 system.value (set system.locals x again)) (machine lock2 system.value (set system.locals x stored)) (machine lock4 system.value (set system.locals x (rested m told))) lturn5
-        (then_turn m x 1 (machine lock2 system.value (set system.locals x stored)) (machine lock3 system.value (set system.locals x giving)) (machine lock4 system.value (set system.locals x (rested m told))) lturn6
-        (then_turn m x 0 (machine lock3 system.value (set system.locals x giving)) (machine lock4 system.value (set system.locals x (rested m told))) (machine lock4 system.value (set system.locals x (rested m told))) lturn7 refl))))))
-
-    ltable1 : IsTable m lock1
+    pub ltable1 : IsTable m lock1
     ltable1 = record { length = length-set system.words j a ∙ begin.table.length; locks = refl; cpu_words = refl; frames = begin.table.frames; objects = begin.table.objects }
 
-    ltable2 : IsTable m lock2
+    pub ltable2 : IsTable m lock2
     ltable2 = record { length = length-set lock1 (memory_base m + p) value ∙ ltable1.length; locks = refl; cpu_words = refl; frames = begin.table.frames; objects = begin.table.objects }
 
-    ltable3 : IsTable m lock3
-    ltable3 = record { length = length-set lock2 (slab_base + f) (slab_bits v) ∙ ltable2.length; locks = refl; cpu_words = refl; frames = begin.table.frames; objects = begin.table.objects }
+    -- up to the object's free pointer
+    pub locked_turns : alone m x 5 system ≡ machine lock2 system.value (set system.locals x stored)
+    locked_turns = ap (alone m x 5) (ap (machine system.words system.value) (sym (set-get_or system.locals x idle)))
+        ∙ then_turn m x 4 (machine system.words system.value (set system.locals x l)) (machine system.words system.value (set system.locals x loaded)) (machine lock2 system.value (set system.locals x stored)) turn1
+        (then_turn m x 3 (machine system.words system.value (set system.locals x loaded)) (machine system.words system.value (set system.locals x waits)) (machine lock2 system.value (set system.locals x stored)) lturn2
+        (then_turn m x 2 (machine system.words system.value (set system.locals x waits)) (machine lock1 system.value (set system.locals x locked)) (machine lock2 system.value (set system.locals x stored)) lturn3
+        (then_turn m x 1 (machine lock1 system.value (set system.locals x locked)) (machine lock1 system.value (set system.locals x again)) (machine lock2 system.value (set system.locals x stored)) lturn4
+        (then_turn m x 0 (machine lock1 system.value (set system.locals x again)) (machine lock2 system.value (set system.locals x stored)) (machine lock2 system.value (set system.locals x stored)) lturn5 refl))))
 
-    lock_says : world_of m system.value lock4 ≡ set_slab (set_memory w p value) f v
-    lock_says = world_of-lock m system.value lock3 j 0 ltable3 j_small
-        ∙ ap (λ w. set_lock w j 0) (world_of-slab m system.value lock2 f (slab_bits v) ltable2 within.1
-        ∙ ap (λ w. set_slab w f (slab_in (slab_bits v))) (world_of-memory m system.value lock1 p value ltable1 p_inside ∙ ap (λ w. set_memory w p value) (world_of-lock m system.value system.words j a begin.table j_small))
-        ∙ ap (set_slab (set_memory (set_lock w j a) p value) f) (slab_in-bits v fit))
-        ∙ ap with_locks (update_back w.lock j a 0 lock_free)
-      where
-        with_locks : (ℕ → ℕ) → World
-        with_locks g = record w { slab = update w.slab f v; memory = update w.memory p value; lock = g }
+    -- the list is short
 
-    lock_settles : (live : Cache) → cache_of s o.cache ≡ Some live → settled (with_freed (with_taken s call.object o.cache) f o.index) live.layout o.cache call.cpu f (own_free s f) ≡ with_freed (with_taken s call.object o.cache) f o.index
-    lock_settles live e = go (own_free s f) chain_some
-      where
-        chain_some : 0 < length (own_free s f)
-        chain_some = elim (cases_eq (length (own_free s f)) 0) [
-          | inl none ↦ absurd (let t = chain-empty (pointer w z.cache f) z.head (own_free s f) own.chain none in omega (arith, t, marks.0))
-          | inr d ↦ omega (arith, d)
-        ]
+    module _ (few_slabs : length (node_of s o.cache) < (layout_at s o.cache).min_partial) where
+      short : nat_le (layout_at s o.cache).min_partial (length (frames_in (system.value j))) ≡ false
+      short = elim (cases_Bool (nat_le (layout_at s o.cache).min_partial (length (frames_in (system.value j))))) [
+        | inr no_more ↦ no_more
+        | inl enough ↦ absurd (
+            let le = leb-true (layout_at s o.cache).min_partial (length (frames_in (system.value j))) enough in
+            let same = ap (λ v. length (frames_in v)) (sym (ap (λ value. value j) (value_of m system.value system.words)) ∙ resting.values j j_small) ∙ ap (length {A = ℕ}) (sym (resting.nodes o.cache)) in
+            omega (arith, le, same, few_slabs))
+      ]
 
-        min_is : live.layout.min_partial ≡ (layout_at s o.cache).min_partial
-        min_is = ap (λ (y : Layout). y.min_partial) (sym (layout_of s o.cache live e))
+      lturn6 : turn m (machine lock2 system.value (set system.locals x stored)) (own_pick x) ≡ machine lock3 system.value (set system.locals x giving)
+      lturn6 = turn_goes m lock2 lock3 system.value system.locals x stored stored giving (record { place = SlabOf f; op = Exchange (slab_bits z) (slab_bits v) }) Won next.there refl refl
+          (ap (λ h. set lock2 (slab_base + f) (cond {A = ℕ} h (slab_bits v) (get_or lock2 (slab_base + f) 0))) slab_hit) (ap (λ h. cond {A = Answer} h Won (Lost (get_or lock2 (slab_base + f) 0))) slab_hit)
+          (settle_tells_once m system.value stored (at (loses stored) (InFree TakeOff)) giving Won reply refl (ap off short) refl refl)
+        where
+          mid : Local
+          mid = answered (at (loses stored) (InFree TakeOff)) reply
 
-        spared : is_spare (with_freed (with_taken s call.object o.cache) f o.index) live.layout.min_partial o.cache f && nat_lt 0 (times f (node_of s o.cache)) ≡ false
-        spared = ap (λ h. h && nat_lt 0 (times f (node_of s o.cache))) (and_no (eqb (inuse_of (with_freed (with_taken s call.object o.cache) f o.index) f) 0) (elim (cases_Bool (nat_le live.layout.min_partial (length (node_of s o.cache)))) [
-          | inr no_more ↦ no_more
-          | inl enough ↦ absurd (let le = leb-true live.layout.min_partial (length (node_of s o.cache)) enough in omega (arith, le, few_slabs, min_is))
-        ]))
+          off : Bool → Change
+          off h = record {
+            value = cond {A = ℕ → LockValue} h (with_node system.value mid (without (node_in system.value mid) (here mid).frame)) system.value;
+            local = cond {A = Local} h (at (with_hand mid (bare_hand (here mid).frame)) (InDiscard Unmake FromFree)) (at mid (InFree GiveFree));
+            reply = None;
+          }
 
-        go : (free : List ℕ) → 0 < length free → settled (with_freed (with_taken s call.object o.cache) f o.index) live.layout o.cache call.cpu f free ≡ with_freed (with_taken s call.object o.cache) f o.index
-        go [] none = absurd (omega arith)
-        go (i ∷ free) more =
-            cond-false {A = State} (is_frozen s f) (with_freed (with_taken s call.object o.cache) f o.index) (without_spare (with_freed (with_taken s call.object o.cache) f o.index) live.layout.min_partial o.cache f) (frozen_is ∙ marks.1)
-            ∙ cond-false {A = State} (is_spare (with_freed (with_taken s call.object o.cache) f o.index) live.layout.min_partial o.cache f && nat_lt 0 (times f (node_of s o.cache))) (discarded (without_slab (with_freed (with_taken s call.object o.cache) f o.index) o.cache f) f) (with_freed (with_taken s call.object o.cache) f o.index) spared
+      lturn7 : turn m (machine lock3 system.value (set system.locals x giving)) (own_pick x) ≡ machine lock4 system.value (set system.locals x (rested m told))
+      lturn7 = turn_goes m lock3 lock4 system.value system.locals x giving giving (rested m told) (record { place = LockOf j; op = Store 0 }) Done next.there refl refl refl refl (settle_rests m system.value giving told Done refl refl)
 
-    put_locked : FreesAlone opening s b system x call 7 b
-    put_locked = puts 7 lock4 lock_whole lock_says
-        (whole_lock m lock3 j 0 j_small (whole_slab m lock2 f v refl (omega (arith, ltable2.length, within.1)) fit (whole_memory m lock1 p value refl begin.table.objects (whole_lock m system.words j a j_small rest.whole))))
-        (omega (arith, inuse_one)) lock_settles
+      lock_whole : alone m x 7 system ≡ machine lock4 system.value (set system.locals x (rested m told))
+      lock_whole = alone_then m x 5 2 7 system (machine lock2 system.value (set system.locals x stored)) (machine lock4 system.value (set system.locals x (rested m told))) refl locked_turns
+          (then_turn m x 1 (machine lock2 system.value (set system.locals x stored)) (machine lock3 system.value (set system.locals x giving)) (machine lock4 system.value (set system.locals x (rested m told))) lturn6
+          (then_turn m x 0 (machine lock3 system.value (set system.locals x giving)) (machine lock4 system.value (set system.locals x (rested m told))) (machine lock4 system.value (set system.locals x (rested m told))) lturn7 refl))
+
+      ltable3 : IsTable m lock3
+      ltable3 = record { length = length-set lock2 (slab_base + f) (slab_bits v) ∙ ltable2.length; locks = refl; cpu_words = refl; frames = begin.table.frames; objects = begin.table.objects }
+
+      lock_says : world_of m system.value lock4 ≡ put
+      lock_says = world_of-lock m system.value lock3 j 0 ltable3 j_small
+          ∙ ap (λ w. set_lock w j 0) (world_of-slab m system.value lock2 f (slab_bits v) ltable2 within.1
+          ∙ ap (λ w. set_slab w f (slab_in (slab_bits v))) (world_of-memory m system.value lock1 p value ltable1 p_inside ∙ ap (λ w. set_memory w p value) (world_of-lock m system.value system.words j a begin.table j_small))
+          ∙ ap (set_slab (set_memory (set_lock w j a) p value) f) (slab_in-bits v fit))
+          ∙ ap with_locks (update_back w.lock j a 0 lock_free)
+        where
+          with_locks : (ℕ → ℕ) → World
+          with_locks g = record w { slab = update w.slab f v; memory = update w.memory p value; lock = g }
+
+      lock_settles : (live : Cache) → cache_of s o.cache ≡ Some live → settled (with_freed (with_taken s call.object o.cache) f o.index) live.layout o.cache call.cpu f (own_free s f) ≡ with_freed (with_taken s call.object o.cache) f o.index
+      lock_settles live e = go (own_free s f) chain_some
+        where
+          min_is : live.layout.min_partial ≡ (layout_at s o.cache).min_partial
+          min_is = ap (λ (y : Layout). y.min_partial) (sym (layout_of s o.cache live e))
+
+          spared : is_spare (with_freed (with_taken s call.object o.cache) f o.index) live.layout.min_partial o.cache f && nat_lt 0 (times f (node_of s o.cache)) ≡ false
+          spared = ap (λ h. h && nat_lt 0 (times f (node_of s o.cache))) (and_no (eqb (inuse_of (with_freed (with_taken s call.object o.cache) f o.index) f) 0) (elim (cases_Bool (nat_le live.layout.min_partial (length (node_of s o.cache)))) [
+            | inr no_more ↦ no_more
+            | inl enough ↦ absurd (let le = leb-true live.layout.min_partial (length (node_of s o.cache)) enough in omega (arith, le, few_slabs, min_is))
+          ]))
+
+          go : (free : List ℕ) → 0 < length free → settled (with_freed (with_taken s call.object o.cache) f o.index) live.layout o.cache call.cpu f free ≡ with_freed (with_taken s call.object o.cache) f o.index
+          go [] none = absurd (omega arith)
+          go (i ∷ free) more =
+              cond-false {A = State} (is_frozen s f) (with_freed (with_taken s call.object o.cache) f o.index) (without_spare (with_freed (with_taken s call.object o.cache) f o.index) live.layout.min_partial o.cache f) (frozen_is ∙ marks.1)
+              ∙ cond-false {A = State} (is_spare (with_freed (with_taken s call.object o.cache) f o.index) live.layout.min_partial o.cache f && nat_lt 0 (times f (node_of s o.cache))) (discarded (without_slab (with_freed (with_taken s call.object o.cache) f o.index) o.cache f) f) (with_freed (with_taken s call.object o.cache) f o.index) spared
+
+      put_locked : FreesAlone opening s b system x call 7 b
+      put_locked = puts 6 lock4 lock_whole lock_says
+          (whole_lock m lock3 j 0 j_small (whole_slab m lock2 f v refl (omega (arith, ltable2.length, within.1)) fit (whole_memory m lock1 p value refl begin.table.objects (whole_lock m system.words j a j_small rest.whole))))
+          (omega (arith, inuse_one)) lock_settles
 
 pub in_place : FreesInPlaceArePuts
 in_place opening s b system x call rest next is away stays = put_in_place opening s b system x call rest next is away stays
 
 pub last_kept : LastOfListedAreKept
-last_kept opening s b system x call rest next is away on_node one few_slabs = put_locked opening s b system x call rest next is away on_node one few_slabs
+last_kept opening s b system x call rest next is on_node one few_slabs =
+    let known = known_at (worker_at system x) call in
+    let away = node_away s known.cache known.cache call.cpu known.frame (ready_starts opening s b system x call rest next).consistent on_node in
+    put_locked opening s b system x call rest next is away on_node one few_slabs

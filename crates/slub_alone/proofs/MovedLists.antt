@@ -1,4 +1,4 @@
--- A CPU's only partial slab that goes to the node list, and a slab that then takes its place: in lists, in words, and what rests in them.
+-- A CPU's partial list that is taken, slabs of it that go to the node list, and a slab that takes their place: what rests in the lists then.
 use Rattle.std.proofs.Common.{◌≡◌, ℕ, zero, suc, ◌+◌, ◌-◌, ◌<◌, ◌≤◌, ◌&&◌, eqb, cond, Bool, true, false, List, [], ◌∷◌, ◌++◌, length, get_or, set, Option, Some, None, inl, inr, refl, ap, sym, ◌∙◌, subst, arith}
 use Rattle.std.specs.Prelude.{nat_lt, is_some}
 use Rattle.std.proofs.lemmas.Bool.{cases_eq, eq-eqb, ne_eqb, lt-ltb}
@@ -21,6 +21,7 @@ use Rattle.slub_core.specs.Local.{Local, Turn, Change, noted, goes, stays}
 use Rattle.slub_core.specs.Run.{System, idle, after_step, turn}
 use Rattle.slub_core.specs.Steps.{step_of, advance_at, advance_of, at_once, settled, changed, rested, begun}
 use Rattle.slub_core.proofs.Lists.{times-first}
+use Rattle.slub_core.proofs.Packed.{IsListFit, IsSlabFit}
 use Rattle.slub_core.proofs.Update.{update_same, update_other, update_at, each_updated}
 use Rattle.slub_opening.specs.Opening.{Beside, cpu_at, value_of, node_value}
 use Rattle.slub_opening.specs.Rests.{IsCpuOf, Rests, slab_at}
@@ -157,6 +158,80 @@ module _ (s : State) (b : Beside) (w : World) (ls : List Local) (k c f front cou
     contents = rests.contents;
   }
 
+-- ---- a CPU's partial list is taken
+
+module _ (s : State) (b : Beside) (w : World) (ls : List Local) (k c : ℕ) where
+  abbrev pub emptied : CpuLists
+  emptied = record (lists_of s k c) { partial = [] }
+
+  abbrev pub t3 : State
+  t3 = record s { cpu_lists = set s.cpu_lists (cpu_place s k c) emptied }
+
+  abbrev pub none : ListWord
+  none = record { front = 0; count = 0 }
+
+  abbrev pub v3 : World
+  v3 = record w { list = update w.list (cpu_number k c) none }
+
+  cpus_emptied : c < s.cpus → s.cpus ≤ 16 → cpu_place s k c < length s.cpu_lists → ((n : ℕ) → n < 512 → IsCpuOf b w n (cpu_at s n)) → (n : ℕ) → n < 512 → IsCpuOf b v3 n (cpu_at t3 n)
+  cpus_emptied below few inside old n small = elim (cases_eq n (cpu_number k c)) [
+    | inl q ↦ subst (λ j. IsCpuOf b v3 j (cpu_at t3 j)) (sym q) (subst (IsCpuOf b v3 (cpu_number k c)) (sym (cpu_changed s k c emptied below few inside)) (at_it (subst (λ j. j < 512) q small)))
+    | inr away ↦ subst (IsCpuOf b v3 n) (sym (cpu_other s k c emptied n below few away)) (elsewhere away)
+  ]
+    where
+      at_it : cpu_number k c < 512 → IsCpuOf b v3 (cpu_number k c) emptied
+      at_it small =
+          let m = cpu_number k c in
+          let was = subst (IsCpuOf b w m) (cpu_here s k c below few) (old m small) in
+          let here = update_same w.list m none in
+          record {
+            tid = was.tid;
+            current = was.current;
+            free = was.free;
+            count = ap (λ (z : ListWord). z.count) here;
+            partial = ap (λ (z : ListWord). z.front) here;
+          }
+
+      elsewhere : (n ≡ cpu_number k c → ⊥) → IsCpuOf b v3 n (cpu_at s n)
+      elsewhere away =
+          let was = old n small in
+          let there = update_other w.list (cpu_number k c) none n away in
+          record {
+            tid = was.tid;
+            current = was.current;
+            free = was.free;
+            count = ap (λ (z : ListWord). z.count) there ∙ was.count;
+            partial = subst (λ (z : ListWord). Links w.link z.front (cpu_at s n).partial 0) (sym there) was.partial;
+          }
+
+  -- its slabs are on no list then: all else rests as it did
+  pub rests_emptied : Rests s b w ls → c < s.cpus → s.cpus ≤ 16 → cpu_place s k c < length s.cpu_lists → Rests t3 b v3 ls
+  rests_emptied rests below few inside = record {
+    setup = rests.setup;
+    words = record {
+      cpu = rests.words.cpu;
+      slab = rests.words.slab;
+      list = each_updated w.list (cpu_number k c) none (λ _ (d : ListWord). IsListFit d) (omega arith, omega arith) (λ i d. rests.words.list i);
+      link = rests.words.link;
+      room = rests.words.room;
+      remainder = rests.words.remainder;
+    };
+    workers = rests.workers;
+    locks = rests.locks;
+    values = rests.values;
+    nodes = rests.nodes;
+    cpu = cpus_emptied below few inside rests.cpu;
+    slab = rests.slab;
+    unchecked = rests.unchecked;
+    unslabbed = rests.unslabbed;
+    own = λ g. record { chain = (rests.own g).chain; in_use = (rests.own g).in_use };
+    listed = rests.listed;
+    named = rests.named;
+    once = rests.once;
+    no_zero = rests.no_zero;
+    contents = rests.contents;
+  }
+
 -- ---- a slab goes to the node list
 
 -- but for its mark a slab's word is the same
@@ -180,7 +255,7 @@ order_same : (value after : ℕ → LockValue) (f : ℕ) → ((n : ℕ) → size
 order_same value after f size order zero = refl
 order_same value after f size order (suc n) = λ i. cond (nat_lt 0 (size n i)) (order n i) (order_same value after f size order n i)
 
-slab_same : (w v : World) (f : ℕ) → v.setup ≡ w.setup → IsKept (w.slab f) (v.slab f) → ((n : ℕ) → size_in (v.value n) f ≡ size_in (w.value n) f) → ((n : ℕ) → order_in (v.value n) f ≡ order_in (w.value n) f) → slab_at v f ≡ slab_at w f
+pub slab_same : (w v : World) (f : ℕ) → v.setup ≡ w.setup → IsKept (w.slab f) (v.slab f) → ((n : ℕ) → size_in (v.value n) f ≡ size_in (w.value n) f) → ((n : ℕ) → order_in (v.value n) f ≡ order_in (w.value n) f) → slab_at v f ≡ slab_at w f
 slab_same w v f setup kept size order =
     ap (λ (m : Setup). slab_at (record v { setup = m }) f) setup
     ∙ (λ i. by
@@ -192,24 +267,18 @@ slab_same w v f setup kept size order =
     by : ℕ → ℕ → ℕ → Bool → Option Slab
     by o k d z = cond (nat_lt 0 o) (Some (record { cache = k; order = d; objects = o; frozen = z })) None
 
-module _ (s : State) (b : Beside) (w : World) (ls : List Local) (k c e : ℕ) where
+module _ (s : State) (b : Beside) (w : World) (ls : List Local) (k e : ℕ) where
   abbrev pub fs : List ℕ
   fs = node_of s k ++ e ∷ []
 
-  abbrev pub emptied : CpuLists
-  emptied = record (lists_of s k c) { partial = [] }
-
   abbrev pub t1 : State
-  t1 = record s { cpu_lists = set s.cpu_lists (cpu_place s k c) emptied; nodes = set s.nodes k fs }
-
-  abbrev pub none : ListWord
-  none = record { front = 0; count = 0 }
+  t1 = record s { nodes = set s.nodes k fs }
 
   abbrev pub marked : SlabWord
   marked = record (w.slab e) { listed = true }
 
   abbrev pub v1 : World
-  v1 = record w { list = update w.list (cpu_number k c) none; slab = update w.slab e marked; value = update w.value (node_lock k) (Node fs) }
+  v1 = record w { slab = update w.slab e marked; value = update w.value (node_lock k) (Node fs) }
 
   kept : (f : ℕ) → IsKept (w.slab f) (update w.slab e marked f)
   kept = each_updated w.slab e marked (λ f (d : SlabWord). IsKept (w.slab f) d) (record { head = refl; inuse = refl; objects = refl; cache = refl; frozen = refl }) (λ f away. record { head = refl; inuse = refl; objects = refl; cache = refl; frozen = refl })
@@ -217,38 +286,7 @@ module _ (s : State) (b : Beside) (w : World) (ls : List Local) (k c e : ℕ) wh
   next_is : node_lock k ≡ suc k
   next_is = omega arith
 
-  cpus_moved : c < s.cpus → s.cpus ≤ 16 → cpu_place s k c < length s.cpu_lists → ((n : ℕ) → n < 512 → IsCpuOf b w n (cpu_at s n)) → (n : ℕ) → n < 512 → IsCpuOf b v1 n (cpu_at t1 n)
-  cpus_moved below few inside old n small = elim (cases_eq n (cpu_number k c)) [
-    | inl q ↦ subst (λ j. IsCpuOf b v1 j (cpu_at t1 j)) (sym q) (subst (IsCpuOf b v1 (cpu_number k c)) (sym (cpu_changed s k c emptied below few inside)) (at_it (subst (λ j. j < 512) q small)))
-    | inr away ↦ subst (IsCpuOf b v1 n) (sym (cpu_other s k c emptied n below few away)) (elsewhere away)
-  ]
-    where
-      at_it : cpu_number k c < 512 → IsCpuOf b v1 (cpu_number k c) emptied
-      at_it small =
-          let m = cpu_number k c in
-          let was = subst (IsCpuOf b w m) (cpu_here s k c below few) (old m small) in
-          let here = update_same w.list m none in
-          record {
-            tid = was.tid;
-            current = was.current;
-            free = was.free;
-            count = ap (λ (z : ListWord). z.count) here;
-            partial = ap (λ (z : ListWord). z.front) here;
-          }
-
-      elsewhere : (n ≡ cpu_number k c → ⊥) → IsCpuOf b v1 n (cpu_at s n)
-      elsewhere away =
-          let was = old n small in
-          let there = update_other w.list (cpu_number k c) none n away in
-          record {
-            tid = was.tid;
-            current = was.current;
-            free = was.free;
-            count = ap (λ (z : ListWord). z.count) there ∙ was.count;
-            partial = subst (λ (z : ListWord). Links w.link z.front (cpu_at s n).partial 0) (sym there) was.partial;
-          }
-
-  -- the list of one CPU has no slab any more, the slab is the tail of the node list, and its word is marked
+  -- the slab is the tail of the node list, and its word is marked
   module _ (rests : Rests s b w ls) (inside : k < length s.nodes) (lock_inside : k < 32) (lives : is_some (cache_of s k) ≡ true) (plain : checked_of s k ≡ None) (own_cache : (w.slab e).cache ≡ k) where
     node_t : node_of t1 k ≡ fs
     node_t = get_or-set_same s.nodes k fs [] inside
@@ -315,15 +353,22 @@ module _ (s : State) (b : Beside) (w : World) (ls : List Local) (k c e : ℕ) wh
           | inr elsewhere ↦ ap (λ xs. nat_lt 0 (times f xs)) (sym (get_or-set_other s.nodes k (w.slab f).cache fs [] elsewhere))
         ]
 
-    pub rests_moved : IsWorded v1 → c < s.cpus → s.cpus ≤ 16 → cpu_place s k c < length s.cpu_lists → Rests t1 b v1 ls
-    rests_moved worded below few place = record {
+    pub rests_listed : Rests t1 b v1 ls
+    rests_listed = record {
       setup = rests.setup;
-      words = worded;
+      words = record {
+        cpu = rests.words.cpu;
+        slab = each_updated w.slab e marked (λ _ (d : SlabWord). IsSlabFit d) (rests.words.slab e) (λ i d. rests.words.slab i);
+        list = rests.words.list;
+        link = rests.words.link;
+        room = rests.words.room;
+        remainder = rests.words.remainder;
+      };
       workers = rests.workers;
       locks = rests.locks;
       values = values_are;
       nodes = nodes_are;
-      cpu = cpus_moved below few place rests.cpu;
+      cpu = λ n below. let c = rests.cpu n below in record { tid = c.tid; current = c.current; free = c.free; count = c.count; partial = c.partial };
       slab = λ f. rests.slab f ∙ sym (slab_same w v1 f refl (kept f) (size_is f) (order_is f));
       unchecked = λ f some. ap (checked_of s) (kept f).cache ∙ rests.unchecked f (subst (λ n. 1 ≤ n) (kept f).objects some);
       unslabbed = λ f none. (kept f).frozen ∙ rests.unslabbed f (sym (kept f).objects ∙ none);

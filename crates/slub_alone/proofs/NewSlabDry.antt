@@ -1,5 +1,5 @@
 -- An allocation that finds no slab and no run of frames: it is told so under the pool's lock, and the pool counts it.
-use Rattle.std.proofs.Common.{◌≡◌, ℕ, zero, suc, ◌+◌, ◌-◌, ◌<◌, ◌≤◌, eqb, cond, true, List, [], ◌∷◌, get_or, set, Option, Some, None, refl, ap, sym, ◌∙◌, subst, arith}
+use Rattle.std.proofs.Common.{◌≡◌, ℕ, zero, suc, ◌+◌, ◌<◌, ◌≤◌, eqb, cond, true, List, [], ◌∷◌, get_or, set, Option, Some, None, refl, ap, sym, ◌∙◌, subst, arith}
 use Rattle.std.specs.Prelude.{nat_lt, is_some, IfSome, MatchOption, MatchResult}
 use Rattle.std.specs.Option.{option_map, option_or}
 use Rattle.std.proofs.lemmas.Bool.{false≢true, eq-eqb}
@@ -14,7 +14,7 @@ use Rattle.slub_words.specs.declared.cpu.CpuWord.{CpuWord}
 use Rattle.slub_lists.specs.declared.lists.Slab.{Slab}
 use Rattle.slub_lists.specs.declared.lists.CpuLists.{CpuLists}
 use Rattle.slub_lists.specs.State.{State}
-use Rattle.slub_lists.specs.Alloc.{lists_of, cache_of, checked_of, named, from_free, from_slabs, from_partial, from_node, batch_of, AllocatesNew, Gives}
+use Rattle.slub_lists.specs.Alloc.{lists_of, cache_of, checked_of, from_free, from_slabs, from_partial, from_node, batch_of, AllocatesNew, Gives}
 use Rattle.slub_lists.specs.Named.{AllocatesNamed, AllocatesFrom}
 use Rattle.slub_lists.specs.Places.{layout_at}
 use Rattle.slub_lists.proofs.Giving.{from-unchecked}
@@ -46,6 +46,7 @@ use Rattle.slub_alone.specs.Alone.{own_pick, alone, worker_at, IsAtRest, IsNext,
 use Rattle.slub_alone.specs.Laws.{IsAlloc, HasNoSlab, AllocatesAlone, LackOfFramesIsTold}
 use Rattle.slub_alone.proofs.CpuWords.{cpu_here}
 use Rattle.slub_alone.proofs.Ended.{alone_keeps, ends_at_rest, replies_of}
+use Rattle.slub_alone.proofs.Knows.{known_ends}
 use Rattle.slub_alone.proofs.FastFree.{layout_of}
 use Rattle.slub_alone.proofs.Names.{among_same}
 use Rattle.slub_alone.proofs.NewSlabSearch.{turn_changes, settle_does, searched, lock_back, search_turns}
@@ -59,10 +60,10 @@ none_taken : (pool : FreeFrames) (order : ℕ) (t : Option ℕ) → Takes pool o
 none_taken pool order None takes none = refl
 none_taken pool order (Some f) takes none = absurd (none takes.0.found f takes.0.enough takes.0.block.small takes.0.block)
 
-none_greater : (free : List ℕ) (least order : ℕ) → least ≤ order → HasNoBlock free least → HasNoBlock free order
+pub none_greater : (free : List ℕ) (least order : ℕ) → least ≤ order → HasNoBlock free least → HasNoBlock free order
 none_greater free least order le none = λ p e enough small block. none p e (omega (arith, le, enough)) small block
 
-none_found : (m : Setup) (pool : FreeFrames) (layout : Layout) → IsPool pool → layout.order ≤ 10 → layout.min_order ≤ layout.order → HasNoBlock pool.free layout.min_order → found_run m pool layout ≡ None
+pub none_found : (m : Setup) (pool : FreeFrames) (layout : Layout) → IsPool pool → layout.order ≤ 10 → layout.min_order ≤ layout.order → HasNoBlock pool.free layout.min_order → found_run m pool layout ≡ None
 none_found m pool layout good small least none =
     ap (λ t. or_least m pool layout (run_found layout layout.order t)) (none_taken pool layout.order (m.means.take pool layout.order) (m.means.takes pool layout.order good small) (none_greater pool.free layout.min_order layout.order least none))
     ∙ ap (run_found layout layout.min_order) (none_taken pool layout.min_order (m.means.take pool layout.min_order) (m.means.takes pool layout.min_order good (omega (arith, small, least))) none)
@@ -290,16 +291,21 @@ module _ (opening : World) (s : State) (b : Beside) (system : System) (x : ℕ) 
           (subst (λ fs. MatchResult (from_partial s k call.cpu (batch_of live.layout) fs) (λ stocked. Gives stocked live.layout k call.cpu l.worker call.object NoFrames after) (λ bare. AllocatesNew bare live.layout k call.cpu l.worker call.object NoFrames after)) (sym none.list)
           (subst (λ fs. MatchResult (from_node s k call.cpu (batch_of live.layout) fs) (λ stocked. Gives stocked live.layout k call.cpu l.worker call.object NoFrames after) (λ bare. AllocatesNew bare live.layout k call.cpu l.worker call.object NoFrames after)) (sym none.node) (bare live e)))))
 
-  tells : AllocatesAlone opening s b system x call place 6 b
+  pub tells : AllocatesAlone opening s b system x call place 6 b
   tells = record {
     reply = NoFrames;
     after = after;
     allocates = allocates;
     given = after;
     words = record { lists = refl; sized = refl; words = λ other word h away there plain is_word. refl };
-    replies = replies_of opening s after b b system x 6 call NoFrames told system.words later next whole refl refl refl
+    known = known_ends s b system x 6 told system.words later next.there whole refl;
+    replies = replies_of opening s after b b system x 6 call NoFrames told system.words later next whole refl refl refl refl refl
         (ends_at_rest opening v s after b b system (machine system.words later (set system.locals x (rested m told))) rest refl refl refl lengths rest.lists.accounted rest.beside.tids refl refl ended says ends rest.whole);
   }
+
+  pub tells_lacks : tells.reply ≡ NoFrames
+  unfolding tells
+  tells_lacks = refl
 
 pub lack_told : LackOfFramesIsTold
 lack_told opening s b system x call place k rest next is ids none dry = tells opening s b system x call place k rest next is ids none dry

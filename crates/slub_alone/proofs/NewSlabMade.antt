@@ -1,11 +1,12 @@
 -- An allocation that finds no slab, and makes a new one of a run of frames: the run is taken under the pool's lock, the free pointers and the slab word are stored, and the slab becomes current.
-use Rattle.std.proofs.Common.{◌≡◌, ◌≢◌, ℕ, zero, suc, ◌+◌, ◌-◌, ◌*◌, ◌/◌, ◌%◌, ◌^◌, ◌<◌, ◌≤◌, eqb, cond, true, false, List, [], ◌∷◌, length, get_or, set, Option, Some, None, inl, inr, refl, ap, sym, ◌∙◌, subst, arith}
+use Rattle.std.proofs.Common.{◌≡◌, ℕ, zero, suc, ◌+◌, ◌-◌, ◌*◌, ◌/◌, ◌%◌, ◌^◌, ◌<◌, ◌≤◌, eqb, cond, true, false, List, [], ◌∷◌, length, get_or, set, Option, Some, None, inl, inr, refl, ap, sym, ◌∙◌, subst, arith}
 use Rattle.std.specs.Prelude.{nat_lt, is_some, IfSome, MatchOption, MatchResult}
 use Rattle.std.specs.List.{range_with_len}
 use Rattle.std.proofs.lemmas.Bool.{cases_eq, false≢true, eq-eqb, ne_eqb, le-ltb, lt-ltb, cond-true, cond-false, cond_both}
 use Rattle.std.proofs.lemmas.List.{get_or-set_same, get_or-set_other, set-set, length-set}
 use Rattle.std.proofs.lemmas.List.Elements.{All-set}
 use Rattle.slub_common.specs.Times.{times}
+use Rattle.slub_answers.specs.Kinds.{is_given}
 use Rattle.slub_answers.specs.declared.reply.Reply.{Reply}
 use Rattle.slub_answers.specs.declared.reply.Reply.TheVariants.{Given, NoSuchCache}
 use Rattle.slub_cache_create.specs.declared.caches.Cache.{Cache}
@@ -22,7 +23,7 @@ use Rattle.slub_lists.specs.declared.lists.CpuLists.{CpuLists}
 use Rattle.slub_lists.specs.declared.lists.Held.{Held}
 use Rattle.slub_lists.specs.declared.lists.Run.{Run}
 use Rattle.slub_lists.specs.State.{State}
-use Rattle.slub_lists.specs.Alloc.{lists_of, no_lists, cpu_place, cache_of, checked_of, named, node_of, slab_of, own_free, from_free, from_slabs, from_partial, from_node, batch_of, with_new_slab, HasLayout, FindsRun, AllocatesNew, Gives}
+use Rattle.slub_lists.specs.Alloc.{lists_of, no_lists, cpu_place, cache_of, checked_of, node_of, slab_of, own_free, from_free, from_slabs, from_partial, from_node, batch_of, with_new_slab, HasLayout, FindsRun, AllocatesNew, Gives}
 use Rattle.slub_lists.specs.Named.{AllocatesNamed, AllocatesFrom}
 use Rattle.slub_lists.specs.Coherent.{IsConsistent, IsAccounted, has_object, held_under}
 use Rattle.slub_lists.specs.Places.{layout_at, pointer_at as pointer_in}
@@ -71,6 +72,7 @@ use Rattle.slub_alone.proofs.Bits.{bits_in, keeps_small, memory_of, copied, copi
 use Rattle.slub_alone.proofs.Changed.{setup_same}
 use Rattle.slub_alone.proofs.CpuWords.{cpu_here, cpus_changed}
 use Rattle.slub_alone.proofs.Ended.{alone_keeps, ends_at_rest, replies_of}
+use Rattle.slub_alone.proofs.Knows.{known_ends, knows_given}
 use Rattle.slub_alone.proofs.FastFree.{layout_of}
 use Rattle.slub_alone.proofs.Install.{install_turns}
 use Rattle.slub_alone.proofs.Names.{named_other, named_held, named_new}
@@ -83,16 +85,16 @@ use Rattle.slub_alone.proofs.Workers.{AtFront, at_front, once_named, IsWithCalls
 
 -- ---- the run that is found
 
-abbrev as_run : Run → FrameRun
+abbrev pub as_run : Run → FrameRun
 as_run run = record { frame = run.frame; order = run.order; objects = run.objects }
 
-takes_it : (old : FreeFrames) (layout : Layout) (run : Run) (new : FreeFrames) → FindsRun old layout (Some run) new → Takes old run.order (Some run.frame) new
+pub takes_it : (old : FreeFrames) (layout : Layout) (run : Run) (new : FreeFrames) → FindsRun old layout (Some run) new → Takes old run.order (Some run.frame) new
 takes_it old layout run new found = elim found [
   | inl wide ↦ subst (λ o. Takes old o (Some run.frame) new) (sym wide.0) wide.2
   | inr least ↦ subst (λ o. Takes old o (Some run.frame) new) (sym least.1) least.4
 ]
 
-finds_it : (m : Setup) (old : FreeFrames) (layout : Layout) (run : Run) (new : FreeFrames) → IsPool old → layout.order ≤ 10 → layout.min_order ≤ 10 → FindsRun old layout (Some run) new → found_run m old layout ≡ Some (as_run run)
+pub finds_it : (m : Setup) (old : FreeFrames) (layout : Layout) (run : Run) (new : FreeFrames) → IsPool old → layout.order ≤ 10 → layout.min_order ≤ 10 → FindsRun old layout (Some run) new → found_run m old layout ≡ Some (as_run run)
 finds_it m old layout run new good most least found = elim found [
   | inl wide ↦
       ap (λ t. or_least m old layout (run_found layout layout.order t)) (Takes-unique old layout.order (m.means.take old layout.order) (Some run.frame) (pool_after old layout.order (m.means.take old layout.order)) new (m.means.takes old layout.order good most) wide.2).0
@@ -111,7 +113,7 @@ some_length j [] some = absurd (omega (arith, some))
 some_length j (x ∷ xs) some = omega arith
 
 -- the slab of a word
-abbrev by_word : World → ℕ → SlabWord → Option Slab
+abbrev pub by_word : World → ℕ → SlabWord → Option Slab
 by_word w f c =
     let n = cond (nat_lt 0 c.objects) c.objects (objects_in_values w.value w.setup.locks f) in
     cond (nat_lt 0 n)
@@ -649,7 +651,7 @@ module _ (opening : World) (s : State) (b : Beside) (system : System) (x : ℕ) 
           (subst (λ fs. MatchResult (from_partial s k call.cpu (batch_of live.layout) fs) (λ stocked. Gives stocked live.layout k call.cpu l.worker call.object reply after) (λ bare. AllocatesNew bare live.layout k call.cpu l.worker call.object reply after)) (sym none.list)
           (subst (λ fs. MatchResult (from_node s k call.cpu (batch_of live.layout) fs) (λ stocked. Gives stocked live.layout k call.cpu l.worker call.object reply after) (λ bare. AllocatesNew bare live.layout k call.cpu l.worker call.object reply after)) (sym none.node) (bare live e)))))
 
-  makes_one : AllocatesAlone opening s b system x call place (10 + run.objects) b1
+  pub makes_one : AllocatesAlone opening s b system x call place (10 + run.objects) b1
   makes_one = record {
     reply = reply;
     after = after;
@@ -664,7 +666,8 @@ module _ (opening : World) (s : State) (b : Beside) (system : System) (x : ℕ) 
           ∙ fill_other m k f run.objects 0 (suc few) w.memory (word_at (layout_at s h.cache) h word) (λ i le lt same. word_away other word h before is_inside i (omega (arith, lt, sum)) same)
           ∙ resting.contents other word h before plain is_inside;
     };
-    replies = replies_of opening s given b b1 system x (10 + run.objects) call reply told words later next whole refl refl same
+    known = known_ends s b system x (10 + run.objects) told words later next.there whole refl ∙ knows_given l.known call.place known.object call.object s.board held after refl on_board object;
+    replies = replies_of opening s given b b1 system x (10 + run.objects) call reply told words later next whole refl refl refl refl same
         (ends_at_rest opening u s given b b1 system (machine words later (set system.locals x (rested m told))) rest same refl refl lengths accounted (length-set b.tids n (tid_of b n + 1 * b.step) ∙ rest.beside.tids) refl refl ended says ends
         (whole_cpu m words3 n (cpu_bits v) refl small (whole_slab m words2 f e refl (omega (arith, table2.length, within)) fit_e (filled_whole m k f run.objects 0 (suc few) system.words refl begin.table.objects rest.whole))));
   }
@@ -672,6 +675,10 @@ module _ (opening : World) (s : State) (b : Beside) (system : System) (x : ℕ) 
       same : setup_of given b1 ≡ setup_of s b
       same = setup_same s b w system.locals s.frees (set s.cpu_lists (cpu_place s k call.cpu) left) given.memory (set s.board call.object (Some held)) s.gone (set s.live k (get_or s.live k 0 + 1)) (set b.tids n (tid_of b n + 1 * b.step))
           (update w.cpu n v) (update w.slab f e) mem (set system.locals x (rested m told)) (length-set s.board call.object (Some held))
+
+  pub makes_one_gives : is_given makes_one.reply ≡ true
+  unfolding makes_one
+  makes_one_gives = refl
 
 pub slabs_made : NewSlabsAreMade
 slabs_made opening s b system x call place k run pool rest next is ids none finds = makes_one opening s b system x call place k run pool rest next is ids none finds

@@ -6,6 +6,7 @@ use Rattle.std.proofs.lemmas.Bool.{cases_eq, false≢true, eq-eqb, ne_eqb, le-lt
 use Rattle.std.proofs.lemmas.List.{get_or-set_same, get_or-set_other, set-get_or, set-set, length-set}
 use Rattle.std.proofs.lemmas.List.Elements.{All-set}
 use Rattle.slub_common.specs.Times.{times}
+use Rattle.slub_answers.specs.Kinds.{is_given}
 use Rattle.slub_answers.specs.declared.reply.Reply.{Reply}
 use Rattle.slub_answers.specs.declared.reply.Reply.TheVariants.{Given, NoSuchCache}
 use Rattle.slub_object_layout.specs.Layout.{address_of}
@@ -64,13 +65,14 @@ use Rattle.slub_alone.proofs.Install.{install_turns}
 use Rattle.slub_alone.proofs.Apart.{IsSlabAt, slab_word, plain_word}
 use Rattle.slub_alone.proofs.FastFree.{layout_of}
 use Rattle.slub_alone.proofs.Ended.{alone_keeps, ends_at_rest, replies_of}
+use Rattle.slub_alone.proofs.Knows.{known_ends, knows_given}
 use Rattle.slub_alone.proofs.Names.{named_other, named_held, named_new}
 use Rattle.slub_alone.proofs.Turns.{machine, turn_goes, settle_goes, then_turn}
 use Rattle.slub_alone.proofs.Workers.{at_front, once_named, IsWithCalls, rested_calls}
 use Rattle.slub_alone.proofs.Start.{IsStart, starts}
 
 -- a function changed twice at one number
-update_twice : {A : Type 0} (g : ℕ → A) (n : ℕ) (a b : A) → update (update g n a) n b ≡ update g n b
+pub update_twice : {A : Type 0} (g : ℕ → A) (n : ℕ) (a b : A) → update (update g n a) n b ≡ update g n b
 update_twice g n a b = λ i k. same k i
   where
     same : (k : ℕ) → update (update g n a) n b k ≡ update g n b k
@@ -521,7 +523,7 @@ module _ (opening : World) (s : State) (b : Beside) (system : System) (x : ℕ) 
           (subst (λ o. MatchResult (from_slabs s k call.cpu (batch_of live.layout) o) (λ stocked. Gives stocked live.layout k call.cpu l.worker call.object reply after) (λ bare. AllocatesNew bare live.layout k call.cpu l.worker call.object reply after)) (sym current)
           (subst (λ free. MatchResult (from_current s k call.cpu (batch_of live.layout) f free) (λ stocked. Gives stocked live.layout k call.cpu l.worker call.object reply after) (λ bare. AllocatesNew bare live.layout k call.cpu l.worker call.object reply after)) (sym first.1) (gives live e))))
 
-  takes : AllocatesAlone opening s b system x call place 7 b2
+  pub takes : AllocatesAlone opening s b system x call place 7 b2
   takes = record {
     reply = reply;
     after = after;
@@ -532,7 +534,8 @@ module _ (opening : World) (s : State) (b : Beside) (system : System) (x : ℕ) 
       sized = copied_length w (512 * s.frames) ∙ sym rest.lists.shaped.memory;
       words = λ other word h away there plain is_word. sym (copied m system.value system.words _) ∙ resting.contents other word h (sym (get_or-set_other s.board call.object other (Some held) None away) ∙ there) plain is_word;
     };
-    replies = replies_of opening s given b b2 system x 7 call reply told words system.value next whole refl refl same
+    known = known_ends s b system x 7 told words system.value next.there whole refl ∙ knows_given l.known call.place known.object call.object s.board held after refl on_board object;
+    replies = replies_of opening s given b b2 system x 7 call reply told words system.value next whole refl refl refl refl same
         (ends_at_rest opening u s given b b2 system (machine words system.value (set system.locals x (rested m told))) rest same refl refl lengths accounted (length-set b.tids n (tid_of b n + 2 * b.step) ∙ rest.beside.tids) refl refl ended says ends
         (whole_cpu m words2 n (cpu_bits v) refl small (whole_slab m words1 f e refl (omega (arith, table1.length, within.1)) fit_e (whole_cpu m system.words n (cpu_bits d) refl small rest.whole))));
   }
@@ -540,6 +543,10 @@ module _ (opening : World) (s : State) (b : Beside) (system : System) (x : ℕ) 
       same : setup_of given b2 ≡ setup_of s b
       same = setup_same s b w system.locals (set s.frees f []) (set s.cpu_lists (cpu_place s k call.cpu) left) (memory_of w (512 * s.frames)) (set s.board call.object (Some held)) s.gone (set s.live k (get_or s.live k 0 + 1)) (set b.tids n (tid_of b n + 2 * b.step))
           (update w.cpu n v) (update w.slab f e) w.memory (set system.locals x (rested m told)) (length-set s.board call.object (Some held))
+
+  pub takes_gives : is_given takes.reply ≡ true
+  unfolding takes
+  takes_gives = refl
 
 pub own_taken : OwnFreelistsAreTaken
 own_taken opening s b system x call place k f rest next is ids empty current some = takes opening s b system x call place k f rest next is ids empty current some

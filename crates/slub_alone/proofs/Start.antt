@@ -5,7 +5,7 @@ use Rattle.std.proofs.lemmas.List.Elements.{All-get_or, All-contains_itself}
 use Rattle.slub_lists.specs.declared.lists.Slab.{Slab}
 use Rattle.slub_lists.specs.State.{State}
 use Rattle.slub_lists.specs.Alloc.{slab_of, cache_of}
-use Rattle.slub_lists.specs.Coherent.{IsConsistent, held_under}
+use Rattle.slub_lists.specs.Coherent.{IsCoherent, IsConsistent, held_under}
 use Rattle.slub_lists.specs.Places.{layout_at, pointer_at}
 use Rattle.slub_lists.proofs.CheckedTaking.{held-slab}
 use Rattle.slub_lists.proofs.Kept.{consistent-of}
@@ -24,7 +24,7 @@ use Rattle.slub_core.specs.World.{World, world_of}
 use Rattle.slub_core.proofs.MayBegin.{MayBegin}
 use Rattle.slub_core.proofs.Words.{IsTable}
 use Rattle.slub_opening.specs.Opening.{Beside, setup_of}
-use Rattle.slub_opening.specs.Rests.{IsBetween}
+use Rattle.slub_opening.specs.Rests.{IsBetween, Rests}
 use Rattle.slub_opening.proofs.Names.{as_held, held-named}
 use Rattle.slub_alone.specs.Alone.{worker_at, known_at, IsAtRest, IsNext}
 use Rattle.slub_alone.proofs.Workers.{AtFront, at_front, may_call}
@@ -66,30 +66,35 @@ pub record HasObject (s : State) (system : System) (x : ℕ) (call : Call) : Typ
   pub inside : (known_at (worker_at system x) call).cache < 32
   pub pointer : pointer_at (layout_at s (known_at (worker_at system x) call).cache) (known_at (worker_at system x) call).frame (known_at (worker_at system x) call).index < 512 * s.frames
 
-pub has_object : (opening : World) (s : State) (b : Beside) (system : System) (x : ℕ) (call : Call) → IsAtRest opening s b system → IsNext system x call → names_object call.kind ≡ true → (known_at (worker_at system x) call).held ≡ true → HasObject s system x call
-has_object opening s b system x call rest next names held =
+pub object_of : (s : State) (b : Beside) (system : System) (x : ℕ) (call : Call) → IsCoherent s → Rests s b (world_of (setup_of s b) system.value system.words) system.locals → x < length system.locals → MayBegin (setup_of s b) (worker_at system x) call → IsSetup (setup_of s b)
+    → names_object call.kind ≡ true → (known_at (worker_at system x) call).held ≡ true → HasObject s system x call
+object_of s b system x call lists rests there may setup names held =
     let w = world_of (setup_of s b) system.value system.words in
     let l = worker_at system x in
     let k = known_at l call in
-    let begin = starts opening s b system x call rest next in
-    let rests = rest.rests.rests in
-    let place = begin.may.place names in
-    let object = begin.may.known names in
+    let consistent = consistent-of s lists in
+    let place = may.place names in
+    let object = may.known names in
     let named : held_under s call.object ≡ Some (as_held l.worker k) = ap (held_under s) (sym object) ∙ rests.named k.object
-    ∙ held-named w system.locals l k (All-contains_itself system.locals x idle next.there) (All-contains_itself l.known call.place nobody place) held (rests.once k.object) in
-    let slab = held-slab s call.object (as_held l.worker k) named begin.consistent in
-    let lives = held-cache s (as_held l.worker k) (record { object = call.object; here = named }) rest.lists in
+    ∙ held-named w system.locals l k (All-contains_itself system.locals x idle there) (All-contains_itself l.known call.place nobody place) held (rests.once k.object) in
+    let slab = held-slab s call.object (as_held l.worker k) named consistent in
+    let lives = held-cache s (as_held l.worker k) (record { object = call.object; here = named }) lists in
     record {
       place = place;
       object = object;
-      some = (begin.may.object names).0;
-      on_board = (begin.may.object names).1;
+      some = (may.object names).0;
+      on_board = (may.object names).1;
       named = named;
       slab = slab;
       lives = lives;
-      inside = begin.setup.live k.cache lives;
-      pointer = subst (λ c. pointer_at (layout_at s c) k.frame k.index < 512 * s.frames) slab.2 (omega (arith, pointer-inside s k.frame k.index slab.0 begin.consistent slab.1 slab.3, rest.lists.shaped.memory));
+      inside = setup.live k.cache lives;
+      pointer = subst (λ c. pointer_at (layout_at s c) k.frame k.index < 512 * s.frames) slab.2 (omega (arith, pointer-inside s k.frame k.index slab.0 consistent slab.1 slab.3, lists.shaped.memory));
     }
+
+pub has_object : (opening : World) (s : State) (b : Beside) (system : System) (x : ℕ) (call : Call) → IsAtRest opening s b system → IsNext system x call → names_object call.kind ≡ true → (known_at (worker_at system x) call).held ≡ true → HasObject s system x call
+has_object opening s b system x call rest next names held =
+    let begin = starts opening s b system x call rest next in
+    object_of s b system x call rest.lists rest.rests.rests next.there begin.may begin.setup names held
 
 -- the worker begins a call of an object of an unchecked cache that it holds
 pub begin_held : (m : Setup) (l : Local) (call : Call) (calls : List Call) (kind : CallKind) (spot : Spot) → l.spot ≡ Between → l.todo ≡ call ∷ calls → call.kind ≡ kind → cache_for m (known_at l call) call.cache kind ≡ (known_at l call).cache → first_cpu kind call.cpu ≡ call.cpu

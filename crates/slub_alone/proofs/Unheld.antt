@@ -42,6 +42,7 @@ use Rattle.slub_alone.specs.Laws.{FreesAlone, IsUnheld, UnheldFreesFindNothing}
 use Rattle.slub_alone.proofs.Bits.{whole_board}
 use Rattle.slub_alone.proofs.Changed.{rests_changed, same_word}
 use Rattle.slub_alone.proofs.Ended.{alone_keeps, ends_at_rest, replies_of}
+use Rattle.slub_alone.proofs.Knows.{known_ends, knows_unheld}
 use Rattle.slub_alone.proofs.Names.{among_same}
 use Rattle.slub_alone.proofs.Start.{IsStart, starts, has_object}
 use Rattle.slub_alone.proofs.Turns.{machine, turn_goes, settle_tells, then_turn}
@@ -198,7 +199,8 @@ module _ (opening : World) (s : State) (b : Beside) (system : System) (x : ℕ) 
     reply = NotHeld;
     after = s;
     frees = unheld_frees s call.cpu l.worker call.object unheld;
-    replies = replies_of opening s s b b system x 1 call NotHeld told words system.value next whole refl refl refl
+    known = known_ends s b system x 1 told words system.value next.there whole refl ∙ knows_unheld l.known _ s l.worker call.object unheld;
+    replies = replies_of opening s s b b system x 1 call NotHeld told words system.value next whole refl refl refl refl refl
         (ends_at_rest opening w s s b b system (machine words system.value (set system.locals x (rested m told))) rest refl refl refl lengths rest.lists.accounted rest.beside.tids refl refl ended says ends (whole_board m system.words o.object 0 refl some rest.whole));
   }
 

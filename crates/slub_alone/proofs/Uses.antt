@@ -30,7 +30,7 @@ use Rattle.slub_core.specs.Local.{Local, at, answered, call_of, no_call}
 use Rattle.slub_core.specs.Ops.{store_word, load_word}
 use Rattle.slub_core.specs.Replies.{names_object}
 use Rattle.slub_core.specs.Steps.{rested, is_outside, told_of_use, told_at_once}
-use Rattle.slub_core.specs.Run.{System, idle, turn}
+use Rattle.slub_core.specs.Run.{System, idle}
 use Rattle.slub_core.specs.Law.{TakesStep, IsRested, IsCoherentSystem}
 use Rattle.slub_core.proofs.Update.{update_at, update_other}
 use Rattle.slub_core.proofs.Words.{world_of-memory, memory-read as word-read}
@@ -44,6 +44,7 @@ use Rattle.slub_alone.proofs.Apart.{IsOwn, word_own, word_inside, cpu_stands, ow
 use Rattle.slub_alone.proofs.Bits.{whole_memory}
 use Rattle.slub_alone.proofs.Changed.{rests_changed, same_word}
 use Rattle.slub_alone.proofs.Ended.{alone_keeps, ends_at_rest, replies_of}
+use Rattle.slub_alone.proofs.Knows.{known_ends}
 use Rattle.slub_alone.proofs.FastFree.{layout_of}
 use Rattle.slub_alone.proofs.Names.{among_same}
 use Rattle.slub_alone.proofs.Start.{IsStart, starts, HasObject, has_object, begin_held}
@@ -56,7 +57,7 @@ use_told true true e = absurd (cc e)
 use_told true false e = (refl, refl)
 use_told false z e = absurd (cc e)
 
-takes : (opening : World) (s : State) (b : Beside) (system : System) (x : ℕ) (call : Call) → IsAtRest opening s b system → IsNext system x call → told_at_once (setup_of s b) (known_at (worker_at system x) call) call call.kind ≡ None
+pub takes : (opening : World) (s : State) (b : Beside) (system : System) (x : ℕ) (call : Call) → IsAtRest opening s b system → IsNext system x call → told_at_once (setup_of s b) (known_at (worker_at system x) call) call call.kind ≡ None
 takes opening s b system x call rest next =
     let m = setup_of s b in
     let l = worker_at system x in
@@ -64,7 +65,7 @@ takes opening s b system x call rest next =
     let rested = All-get_or (IsRested m) system.locals x idle next.there rest.coherent.rested in
     subst (TakesStep m l) next.todo (rested begin.between.between)
 
-used : (opening : World) (s : State) (b : Beside) (system : System) (x : ℕ) (call : Call) → IsAtRest opening s b system → IsNext system x call → told_at_once (setup_of s b) (known_at (worker_at system x) call) call call.kind ≡ told_of_use (setup_of s b) (known_at (worker_at system x) call) call
+pub used : (opening : World) (s : State) (b : Beside) (system : System) (x : ℕ) (call : Call) → IsAtRest opening s b system → IsNext system x call → told_at_once (setup_of s b) (known_at (worker_at system x) call) call call.kind ≡ told_of_use (setup_of s b) (known_at (worker_at system x) call) call
     → ((known_at (worker_at system x) call).held ≡ true) × (is_word (layout_at s (known_at (worker_at system x) call).cache) call.word ≡ true)
 used opening s b system x call rest next is =
     let k = known_at (worker_at system x) call in
@@ -72,10 +73,10 @@ used opening s b system x call rest next is =
     (r.0, not-false _ r.1)
 
 -- what the number names is the worker's
-held-by : (s : State) (worker object : ℕ) (k : Known) → held_under s object ≡ Some (as_held worker k) → held_by s worker object ≡ Some (as_held worker k)
+pub held-by : (s : State) (worker object : ℕ) (k : Known) → held_under s object ≡ Some (as_held worker k) → held_by s worker object ≡ Some (as_held worker k)
 held-by s worker object k named = ap (option_and_then (own worker)) named ∙ cond-true {A = Option Held} (eqb worker worker) (Some (as_held worker k)) None (eq-eqb worker worker refl)
 
-live_match : (s : State) (k : ℕ) (P : Cache → Type 0) → is_some (cache_of s k) ≡ true → ((live : Cache) → cache_of s k ≡ Some live → P live) → MatchOption (cache_of s k) ⊥ P
+pub live_match : (s : State) (k : ℕ) (P : Cache → Type 0) → is_some (cache_of s k) ≡ true → ((live : Cache) → cache_of s k ≡ Some live → P live) → MatchOption (cache_of s k) ⊥ P
 live_match s k P lives there = by (cache_of s k) refl lives
   where
     by : (o : Option Cache) → cache_of s k ≡ o → is_some o ≡ true → MatchOption o ⊥ P
@@ -211,7 +212,7 @@ module _ (opening : World) (s : State) (b : Beside) (system : System) (x : ℕ) 
       subst (λ z. MatchBool z ((Wrote ≡ Wrote) × (after ≡ with_word s live.layout held call.word call.value)) ((Wrote ≡ OutOfObject) × (after ≡ s))) (sym (ap (λ layout. is_word layout call.word) (sym (layout_of s o.cache live e)) ∙ inside))
       (refl, memory-written s (layout_at s o.cache) held call.word call.value plain ∙ ap (λ layout. with_word s layout held call.word call.value) (layout_of s o.cache live e))))
 
-  write_alone : call.kind ≡ Write → WritesAlone opening s b system x call
+  write_alone : call.kind ≡ Write → WritesAlone opening s b system x call 1
   write_alone is =
       let whole = stored is in
       let ended = subst (IsCoherentSystem m opening) whole (alone_keeps m opening x 1 system rest.coherent) in
@@ -219,7 +220,8 @@ module _ (opening : World) (s : State) (b : Beside) (system : System) (x : ℕ) 
         reply = Wrote;
         after = after;
         writes = writes;
-        replies = replies_of opening s after b b system x 1 call Wrote wrote words system.value next whole refl refl refl
+        known = known_ends s b system x 1 wrote words system.value next.there whole refl;
+        replies = replies_of opening s after b b system x 1 call Wrote wrote words system.value next whole refl refl refl refl refl
             (ends_at_rest opening (set_memory w p call.value) s after b b system (machine words system.value (set system.locals x (rested m wrote))) rest refl refl refl (lengths (set s.memory p call.value) (length-set s.memory p call.value ∙ rest.lists.shaped.memory)) rest.lists.accounted rest.beside.tids refl refl ended says (write_ends ended)
             (whole_memory m system.words p call.value refl begin.table.objects rest.whole));
       }
@@ -269,14 +271,15 @@ module _ (opening : World) (s : State) (b : Beside) (system : System) (x : ℕ) 
       subst (λ z. MatchBool z (Value found ≡ Value (word_of s live.layout held call.word)) (Value found ≡ OutOfObject)) (sym (ap (λ layout. is_word layout call.word) (sym (layout_of s o.cache live e)) ∙ inside))
       (ap Value found_is ∙ ap (λ layout. Value (word_of s layout held call.word)) (layout_of s o.cache live e))))
 
-  read_alone : call.kind ≡ Read → ReadsAlone opening s b system x call
+  read_alone : call.kind ≡ Read → ReadsAlone opening s b system x call 1
   read_alone is =
       let whole = loaded is in
       let ended = subst (IsCoherentSystem m opening) whole (alone_keeps m opening x 1 system rest.coherent) in
       record {
         reply = Value found;
         reads = reads;
-        replies = replies_of opening s s b b system x 1 call (Value found) read_it system.words system.value next whole refl refl refl
+        known = known_ends s b system x 1 read_it system.words system.value next.there whole refl;
+        replies = replies_of opening s s b b system x 1 call (Value found) read_it system.words system.value next whole refl refl refl refl refl
             (ends_at_rest opening w s s b b system (machine system.words system.value (set system.locals x (rested m read_it))) rest refl refl refl (lengths s.memory rest.lists.shaped.memory) rest.lists.accounted rest.beside.tids refl refl ended refl (read_ends ended) rest.whole);
       }
 

@@ -30,12 +30,12 @@ pub record AtFront (m : Setup) (opening : World) (system : System) (x : ℕ) : T
   pub stands : Stands (world_of m system.value system.words) (worker ∷ others)
   pub account : IsAccounted opening (world_of m system.value system.words) (worker ∷ others)
 
-get_or-middle : {X : Type 0} (front back : List X) (x d : X) (k : ℕ) → length front ≡ k → get_or (front ++ x ∷ back) k d ≡ x
+pub get_or-middle : {X : Type 0} (front back : List X) (x d : X) (k : ℕ) → length front ≡ k → get_or (front ++ x ∷ back) k d ≡ x
 get_or-middle [] back x d k e = ap (λ k. get_or (x ∷ back) k d) (sym e)
 get_or-middle (y ∷ front) back x d zero e = absurd (omega arith)
 get_or-middle (y ∷ front) back x d (suc k) e = get_or-middle front back x d k (omega arith)
 
-length-mapped : {X Y : Type 0} (f : X → Y) (xs : List X) → length (map f xs) ≡ length xs
+pub length-mapped : {X Y : Type 0} (f : X → Y) (xs : List X) → length (map f xs) ≡ length xs
 length-mapped f [] = refl
 length-mapped f (x ∷ xs) = ap suc (length-mapped f xs)
 

@@ -1,6 +1,7 @@
 -- A worker that makes its turns alone, with no turn of another worker in between: where it begins,
 -- and the lists in which the machine comes to rest.
 use Rattle.std.specs.Prelude.{◌≡◌, ◌≢◌, ℕ, ◌+◌, ◌*◌, ◌^◌, ◌<◌, true, false, List, ◌∷◌, length, drop, replicate, slice_index_or, slice_set, None, Some}
+use Rattle.std.specs.Option.{option_map_or}
 use Rattle.slub_answers.specs.declared.reply.Reply.{Reply}
 use Rattle.slub_lists.specs.declared.lists.Held.{Held}
 use Rattle.slub_lists.specs.State.{State}
@@ -10,6 +11,7 @@ use Rattle.slub_lists.specs.Places.{layout_at}
 use Rattle.slub_lists.specs.Words.{is_word, word_at}
 use Rattle.slub_core.specs.declared.call.Call.{Call}
 use Rattle.slub_core.specs.declared.local.Known.{Known}
+use Rattle.slub_core.specs.declared.spot.Spot.TheVariants.{Between}
 use Rattle.slub_core.specs.Setup.{Setup}
 use Rattle.slub_words.specs.Words.{slab_bits}
 use Rattle.slub_cpu_partial.specs.Strings.{list_bits}
@@ -25,7 +27,7 @@ use Rattle.slub_opening.specs.Table.{RestsIn}
 -- ---- turns of one worker
 
 abbrev pub own_pick : ℕ → Pick
-own_pick worker = record { worker = worker; refused = false }
+own_pick worker = record { worker = worker; refused = false; tries = false }
 
 -- so many turns of a worker, one after the other, and none of another worker
 abbrev pub alone : Setup → ℕ → ℕ → System → System
@@ -37,6 +39,23 @@ worker_at system worker = slice_index_or system.locals worker idle
 -- what the worker knows at the place that the call names: the object that it is given or holds
 abbrev pub known_at : Local → Call → Known
 known_at l call = slice_index_or l.known call.place nobody
+
+-- what the worker knows after so many turns alone
+abbrev pub known_after : Setup → System → ℕ → ℕ → List Known
+known_after m system worker turns = (worker_at (alone m worker turns system) worker).known
+
+-- what is known of the object that the lists have under this number, by who holds it
+abbrev pub known_as : ℕ → Held → Known
+known_as object held = record {
+  object = object;
+  frame = held.frame;
+  index = held.index;
+  cache = held.cache;
+  held = true;
+}
+
+abbrev pub known_under : State → ℕ → Known
+known_under s object = option_map_or (known_as object) (plain.held_under s object) nobody
 
 -- ---- where it begins
 
@@ -73,10 +92,13 @@ HasIds b n times = tid_of b n + (times + 1) * b.step < 2 ^ 32
 abbrev pub grown : Beside → ℕ → ℕ → Beside
 grown b n times = record b { tids = slice_set b.tids n (tid_of b n + times * b.step) }
 
--- the worker had this reply to its call, and then at once those to further calls that take no step
+-- the worker had this reply to its call, which is over, and then at once those to further calls
+-- that take no step
 pub record HasReply (m : Setup) (before : Local) (call : Call) (reply : Reply)
     (after : Local) : Type 0 where
   pub told : Local
+  pub between : told.spot ≡ Between
+  pub number : told.worker ≡ before.worker
   pub done : told.done ≡ record { call = call; reply = reply } ∷ before.done
   pub todo : told.todo ≡ drop 1 before.todo
   pub rested : after ≡ rested m told

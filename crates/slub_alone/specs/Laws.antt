@@ -1,7 +1,8 @@
 -- A worker alone does what the operation on plain lists does.
-use Rattle.std.specs.Prelude.{◌≡◌, ◌≢◌, ℕ, ◌<◌, ◌≤◌, ◌⊎◌, List, [], ◌∷◌, length, true, false, Some, None, IfSome, ◌+◌}
+use Rattle.std.specs.Prelude.{◌≡◌, ◌≢◌, ℕ, ◌<◌, ◌≤◌, ◌⊎◌, List, [], ◌∷◌, length, Bool, true, false, if◌then◌else◌, Some, None, IfSome, is_some, ◌+◌, slice_set}
+use Rattle.std.specs.Option.{option_map_or}
 use Rattle.slub_answers.specs.declared.reply.Reply.{Reply}
-use Rattle.slub_lists.specs.declared.lists.Held.{Held}
+use Rattle.slub_answers.specs.Kinds.{is_given}
 use Rattle.slub_lists.specs.State.{State}
 use Rattle.slub_common.specs.Times.{times}
 use Rattle.slub_lists.specs.Alloc.{checked_of, lists_of, named, node_of, own_free, FindsRun}
@@ -24,7 +25,8 @@ use Rattle.slub_core.specs.Run.{System}
 use Rattle.slub_opening.specs.Opening.{Beside, setup_of}
 use Rattle.slub_opening.specs.Table.{system_of}
 use Rattle.slub_opening.specs.Laws.{MayOpen, MayBegin}
-use Rattle.slub_alone.specs.Alone.{worker_at, known_at, IsAtRest, IsNext, HasIds, grown, Replies, IsGiven}
+use Rattle.slub_alone.specs.Alone.{worker_at, known_at, known_after, known_under, IsAtRest, IsNext, HasIds, grown, Replies, IsGiven}
+use Rattle.slub_alone.specs.Ready.{IsReady}
 
 -- ---- the begin of a round
 
@@ -54,6 +56,10 @@ pub record AllocatesAlone (opening : World) (s : State) (b : Beside) (system : S
   pub given : State
   pub words : IsGiven call.object after given
   pub replies : Replies opening s b system worker call turns reply given d
+  -- it holds the object that it was given; what else it knows is as before
+  pub known : let old = (worker_at system worker).known in
+      known_after (setup_of s b) system worker turns ≡ (if is_given reply
+      then slice_set old call.place (known_under after call.object) else old)
 
 -- an allocation that finds an object in its CPU's freelist: it loads the CPU word and the object's
 -- free pointer, and takes the object off the freelist (`slab_alloc_node`)
@@ -135,20 +141,6 @@ NewSlabsAreMade =
     → FindsRun s.pool (layout_at s cache) (Some run) pool
     → AllocatesAlone opening s b system worker call place (10 + run.objects) (grown b n 1)
 
--- an allocation of a CPU without a slab of the cache, where the node list has just one: it takes
--- the empty partial list, takes the slab off the node list under its lock, freezes it with its
--- whole freelist, finds no other there and gives the lock back, loads the first object's free
--- pointer and the CPU word again, and makes the slab current with the rest (`get_partial_node`)
-abbrev pub ListedSlabsAreTaken : Type 0
-ListedSlabsAreTaken =
-    (opening : World) (s : State) (b : Beside) (system : System) (worker : ℕ) (call : Call)
-    (place cache frame : ℕ) → IsAtRest opening s b system → IsNext system worker call
-    → IsAlloc s call place cache → HasIds b (cpu_number cache call.cpu) 1
-    → (lists_of s cache call.cpu).current ≡ None → (lists_of s cache call.cpu).partial ≡ []
-    → node_of s cache ≡ frame ∷ []
-    → AllocatesAlone opening s b system worker call place 9
-    (grown b (cpu_number cache call.cpu) 1)
-
 -- ---- frees
 
 -- the call frees an object of an unchecked cache that the worker holds
@@ -157,6 +149,11 @@ pub record IsFree (s : State) (l : Local) (call : Call) : Type 0 where
   pub held : (known_at l call).held ≡ true
   pub unchecked : checked_of s (known_at l call).cache ≡ None
 
+-- the number names what the worker may free: an object that it holds, or one on the board
+abbrev pub may_free : State → ℕ → ℕ → Bool
+may_free s worker object =
+    option_map_or (λ held. is_freeable worker held.worker) (held_under s object) false
+
 -- by so many turns of the worker alone its free is that of the lists, beside which d stands
 pub record FreesAlone (opening : World) (s : State) (b : Beside) (system : System)
     (worker : ℕ) (call : Call) (turns : ℕ) (d : Beside) : Type 0 where
@@ -164,13 +161,20 @@ pub record FreesAlone (opening : World) (s : State) (b : Beside) (system : Syste
   pub after : State
   pub frees : Frees s call.cpu (worker_at system worker).worker call.object reply after
   pub replies : Replies opening s b system worker call turns reply after d
+  -- it knows the object that it may free, and holds it no more, unless it is damaged and so still
+  -- there; what else it knows is as before
+  pub known : let l = worker_at system worker in
+      known_after (setup_of s b) system worker turns
+      ≡ (if may_free s l.worker call.object then slice_set l.known call.place
+      (record (known_under s call.object) { held = is_some (held_under after call.object) })
+      else l.known)
 
 -- a free of an object whose slab is current on the CPU: it loads the CPU word, stores the head of
 -- the freelist in the object, and puts the object on the freelist (`do_slab_free`)
 abbrev pub FastFreesArePushes : Type 0
 FastFreesArePushes =
     (opening : World) (s : State) (b : Beside) (system : System) (worker : ℕ) (call : Call)
-    → let known = known_at (worker_at system worker) call in IsAtRest opening s b system
+    → let known = known_at (worker_at system worker) call in IsReady opening s b system worker
     → IsNext system worker call → IsFree s (worker_at system worker) call
     → HasIds b (cpu_number known.cache call.cpu) 1
     → (lists_of s known.cache call.cpu).current ≡ Some known.frame
@@ -189,7 +193,7 @@ pub data StaysThere (s : State) (cache frame : ℕ) : Type 0 where
 abbrev pub FreesInPlaceArePuts : Type 0
 FreesInPlaceArePuts =
     (opening : World) (s : State) (b : Beside) (system : System) (worker : ℕ) (call : Call)
-    → let known = known_at (worker_at system worker) call in IsAtRest opening s b system
+    → let known = known_at (worker_at system worker) call in IsReady opening s b system worker
     → IsNext system worker call → IsFree s (worker_at system worker) call
     → (lists_of s known.cache call.cpu).current ≢ Some known.frame
     → StaysThere s known.cache known.frame → FreesAlone opening s b system worker call 4 b
@@ -199,9 +203,8 @@ FreesInPlaceArePuts =
 abbrev pub LastOfListedAreKept : Type 0
 LastOfListedAreKept =
     (opening : World) (s : State) (b : Beside) (system : System) (worker : ℕ) (call : Call)
-    → let known = known_at (worker_at system worker) call in IsAtRest opening s b system
+    → let known = known_at (worker_at system worker) call in IsReady opening s b system worker
     → IsNext system worker call → IsFree s (worker_at system worker) call
-    → (lists_of s known.cache call.cpu).current ≢ Some known.frame
     → 1 ≤ times known.frame (node_of s known.cache) → inuse_of s known.frame ≡ 1
     → length (node_of s known.cache) < (layout_at s known.cache).min_partial
     → FreesAlone opening s b system worker call 7 b
@@ -217,47 +220,10 @@ HasRoom s cache cpu = let count = length (lists_of s cache cpu).partial in
 abbrev pub FullSlabsAreListed : Type 0
 FullSlabsAreListed =
     (opening : World) (s : State) (b : Beside) (system : System) (worker : ℕ) (call : Call)
-    → let known = known_at (worker_at system worker) call in IsAtRest opening s b system
+    → let known = known_at (worker_at system worker) call in IsReady opening s b system worker
     → IsNext system worker call → IsFree s (worker_at system worker) call
     → is_frozen s known.frame ≡ false → own_free s known.frame ≡ []
     → HasRoom s known.cache call.cpu → FreesAlone opening s b system worker call 8 b
-
--- the same where the list has one slab and the cache lets a CPU keep no more. First the list is
--- taken, and its slab goes to the tail of the node list under the node lock, since an object of it
--- is in use or that list has fewer slabs than it is to have (`__unfreeze_partials`)
-abbrev pub OnlySlabsAreMoved : Type 0
-OnlySlabsAreMoved =
-    (opening : World) (s : State) (b : Beside) (system : System) (worker : ℕ) (call : Call)
-    (other : ℕ)
-    → let known = known_at (worker_at system worker) call in IsAtRest opening s b system
-    → IsNext system worker call → IsFree s (worker_at system worker) call
-    → is_frozen s known.frame ≡ false
-    → own_free s known.frame ≡ [] → (lists_of s known.cache call.cpu).partial ≡ other ∷ []
-    → (layout_at s known.cache).cpu_partial_slabs ≤ 1
-    → (1 ≤ inuse_of s other)
-    ⊎ (length (node_of s known.cache) < (layout_at s known.cache).min_partial)
-    → FreesAlone opening s b system worker call 13 b
-
--- a free of an object that is on the board, whose slab is current on the CPU: it takes the object
--- from the board first
-abbrev pub BoardFreesArePushes : Type 0
-BoardFreesArePushes =
-    (opening : World) (s : State) (b : Beside) (system : System) (worker : ℕ) (call : Call)
-    (held : Held) → IsAtRest opening s b system → IsNext system worker call → call.kind ≡ Free
-    → held_under s call.object ≡ Some held → held.worker ≡ None
-    → checked_of s held.cache ≡ None → HasIds b (cpu_number held.cache call.cpu) 1
-    → (lists_of s held.cache call.cpu).current ≡ Some held.frame
-    → FreesAlone opening s b system worker call 4 (grown b (cpu_number held.cache call.cpu) 1)
-
--- and of an object on the board whose slab isn't current on the CPU and stays where it is
-abbrev pub BoardFreesArePuts : Type 0
-BoardFreesArePuts =
-    (opening : World) (s : State) (b : Beside) (system : System) (worker : ℕ) (call : Call)
-    (held : Held) → IsAtRest opening s b system → IsNext system worker call → call.kind ≡ Free
-    → held_under s call.object ≡ Some held → held.worker ≡ None
-    → checked_of s held.cache ≡ None
-    → (lists_of s held.cache call.cpu).current ≢ Some held.frame
-    → StaysThere s held.cache held.frame → FreesAlone opening s b system worker call 5 b
 
 -- the number names nothing that the worker may free: nothing, or what another worker holds
 abbrev pub IsUnheld : State → ℕ → ℕ → Type 0
@@ -274,28 +240,31 @@ UnheldFreesFindNothing =
 
 -- ---- words of objects
 
--- in one turn of the worker alone its write is that of the lists, and its read
+-- by so many turns of the worker alone its write is that of the lists, and its read; what it knows
+-- is as before
 pub record WritesAlone (opening : World) (s : State) (b : Beside) (system : System)
-    (worker : ℕ) (call : Call) : Type 0 where
+    (worker : ℕ) (call : Call) (turns : ℕ) : Type 0 where
   pub reply : Reply
   pub after : State
   pub writes : Writes s (worker_at system worker).worker call.object call.word call.value reply
       after
-  pub replies : Replies opening s b system worker call 1 reply after b
+  pub replies : Replies opening s b system worker call turns reply after b
+  pub known : known_after (setup_of s b) system worker turns ≡ (worker_at system worker).known
 
 pub record ReadsAlone (opening : World) (s : State) (b : Beside) (system : System)
-    (worker : ℕ) (call : Call) : Type 0 where
+    (worker : ℕ) (call : Call) (turns : ℕ) : Type 0 where
   pub reply : Reply
   pub reads : Reads s (worker_at system worker).worker call.object call.word reply
-  pub replies : Replies opening s b system worker call 1 reply s b
+  pub replies : Replies opening s b system worker call turns reply s b
+  pub known : known_after (setup_of s b) system worker turns ≡ (worker_at system worker).known
 
--- a write that takes a step, in an object of an unchecked cache
+-- a write that takes a step, in an object of an unchecked cache: one turn
 abbrev pub WritesAreStores : Type 0
 WritesAreStores =
     (opening : World) (s : State) (b : Beside) (system : System) (worker : ℕ) (call : Call)
     → IsAtRest opening s b system → IsNext system worker call → call.kind ≡ Write
     → checked_of s (known_at (worker_at system worker) call).cache ≡ None
-    → WritesAlone opening s b system worker call
+    → WritesAlone opening s b system worker call 1
 
 -- and a read
 abbrev pub ReadsAreLoads : Type 0
@@ -303,4 +272,4 @@ ReadsAreLoads =
     (opening : World) (s : State) (b : Beside) (system : System) (worker : ℕ) (call : Call)
     → IsAtRest opening s b system → IsNext system worker call → call.kind ≡ Read
     → checked_of s (known_at (worker_at system worker) call).cache ≡ None
-    → ReadsAlone opening s b system worker call
+    → ReadsAlone opening s b system worker call 1

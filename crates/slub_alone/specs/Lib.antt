@@ -1,2 +1,15 @@
 pub mod Alone
+pub mod Boards
+pub mod Discards
 pub mod Laws
+pub mod Ready
+pub mod Spent
+pub mod Node
+pub mod Allocs
+pub mod Sets
+pub mod Away
+pub mod CheckedAlone
+pub mod CheckedAll
+pub mod Frees
+pub mod Calls
+pub mod Busy

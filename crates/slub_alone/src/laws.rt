@@ -1,6 +1,6 @@
 //! What holds of a worker that makes its turns alone. None of these does anything.
 
-ghost use Rattle.slub_alone.specs.Laws.{BoardFreesArePushes, BoardFreesArePuts, FastAllocationsArePops, FastFreesArePushes, FirstPartialSlabsAreTaken, FreesInPlaceArePuts, FullSlabsAreListed, LackOfFramesIsTold, LastOfListedAreKept, ListedSlabsAreTaken, NewSlabsAreMade, OnlyPartialSlabsAreTaken, OnlySlabsAreMoved, OwnFreelistsAreTaken, ReadsAreLoads, RoundsBeginAtRest, UnheldFreesFindNothing, WritesAreStores};
+ghost use Rattle.slub_alone.specs.Laws.{FastAllocationsArePops, FastFreesArePushes, FirstPartialSlabsAreTaken, FreesInPlaceArePuts, FullSlabsAreListed, LackOfFramesIsTold, LastOfListedAreKept, NewSlabsAreMade, OnlyPartialSlabsAreTaken, OwnFreelistsAreTaken, ReadsAreLoads, RoundsBeginAtRest, UnheldFreesFindNothing, WritesAreStores};
 
 /// Before the first turn of a round the machine rests in the lists that it was opened from.
 pub fn rounds_begin_at_rest()
@@ -30,12 +30,6 @@ pub fn first_partial_slabs_are_taken()
     ensures { FirstPartialSlabsAreTaken }
 {}
 
-/// An allocation that takes the only slab of its cache's node list, where the CPU has no slab of the cache, takes
-/// nine turns, and is that of the lists.
-pub fn listed_slabs_are_taken()
-    ensures { ListedSlabsAreTaken }
-{}
-
 /// An allocation that finds no slab but a run of frames makes a new slab in ten turns and one for each object of it,
 /// and is that of the lists.
 pub fn new_slabs_are_made()
@@ -52,20 +46,10 @@ pub fn fast_frees_are_pushes()
     ensures { FastFreesArePushes }
 {}
 
-/// The same of an object that is on the board takes a turn more.
-pub fn board_frees_are_pushes()
-    ensures { BoardFreesArePushes }
-{}
-
 /// A free of an object of a slab that is not current on the CPU and stays where it is takes four turns, and is
 /// that of the lists.
 pub fn frees_in_place_are_puts()
     ensures { FreesInPlaceArePuts }
-{}
-
-/// The same of an object that is on the board takes a turn more.
-pub fn board_frees_are_puts()
-    ensures { BoardFreesArePuts }
 {}
 
 /// A free of the last object in use of a slab of the node list, where that list is short, takes seven turns under
@@ -78,12 +62,6 @@ pub fn last_of_listed_are_kept()
 /// the lists.
 pub fn full_slabs_are_listed()
     ensures { FullSlabsAreListed }
-{}
-
-/// A free of an object of a full slab takes thirteen turns where the CPU's partial list has its one slab, which goes
-/// to the node list first, and is that of the lists.
-pub fn only_slabs_are_moved()
-    ensures { OnlySlabsAreMoved }
 {}
 
 /// A free of a number that names nothing which the worker may free takes one turn, and is that of the lists.

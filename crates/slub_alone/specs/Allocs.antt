@@ -1,0 +1,42 @@
+-- Whichever way an allocation of an unchecked cache goes, a worker alone allocates as the lists do.
+use Rattle.std.specs.Prelude.{◌≡◌, ℕ, ◌+◌, ◌==◌, ◌&&◌, Bool, false, if◌then◌else◌, length, is_some}
+use Rattle.slub_answers.specs.declared.reply.Reply.TheVariants.{NoFrames}
+use Rattle.slub_answers.specs.Kinds.{is_given}
+use Rattle.slub_lists.specs.State.{State}
+use Rattle.slub_lists.specs.Alloc.{checked_of, lists_of}
+use Rattle.slub_core.specs.declared.call.Call.{Call}
+use Rattle.slub_core.specs.Setup.{cpu_number}
+use Rattle.slub_core.specs.World.{World, one_if}
+use Rattle.slub_core.specs.Run.{System}
+use Rattle.slub_opening.specs.Opening.{Beside}
+use Rattle.slub_alone.specs.Alone.{IsAtRest, IsNext, HasIds, grown}
+use Rattle.slub_alone.specs.Laws.{IsAlloc, AllocatesAlone}
+
+-- so often an allocation changes the CPU's word of the cache: once where its freelist is empty and
+-- a slab is current, whose own freelist is taken or which goes, and once for the object that is
+-- given. The words of a checked cache never change
+abbrev pub changes_of_alloc : State → ℕ → ℕ → Bool → ℕ
+changes_of_alloc s cache cpu given = let lists = lists_of s cache cpu in
+    if is_some (checked_of s cache) then 0
+    else one_if ((length lists.free == 0) && is_some lists.current) + one_if given
+
+-- by some turns of the worker alone, one at least, its allocation is that of the lists, and no CPU
+-- word was changed but the call's
+pub record AllocatesSome (opening : World) (s : State) (b : Beside) (system : System)
+    (worker : ℕ) (call : Call) (place cache : ℕ) : Type 0 where
+  pub turns : ℕ
+  pub given : Bool
+  pub allocates : AllocatesAlone opening s b system worker call place (1 + turns)
+      (grown b (cpu_number cache call.cpu) (changes_of_alloc s cache call.cpu given))
+  -- an object was given, or no run of frames was there. Memory is never refused
+  pub gives : is_given allocates.reply ≡ given
+  pub lacks : given ≡ false → allocates.reply ≡ NoFrames
+
+-- an object of the CPU's freelist, of the current slab's own, of a slab of the CPU's partial list,
+-- of one of the node list, or of a new slab; or no frames (`___slab_alloc`)
+abbrev pub AllocationsAreThoseOfLists : Type 0
+AllocationsAreThoseOfLists =
+    (opening : World) (s : State) (b : Beside) (system : System) (worker : ℕ) (call : Call)
+    (place cache : ℕ) → IsAtRest opening s b system → IsNext system worker call
+    → IsAlloc s call place cache → HasIds b (cpu_number cache call.cpu) 2
+    → AllocatesSome opening s b system worker call place cache

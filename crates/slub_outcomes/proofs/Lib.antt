@@ -1,0 +1,14 @@
+pub mod Steps
+pub mod Pool
+pub mod CheckedSlabs
+pub mod Allocations
+pub mod Frees
+pub mod Words
+pub mod Shrinks
+pub mod Events
+pub mod Unchecked
+pub mod Quiet
+pub mod Rounds
+pub mod Creations
+pub mod Between
+pub mod Items

@@ -1,0 +1,5 @@
+pub mod Refused
+pub mod SameEnd
+pub mod InOrder
+pub mod Whole
+pub mod Rounds

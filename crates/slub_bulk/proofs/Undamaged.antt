@@ -5,9 +5,9 @@ use Rattle.std.specs.Prelude.{IsTrue}
 use Rattle.std.proofs.lemmas.List.{ext_get_or}
 use Rattle.std.proofs.lemmas.List.Elements.{All-cons, All-contains, Contains-append_right, All-head, All-nil, All-tail}
 use Rattle.slub_common.proofs.Writes.{inside-of}
-use Rattle.slub_object_layout.specs.declared.event.Act.{Act}
-use Rattle.slub_object_layout.specs.declared.event.Act.TheVariants as act
-use Rattle.slub_object_layout.specs.declared.event.Event.{Event}
+use Rattle.slub_events.specs.declared.event.Act.{Act}
+use Rattle.slub_events.specs.declared.event.Act.TheVariants as act
+use Rattle.slub_events.specs.declared.event.Event.{Event}
 use Rattle.slub_object_layout.specs.declared.layout.Layout.{Layout}
 use Rattle.slub_object_layout.specs.declared.layout.Flags.{Flags}
 use Rattle.slub_object_layout.specs.Layout.{address_of}
@@ -152,7 +152,7 @@ IsUndamaged s object =
 -- an event that is no write and no poke leaves the objects that it doesn't free
 pub stays-undamaged : (s : State) (event : Event) (answer : Reply) (after : State) (other : ℕ) → IsCoherent s → Answers s event event.act answer after
     → ((object : ℕ) → event.act ≡ act.Free object → other ≢ object) → ((object : ℕ) (offset : ℤ) (byte : ℕ) → event.act ≡ act.Poke object offset byte → ⊥)
-    → ((object place value : ℕ) → event.act ≡ act.Write object place value → ⊥) → held_under after other ≡ held_under s other → IsUndamaged s other → IsUndamaged after other
+    → ((object place value : ℕ) → event.act ≡ act.Write place object value → ⊥) → held_under after other ≡ held_under s other → IsUndamaged s other → IsUndamaged after other
 stays-undamaged s event answer after other coherent answers free poke write same whole held slabs there now = by (sym same ∙ there)
   where
     by : held_under s other ≡ Some held → damage_of_used slabs (slot_of_held held) ≡ None

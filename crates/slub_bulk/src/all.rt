@@ -13,9 +13,9 @@ ghost use Rattle.slub_bulk.specs.Numbers.{IsNumber};
 use slub_answers::reply::{Kind, Reply};
 use slub_common::no_memory::NoMemory;
 use slub_engine::client::client_round;
+use slub_events::event::Act;
 use slub_journal::client::{CacheRefusal, ClientRound};
 use slub_list_machine::lists::Lists;
-use slub_object_layout::event::Act;
 use std::alloc::{AllocError, Global};
 
 /// Allocates an object under each of these numbers from the cache that the name at a place names, in one

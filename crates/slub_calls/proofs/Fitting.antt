@@ -14,10 +14,10 @@ use Rattle.std.proofs.lemmas.List.Sums.{sum_by-cons}
 use Rattle.slub_common.specs.Times.{times}
 use Rattle.slub_common.proofs.Times.{times-cons, times-cons_other, times-cons_same}
 use Rattle.slub_common.proofs.Sums.{sum_by-map, sum_by-same}
-use Rattle.slub_object_layout.specs.declared.event.Act.{Act}
-use Rattle.slub_object_layout.specs.declared.event.Act.TheVariants as act
-use Rattle.slub_object_layout.specs.declared.event.Event.{Event}
-use Rattle.slub_object_layout.specs.declared.event.Round.{Round}
+use Rattle.slub_events.specs.declared.event.Act.{Act}
+use Rattle.slub_events.specs.declared.event.Act.TheVariants as act
+use Rattle.slub_events.specs.declared.event.Event.{Event}
+use Rattle.slub_events.specs.declared.event.Round.{Round}
 use Rattle.slub_cache_create.specs.Table.{Table, cache_of, name_at}
 use Rattle.slub_cache_create.specs.declared.caches.Cache.{Cache}
 use Rattle.slub_cache_create.specs.Sound.{IsSound}
@@ -54,8 +54,8 @@ asks_as table ks o (event ∷ events) =
     one : (cpu : ℕ) (a : Act) (cs : List Call) → asked_in o (call_for table ks cpu a ∷ cs) ≡ allocates o a + asked_in o cs
     one cpu (act.Alloc place x) cs = refl
     one cpu (act.Free x) cs = refl
-    one cpu (act.Write x at value) cs = refl
-    one cpu (act.Read x at) cs = refl
+    one cpu (act.Write at x value) cs = refl
+    one cpu (act.Read at x) cs = refl
     one cpu (act.Poke x offset byte) cs = refl
     one cpu (act.Trim place) cs = refl
     one cpu act.Flush cs = refl
@@ -70,8 +70,8 @@ objects_as o (event ∷ events) = one event.act ∙ omega (arith, objects_as o e
     one : (a : Act) → times o (cons_option (allocated a) (objects_of events)) ≡ allocates o a + times o (objects_of events)
     one (act.Alloc place x) = times-cons o x (objects_of events)
     one (act.Free x) = zero_add (times o (objects_of events))
-    one (act.Write x at value) = zero_add (times o (objects_of events))
-    one (act.Read x at) = zero_add (times o (objects_of events))
+    one (act.Write at x value) = zero_add (times o (objects_of events))
+    one (act.Read at x) = zero_add (times o (objects_of events))
     one (act.Poke x offset byte) = zero_add (times o (objects_of events))
     one (act.Trim place) = zero_add (times o (objects_of events))
     one act.Flush = zero_add (times o (objects_of events))
@@ -152,7 +152,7 @@ module _ (s : State) (b : Beside) (trace : Trace) (opens : MayOpen s b) (cpus : 
         inside = λ _. place_inside numbers x (there x refl);
         cache = tt;
       }
-  call_fits workers numbers event (act.Write x at value) is good there =
+  call_fits workers numbers event (act.Write at x value) is good there =
       let sound = subst (IsSoundAct trace) is good.act in record {
         cpu = rw cpus good.cpu;
         object = λ _. (sound.0, omega (arith, sound.1, objects));
@@ -160,7 +160,7 @@ module _ (s : State) (b : Beside) (trace : Trace) (opens : MayOpen s b) (cpus : 
         inside = λ _. place_inside numbers x (there x refl);
         cache = tt;
       }
-  call_fits workers numbers event (act.Read x at) is good there =
+  call_fits workers numbers event (act.Read at x) is good there =
       let sound = subst (IsSoundAct trace) is good.act in record {
         cpu = rw cpus good.cpu;
         object = λ _. (sound.0, omega (arith, sound.1, objects));
@@ -221,8 +221,8 @@ module _ (s : State) (b : Beside) (trace : Trace) (opens : MayOpen s b) (cpus : 
       one : (a : Act) → IsSoundAct trace a → All (λ (o : ℕ). o < length s.board) (named events) → All (λ (o : ℕ). o < length s.board) (cons_option (object_named a) (named events))
       one (act.Alloc place x) sound rest = put x sound.2 rest
       one (act.Free x) sound rest = put x sound.1 rest
-      one (act.Write x at value) sound rest = put x sound.1 rest
-      one (act.Read x at) sound rest = put x sound.1 rest
+      one (act.Write at x value) sound rest = put x sound.1 rest
+      one (act.Read at x) sound rest = put x sound.1 rest
       one (act.Poke x offset byte) sound rest = put x sound.1 rest
       one (act.Trim place) sound rest = rest
       one act.Flush sound rest = rest

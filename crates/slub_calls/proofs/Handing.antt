@@ -7,9 +7,9 @@ use Rattle.std.proofs.lemmas.List.{ext_get_or, get_or-set_other, get_or-set_same
 use Rattle.std.proofs.lemmas.List.Folds.{position_or_len_push}
 use Rattle.std.proofs.lemmas.List.FromFn.{get_or-map-range_with_len, length-map-range_with_len}
 use Rattle.indexmap.specs.IndexSet.{insert_key}
-use Rattle.slub_object_layout.specs.declared.event.Act.{Act}
-use Rattle.slub_object_layout.specs.declared.event.Act.TheVariants as act
-use Rattle.slub_object_layout.specs.declared.event.Event.{Event}
+use Rattle.slub_events.specs.declared.event.Act.{Act}
+use Rattle.slub_events.specs.declared.event.Act.TheVariants as act
+use Rattle.slub_events.specs.declared.event.Event.{Event}
 use Rattle.slub_cache_create.specs.Table.{Table}
 use Rattle.slub_core.specs.declared.call.Call.{Call}
 use Rattle.slub_core.specs.declared.local.Answered.{Answered}
@@ -91,8 +91,8 @@ call_at table place cpu a = record (call_for table [] cpu a) { place = place }
 placed : (table : Table) (ks : List Known) (cpu : ℕ) (a : Act) → call_for table ks cpu a ≡ call_at table (named_at ks (object_named a)) cpu a
 placed table ks cpu (act.Alloc place o) = refl
 placed table ks cpu (act.Free o) = refl
-placed table ks cpu (act.Write o word value) = refl
-placed table ks cpu (act.Read o word) = refl
+placed table ks cpu (act.Write word o value) = refl
+placed table ks cpu (act.Read word o) = refl
 placed table ks cpu (act.Poke o offset byte) = refl
 placed table ks cpu (act.Trim place) = refl
 placed table ks cpu act.Flush = refl

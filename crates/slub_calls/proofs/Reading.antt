@@ -2,9 +2,9 @@
 use Rattle.std.proofs.Common.{◌≡◌, ℕ, Bool, true, false, ◌&&◌, ◌||◌, cond, if◌then◌else◌, List, [], ◌∷◌, map, refl, sym, subst, eqb, arith}
 use Rattle.std.proofs.lemmas.Bool.{false≢true}
 use Rattle.std.proofs.lemmas.Bool.Decides.{nat_tests}
-use Rattle.slub_object_layout.specs.declared.event.Act.{Act}
-use Rattle.slub_object_layout.specs.declared.event.Act.TheVariants as act
-use Rattle.slub_object_layout.specs.declared.event.Event.{Event}
+use Rattle.slub_events.specs.declared.event.Act.{Act}
+use Rattle.slub_events.specs.declared.event.Act.TheVariants as act
+use Rattle.slub_events.specs.declared.event.Event.{Event}
 use Rattle.slub_cache_create.specs.Table.{Table}
 use Rattle.slub_trace_reader.specs.Sound.{AreReadable, IsReadable, is_written, written_after}
 use Rattle.slub_core.specs.declared.call.Call.{Call}
@@ -31,8 +31,8 @@ module _ (table : Table) (rooms : List Known) (worker : ℕ) where
       by true is = absurd (false≢true is)
       by false is = is
   other_wrote (act.Free x) o t was is = is
-  other_wrote (act.Write x at value) o t was is = is
-  other_wrote (act.Read x at) o t was is = is
+  other_wrote (act.Write at x value) o t was is = is
+  other_wrote (act.Read at x) o t was is = is
   other_wrote (act.Poke x offset byte) o t was is = is
   other_wrote (act.Trim place) o t was is = is
   other_wrote act.Flush o t was is = is
@@ -49,14 +49,14 @@ module _ (table : Table) (rooms : List Known) (worker : ℕ) where
       by : (b : Bool) → (if b then false else was) ≡ true → cond b false (written cs o t) ≡ true
       by true is = absurd (false≢true is)
       by false is = rest is
-  mine_wrote cpu (act.Write x at value) o t was cs rest is = by (eqb x o) (eqb at t) is
+  mine_wrote cpu (act.Write at x value) o t was cs rest is = by (eqb x o) (eqb at t) is
     where
       by : (b c : Bool) → ((true && b && c) || was) ≡ true → cond b (cond c true (written cs o t)) (written cs o t) ≡ true
       by true true is = refl
       by true false is = rest is
       by false c is = rest is
   mine_wrote cpu (act.Free x) o t was cs rest is = same_either (eqb x o) (written cs o t) (rest is)
-  mine_wrote cpu (act.Read x at) o t was cs rest is = same_either (eqb x o) (written cs o t) (rest is)
+  mine_wrote cpu (act.Read at x) o t was cs rest is = same_either (eqb x o) (written cs o t) (rest is)
   mine_wrote cpu (act.Poke x offset byte) o t was cs rest is = same_either (eqb x o) (written cs o t) (rest is)
   mine_wrote cpu (act.Trim place) o t was cs rest is = same_either (eqb 0 o) (written cs o t) (rest is)
   mine_wrote cpu act.Flush o t was cs rest is = same_either (eqb 0 o) (written cs o t) (rest is)
@@ -74,10 +74,10 @@ module _ (table : Table) (rooms : List Known) (worker : ℕ) where
 
   may_come : (event : Event) (before : List Event) (a : Act) → event.worker ≡ worker → IsReadable before event a
       → MayCome (calls before) (call_for table rooms event.cpu a) (call_for table rooms event.cpu a).kind
-  may_come event before (act.Read x at) mine reads = wrote before x at (subst (λ w. is_written before w x at ≡ true) mine reads)
+  may_come event before (act.Read at x) mine reads = wrote before x at (subst (λ w. is_written before w x at ≡ true) mine reads)
   may_come event before (act.Alloc place x) mine reads = tt
   may_come event before (act.Free x) mine reads = tt
-  may_come event before (act.Write x at value) mine reads = tt
+  may_come event before (act.Write at x value) mine reads = tt
   may_come event before (act.Poke x offset byte) mine reads = tt
   may_come event before (act.Trim place) mine reads = tt
   may_come event before act.Flush mine reads = tt

@@ -3,10 +3,10 @@
 use Rattle.std.specs.Prelude.{ℕ, nat_eq, ◌==◌, ◌<◌, List, [], length, map, filter, filter_map, Option, None, Some, ⊤}
 use Rattle.std.specs.List.{range_with_len}
 use Rattle.indexmap.specs.IndexSet.{insert_all}
-use Rattle.slub_object_layout.specs.declared.event.Act.{Act}
-use Rattle.slub_object_layout.specs.declared.event.Act.TheVariants as act
-use Rattle.slub_object_layout.specs.declared.event.Event.{Event}
-use Rattle.slub_object_layout.specs.declared.event.Round.{Round}
+use Rattle.slub_events.specs.declared.event.Act.{Act}
+use Rattle.slub_events.specs.declared.event.Act.TheVariants as act
+use Rattle.slub_events.specs.declared.event.Event.{Event}
+use Rattle.slub_events.specs.declared.event.Round.{Round}
 use Rattle.slub_cache_create.specs.Table.{Table, name_at, number_of}
 use Rattle.slub_core.specs.declared.call.Call.{Call}
 use Rattle.slub_core.specs.declared.call.CallKind.TheVariants.{Alloc, Free, Write, Read, Poke, Trim, Flush}
@@ -25,8 +25,8 @@ events_by worker events = filter (λ event. event.worker == worker) events
 abbrev pub object_named : Act → Option ℕ
 object_named (act.Alloc place object) = Some object
 object_named (act.Free object) = Some object
-object_named (act.Write object word value) = Some object
-object_named (act.Read object word) = Some object
+object_named (act.Write word object value) = Some object
+object_named (act.Read word object) = Some object
 object_named (act.Poke object offset byte) = Some object
 object_named (act.Trim place) = None
 object_named act.Flush = None
@@ -66,7 +66,7 @@ call_for table rooms cpu (act.Free object) = record no_call {
   object = object;
   place = place_of rooms object;
 }
-call_for table rooms cpu (act.Write object word value) = record no_call {
+call_for table rooms cpu (act.Write word object value) = record no_call {
   kind = Write;
   cpu = cpu;
   object = object;
@@ -74,7 +74,7 @@ call_for table rooms cpu (act.Write object word value) = record no_call {
   word = word;
   value = value;
 }
-call_for table rooms cpu (act.Read object word) = record no_call {
+call_for table rooms cpu (act.Read word object) = record no_call {
   kind = Read;
   cpu = cpu;
   object = object;

@@ -1,7 +1,7 @@
 //! What a worker is to do, event by event.
 
 ghost use Rattle.std.specs.Prelude.{◌≡◌, ℕ, List, [], ◌∷◌, ◌++◌, IfOk, OnOk, map};
-ghost use Rattle.slub_object_layout.specs.declared.event.Event.{Event};
+ghost use Rattle.slub_events.specs.declared.event.Event.{Event};
 ghost use Rattle.slub_core.specs.Run.{idle};
 ghost use Rattle.slub_calls.specs.Calls.{IsNamedEvent, call_for, object_named, room_for, worker_with};
 ghost use Rattle.slub_calls.specs.Share.{gathered};
@@ -12,8 +12,8 @@ use slub_cache_create::caches::Caches;
 use slub_common::no_memory::NoMemory;
 use slub_core::call::{Call, CallKind};
 use slub_core::local::{Answered, Known};
+use slub_events::event::{Act, Event};
 use slub_local::local::Local;
-use slub_object_layout::event::{Act, Event};
 use std::alloc::Global;
 
 /// What a call has that its kind doesn't ask for.
@@ -99,7 +99,7 @@ fn call_at(table: &Caches, place: usize, event: &Event) -> Call
     ensures { result ≡ record (call_for table.now [] event.now.cpu event.now.act) { place = place } }
 {
     let call = Call {
-        cpu: event.cpu,
+        cpu: event.cpu as u32,
         place,
         ..NO_CALL
     };
@@ -116,20 +116,20 @@ fn call_at(table: &Caches, place: usize, event: &Event) -> Call
             ..call
         },
         Act::Write {
-            object,
             word,
+            object,
             value,
         } => Call {
             kind: CallKind::Write,
             object,
-            word,
+            word: word as u32,
             value,
             ..call
         },
-        Act::Read { object, word } => Call {
+        Act::Read { word, object } => Call {
             kind: CallKind::Read,
             object,
-            word,
+            word: word as u32,
             ..call
         },
         Act::Poke {

@@ -3,7 +3,7 @@
 use crate::workers::workers;
 use slub_cache_create::caches::Caches;
 use slub_common::sequence::Sequence;
-use slub_object_layout::event::{Act, Event, Round};
+use slub_events::event::{Act, Event, Round};
 use std::test::Fail;
 
 /// Worker 1 names object 7 twice and object 5 once: the second has place 1, and each call its own. The

@@ -373,13 +373,13 @@ contents-of m opening s has words board = record { contents = has.contents; byte
 -- ---- a turn
 
 -- the call begins
-begun-both : (m : Setup) (opening : World) (rest : List (List Answered)) (others : List Worker) (value : ℕ → LockValue) (l : Local) (spot : Spot) → Both m opening rest others value l → Both m opening rest others value (begun_at m false l spot)
-begun-both m opening rest others value l Between has = by l.todo
+begun-both : (m : Setup) (tries : Bool) (opening : World) (rest : List (List Answered)) (others : List Worker) (value : ℕ → LockValue) (l : Local) (spot : Spot) → Both m opening rest others value l → Both m opening rest others value (begun_at m tries l spot)
+begun-both m tries opening rest others value l Between has = by l.todo
   where
-    by : (calls : List Call) → Both m opening rest others value (begun_with m false l calls)
+    by : (calls : List Call) → Both m opening rest others value (begun_with m tries l calls)
     by [] = has
     by (call ∷ calls) = has
-begun-both m opening rest others value l _ has = has
+begun-both m tries opening rest others value l _ has = has
 
 turn_below : (m : Setup) (opening : World) (s : System) (pick : Pick) → pick.worker < length s.locals → IsCoherentSystem m opening s → Has m opening s.value (replies_of s) → All (HasWords m opening (replies_of s) s.value) s.locals → HasBoarded m opening (replies_of s) s.value → HasContents m opening (turn m s pick)
 unfolding world_of world_from
@@ -404,8 +404,8 @@ turn_below m opening s pick below is has words board =
         let rest = subst (λ l. l.spot ≡ Between → TakesStep m l l.todo) (sym mine) (is.rested k idle below) in
         let stood = to_front w front back x all in
         let agrees = accounted_to_front opening w front back x ac in
-        let began = subst (λ l. Comes opening w others (begun m false l)) mine (begin w x others stood (λ _. may_begin opening w x others agrees) rest, told_begin opening w x others rest agrees) in
-        let y = joined opening w others (begun m false l) began in
+        let began = subst (λ l. Comes opening w others (begun m pick.tries l)) mine (begin pick.tries w x others stood (λ _. may_begin opening w x others agrees) rest, told_begin pick.tries opening w x others rest agrees) in
+        let y = joined opening w others (begun m pick.tries l) began in
         let done = λ (l : Local). l.done in
         let dones = map done before ++ map done behind in
         let was : Has m opening s.value (x.local.done ∷ dones) = to-front m opening s.value (map done before) (map done behind) x.local.done
@@ -423,11 +423,11 @@ turn_below m opening s pick below is has words board =
         (λ o. let e = sum_by-middle (freed_in o) (map done before) (map done behind) x.local.done in omega arith) (λ cache checks. refl) (subst (λ ds. HasBoarded m opening ds s.value) laid_dones board) in
         let are : dones ≡ map (λ (y : Worker). y.local.done) others = sym (map-append (λ (y : Worker). y.local.done) front back ∙ (λ i. map-done front i ++ map-done back i)) in
         let started : Both m opening dones others s.value x.local = (was, (my_words, their_words), my_board, are) in
-        let starts : Both m opening dones others s.value (begun m false l) = begun-both m opening dones others s.value l l.spot (subst (Both m opening dones others s.value) mine started) in
-        let step = step_of m s.value (begun m false l) in
+        let starts : Both m opening dones others s.value (begun m pick.tries l) = begun-both m pick.tries opening dones others s.value l l.spot (subst (Both m opening dones others s.value) mine started) in
+        let step = step_of m s.value (begun m pick.tries l) in
         let n = number_of m step.place in
         let q = get_or s.words n 0 in
-        let c = advance_of m pick.refused s.value (begun m false l) (answer_of step.op q) in
+        let c = advance_of m pick.refused s.value (begun m pick.tries l) (answer_of step.op q) in
         let led : Both m opening dones others c.value c.local
         = subst (λ b. Both m opening dones others s.value b → let step = step_of m s.value b in let n = number_of m step.place in let q = get_or s.words n 0 in let a = answer_of step.op q in
         let c = advance_of m pick.refused s.value b a in Both m opening dones others c.value c.local) y.1
@@ -465,7 +465,7 @@ idle-turn m s refused k past =
     λ i. record { words = words i; value = s.value; locals = locals i }
 
 no-turn : (m : Setup) (s : System) (pick : Pick) → length s.locals ≤ pick.worker → turn m s pick ≡ s
-no-turn m s pick past = ap (λ l. after_step m pick.refused s pick.worker (begun m false l)) (get_or-beyond s.locals pick.worker idle past) ∙ idle-turn m s pick.refused pick.worker past
+no-turn m s pick past = ap (λ l. after_step m pick.refused s pick.worker (begun m pick.tries l)) (get_or-beyond s.locals pick.worker idle past) ∙ idle-turn m s pick.refused pick.worker past
 
 pub turn_keeps : TurnsKeepContents
 turn_keeps m opening s pick is has = elim (cases_lt pick.worker (length s.locals)) [

@@ -7,9 +7,9 @@ use Rattle.std.proofs.lemmas.List.Elements.{filter_map-append}
 use Rattle.std.proofs.lemmas.List.Sums.{sum_by-append, count_by-le-length}
 use Rattle.std.proofs.lemmas.Option.{get_or_from_slice_get, slice_get-get_or}
 use Rattle.std.proofs.lemmas.Slice.Zip.{length-zip}
-use Rattle.slub_object_layout.specs.declared.event.Act.{Act}
-use Rattle.slub_object_layout.specs.declared.event.Act.TheVariants.{Alloc, Free, Write, Read, Poke, Trim, Flush}
-use Rattle.slub_object_layout.specs.declared.event.Event.{Event}
+use Rattle.slub_events.specs.declared.event.Act.{Act}
+use Rattle.slub_events.specs.declared.event.Act.TheVariants.{Alloc, Free, Write, Read, Poke, Trim, Flush}
+use Rattle.slub_events.specs.declared.event.Event.{Event}
 use Rattle.slub_cache_create.specs.Table.{Table}
 use Rattle.slub_answers.specs.declared.reply.Reply.{Reply}
 use Rattle.slub_lists.specs.State.{State}
@@ -142,8 +142,8 @@ blank_ledgers s ledgers blank = record {
 pub known_kept : (s now : State) (act : Act) → length now.table.kept ≡ length s.table.kept → length now.board ≡ length s.board → IsKnownAct s act → IsKnownAct now act
 known_kept s now (Alloc place object) names board known = (omega (arith, known.0), known.1, omega (arith, known.2))
 known_kept s now (Free object) names board known = omega (arith, known)
-known_kept s now (Write object word value) names board known = (omega (arith, known.0), known.1)
-known_kept s now (Read object word) names board known = (omega (arith, known.0), known.1)
+known_kept s now (Write word object value) names board known = (omega (arith, known.0), known.1)
+known_kept s now (Read word object) names board known = (omega (arith, known.0), known.1)
 known_kept s now (Poke object offset byte) names board known = omega (arith, known)
 known_kept s now (Trim place) names board known = omega (arith, known)
 known_kept s now Flush names board known = known

@@ -4,8 +4,8 @@ use Rattle.std.specs.List.{IsDistinct}
 use Rattle.std.specs.Option.{option_map}
 use Rattle.std.proofs.lemmas.Bool.{cases_eq}
 use Rattle.std.proofs.lemmas.List.Elements.{Contains-append_left, Contains-append_right, Contains-get_or}
-use Rattle.slub_object_layout.specs.declared.event.Act.TheVariants.{Alloc}
-use Rattle.slub_object_layout.specs.declared.event.Event.{Event}
+use Rattle.slub_events.specs.declared.event.Act.TheVariants.{Alloc}
+use Rattle.slub_events.specs.declared.event.Event.{Event}
 use Rattle.slub_lists.specs.declared.lists.Held.{Held}
 use Rattle.slub_answers.specs.declared.reply.Reply.{Reply}
 use Rattle.slub_lists.specs.Freeing.{Frees}
@@ -54,10 +54,10 @@ alloc_keeps s after event place object is others other unheld out =
     others.board other (λ same. out (rw is (0, (omega arith), sym same))) ∙ unheld
 
 -- a free none that no object has
-pub free_keeps : (s after : State) (event : Event) (object : ℕ) (reply : Reply) → Frees s event.cpu event.worker object reply after → KeepsOthers s object after
+pub free_keeps : (s after : State) (event : Event) (cpu worker object : ℕ) (reply : Reply) → Frees s cpu worker object reply after → KeepsOthers s object after
     → KeepsUnheld s (objects_of (event ∷ [])) after
-free_keeps s after event object reply frees others other unheld out = elim (cases_eq other object) [
-  | inl same ↦ free_same s after event.cpu event.worker object reply other same frees unheld
+free_keeps s after event cpu worker object reply frees others other unheld out = elim (cases_eq other object) [
+  | inl same ↦ free_same s after cpu worker object reply other same frees unheld
   | inr differ ↦ others.board other differ ∙ unheld
 ]
 

@@ -2,9 +2,9 @@
 use Rattle.std.specs.Prelude.{◌≡◌, ℕ, ◌+◌, ◌<◌, ◌≤◌, List, length, drop, flat_map, map, sum_by, if◌then◌else◌, slice_index, slice_index_or, slice_set}
 use Rattle.std.specs.List.{Contains}
 use Rattle.std.specs.Option.{option_map_or}
-use Rattle.slub_object_layout.specs.declared.event.Act.{Act}
-use Rattle.slub_object_layout.specs.declared.event.Act.TheVariants.{Alloc, Free, Write, Read, Poke, Trim, Flush}
-use Rattle.slub_object_layout.specs.declared.event.Event.{Event}
+use Rattle.slub_events.specs.declared.event.Act.{Act}
+use Rattle.slub_events.specs.declared.event.Act.TheVariants.{Alloc, Free, Write, Read, Poke, Trim, Flush}
+use Rattle.slub_events.specs.declared.event.Event.{Event}
 use Rattle.slub_red_zone.specs.declared.zones.Report.{Report}
 use Rattle.slub_answers.specs.declared.reply.Reply.{Reply}
 use Rattle.slub_lists.specs.State.{State}
@@ -18,8 +18,8 @@ abbrev pub IsKnownAct : State → Act → Type 0
 IsKnownAct s (Alloc place object) =
     (place < length s.table.kept) × (1 ≤ object) × (object < length s.board)
 IsKnownAct s (Free object) = object < length s.board
-IsKnownAct s (Write object word value) = (object < length s.board) × (word ≤ 4095)
-IsKnownAct s (Read object word) = (object < length s.board) × (word ≤ 4095)
+IsKnownAct s (Write word object value) = (object < length s.board) × (word ≤ 4095)
+IsKnownAct s (Read word object) = (object < length s.board) × (word ≤ 4095)
 IsKnownAct s (Poke object offset byte) = object < length s.board
 IsKnownAct s (Trim place) = place < length s.table.kept
 IsKnownAct s Flush = Unit {0}
@@ -34,8 +34,8 @@ pub record IsKnown (s : State) (workers : ℕ) (event : Event) : Type 0 where
 abbrev pub object_of : Act → ℕ
 object_of (Alloc place object) = object
 object_of (Free object) = object
-object_of (Write object word value) = object
-object_of (Read object word) = object
+object_of (Write word object value) = object
+object_of (Read word object) = object
 object_of (Poke object offset byte) = object
 object_of _ = 0
 

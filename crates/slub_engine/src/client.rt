@@ -13,9 +13,9 @@ use crate::item::serial;
 use slub_answers::reply::{Kind, Reply};
 use slub_common::no_memory::NoMemory;
 use slub_common::sequence::Sequence;
+use slub_events::event::{Act, Event, Round};
 use slub_journal::client::{CacheRefusal, ClientRound};
 use slub_list_machine::lists::Lists;
-use slub_object_layout::event::{Act, Event, Round};
 use std::alloc::Global;
 
 /// Does a round of one worker: these acts on one CPU, in their order. A reply that no memory was there is
@@ -47,6 +47,7 @@ pub fn client_round(
 
 /// The round of one worker that does these acts on one CPU.
 fn one_worker(alloc: Global, cpu: u32, acts: &[Act]) -> Result<Round, NoMemory>
+    requires { cpu < 16 }
     ensures { IfOk result (λ round. round ≡ round_of cpu acts.now) }
 {
     let mut events = Vec::with_capacity(alloc, acts.len())?;
@@ -54,7 +55,7 @@ fn one_worker(alloc: Global, cpu: u32, acts: &[Act]) -> Result<Round, NoMemory>
         events.push(Event {
             line: 0,
             worker: 0,
-            cpu,
+            cpu: cpu as u8,
             act: *act,
         })?;
     }

@@ -17,10 +17,10 @@ use slub_answers::reply::{Kind, Reply};
 use slub_cache_create::caches;
 use slub_common::no_memory::NoMemory;
 use slub_common::sequence::Sequence;
+use slub_events::event::{Act, Event, Round};
 use slub_journal::journal::{Done, RoundResult, Total};
 use slub_journal::names::name_of;
 use slub_list_machine::lists::Lists;
-use slub_object_layout::event::{Act, Event, Round};
 use slub_object_layout::layout::Spec;
 use slub_object_layout::name::Name;
 use slub_trace_reader::trace::{Item, Trace};
@@ -164,22 +164,23 @@ fn answer(lists: &mut Lists, event: &Event) -> Reply
     ensures others { KeepsOthers lists.old (object_of event.now.act) lists.new }
     ensures unheld { KeepsUnheld lists.old (objects_of (event.now ∷ [])) lists.new }
 {
+    let (cpu, worker) = (u32::from(event.cpu), u32::from(event.worker));
     match event.act {
-        Act::Alloc { cache, object } => lists.alloc_named(cache, event.cpu, event.worker, object),
-        Act::Free { object } => lists.free(event.cpu, event.worker, object),
+        Act::Alloc { cache, object } => lists.alloc_named(cache, cpu, worker, object),
+        Act::Free { object } => lists.free(cpu, worker, object),
         Act::Write {
-            object,
             word,
+            object,
             value,
-        } => lists.write(event.worker, object, word, value),
-        Act::Read { object, word } => lists.read(event.worker, object, word),
+        } => lists.write(worker, object, u32::from(word), value),
+        Act::Read { word, object } => lists.read(worker, object, u32::from(word)),
         Act::Poke {
             object,
             offset,
             byte,
-        } => lists.poke(event.worker, object, offset, byte),
+        } => lists.poke(worker, object, offset, byte),
         Act::Trim { cache } => lists.trim(cache),
-        Act::Flush => lists.flush(event.cpu),
+        Act::Flush => lists.flush(cpu),
     }
 }
 
@@ -191,7 +192,7 @@ pub fn note_own(ledgers: &mut [Ledger], lists: &Lists, event: &Event, reply: Rep
     requires room { All (IsBelow (2 ^ 64 - 1)) ledgers.old }
     ensures { NotesOwn lists.now event.now reply ledgers.old ledgers.new }
 {
-    note(&mut ledgers[event.worker as usize], lists, event, reply);
+    note(&mut ledgers[usize::from(event.worker)], lists, event, reply);
 }
 
 /// Counts a reply.

@@ -1,6 +1,6 @@
 -- A round of several workers by steps where no ids stand beside the lists: it begins with new ones, which aren't kept.
 use Rattle.std.proofs.Common.{ℕ, ◌≡◌, List, refl, arith, Some, None, inl, inr}
-use Rattle.slub_object_layout.specs.declared.event.Round.{Round}
+use Rattle.slub_events.specs.declared.event.Round.{Round}
 use Rattle.slub_lists.specs.State.{State}
 use Rattle.slub_into_words.specs.Ids.{first_ids}
 use Rattle.slub_journal.specs.declared.journal.RoundResult.{RoundResult}

@@ -5,8 +5,8 @@ use Rattle.std.specs.Option.{option_map_or}
 use Rattle.std.proofs.lemmas.List.Elements.{All-cons, All-head, All-nil}
 use Rattle.slub_common.specs.Times.{times}
 use Rattle.slub_common.proofs.Times.{Contains-times, times-cons_other}
-use Rattle.slub_object_layout.specs.declared.event.Act.TheVariants.{Alloc, Free}
-use Rattle.slub_object_layout.specs.declared.event.Event.{Event}
+use Rattle.slub_events.specs.declared.event.Act.TheVariants.{Alloc, Free}
+use Rattle.slub_events.specs.declared.event.Event.{Event}
 use Rattle.slub_object_layout.specs.Layout.{address_of, is_checked}
 use Rattle.slub_object_layout.specs.declared.layout.Spec.{Spec}
 use Rattle.slub_answers.specs.declared.create.Created.{Created}

@@ -1,7 +1,7 @@
 -- Where the machine stands before and after an item: a round, a client's line or another.
 use Rattle.std.proofs.Common.{◌≡◌, ℕ, ◌+◌, ◌^◌, ◌<◌, ◌≤◌, List, length, get_or, refl, sym, ap, subst, arith, All, Option, Some, None, MatchOption, slice_get, slice_index}
 use Rattle.std.proofs.lemmas.Option.{slice_get_read}
-use Rattle.slub_object_layout.specs.declared.event.Round.{Round}
+use Rattle.slub_events.specs.declared.event.Round.{Round}
 use Rattle.slub_lists.specs.State.{State}
 use Rattle.slub_lists.specs.Coherent.{IsCoherent}
 use Rattle.slub_trace_reader.specs.declared.trace.Client.{Client as Asked}

@@ -1,6 +1,6 @@
 -- Why a round, or an item, wasn't done.
 use Rattle.std.specs.Prelude.{◌≡◌, ℕ, List, Option, MatchOption, ⊤, slice_get}
-use Rattle.slub_object_layout.specs.declared.event.Round.{Round}
+use Rattle.slub_events.specs.declared.event.Round.{Round}
 use Rattle.slub_lists.specs.State.{State}
 use Rattle.slub_trace_reader.specs.declared.trace.Item.{Item}
 use Rattle.slub_trace_reader.specs.declared.trace.Item.TheVariants as item

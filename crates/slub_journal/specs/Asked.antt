@@ -1,10 +1,10 @@
 -- The rounds that clients of the allocator make.
 use Rattle.std.specs.Prelude.{◌≡◌, ℕ, ◌+◌, ◌^◌, ◌<◌, false, length, List, [], map, Option, None, Some, Result, Ok, Err, All, slice_get}
 use Rattle.std.specs.List.{filter_map}
-use Rattle.slub_object_layout.specs.declared.event.Act.{Act}
-use Rattle.slub_object_layout.specs.declared.event.Act.TheVariants.{Free}
-use Rattle.slub_object_layout.specs.declared.event.Event.{Event}
-use Rattle.slub_object_layout.specs.declared.event.Round.{Round}
+use Rattle.slub_events.specs.declared.event.Act.{Act}
+use Rattle.slub_events.specs.declared.event.Act.TheVariants.{Free}
+use Rattle.slub_events.specs.declared.event.Event.{Event}
+use Rattle.slub_events.specs.declared.event.Round.{Round}
 use Rattle.slub_answers.specs.declared.reply.Reply.{Reply}
 use Rattle.slub_answers.specs.declared.reply.Reply.TheVariants as reply
 use Rattle.slub_answers.specs.Kinds.{is_no_memory}

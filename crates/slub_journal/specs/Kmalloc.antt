@@ -4,7 +4,7 @@ use Rattle.std.specs.Bool.{MatchBool}
 use Rattle.std.specs.List.{list_any, position, range_with_len}
 use Rattle.std.specs.Option.{option_map_or}
 use Rattle.std.specs.Str.{bytes_eq}
-use Rattle.slub_object_layout.specs.declared.event.Act.TheVariants.{Alloc, Free}
+use Rattle.slub_events.specs.declared.event.Act.TheVariants.{Alloc, Free}
 use Rattle.slub_object_layout.specs.Layout.{is_checked}
 use Rattle.slub_answers.specs.declared.create.Created.{Created}
 use Rattle.slub_answers.specs.declared.create.CreateRefusal.{CreateRefusal}

@@ -5,10 +5,10 @@ use Rattle.std.specs.List.{filter_map, range_with_len, zip}
 use Rattle.std.specs.Option.{option_map, option_map_or, option_and_then}
 use Rattle.slub_object_layout.specs.declared.layout.LayoutRefusal.TheVariants as refused
 use Rattle.slub_object_layout.specs.declared.layout.Spec.{Spec}
-use Rattle.slub_object_layout.specs.declared.event.Act.{Act}
-use Rattle.slub_object_layout.specs.declared.event.Act.TheVariants.{Alloc, Free, Write, Read, Poke, Trim, Flush}
-use Rattle.slub_object_layout.specs.declared.event.Event.{Event}
-use Rattle.slub_object_layout.specs.declared.event.Round.{Round}
+use Rattle.slub_events.specs.declared.event.Act.{Act}
+use Rattle.slub_events.specs.declared.event.Act.TheVariants.{Alloc, Free, Write, Read, Poke, Trim, Flush}
+use Rattle.slub_events.specs.declared.event.Event.{Event}
+use Rattle.slub_events.specs.declared.event.Round.{Round}
 use Rattle.slub_object_layout.specs.Layout.{IsAccepted, IsAlign, IsSize, IsSupported}
 use Rattle.slub_answers.specs.declared.ledger.Ledger.{Ledger}
 use Rattle.slub_cache_create.specs.Create.{IsOpenTo}
@@ -81,9 +81,9 @@ abbrev pub Answers : State → Event → Act → Reply → State → Type 0
 Answers s event (Alloc place object) reply after =
     AllocatesNamed s place event.cpu event.worker object reply after
 Answers s event (Free object) reply after = Frees s event.cpu event.worker object reply after
-Answers s event (Write object word value) reply after =
+Answers s event (Write word object value) reply after =
     Writes s event.worker object word value reply after
-Answers s event (Read object word) reply after =
+Answers s event (Read word object) reply after =
     Reads s event.worker object word reply × (after ≡ s)
 Answers s event (Poke object offset byte) reply after =
     Pokes s event.worker object offset byte reply after

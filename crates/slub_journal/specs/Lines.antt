@@ -1,8 +1,8 @@
 -- The lines of what items and events are answered.
 use Rattle.std.specs.Prelude.{ℕ, Bool, not, ◌||◌, if◌then◌else◌, List, [], ◌++◌, flat_map, Result, Ok, Err}
 use Rattle.std.specs.List.{zip}
-use Rattle.slub_object_layout.specs.declared.event.Event.{Event}
-use Rattle.slub_object_layout.specs.declared.event.Round.{Round}
+use Rattle.slub_events.specs.declared.event.Event.{Event}
+use Rattle.slub_events.specs.declared.event.Round.{Round}
 use Rattle.slub_object_layout.specs.declared.layout.LayoutRefusal.TheVariants as refused
 use Rattle.slub_common.specs.declared.no_such_cache.NoSuchCache.{NoSuchCache}
 use Rattle.slub_answers.specs.declared.destroy.Destroyed.{Destroyed}

@@ -5,7 +5,7 @@ use Rattle.std.specs.List.{filter, list_any, position, range_with_len}
 use Rattle.std.specs.Option.{option_map_or}
 use Rattle.std.specs.Str.{bytes_eq}
 use Rattle.slub_common.specs.Times.{times}
-use Rattle.slub_object_layout.specs.declared.event.Act.TheVariants.{Alloc, Free}
+use Rattle.slub_events.specs.declared.event.Act.TheVariants.{Alloc, Free}
 use Rattle.slub_answers.specs.declared.reply.Reply.{Reply}
 use Rattle.slub_answers.specs.declared.reply.Reply.TheVariants as reply
 use Rattle.slub_lists.specs.State.{State}

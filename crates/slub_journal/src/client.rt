@@ -7,7 +7,7 @@ use crate::journal::RoundResult;
 use slub_answers::create::{CreateRefusal, Created};
 use slub_answers::reply::Reply;
 use slub_common::sequence::Sequence;
-use slub_object_layout::event::Round;
+use slub_events::event::Round;
 
 /// Why a cache gave no object to a client.
 #[derive(Clone, Copy, Debug, PartialEq, Eq)]

@@ -16,7 +16,7 @@ use slub_answers::reply::Reply;
 use slub_answers::tune::TuneRefusal;
 use slub_common::no_memory::NoMemory;
 use slub_common::no_such_cache::NoSuchCache;
-use slub_object_layout::event::{Event, Round};
+use slub_events::event::{Event, Round};
 use slub_object_layout::layout::LayoutRefusal;
 use slub_object_layout::name::Name;
 use slub_slabinfo_text::text::{

@@ -6,10 +6,10 @@ use Rattle.std.proofs.lemmas.Bool.Decides.{nat_tests}
 use Rattle.std.proofs.lemmas.List.Elements.{All-head, All-tail, filter-append}
 use Rattle.std.proofs.lemmas.List.Sums.{sum_by-cons}
 use Rattle.slub_common.specs.Times.{times}
-use Rattle.slub_object_layout.specs.declared.event.Act.{Act}
-use Rattle.slub_object_layout.specs.declared.event.Act.TheVariants.{Alloc, Free, Write, Read, Poke, Trim, Flush}
-use Rattle.slub_object_layout.specs.declared.event.Event.{Event}
-use Rattle.slub_object_layout.specs.declared.event.Round.{Round}
+use Rattle.slub_events.specs.declared.event.Act.{Act}
+use Rattle.slub_events.specs.declared.event.Act.TheVariants.{Alloc, Free, Write, Read, Poke, Trim, Flush}
+use Rattle.slub_events.specs.declared.event.Event.{Event}
+use Rattle.slub_events.specs.declared.event.Round.{Round}
 use Rattle.slub_answers.specs.declared.ledger.Ledger.{Ledger}
 use Rattle.slub_answers.specs.declared.reply.Reply.{Reply}
 use Rattle.slub_answers.specs.declared.reply.Reply.TheVariants as reply
@@ -43,10 +43,10 @@ given_allocs before answers own (Free object) (reply.Freed address) cause given 
 given_allocs before answers own (Free object) (reply.Corrupt damage) cause given = false-true given
 given_allocs before answers own (Free object) reply.NotHeld cause given = false-true given
 given_allocs before answers own (Free object) _ cause given = absurd cause
-given_allocs before answers own (Write object word value) (reply.Given address) cause given = absurd cause
-given_allocs before answers own (Write object word value) _ cause given = false-true given
-given_allocs before answers own (Read object word) (reply.Given address) cause given = absurd cause
-given_allocs before answers own (Read object word) _ cause given = false-true given
+given_allocs before answers own (Write word object value) (reply.Given address) cause given = absurd cause
+given_allocs before answers own (Write word object value) _ cause given = false-true given
+given_allocs before answers own (Read word object) (reply.Given address) cause given = absurd cause
+given_allocs before answers own (Read word object) _ cause given = false-true given
 given_allocs before answers own (Poke object offset byte) (reply.Given address) cause given = absurd cause
 given_allocs before answers own (Poke object offset byte) _ cause given = false-true given
 given_allocs before answers own (Trim place) (reply.Given address) cause given = absurd cause
@@ -59,10 +59,10 @@ freed_frees : (before : State) (answers own : List Answered) (act : Act) (answer
 freed_frees before answers own (Free object) answer cause freed = (object, refl)
 freed_frees before answers own (Alloc place object) (reply.Freed address) cause freed = absurd cause
 freed_frees before answers own (Alloc place object) _ cause freed = false-true freed
-freed_frees before answers own (Write object word value) (reply.Freed address) cause freed = absurd cause
-freed_frees before answers own (Write object word value) _ cause freed = false-true freed
-freed_frees before answers own (Read object word) (reply.Freed address) cause freed = absurd cause
-freed_frees before answers own (Read object word) _ cause freed = false-true freed
+freed_frees before answers own (Write word object value) (reply.Freed address) cause freed = absurd cause
+freed_frees before answers own (Write word object value) _ cause freed = false-true freed
+freed_frees before answers own (Read word object) (reply.Freed address) cause freed = absurd cause
+freed_frees before answers own (Read word object) _ cause freed = false-true freed
 freed_frees before answers own (Poke object offset byte) (reply.Freed address) cause freed = absurd cause
 freed_frees before answers own (Poke object offset byte) _ cause freed = false-true freed
 freed_frees before answers own (Trim place) (reply.Freed address) cause freed = absurd cause
@@ -83,8 +83,8 @@ freeable before answers own object (Free other) answer cause mine took =
     by reply.NotHeld cause (inr bad) = false-true bad
     by _ cause took = absurd cause
 freeable before answers own object (Alloc place other) answer cause mine took = false-true mine
-freeable before answers own object (Write other word value) answer cause mine took = false-true mine
-freeable before answers own object (Read other word) answer cause mine took = false-true mine
+freeable before answers own object (Write word other value) answer cause mine took = false-true mine
+freeable before answers own object (Read word other) answer cause mine took = false-true mine
 freeable before answers own object (Poke other offset byte) answer cause mine took = false-true mine
 freeable before answers own object (Trim place) answer cause mine took = false-true mine
 freeable before answers own object Flush answer cause mine took = false-true mine

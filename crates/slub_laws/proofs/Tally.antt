@@ -4,7 +4,7 @@ use Rattle.std.specs.Prelude.{⊤}
 use Rattle.std.specs.List.{range_with_len}
 use Rattle.std.proofs.lemmas.Bool.Decides.{nat_tests}
 use Rattle.std.proofs.lemmas.List.Sums.{sum_by-cons}
-use Rattle.slub_object_layout.specs.declared.event.Event.{Event}
+use Rattle.slub_events.specs.declared.event.Event.{Event}
 use Rattle.slub_answers.specs.declared.reply.Reply.{Reply}
 use Rattle.slub_journal.specs.Lawful.{is_by}
 

@@ -6,7 +6,7 @@ ghost use Rattle.slub_lists.specs.Alloc.{cache_of};
 ghost use Rattle.slub_lists.specs.Coherent.{IsCoherent};
 ghost use Rattle.slub_lists.specs.Shrink.{ShrinksCache, has_slab};
 ghost use Rattle.slub_lists.specs.State.{State};
-ghost use Rattle.slub_object_layout.specs.declared.event.Round.{Round as Events};
+ghost use Rattle.slub_events.specs.declared.event.Round.{Round as Events};
 ghost use Rattle.slub_journal.specs.declared.journal.RoundResult.{RoundResult as Outcome};
 ghost use Rattle.slub_slabinfo_text.specs.Counts.{counts_of};
 ghost use Rattle.slub_trace_reader.specs.Sound.{IsSound};

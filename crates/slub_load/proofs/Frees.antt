@@ -4,7 +4,7 @@ use Rattle.std.specs.List.{range_with_len}
 use Rattle.std.proofs.lemmas.List.{append-nil}
 use Rattle.std.proofs.lemmas.Grind.{flat_map-append}
 use Rattle.slub_common.proofs.Lists.{range_with_len-append}
-use Rattle.slub_object_layout.specs.declared.event.Event.{Event}
+use Rattle.slub_events.specs.declared.event.Event.{Event}
 use Rattle.slub_load.specs.Load.{emptied, free_by, held_by, last_frees}
 
 pub frees_are : (events : List Event) (worker : ℕ) (held : List ℕ) → held_by worker events ≡ held → map (free_by worker (worker % 4)) held ≡ last_frees events worker

@@ -7,9 +7,9 @@ use Rattle.std.proofs.Math.Nat.{mod-lt}
 use Rattle.std.proofs.lemmas.Bool.{cond_both, and_parts, eqb-true, ltb-true, cases_Bool}
 use Rattle.std.proofs.lemmas.List.{append-nil}
 use Rattle.std.proofs.lemmas.List.Elements.{All-append, All-cons, All-drop, All-filter, All-head, All-map, All-nil, All-push, All-tail}
-use Rattle.slub_object_layout.specs.declared.event.Act.{Act}
-use Rattle.slub_object_layout.specs.declared.event.Act.TheVariants.{Alloc, Free, Write, Read, Poke, Trim, Flush}
-use Rattle.slub_object_layout.specs.declared.event.Event.{Event}
+use Rattle.slub_events.specs.declared.event.Act.{Act}
+use Rattle.slub_events.specs.declared.event.Act.TheVariants.{Alloc, Free, Write, Read, Poke, Trim, Flush}
+use Rattle.slub_events.specs.declared.event.Event.{Event}
 use Rattle.slub_object_layout.specs.Name.{IsName}
 use Rattle.slub_trace_reader.specs.declared.trace.Item.{Item}
 use Rattle.slub_trace_reader.specs.declared.trace.Item.TheVariants.{Cache, Round, Shrink}
@@ -31,8 +31,8 @@ IsNumber count object = (1 ≤ object) × (object ≤ count)
 abbrev IsGoodAct : ℕ → Act → Type 0
 IsGoodAct count (Alloc place object) = (place < 3) × IsNumber count object
 IsGoodAct count (Free object) = IsNumber count object
-IsGoodAct count (Write object word value) = ⊥
-IsGoodAct count (Read object word) = ⊥
+IsGoodAct count (Write word object value) = ⊥
+IsGoodAct count (Read word object) = ⊥
 IsGoodAct count (Poke object offset byte) = ⊥
 IsGoodAct count (Trim place) = ⊥
 IsGoodAct count Flush = ⊥
@@ -45,8 +45,8 @@ record IsGood (workers count : ℕ) (event : Event) : Type 0 where
 wider_act : (count more : ℕ) (a : Act) → count ≤ more → IsGoodAct count a → IsGoodAct more a
 wider_act count more (Alloc place object) low is = (is.0, (is.1.0, omega (arith, is.1.1, low)))
 wider_act count more (Free object) low is = (is.0, omega (arith, is.1, low))
-wider_act count more (Write object word value) low is = is
-wider_act count more (Read object word) low is = is
+wider_act count more (Write word object value) low is = is
+wider_act count more (Read word object) low is = is
 wider_act count more (Poke object offset byte) low is = is
 wider_act count more (Trim place) low is = is
 wider_act count more Flush low is = is
@@ -62,8 +62,8 @@ all_wider workers count more es low all = λ k d within. wider workers count mor
 cons_number : (count : ℕ) (a : Act) (xs : List ℕ) → IsGoodAct count a → All (IsNumber count) xs → All (IsNumber count) (cons_option (allocated a) xs)
 cons_number count (Alloc place object) xs is all = All-cons (IsNumber count) object xs is.1 all
 cons_number count (Free object) xs is all = all
-cons_number count (Write object word value) xs is all = all
-cons_number count (Read object word) xs is all = all
+cons_number count (Write word object value) xs is all = all
+cons_number count (Read word object) xs is all = all
 cons_number count (Poke object offset byte) xs is all = all
 cons_number count (Trim place) xs is all = all
 cons_number count Flush xs is all = all
@@ -160,8 +160,8 @@ sound_act : (workers : ℕ) (es : List Event) (a : Act) → IsGoodAct (fold max 
 unfolding cache_names
 sound_act workers es (Alloc place object) is = (is.0, is.1.0, is.1.1)
 sound_act workers es (Free object) is = is
-sound_act workers es (Write object word value) is = absurd is
-sound_act workers es (Read object word) is = absurd is
+sound_act workers es (Write word object value) is = absurd is
+sound_act workers es (Read word object) is = absurd is
 sound_act workers es (Poke object offset byte) is = absurd is
 sound_act workers es (Trim place) is = absurd is
 sound_act workers es Flush is = absurd is
@@ -169,8 +169,8 @@ sound_act workers es Flush is = absurd is
 idle_cpu : (count : ℕ) (a : Act) (cpu : ℕ) → IsGoodAct count a → Rattle.slub_trace_reader.specs.Sound.IsSoundCpu a cpu
 idle_cpu count (Alloc place object) cpu is = tt
 idle_cpu count (Free object) cpu is = tt
-idle_cpu count (Write object word value) cpu is = absurd is
-idle_cpu count (Read object word) cpu is = absurd is
+idle_cpu count (Write word object value) cpu is = absurd is
+idle_cpu count (Read word object) cpu is = absurd is
 idle_cpu count (Poke object offset byte) cpu is = absurd is
 idle_cpu count (Trim place) cpu is = absurd is
 idle_cpu count Flush cpu is = absurd is
@@ -206,8 +206,8 @@ nothing_read workers count before (e ∷ es) all =
     one : (a : Act) → IsGoodAct count a → IsReadable before e a
     one (Alloc place object) is = tt
     one (Free object) is = tt
-    one (Write object word value) is = tt
-    one (Read object word) is = absurd is
+    one (Write word object value) is = tt
+    one (Read word object) is = absurd is
     one (Poke object offset byte) is = tt
     one (Trim place) is = tt
     one Flush is = tt

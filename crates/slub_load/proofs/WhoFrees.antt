@@ -3,7 +3,7 @@ use Rattle.std.proofs.Common.{◌≡◌, ◌≢◌, ℕ, zero, suc, ◌+◌, ◌
 use Rattle.std.specs.List.{range_with_len}
 use Rattle.std.proofs.lemmas.Bool.{cases_Bool, cond_both, eqb-true, ne_eqb}
 use Rattle.std.proofs.lemmas.List.{append-nil}
-use Rattle.slub_object_layout.specs.declared.event.Event.{Event}
+use Rattle.slub_events.specs.declared.event.Event.{Event}
 use Rattle.slub_trace_reader.specs.Sound.{objects_of}
 use Rattle.slub_load.specs.Generator.{number}
 use Rattle.slub_load.specs.Load.{alloc_by, drawn_events, event_behind, event_of, events_of, free_by, freed_of, held_by, is_free, last_frees}

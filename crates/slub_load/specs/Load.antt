@@ -1,9 +1,9 @@
 -- What the workers of a load do, and the trace that says so.
 use Rattle.std.specs.Prelude.{ℕ, zero, suc, ◌+◌, ◌*◌, ◌%◌, ◌==◌, ◌&&◌, ◌||◌, nat_lt, if◌then◌else◌, Bool, true, false, Option, Some, None, List, [], ◌∷◌, ◌++◌, length, drop, fold, map, filter, filter_map, flat_map, max, slice_index, codes}
 use Rattle.std.specs.List.{range_with_len}
-use Rattle.slub_object_layout.specs.declared.event.Act.{Act}
-use Rattle.slub_object_layout.specs.declared.event.Act.TheVariants.{Alloc, Free, Write, Read, Poke, Trim, Flush}
-use Rattle.slub_object_layout.specs.declared.event.Event.{Event}
+use Rattle.slub_events.specs.declared.event.Act.{Act}
+use Rattle.slub_events.specs.declared.event.Act.TheVariants.{Alloc, Free, Write, Read, Poke, Trim, Flush}
+use Rattle.slub_events.specs.declared.event.Event.{Event}
 use Rattle.slub_object_layout.specs.declared.layout.Flags.{Flags}
 use Rattle.slub_trace_reader.specs.declared.trace.Item.{Item}
 use Rattle.slub_trace_reader.specs.declared.trace.Item.TheVariants.{Cache, Round, Shrink}
@@ -17,8 +17,8 @@ use Rattle.slub_load.specs.Generator.{number}
 abbrev pub freed : Act → Option ℕ
 freed (Alloc place object) = None
 freed (Free object) = Some object
-freed (Write object word value) = None
-freed (Read object word) = None
+freed (Write word object value) = None
+freed (Read word object) = None
 freed (Poke object offset byte) = None
 freed (Trim place) = None
 freed Flush = None

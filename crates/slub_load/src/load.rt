@@ -11,7 +11,7 @@ use crate::generator::Generator;
 use crate::held::{HELD_MAX, Held};
 use slub_common::no_memory::NoMemory;
 use slub_common::sequence::Sequence;
-use slub_object_layout::event::{Act, Event, Round};
+use slub_events::event::{Act, Event, Round};
 use slub_object_layout::layout::{Flags, Spec};
 use slub_object_layout::name::Name;
 use slub_trace_reader::trace::{Item, Trace};
@@ -21,7 +21,7 @@ use std::alloc::{AllocError, Global};
 const FRAMES: u32 = 4096;
 
 /// The CPUs of the machine of a load (profile).
-const CPUS: u32 = 4;
+const CPUS: u8 = 4;
 
 /// The trace that a seed gives: so many drawn events, at most 500000, of 1 to 16 workers in one
 /// round, at whose end each worker frees what it still holds (profile).
@@ -45,7 +45,7 @@ pub fn load_trace(alloc: Global, seed: u64, events: u32, workers: u32) -> Result
     Ok(Trace {
         version: 1,
         frames: FRAMES,
-        cpus: CPUS,
+        cpus: CPUS as u32,
         tid: 0,
         objects,
         names,
@@ -109,8 +109,8 @@ impl Load {
     {
         let first = self.generator.draw();
         let second = self.generator.draw();
-        let worker = first % self.held.len() as u32;
-        let eighth = second % 8;
+        let worker = (first % self.held.len() as u32) as u8;
+        let eighth = (second % 8) as u8;
         let held = &mut self.held[worker as usize];
         let event = turn(held, &mut self.given, worker, eighth);
         self.events.push_reserved(event);
@@ -139,7 +139,7 @@ impl Load {
 }
 
 /// Takes out the object that was held longest, where a worker frees one at this number below 8.
-fn take_freed(held: &mut Held, eighth: u32) -> Option<u32>
+fn take_freed(held: &mut Held, eighth: u8) -> Option<u32>
     ensures freed { MatchOption result
         ((is_free held.old eighth ≡ false) × (held.new ≡ held.old))
         (λ object. (is_free held.old eighth ≡ true) × (held.old ≡ object ∷ held.new)) }
@@ -154,7 +154,7 @@ fn take_freed(held: &mut Held, eighth: u32) -> Option<u32>
 
 /// What a worker does at this number below 8, where so many objects were allocated.
 #[tactic(auto, unfolding(crate::specs::Load::event_of))]
-fn turn(held: &mut Held, given: &mut u32, worker: u32, eighth: u32) -> Event
+fn turn(held: &mut Held, given: &mut u32, worker: u8, eighth: u8) -> Event
     requires few_workers { worker < 16 }
     requires eighth { eighth < 8 }
     requires few { given.old < 500000 }
@@ -172,7 +172,7 @@ fn turn(held: &mut Held, given: &mut u32, worker: u32, eighth: u32) -> Event
                 worker,
                 cpu: worker % CPUS,
                 act: Act::Alloc {
-                    cache: eighth % 3,
+                    cache: u32::from(eighth % 3),
                     object: *given,
                 },
             }
@@ -181,7 +181,7 @@ fn turn(held: &mut Held, given: &mut u32, worker: u32, eighth: u32) -> Event
 }
 
 /// A worker frees an object.
-fn free(worker: u32, cpu: u32, object: u32) -> Event
+fn free(worker: u8, cpu: u8, object: u32) -> Event
     ensures { result ≡ free_by worker cpu object }
 {
     Event {
@@ -193,7 +193,7 @@ fn free(worker: u32, cpu: u32, object: u32) -> Event
 }
 
 /// A worker frees what it holds, longest held first.
-fn free_all(events: &mut Vec<Event>, worker: u32, held: &Held)
+fn free_all(events: &mut Vec<Event>, worker: u8, held: &Held)
     requires room { vec_len events.old + 64 ≤ vec_capacity events.old }
     ensures freed { events.new.items
         ≡ events.old.items ++ map (free_by worker (worker % 4)) held.now }
@@ -213,7 +213,7 @@ fn free_rest(events: &mut Vec<Event>, held: &[Held])
     ensures { events.new.items ≡ emptied (length held.now) events.old.items }
 {
     for (worker, held) in held.iter().enumerate() {
-        free_all(events, worker as u32, held);
+        free_all(events, worker as u8, held);
     }
 }
 

@@ -3,7 +3,7 @@
 use crate::load::load_trace;
 use slub_common::sequence::Sequence;
 use slub_edges::memory::MemSource;
-use slub_object_layout::event::{Act, Event, Round};
+use slub_events::event::{Act, Event, Round};
 use slub_object_layout::layout::Flags;
 use slub_object_layout::name::Name;
 use slub_trace_reader::reading::read_trace;
@@ -27,7 +27,7 @@ fn round_of(trace: &Trace) -> Option<&Round> {
     }
 }
 
-fn alloc(worker: u32, cpu: u32, cache: u32, object: u32) -> Event {
+fn alloc(worker: u8, cpu: u8, cache: u32, object: u32) -> Event {
     Event {
         line: 0,
         worker,
@@ -36,7 +36,7 @@ fn alloc(worker: u32, cpu: u32, cache: u32, object: u32) -> Event {
     }
 }
 
-fn free(worker: u32, cpu: u32, object: u32) -> Event {
+fn free(worker: u8, cpu: u8, object: u32) -> Event {
     Event {
         line: 0,
         worker,

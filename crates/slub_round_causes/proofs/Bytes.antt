@@ -7,10 +7,10 @@ use Rattle.std.specs.List.{zip}
 use Rattle.std.proofs.lemmas.Bool.{cases_lt}
 use Rattle.std.proofs.lemmas.List.{get_or_default, length-append}
 use Rattle.std.proofs.lemmas.List.Elements.{All-cons, All-get_or, All-head, All-nil, All-tail}
-use Rattle.slub_object_layout.specs.declared.event.Act.{Act}
-use Rattle.slub_object_layout.specs.declared.event.Act.TheVariants.{Alloc, Free, Write, Read, Poke, Trim, Flush}
-use Rattle.slub_object_layout.specs.declared.event.Event.{Event}
-use Rattle.slub_object_layout.specs.declared.event.Round.{Round}
+use Rattle.slub_events.specs.declared.event.Act.{Act}
+use Rattle.slub_events.specs.declared.event.Act.TheVariants.{Alloc, Free, Write, Read, Poke, Trim, Flush}
+use Rattle.slub_events.specs.declared.event.Event.{Event}
+use Rattle.slub_events.specs.declared.event.Round.{Round}
 use Rattle.slub_answers.specs.declared.reply.Reply.{Reply}
 use Rattle.slub_answers.specs.declared.reply.Reply.TheVariants as reply
 use Rattle.slub_cache_create.specs.Table.{Table}
@@ -133,8 +133,8 @@ module _ (s : State) (b : Beside) (round : Round) (replies : List Reply) (openin
   poke-asks (Poke x offset byte) k cpu c is poke = λ i. Poke (is i).object (is i).offset (is i).byte
   poke-asks (Alloc p x) k cpu c is poke = absurd (let e = ap (λ (c : Call). c.kind) is ∙ poke in cc)
   poke-asks (Free x) k cpu c is poke = absurd (let e = ap (λ (c : Call). c.kind) is ∙ poke in cc)
-  poke-asks (Write x at value) k cpu c is poke = absurd (let e = ap (λ (c : Call). c.kind) is ∙ poke in cc)
-  poke-asks (Read x at) k cpu c is poke = absurd (let e = ap (λ (c : Call). c.kind) is ∙ poke in cc)
+  poke-asks (Write at x value) k cpu c is poke = absurd (let e = ap (λ (c : Call). c.kind) is ∙ poke in cc)
+  poke-asks (Read at x) k cpu c is poke = absurd (let e = ap (λ (c : Call). c.kind) is ∙ poke in cc)
   poke-asks (Trim p) k cpu c is poke = absurd (let e = ap (λ (c : Call). c.kind) is ∙ poke in cc)
   poke-asks Flush k cpu c is poke = absurd (let e = ap (λ (c : Call). c.kind) is ∙ poke in cc)
 
@@ -205,7 +205,7 @@ module _ (s : State) (b : Beside) (round : Round) (replies : List Reply) (openin
   told-first k (one ∷ own) ds all = (told-first k own (told s.table (rooms k) one ∷ ds) all).1
 
   -- what reads of checked objects are answered
-  pub reads-own : All (contents.AreTold (setup_of s b) opening dones) dones → (worker : ℕ) (own : List Answered) (one : Answered) (object word value : ℕ) → IsAfter (zip round.events replies) worker own one → one.0.act ≡ Read object word → one.1 ≡ reply.Value value → IsOfChecked s object own
+  pub reads-own : All (contents.AreTold (setup_of s b) opening dones) dones → (worker : ℕ) (own : List Answered) (one : Answered) (object word value : ℕ) → IsAfter (zip round.events replies) worker own one → one.0.act ≡ Read word object → one.1 ≡ reply.Value value → IsOfChecked s object own
       → IsOwnBytes s (zip round.events replies) own object word value
   reads-own all worker own one object word value is asks tells checked = elim (cases_lt worker round.workers) [
     | inr past ↦ absurd (let none : own ++ one ∷ is.later ≡ [] = sym is.split ∙ none-beyond round.workers worker answers below past in

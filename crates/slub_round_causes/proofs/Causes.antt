@@ -4,8 +4,8 @@ use Rattle.std.specs.Option.{option_and_then, option_map, option_map_or}
 use Rattle.std.proofs.lemmas.Bool.{cases_Bool, false≢true}
 use Rattle.std.proofs.lemmas.Bool.Decides.{nat_tests}
 use Rattle.std.proofs.lemmas.Option.{none-some, same_Some}
-use Rattle.slub_object_layout.specs.declared.event.Act.{Act}
-use Rattle.slub_object_layout.specs.declared.event.Act.TheVariants.{Alloc, Free, Write, Read, Poke, Trim, Flush}
+use Rattle.slub_events.specs.declared.event.Act.{Act}
+use Rattle.slub_events.specs.declared.event.Act.TheVariants.{Alloc, Free, Write, Read, Poke, Trim, Flush}
 use Rattle.slub_object_layout.specs.declared.layout.Layout.{Layout}
 use Rattle.slub_object_layout.specs.Layout.{address_of}
 use Rattle.slub_answers.specs.declared.reply.Reply.{Reply}
@@ -273,17 +273,17 @@ module _ (s : State) (b : Beside) (rooms : List Known) (before : ℕ → Option 
       free-cause x reply.NotHeld may cause = (held-told x ∙ cause.2, gone x (cause.3 refl))
       free-cause x r may cause = absurd (false≢true may)
 
-      write-cause : (x word value : ℕ) (r : Reply) → may_answer kind.Write r ≡ true → core.Cause (setup_of s b) before p ds (call_for s.table rooms cpu (Write x word value)) r → WriteCause s own x word r
-      write-cause x word value reply.Wrote may cause = (held-told x ∙ cause.1, inside (call_for s.table rooms cpu (Write x word value)) cause.2)
-      write-cause x word value reply.OutOfObject may cause = (held-told x ∙ cause.1, outside (call_for s.table rooms cpu (Write x word value)) cause.2.0 cause.2.1 cause.2.2)
+      write-cause : (x word value : ℕ) (r : Reply) → may_answer kind.Write r ≡ true → core.Cause (setup_of s b) before p ds (call_for s.table rooms cpu (Write word x value)) r → WriteCause s own x word r
+      write-cause x word value reply.Wrote may cause = (held-told x ∙ cause.1, inside (call_for s.table rooms cpu (Write word x value)) cause.2)
+      write-cause x word value reply.OutOfObject may cause = (held-told x ∙ cause.1, outside (call_for s.table rooms cpu (Write word x value)) cause.2.0 cause.2.1 cause.2.2)
       write-cause x word value reply.NotHeld may cause = held-told x ∙ cause.2
       write-cause x word value r may cause = absurd (false≢true may)
 
       read-cause : (x word : ℕ) (r : Reply) → ((value : ℕ) → r ≡ reply.Value value → IsOfChecked s x own → IsOwnBytes s all own x word value) → may_answer kind.Read r ≡ true
-          → core.Cause (setup_of s b) before p ds (call_for s.table rooms cpu (Read x word)) r → ReadCause s all own x word r
+          → core.Cause (setup_of s b) before p ds (call_for s.table rooms cpu (Read word x)) r → ReadCause s all own x word r
       read-cause x word (reply.Value v) own_bytes may cause = (
         held-told x ∙ cause.1,
-        inside (call_for s.table rooms cpu (Read x word)) cause.2,
+        inside (call_for s.table rooms cpu (Read word x)) cause.2,
         record {
           unchecked = λ plain.
               let is : last_written x word own ≡ Some v = written-told s.table rooms x word own met (kept x cause.1) ∙ cause.3 (cause.2.0, cause.2.1, plain-told x cause.2.0 cause.2.1 plain) in
@@ -291,7 +291,7 @@ module _ (s : State) (b : Beside) (rooms : List Known) (before : ℕ → Option 
           checked = own_bytes v refl;
         },
       )
-      read-cause x word reply.OutOfObject own_bytes may cause = (held-told x ∙ cause.1, outside (call_for s.table rooms cpu (Read x word)) cause.2.0 cause.2.1 cause.2.2)
+      read-cause x word reply.OutOfObject own_bytes may cause = (held-told x ∙ cause.1, outside (call_for s.table rooms cpu (Read word x)) cause.2.0 cause.2.1 cause.2.2)
       read-cause x word reply.NotHeld own_bytes may cause = held-told x ∙ cause.2
       read-cause x word r own_bytes may cause = absurd (false≢true may)
 
@@ -312,16 +312,16 @@ module _ (s : State) (b : Beside) (rooms : List Known) (before : ℕ → Option 
       flush-cause (reply.Flushed n) may = tt
       flush-cause r may = absurd (false≢true may)
 
-      pub cause-told : (a : Act) (r : Reply) → ((x word value : ℕ) → a ≡ Read x word → r ≡ reply.Value value → IsOfChecked s x own → IsOwnBytes s all own x word value)
+      pub cause-told : (a : Act) (r : Reply) → ((x word value : ℕ) → a ≡ Read word x → r ≡ reply.Value value → IsOfChecked s x own → IsOwnBytes s all own x word value)
           → core.Cause (setup_of s b) before p ds (call_for s.table rooms cpu a) r → Cause s all own a r
       cause-told a r reads cause = by a reads cause (cause-answers (setup_of s b) before p ds (call_for s.table rooms cpu a) r cause)
         where
-          by : (a : Act) → ((x word value : ℕ) → a ≡ Read x word → r ≡ reply.Value value → IsOfChecked s x own → IsOwnBytes s all own x word value) → core.Cause (setup_of s b) before p ds (call_for s.table rooms cpu a) r
+          by : (a : Act) → ((x word value : ℕ) → a ≡ Read word x → r ≡ reply.Value value → IsOfChecked s x own → IsOwnBytes s all own x word value) → core.Cause (setup_of s b) before p ds (call_for s.table rooms cpu a) r
               → may_answer (call_for s.table rooms cpu a).kind r ≡ true → Cause s all own a r
           by (Alloc place x) reads cause may = alloc-cause place x r may cause
           by (Free x) reads cause may = free-cause x r may cause
-          by (Write x word value) reads cause may = write-cause x word value r may cause
-          by (Read x word) reads cause may = read-cause x word r (λ value. reads x word value refl) may cause
+          by (Write word x value) reads cause may = write-cause x word value r may cause
+          by (Read word x) reads cause may = read-cause x word r (λ value. reads x word value refl) may cause
           by (Poke x offset byte) reads cause may = poke-cause r may
           by (Trim place) reads cause may = trim-cause place r may cause
           by Flush reads cause may = flush-cause r may

@@ -5,8 +5,8 @@ use Rattle.std.specs.Option.{option_and_then, option_map}
 use Rattle.std.specs.List.{fold}
 use Rattle.std.proofs.lemmas.List.Elements.{All-head, All-tail}
 use Rattle.std.proofs.lemmas.List.Sums.{sum_by-cons}
-use Rattle.slub_object_layout.specs.declared.event.Act.{Act}
-use Rattle.slub_object_layout.specs.declared.event.Event.{Event}
+use Rattle.slub_events.specs.declared.event.Act.{Act}
+use Rattle.slub_events.specs.declared.event.Event.{Event}
 use Rattle.slub_object_layout.specs.declared.layout.Layout.{Layout}
 use Rattle.slub_answers.specs.declared.reply.Reply.{Reply}
 use Rattle.slub_answers.specs.declared.reply.Reply.TheVariants as reply

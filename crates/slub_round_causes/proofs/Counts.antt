@@ -7,8 +7,8 @@ use Rattle.std.proofs.lemmas.Bool.{cases_lt, cases_eq, false≢true}
 use Rattle.std.proofs.lemmas.List.Elements.{All-get_or}
 use Rattle.std.proofs.lemmas.List.FromFn.{get_or-map-range_with_len, length-map-range_with_len}
 use Rattle.slub_common.proofs.Sums.{sum_by-map, sum_by-same}
-use Rattle.slub_object_layout.specs.declared.event.Event.{Event}
-use Rattle.slub_object_layout.specs.declared.event.Round.{Round}
+use Rattle.slub_events.specs.declared.event.Event.{Event}
+use Rattle.slub_events.specs.declared.event.Round.{Round}
 use Rattle.slub_answers.specs.declared.reply.Reply.{Reply}
 use Rattle.slub_answers.specs.declared.reply.Reply.TheVariants as reply
 use Rattle.slub_cache_create.specs.declared.caches.Cache.{Cache}

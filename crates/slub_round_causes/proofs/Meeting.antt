@@ -4,9 +4,9 @@ use Rattle.std.specs.Prelude.{⊤, ℤ, count_by}
 use Rattle.std.specs.List.{fold}
 use Rattle.std.proofs.lemmas.List.Elements.{All-nil, All-cons, All-head, All-tail}
 use Rattle.std.proofs.lemmas.List.Sums.{sum_by-cons}
-use Rattle.slub_object_layout.specs.declared.event.Act.{Act}
-use Rattle.slub_object_layout.specs.declared.event.Act.TheVariants.{Alloc, Free, Write, Poke}
-use Rattle.slub_object_layout.specs.declared.event.Event.{Event}
+use Rattle.slub_events.specs.declared.event.Act.{Act}
+use Rattle.slub_events.specs.declared.event.Act.TheVariants.{Alloc, Free, Write, Poke}
+use Rattle.slub_events.specs.declared.event.Event.{Event}
 use Rattle.slub_red_zone.specs.declared.zones.Damage.{Damage}
 use Rattle.slub_answers.specs.declared.reply.Reply.{Reply}
 use Rattle.slub_answers.specs.declared.reply.Reply.TheVariants as reply
@@ -47,7 +47,7 @@ pub data Meets (table : Table) : Act → Reply → Type 0 where
   lacked : (place x k : ℕ) → cache_named table place ≡ Some k → Meets table (Alloc place x) reply.NoFrames
   freed : (x address : ℕ) → Meets table (Free x) (reply.Freed address)
   found : (x : ℕ) (damage : Damage) → Meets table (Free x) (reply.Corrupt damage)
-  wrote : (x word value : ℕ) → Meets table (Write x word value) reply.Wrote
+  wrote : (x word value : ℕ) → Meets table (Write word x value) reply.Wrote
   poked : (x : ℕ) (offset : ℤ) (byte : ℕ) → Meets table (Poke x offset byte) reply.Poked
   quiet : (act : Act) (r : Reply) → IsQuiet r → Meets table act r
 
@@ -79,7 +79,7 @@ meets table rooms cpu (Free x) (reply.Freed a) suits = freed x a
 meets table rooms cpu act (reply.Freed a) suits = absurd (cc)
 meets table rooms cpu (Free x) (reply.Corrupt d) suits = found x d
 meets table rooms cpu act (reply.Corrupt d) suits = absurd (cc)
-meets table rooms cpu (Write x word value) reply.Wrote suits = wrote x word value
+meets table rooms cpu (Write word x value) reply.Wrote suits = wrote x word value
 meets table rooms cpu act reply.Wrote suits = absurd (cc)
 meets table rooms cpu (Poke x offset byte) reply.Poked suits = poked x offset byte
 meets table rooms cpu act reply.Poked suits = absurd (cc)

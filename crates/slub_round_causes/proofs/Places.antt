@@ -158,23 +158,23 @@ steps-from opening m value words refused x others long s ac ok =
 
 -- ---- a turn
 
-begun_with-from : (before : ℕ → Option BoardWord) (m : Setup) (l : Local) (calls : List Call) → HoldsFrom before l → HoldsFrom before (begun_with m false l calls)
-begun_with-from before m l [] ok = ok
-begun_with-from before m l (call ∷ calls) ok = ok
+begun_with-from : (before : ℕ → Option BoardWord) (m : Setup) (tries : Bool) (l : Local) (calls : List Call) → HoldsFrom before l → HoldsFrom before (begun_with m tries l calls)
+begun_with-from before m tries l [] ok = ok
+begun_with-from before m tries l (call ∷ calls) ok = ok
 
-begun_at-from : (before : ℕ → Option BoardWord) (m : Setup) (l : Local) (spot : Spot) → HoldsFrom before l → HoldsFrom before (begun_at m false l spot)
-begun_at-from before m l Between ok = begun_with-from before m l l.todo ok
-begun_at-from before m l _ ok = ok
+begun_at-from : (before : ℕ → Option BoardWord) (m : Setup) (tries : Bool) (l : Local) (spot : Spot) → HoldsFrom before l → HoldsFrom before (begun_at m tries l spot)
+begun_at-from before m tries l Between ok = begun_with-from before m tries l l.todo ok
+begun_at-from before m tries l _ ok = ok
 
-begun-from : (before : ℕ → Option BoardWord) (m : Setup) (l : Local) → HoldsFrom before l → HoldsFrom before (begun m false l)
-begun-from before m l ok = begun_at-from before m l l.spot ok
+begun-from : (before : ℕ → Option BoardWord) (m : Setup) (tries : Bool) (l : Local) → HoldsFrom before l → HoldsFrom before (begun m tries l)
+begun-from before m tries l ok = begun_at-from before m tries l l.spot ok
 
 turn-from : (m : Setup) (opening : World) (s : System) (pick : Pick) → IsCoherentSystem m opening s → All (HoldsFrom opening.board) s.locals → All (HoldsFrom opening.board) (turn m s pick).locals
 turn-from m opening s pick is ok = elim (cases_lt pick.worker (length s.locals)) [
   | inl below ↦ (
       let b = has-begun m opening s pick below is in
       let l = get_or s.locals pick.worker idle in
-      let mine = begun-from opening.board m l (ok pick.worker idle below) in
+      let mine = begun-from opening.board m pick.tries l (ok pick.worker idle below) in
       let carried = subst (λ b. let step = step_of m s.value b in let q = get_or s.words (number_of m step.place) 0 in let c = advance_of m pick.refused s.value b (answer_of step.op q) in HoldsFrom opening.board c.local) b.local
       (steps-from opening m s.value s.words pick.refused b.x _ is.words b.stands b.accounted (subst (HoldsFrom opening.board) (sym b.local) mine)) in
       All-set (HoldsFrom opening.board) s.locals pick.worker _ carried ok)

@@ -6,7 +6,7 @@ use Rattle.std.proofs.lemmas.Bool.Decides.{nat_tests}
 use Rattle.std.proofs.lemmas.List.Elements.{All-nil, All-cons, All-head, All-tail}
 use Rattle.std.proofs.lemmas.List.Sums.{sum_by-cons}
 use Rattle.slub_common.proofs.Sums.{sum_by-same}
-use Rattle.slub_object_layout.specs.declared.event.Event.{Event}
+use Rattle.slub_events.specs.declared.event.Event.{Event}
 use Rattle.slub_answers.specs.declared.reply.Reply.{Reply}
 use Rattle.slub_round_law.specs.Answered.{Answered, of_worker}
 

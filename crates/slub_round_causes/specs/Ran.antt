@@ -1,8 +1,8 @@
 -- A round of several workers that was run on words, in whatever order its workers made their turns.
 use Rattle.std.specs.Prelude.{◌≡◌, ℕ, List, [], length, map, filter, reverse, slice_index_or, All}
 use Rattle.std.specs.List.{zip}
-use Rattle.slub_object_layout.specs.declared.event.Event.{Event}
-use Rattle.slub_object_layout.specs.declared.event.Round.{Round}
+use Rattle.slub_events.specs.declared.event.Event.{Event}
+use Rattle.slub_events.specs.declared.event.Round.{Round}
 use Rattle.slub_answers.specs.declared.reply.Reply.{Reply}
 use Rattle.slub_lists.specs.State.{State}
 use Rattle.slub_core.specs.declared.local.Answered.{Answered}

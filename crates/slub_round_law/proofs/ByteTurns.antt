@@ -8,7 +8,7 @@ use Rattle.std.proofs.Math.IntN.{pos-+ℤ-pos}
 use Rattle.std.proofs.lemmas.Bool.{cases_eq, cases_lt, eq-eqb, ne_eqb}
 use Rattle.std.proofs.lemmas.Bool.Decides.{Decides-int_eq}
 use Rattle.slub_common.proofs.Writes.{inside-of}
-use Rattle.slub_object_layout.specs.declared.event.Act.TheVariants.{Alloc, Free, Write, Poke}
+use Rattle.slub_events.specs.declared.event.Act.TheVariants.{Alloc, Free, Write, Poke}
 use Rattle.slub_object_layout.specs.declared.layout.Layout.{Layout}
 use Rattle.slub_object_layout.specs.Layout.{address_of}
 use Rattle.slub_cache_create.specs.declared.caches.Cache.{Cache}
@@ -67,7 +67,7 @@ given-put object word place last (event, answer) address is given = rw is (by (i
     by true e = refl
     by false e = absurd (cc)
 
-wrote-put : (object word place other at value : ℕ) (last : Option ℕ) (one : Answered) → one.1 ≡ reply.Wrote → one.0.act ≡ Write other at value
+wrote-put : (object word place other at value : ℕ) (last : Option ℕ) (one : Answered) → one.1 ≡ reply.Wrote → one.0.act ≡ Write at other value
     → put_after object word place last one ≡ cond (eqb other object && eqb at word) (Some (get_or (to_le_bytes w64 value) place 0)) last
 wrote-put object word place other at value last (event, answer) is asks = rw (is, asks) refl
 
@@ -76,7 +76,7 @@ poked-put : (object word place other byte : ℕ) (offset : ℤ) (last : Option �
 poked-put object word place other byte offset last (event, answer) is asks = rw (is, asks) refl
 
 -- those of another number
-pub wrote-other : (object word place other at value : ℕ) (last : Option ℕ) (one : Answered) → one.1 ≡ reply.Wrote → one.0.act ≡ Write other at value → other ≢ object → put_after object word place last one ≡ last
+pub wrote-other : (object word place other at value : ℕ) (last : Option ℕ) (one : Answered) → one.1 ≡ reply.Wrote → one.0.act ≡ Write at other value → other ≢ object → put_after object word place last one ≡ last
 wrote-other object word place other at value last one is asks differ =
     wrote-put object word place other at value last one is asks ∙ ap (λ b. cond (b && eqb at word) (Some (get_or (to_le_bytes w64 value) place 0)) last) (ne_eqb other object differ)
 
@@ -91,7 +91,7 @@ pub data Kind (s : State) (one : Answered) (after : State) : Type 0 where
   puts_none : after.checked ≡ s.checked → is_put one.1 ≡ false → Kind s one after
   asks_one : (place object : ℕ) → one.0.act ≡ Alloc place object → is_put one.1 ≡ false → Kind s one after
   frees_one : (object : ℕ) → one.0.act ≡ Free object → is_freed one.1 ≡ true → is_put one.1 ≡ false → Kind s one after
-  puts_word : (object word value : ℕ) (live : Cache) (held : Held) → one.0.act ≡ Write object word value → Holds s one.0.worker object held live → is_word live.layout word ≡ true → one.1 ≡ reply.Wrote
+  puts_word : (object word value : ℕ) (live : Cache) (held : Held) → one.0.act ≡ Write word object value → Holds s one.0.worker object held live → is_word live.layout word ≡ true → one.1 ≡ reply.Wrote
       → after ≡ with_word s live.layout held word value → Kind s one after
   puts_byte : (object : ℕ) (offset : ℤ) (byte : ℕ) (held : Held) (slabs : CheckedState) → one.0.act ≡ Poke object offset byte → known_to s one.0.worker object ≡ Some held → checked_of s held.cache ≡ Some slabs → IsOffset slabs.layout offset
       → one.1 ≡ reply.Poked → after ≡ with_checked s held.cache (with_byte slabs (slot_of_held held) offset byte) → Kind s one after
@@ -279,7 +279,7 @@ module _ (s : State) (one : Answered) (after : State) (coherent : IsCoherent s) 
         injected (sym (ap (λ (t : State). checked_of t cache) set_now ∙ get_or-set_same s.checked cache (Some new) None (inside-of s.checked cache old had)) ∙ ap (checked_of after) (sym same) ∙ now)
 
   -- a word is written
-  module _ (other at value : ℕ) (owner : Cache) (mine : Held) (asks : one.0.act ≡ Write other at value) (holds : Holds s one.0.worker other mine owner) (fits : is_word owner.layout at ≡ true) (is : one.1 ≡ reply.Wrote)
+  module _ (other at value : ℕ) (owner : Cache) (mine : Held) (asks : one.0.act ≡ Write at other value) (holds : Holds s one.0.worker other mine owner) (fits : is_word owner.layout at ≡ true) (is : one.1 ≡ reply.Wrote)
       (written : after ≡ with_word s owner.layout mine at value) where
     mine-there : held_under s other ≡ Some mine
     mine-there = own-is one.0.worker (held_under s other) mine holds.here
@@ -447,11 +447,11 @@ module _ (s : State) (one : Answered) (after : State) (coherent : IsCoherent s) 
       by (asks_one at other asks no_put) =
           spared (no-put no_put) (slots-of-it s one.0 one.1 after coherent object held names.here slabs rest was now
           (spares-it s one.0 one.1 after coherent object held names.here (event-slabs s one.0 one.1 after answers)
-          (λ o e. absurd (let never : Alloc at other ≡ Free o = sym asks ∙ e in cc)) (λ o f b e. absurd (let never : Alloc at other ≡ Poke o f b = sym asks ∙ e in cc)) (λ o p v e. (let never : Alloc at other ≡ Write o p v = sym asks ∙ e in cc))))
+          (λ o e. absurd (let never : Alloc at other ≡ Free o = sym asks ∙ e in cc)) (λ o f b e. absurd (let never : Alloc at other ≡ Poke o f b = sym asks ∙ e in cc)) (λ o p v e. (let never : Alloc at other ≡ Write p o v = sym asks ∙ e in cc))))
       by (frees_one other asks is no_put) =
           spared (no-put no_put) (slots-of-it s one.0 one.1 after coherent object held names.here slabs rest was now
           (spares-it s one.0 one.1 after coherent object held names.here (event-slabs s one.0 one.1 after answers)
-          (λ o e same. freed-other o e same) (λ o f b e. absurd (let never : Free other ≡ Poke o f b = sym asks ∙ e in cc)) (λ o p v e. (let never : Free other ≡ Write o p v = sym asks ∙ e in cc))))
+          (λ o e same. freed-other o e same) (λ o f b e. absurd (let never : Free other ≡ Poke o f b = sym asks ∙ e in cc)) (λ o p v e. (let never : Free other ≡ Write p o v = sym asks ∙ e in cc))))
         where
           freed-other : (o : ℕ) → one.0.act ≡ Free o → object ≡ o → ⊥
           freed-other o e same =

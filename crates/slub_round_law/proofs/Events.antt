@@ -4,8 +4,8 @@ use Rattle.std.specs.Option.{option_map}
 use Rattle.std.proofs.lemmas.Nat.{row_fits}
 use Rattle.slub_common.proofs.Writes.{inside-of}
 use Rattle.slub_page_pool.specs.Block.{HasNoBlock}
-use Rattle.slub_object_layout.specs.declared.event.Act.TheVariants.{Alloc}
-use Rattle.slub_object_layout.specs.declared.event.Event.{Event}
+use Rattle.slub_events.specs.declared.event.Act.TheVariants.{Alloc}
+use Rattle.slub_events.specs.declared.event.Event.{Event}
 use Rattle.slub_object_layout.specs.Layout.{address_of}
 use Rattle.slub_cache_create.specs.declared.caches.Cache.{Cache}
 use Rattle.slub_answers.specs.declared.reply.Reply.{Reply}

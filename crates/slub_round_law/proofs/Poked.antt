@@ -7,7 +7,7 @@ use Rattle.std.proofs.lemmas.List.{append-nil}
 use Rattle.std.proofs.lemmas.List.Elements.{Contains-append_left, Contains-append_right}
 use Rattle.std.proofs.lemmas.List.Elements.{All-append}
 use Rattle.slub_common.proofs.Writes.{inside-of}
-use Rattle.slub_object_layout.specs.declared.event.Act.TheVariants.{Alloc, Free, Poke}
+use Rattle.slub_events.specs.declared.event.Act.TheVariants.{Alloc, Free, Poke}
 use Rattle.slub_object_layout.specs.declared.layout.Layout.{Layout}
 use Rattle.slub_object_layout.specs.Layout.{address_of}
 use Rattle.slub_answers.specs.declared.reply.Reply.TheVariants as reply

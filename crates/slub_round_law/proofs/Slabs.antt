@@ -2,8 +2,8 @@
 use Rattle.std.proofs.Common.{◌≡◌, ℕ, zero, suc, Bool, true, false, cond, List, [], ◌∷◌, get_or, set, refl, ◌∙◌, ap, subst, Option, Some, None, MatchOption, Result, Ok, Err, inl, inr, ◌⊎◌, ℤ}
 use Rattle.std.specs.Option.{option_map_or}
 use Rattle.slub_page_pool.specs.FreeFrames.{FreeFrames}
-use Rattle.slub_object_layout.specs.declared.event.Act.TheVariants.{Alloc, Free, Write, Poke}
-use Rattle.slub_object_layout.specs.declared.event.Event.{Event}
+use Rattle.slub_events.specs.declared.event.Act.TheVariants.{Alloc, Free, Write, Poke}
+use Rattle.slub_events.specs.declared.event.Event.{Event}
 use Rattle.slub_object_layout.specs.declared.layout.Layout.{Layout}
 use Rattle.slub_cache_create.specs.declared.caches.Cache.{Cache}
 use Rattle.slub_red_zone.specs.State.{CheckedState}
@@ -44,7 +44,7 @@ pub data Slabs (s : State) (event : Event) (answer : Reply) (after : State) : Ty
   -- one was taken back, and its slab may be gone
   took : (object : ℕ) (held : Held) (slabs mid rest : CheckedState) (limit : ℕ) (run : Option SlabRun) → event.act ≡ Free object → held_under s object ≡ Some held → Swaps s held.cache slabs rest after → TakesBack slabs (slot_of_held held) (Ok tt) mid
       → TakesEmpty mid held.frame limit run rest → Slabs s event answer after
-  wrote : (object word value : ℕ) (held : Held) (live : Cache) (slabs : CheckedState) → event.act ≡ Write object word value → Holds s event.worker object held live → is_word live.layout word ≡ true → Swaps s held.cache slabs (slab_word slabs (slot_of_held held) word value) after → Slabs s event answer after
+  wrote : (object word value : ℕ) (held : Held) (live : Cache) (slabs : CheckedState) → event.act ≡ Write word object value → Holds s event.worker object held live → is_word live.layout word ≡ true → Swaps s held.cache slabs (slab_word slabs (slot_of_held held) word value) after → Slabs s event answer after
   poked_byte : (object : ℕ) (offset : ℤ) (byte : ℕ) (held : Held) (slabs : CheckedState) → event.act ≡ Poke object offset byte → answer ≡ reply.Poked → known_to s event.worker object ≡ Some held → IsOffset slabs.layout offset
       → Swaps s held.cache slabs (with_byte slabs (slot_of_held held) offset byte) after → Slabs s event answer after
 

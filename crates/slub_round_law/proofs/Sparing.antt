@@ -28,9 +28,9 @@ use Rattle.slub_red_zone.proofs.Taken.{used-inside, used-object, used-slab, used
 use Rattle.slub_red_zone.proofs.Whole.{frame-inside}
 use Rattle.slub_common.proofs.Sums.{count_by-lt-length}
 use Rattle.std.proofs.lemmas.Option.{slice_get_within}
-use Rattle.slub_object_layout.specs.declared.event.Act.{Act}
-use Rattle.slub_object_layout.specs.declared.event.Act.TheVariants as act
-use Rattle.slub_object_layout.specs.declared.event.Event.{Event}
+use Rattle.slub_events.specs.declared.event.Act.{Act}
+use Rattle.slub_events.specs.declared.event.Act.TheVariants as act
+use Rattle.slub_events.specs.declared.event.Event.{Event}
 use Rattle.slub_answers.specs.declared.reply.Reply.{Reply}
 use Rattle.slub_common.specs.Times.{times}
 use Rattle.slub_common.proofs.Times.{times-contained}
@@ -292,7 +292,7 @@ module _ (s : State) (event : Event) (answer : Reply) (after : State) (coherent 
       ]
 
   pub spares-it : Slabs s event answer after → ((object : ℕ) → event.act ≡ act.Free object → other ≢ object) → ((object : ℕ) (offset : ℤ) (byte : ℕ) → event.act ≡ act.Poke object offset byte → ¬ IsNamed s event.worker object held)
-      → ((object place value : ℕ) → event.act ≡ act.Write object place value → ⊥) → SparesIt
+      → ((object place value : ℕ) → event.act ≡ act.Write place object value → ⊥) → SparesIt
   spares-it (same is) free poke write = kept (ap (λ (l : List (Option CheckedState)). get_or l held.cache None) is)
   spares-it (gave cache slabs rest found swaps asked) free poke write =
       swapped-it cache slabs rest swaps (λ mine was. gives-spares slabs found rest (slot_of_held held) (mine-sound slabs was) asked (mine-used slabs was))
@@ -361,7 +361,7 @@ module _ (s : State) (event : Event) (answer : Reply) (after : State) (coherent 
 -- ---- an event
 
 -- an event that is no write leaves the words of the frames
-memory-kept : (s : State) (event : Event) (answer : Reply) (after : State) → ((object place value : ℕ) → event.act ≡ act.Write object place value → ⊥) → Answers s event event.act answer after → after.memory ≡ s.memory
+memory-kept : (s : State) (event : Event) (answer : Reply) (after : State) → ((object place value : ℕ) → event.act ≡ act.Write place object value → ⊥) → Answers s event event.act answer after → after.memory ≡ s.memory
 memory-kept s event answer after no_write answers = by (words-of s (event, answer) after (event-step s event answer after answers))
   where
     by : Words s (event, answer) after → after.memory ≡ s.memory
@@ -370,7 +370,7 @@ memory-kept s event answer after no_write answers = by (words-of s (event, answe
 
 module _ (s : State) (event : Event) (answer : Reply) (after : State) (coherent : IsCoherent s) (answers : Answers s event event.act answer after) where
   -- the words of an object that the event isn't of
-  spared-by : ((object place value : ℕ) → event.act ≡ act.Write object place value → ⊥) → (other word : ℕ) (held : Held) (layout : Layout) → Names s other held layout → is_word layout word ≡ true
+  spared-by : ((object place value : ℕ) → event.act ≡ act.Write place object value → ⊥) → (other word : ℕ) (held : Held) (layout : Layout) → Names s other held layout → is_word layout word ≡ true
       → ((object : ℕ) → event.act ≡ act.Free object → other ≢ object) → ((object : ℕ) (offset : ℤ) (byte : ℕ) → event.act ≡ act.Poke object offset byte → ¬ IsNamed s event.worker object held)
       → word_of after layout held word ≡ word_of s layout held word
   spared-by no_write other word held layout names inside free poke =
@@ -381,7 +381,7 @@ module _ (s : State) (event : Event) (answer : Reply) (after : State) (coherent 
   spares-by (act.Alloc place object) is = λ other word held layout apart names inside.
       spared-by (λ o p v e. alloc-write (sym is ∙ e)) other word held layout names inside (λ o e. absurd (alloc-free (sym is ∙ e))) (λ o f b e. absurd (alloc-poke (sym is ∙ e)))
     where
-      alloc-write : {o p v : ℕ} → act.Alloc place object ≡ act.Write o p v → ⊥
+      alloc-write : {o p v : ℕ} → act.Alloc place object ≡ act.Write p o v → ⊥
       alloc-write e = cc
 
       alloc-free : {o : ℕ} → act.Alloc place object ≡ act.Free o → ⊥
@@ -392,7 +392,7 @@ module _ (s : State) (event : Event) (answer : Reply) (after : State) (coherent 
   spares-by (act.Free object) is = λ other word held layout apart names inside.
       spared-by (λ o p v e. free-write (sym is ∙ e)) other word held layout names inside (λ o e same. apart (same ∙ sym (free-free (sym is ∙ e)))) (λ o f b e. absurd (free-poke (sym is ∙ e)))
     where
-      free-write : {o p v : ℕ} → act.Free object ≡ act.Write o p v → ⊥
+      free-write : {o p v : ℕ} → act.Free object ≡ act.Write p o v → ⊥
       free-write e = cc
 
       free-free : {o : ℕ} → act.Free object ≡ act.Free o → object ≡ o
@@ -400,24 +400,24 @@ module _ (s : State) (event : Event) (answer : Reply) (after : State) (coherent 
 
       free-poke : {o b : ℕ} {f : ℤ} → act.Free object ≡ act.Poke o f b → ⊥
       free-poke e = cc
-  spares-by (act.Write object word value) is =
-      let done : Answers s event (act.Write object word value) answer after = subst (λ a. Answers s event a answer after) is answers in
+  spares-by (act.Write word object value) is =
+      let done : Answers s event (act.Write word object value) answer after = subst (λ a. Answers s event a answer after) is answers in
       writes-spare s event.worker object word value answer after coherent done
-  spares-by (act.Read object place) is = λ other word held layout apart names inside.
+  spares-by (act.Read place object) is = λ other word held layout apart names inside.
       spared-by (λ o p v e. read-write (sym is ∙ e)) other word held layout names inside (λ o e. absurd (read-free (sym is ∙ e))) (λ o f b e. absurd (read-poke (sym is ∙ e)))
     where
-      read-write : {o p v : ℕ} → act.Read object place ≡ act.Write o p v → ⊥
+      read-write : {o p v : ℕ} → act.Read place object ≡ act.Write p o v → ⊥
       read-write e = cc
 
-      read-free : {o : ℕ} → act.Read object place ≡ act.Free o → ⊥
+      read-free : {o : ℕ} → act.Read place object ≡ act.Free o → ⊥
       read-free e = cc
 
-      read-poke : {o b : ℕ} {f : ℤ} → act.Read object place ≡ act.Poke o f b → ⊥
+      read-poke : {o b : ℕ} {f : ℤ} → act.Read place object ≡ act.Poke o f b → ⊥
       read-poke e = cc
   spares-by (act.Poke object offset byte) is = λ other word held layout names hidden inside.
       spared-by (λ o p v e. poke-write (sym is ∙ e)) other word held layout names inside (λ o e. absurd (poke-free (sym is ∙ e))) (λ o f b e named. hidden (subst (λ n. IsNamed s event.worker n held) (sym (poke-poke (sym is ∙ e))) named))
     where
-      poke-write : {o p v : ℕ} → act.Poke object offset byte ≡ act.Write o p v → ⊥
+      poke-write : {o p v : ℕ} → act.Poke object offset byte ≡ act.Write p o v → ⊥
       poke-write e = cc
 
       poke-free : {o : ℕ} → act.Poke object offset byte ≡ act.Free o → ⊥

@@ -3,9 +3,9 @@ use Rattle.std.proofs.Common.{◌≡◌, ℕ, ◌+◌, Bool, true, false, cond, 
 use Rattle.std.specs.List.{range_with_len}
 use Rattle.std.specs.Option.{option_map_or}
 use Rattle.slub_page_pool.specs.FreeFrames.{FreeFrames}
-use Rattle.slub_object_layout.specs.declared.event.Act.{Act}
-use Rattle.slub_object_layout.specs.declared.event.Act.TheVariants.{Alloc, Free, Write, Read, Poke, Trim, Flush}
-use Rattle.slub_object_layout.specs.declared.event.Event.{Event}
+use Rattle.slub_events.specs.declared.event.Act.{Act}
+use Rattle.slub_events.specs.declared.event.Act.TheVariants.{Alloc, Free, Write, Read, Poke, Trim, Flush}
+use Rattle.slub_events.specs.declared.event.Event.{Event}
 use Rattle.slub_object_layout.specs.declared.layout.Layout.{Layout}
 use Rattle.slub_object_layout.specs.Layout.{address_of}
 use Rattle.slub_cache_create.specs.declared.caches.Cache.{Cache}
@@ -124,17 +124,17 @@ pub data Step (s : State) (event : Event) (answer : Reply) (after : State) : Typ
   refuses : (object : ℕ) → event.act ≡ Free object → (get_or s.board object None ≡ None) ⊎ ((held : Held) × (get_or s.board object None ≡ Some held) × (is_freeable event.worker held.worker ≡ false))
       → answer ≡ reply.NotHeld → after ≡ s → Step s event answer after
   -- a word is written
-  writes : (object word value : ℕ) (live : Cache) (held : Held) → event.act ≡ Write object word value → Holds s event.worker object held live → is_word live.layout word ≡ true
+  writes : (object word value : ℕ) (live : Cache) (held : Held) → event.act ≡ Write word object value → Holds s event.worker object held live → is_word live.layout word ≡ true
       → answer ≡ reply.Wrote → after ≡ with_word s live.layout held word value → Step s event answer after
-  writes_none : (object word value : ℕ) (live : Cache) (held : Held) → event.act ≡ Write object word value → Holds s event.worker object held live → is_word live.layout word ≡ false
+  writes_none : (object word value : ℕ) (live : Cache) (held : Held) → event.act ≡ Write word object value → Holds s event.worker object held live → is_word live.layout word ≡ false
       → answer ≡ reply.OutOfObject → after ≡ s → Step s event answer after
-  writes_not : (object word value : ℕ) → event.act ≡ Write object word value → held_by s event.worker object ≡ None → answer ≡ reply.NotHeld → after ≡ s → Step s event answer after
+  writes_not : (object word value : ℕ) → event.act ≡ Write word object value → held_by s event.worker object ≡ None → answer ≡ reply.NotHeld → after ≡ s → Step s event answer after
   -- or read
-  reads : (object word : ℕ) (live : Cache) (held : Held) → event.act ≡ Read object word → Holds s event.worker object held live → is_word live.layout word ≡ true
+  reads : (object word : ℕ) (live : Cache) (held : Held) → event.act ≡ Read word object → Holds s event.worker object held live → is_word live.layout word ≡ true
       → answer ≡ reply.Value (word_of s live.layout held word) → after ≡ s → Step s event answer after
-  reads_none : (object word : ℕ) (live : Cache) (held : Held) → event.act ≡ Read object word → Holds s event.worker object held live → is_word live.layout word ≡ false
+  reads_none : (object word : ℕ) (live : Cache) (held : Held) → event.act ≡ Read word object → Holds s event.worker object held live → is_word live.layout word ≡ false
       → answer ≡ reply.OutOfObject → after ≡ s → Step s event answer after
-  reads_not : (object word : ℕ) → event.act ≡ Read object word → held_by s event.worker object ≡ None → answer ≡ reply.NotHeld → after ≡ s → Step s event answer after
+  reads_not : (object word : ℕ) → event.act ≡ Read word object → held_by s event.worker object ≡ None → answer ≡ reply.NotHeld → after ≡ s → Step s event answer after
   -- a byte is poked
   pokes : (object : ℕ) (offset : ℤ) (byte : ℕ) (held : Held) (slabs : CheckedState) → event.act ≡ Poke object offset byte → known_to s event.worker object ≡ Some held → checked_of s held.cache ≡ Some slabs → IsOffset slabs.layout offset
       → answer ≡ reply.Poked → after ≡ with_checked s held.cache (with_byte slabs (slot_of_held held) offset byte) → Step s event answer after
@@ -339,7 +339,7 @@ word-keeps s layout held word value = by (checked_of s held.cache)
     by None = record { board = refl; gone = refl; table = refl; cpus = refl; frames = refl; pool = refl }
     by (Some slabs) = record { board = refl; gone = refl; table = refl; cpus = refl; frames = refl; pool = refl }
 
-write-step : (s : State) (event : Event) (object word value : ℕ) (answer : Reply) (after : State) → event.act ≡ Write object word value
+write-step : (s : State) (event : Event) (object word value : ℕ) (answer : Reply) (after : State) → event.act ≡ Write word object value
     → Writes s event.worker object word value answer after → Step s event answer after
 write-step s event object word value answer after asks done = match_either (held_by s event.worker object) _ _ (Step s event answer after) done
     (λ none nothing. writes_not object word value asks none nothing.0 nothing.1)
@@ -348,7 +348,7 @@ write-step s event object word value answer after asks done = match_either (held
     (λ within done. writes object word value live held asks (record { here = here; cache = is_live }) within done.0 done.1)
     (λ past done. writes_none object word value live held asks (record { here = here; cache = is_live }) past done.0 done.1)))
 
-read-step : (s : State) (event : Event) (object word : ℕ) (answer : Reply) (after : State) → event.act ≡ Read object word
+read-step : (s : State) (event : Event) (object word : ℕ) (answer : Reply) (after : State) → event.act ≡ Read word object
     → Reads s event.worker object word answer → after ≡ s → Step s event answer after
 read-step s event object word answer after asks done same = match_either (held_by s event.worker object) _ _ (Step s event answer after) done
     (λ none nothing. reads_not object word asks none nothing same)
@@ -454,8 +454,8 @@ flush-step s event answer after asks done =
 of-act : (s : State) (event : Event) (act : Act) (answer : Reply) (after : State) → event.act ≡ act → Answers s event act answer after → Step s event answer after
 of-act s event (Alloc place object) answer after is done = alloc-step s event place object answer after is done
 of-act s event (Free object) answer after is done = free-step s event object answer after is done
-of-act s event (Write object word value) answer after is done = write-step s event object word value answer after is done
-of-act s event (Read object word) answer after is done = read-step s event object word answer after is done.0 done.1
+of-act s event (Write word object value) answer after is done = write-step s event object word value answer after is done
+of-act s event (Read word object) answer after is done = read-step s event object word answer after is done.0 done.1
 of-act s event (Poke object offset byte) answer after is done = poke-step s event object offset byte answer after is done
 of-act s event (Trim place) answer after is done = trim-step s event place answer after is done
 of-act s event Flush answer after is done = flush-step s event answer after is done

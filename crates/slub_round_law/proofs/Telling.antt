@@ -4,7 +4,7 @@ use Rattle.std.specs.List.{Contains, zip}
 use Rattle.std.specs.Option.{option_map_or}
 use Rattle.std.proofs.Math.Seq.{drop-append-add}
 use Rattle.std.proofs.lemmas.List.Elements.{All-map}
-use Rattle.slub_object_layout.specs.declared.event.Round.{Round}
+use Rattle.slub_events.specs.declared.event.Round.{Round}
 use Rattle.slub_object_layout.specs.Layout.{address_of}
 use Rattle.slub_red_zone.specs.declared.zones.Report.{Report}
 use Rattle.slub_red_zone.specs.State.{CheckedState}

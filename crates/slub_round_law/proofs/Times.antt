@@ -4,9 +4,9 @@ use Rattle.std.specs.List.{AllByRecursion, IsDistinct, zip}
 use Rattle.std.proofs.lemmas.Bool.Decides.{nat_tests}
 use Rattle.std.proofs.lemmas.List.Sums.{sum_by-append, sum_by-cons}
 use Rattle.std.proofs.lemmas.Map.Keys.{IsDistinct-head, IsDistinct-tail}
-use Rattle.slub_object_layout.specs.declared.event.Act.{Act}
-use Rattle.slub_object_layout.specs.declared.event.Act.TheVariants.{Alloc, Free, Write, Read, Poke, Trim, Flush}
-use Rattle.slub_object_layout.specs.declared.event.Event.{Event}
+use Rattle.slub_events.specs.declared.event.Act.{Act}
+use Rattle.slub_events.specs.declared.event.Act.TheVariants.{Alloc, Free, Write, Read, Poke, Trim, Flush}
+use Rattle.slub_events.specs.declared.event.Event.{Event}
 use Rattle.slub_common.specs.Times.{times}
 use Rattle.slub_answers.specs.declared.reply.Reply.{Reply}
 use Rattle.slub_trace_reader.specs.Sound.{objects_of}
@@ -65,8 +65,8 @@ one_given object (Alloc place other) line worker cpu reply events =
     by true false split = omega (arith, split)
     by false c split = omega (arith, split)
 one_given object (Free other) line worker cpu reply events = omega arith
-one_given object (Write other word value) line worker cpu reply events = omega arith
-one_given object (Read other word) line worker cpu reply events = omega arith
+one_given object (Write word other value) line worker cpu reply events = omega arith
+one_given object (Read word other) line worker cpu reply events = omega arith
 one_given object (Poke other offset byte) line worker cpu reply events = omega arith
 one_given object (Trim place) line worker cpu reply events = omega arith
 one_given object Flush line worker cpu reply events = omega arith

@@ -7,8 +7,8 @@ use Rattle.std.specs.Option.{option_map}
 use Rattle.std.proofs.lemmas.List.{ext_get_or}
 use Rattle.std.proofs.lemmas.List.Elements.{All-contains, All-head, All-tail, Contains-append_right}
 use Rattle.std.proofs.lemmas.Nat.{from_le_bytes-to_le_bytes_8}
-use Rattle.slub_object_layout.specs.declared.event.Act.{Act}
-use Rattle.slub_object_layout.specs.declared.event.Act.TheVariants.{Write}
+use Rattle.slub_events.specs.declared.event.Act.{Act}
+use Rattle.slub_events.specs.declared.event.Act.TheVariants.{Write}
 use Rattle.slub_answers.specs.declared.reply.Reply.TheVariants as reply
 use Rattle.slub_red_zone.specs.State.{CheckedState}
 use Rattle.slub_lists.specs.State.{State}
@@ -24,7 +24,7 @@ byte-of place value = get_or (to_le_bytes w64 value) place 0
 
 module _ (object word place : ℕ) where
   by-write : (w : Option ℕ) (a : Act) → byte_by_write object word place (option_map (byte-of place) w) a ≡ option_map (byte-of place) (written_by object word w a)
-  by-write w (Write other at value) = pick (eqb other object && eqb at word)
+  by-write w (Write at other value) = pick (eqb other object && eqb at word)
     where
       pick : (b : Bool) → cond b (Some (byte-of place value)) (option_map (byte-of place) w) ≡ option_map (byte-of place) (cond b (Some value) w)
       pick true = refl

@@ -2,7 +2,7 @@
 use Rattle.std.proofs.Common.{◌≡◌, ◌≢◌, ℕ, ◌&&◌, Bool, true, false, cond, eqb, List, [], ◌∷◌, ◌++◌, get_or, set, refl, sym, ◌∙◌, ap, subst, arith, Option, Some, None, IfSome, inl, inr, is_some, get_or-set_other, get_or-set_same}
 use Rattle.std.specs.Option.{option_and_then, option_map_or}
 use Rattle.std.proofs.lemmas.Bool.{cases_eq, eq-eqb, ne_eqb}
-use Rattle.slub_object_layout.specs.declared.event.Act.TheVariants.{Write}
+use Rattle.slub_events.specs.declared.event.Act.TheVariants.{Write}
 use Rattle.slub_object_layout.specs.Layout.{is_checked}
 use Rattle.slub_cache_create.specs.Table.{Table, cache_of as live_cache}
 use Rattle.slub_cache_create.specs.declared.caches.Cache.{Cache}
@@ -65,7 +65,7 @@ given-written object word last (event, answer) address is given = rw is (by (is_
     by true e = refl
     by false e = absurd (cc)
 
-wrote-written : (object word other place value : ℕ) (last : Option ℕ) (one : Answered) → one.1 ≡ reply.Wrote → one.0.act ≡ Write other place value → written_after object word last one ≡ cond (eqb other object && eqb place word) (Some value) last
+wrote-written : (object word other place value : ℕ) (last : Option ℕ) (one : Answered) → one.1 ≡ reply.Wrote → one.0.act ≡ Write place other value → written_after object word last one ≡ cond (eqb other object && eqb place word) (Some value) last
 wrote-written object word other place value last (event, answer) is asks = rw (is, asks) refl
 
 -- ---- what an event does to the words of the frames
@@ -73,7 +73,7 @@ wrote-written object word other place value last (event, answer) is asks = rw (i
 -- a word is written, or the words are as before
 pub data Words (s : State) (one : Answered) (after : State) : Type 0 where
   unwrote : after.memory ≡ s.memory → is_wrote one.1 ≡ false → Words s one after
-  wrote : (object word value : ℕ) (live : Cache) (held : Held) → one.0.act ≡ Write object word value → Holds s one.0.worker object held live → is_word live.layout word ≡ true
+  wrote : (object word value : ℕ) (live : Cache) (held : Held) → one.0.act ≡ Write word object value → Holds s one.0.worker object held live → is_word live.layout word ≡ true
       → one.1 ≡ reply.Wrote → after ≡ with_word s live.layout held word value → Words s one after
 
 pub words-of : (s : State) (one : Answered) (after : State) → Step s one.0 one.1 after → Words s one after
@@ -152,7 +152,7 @@ module _ (past : List Answered) (s : State) (one : Answered) (after : State) (co
         absurd (let never : Some slabs ≡ None = sym checked ∙ ap (λ (h : Held). checked_of s h.cache) (injected (sym now ∙ there)) ∙ was-unchecked in cc)
 
     -- a word of another object, or another word of this one
-    module _ (other place new : ℕ) (owner : Cache) (own : Held) (asks : one.0.act ≡ Write other place new) (holds : Holds s one.0.worker other own owner) (fits : is_word owner.layout place ≡ true)
+    module _ (other place new : ℕ) (owner : Cache) (own : Held) (asks : one.0.act ≡ Write place other new) (holds : Holds s one.0.worker other own owner) (fits : is_word owner.layout place ≡ true)
         (is : one.1 ≡ reply.Wrote) (now : after ≡ with_word s owner.layout own place new) where
       was-there : held_under s object ≡ Some held
       was-there = ap (λ (b : List (Option Held)). get_or b object None) (sym (ap (λ (t : State). t.board) now ∙ (word-keeps s owner.layout own place new).board)) ∙ there

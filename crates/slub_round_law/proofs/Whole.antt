@@ -4,7 +4,7 @@ use Rattle.std.specs.List.{Contains, zip}
 use Rattle.std.specs.Option.{option_map, option_map_or, option_and_then}
 use Rattle.std.specs.Prelude.{◌↔◌}
 use Rattle.std.proofs.lemmas.List.{length-map}
-use Rattle.slub_object_layout.specs.declared.event.Round.{Round}
+use Rattle.slub_events.specs.declared.event.Round.{Round}
 use Rattle.slub_object_layout.specs.Layout.{address_of}
 use Rattle.slub_red_zone.specs.State.{CheckedState, aside_in, objects_in, slab_of as checked_slab}
 use Rattle.slub_lists.specs.declared.lists.Held.{Held}

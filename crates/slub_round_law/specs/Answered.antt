@@ -3,9 +3,9 @@ use Rattle.std.specs.Prelude.{◌≡◌, ◌≢◌, ℕ, ◌+◌, ◌*◌, ◌&&
 use Rattle.std.specs.Int.{to_le_bytes, w64}
 use Rattle.std.specs.List.{filter, fold}
 use Rattle.std.specs.Ordering.{int_eq}
-use Rattle.slub_object_layout.specs.declared.event.Act.{Act}
-use Rattle.slub_object_layout.specs.declared.event.Act.TheVariants.{Alloc, Free, Write, Poke}
-use Rattle.slub_object_layout.specs.declared.event.Event.{Event}
+use Rattle.slub_events.specs.declared.event.Act.{Act}
+use Rattle.slub_events.specs.declared.event.Act.TheVariants.{Alloc, Free, Write, Poke}
+use Rattle.slub_events.specs.declared.event.Event.{Event}
 use Rattle.slub_answers.specs.declared.reply.Reply.{Reply}
 use Rattle.slub_answers.specs.declared.reply.Reply.TheVariants as reply
 use Rattle.slub_answers.specs.Kinds.{is_freed, is_given}
@@ -81,7 +81,7 @@ holding object own = fold (holds_after object) false own
 
 -- what an act that was done writes in a word of an object, or else what stood there
 abbrev pub written_by : ℕ → ℕ → Option ℕ → Act → Option ℕ
-written_by object word last (Write other place value) =
+written_by object word last (Write place other value) =
     if (other == object) && (place == word) then Some value else last
 written_by object word last _ = last
 
@@ -100,7 +100,7 @@ last_written object word own = fold (written_after object word) None own
 
 -- what a write that was done puts in a byte of a word of an object, or else what stood there
 abbrev pub byte_by_write : ℕ → ℕ → ℕ → Option ℕ → Act → Option ℕ
-byte_by_write object word place last (Write other at value) =
+byte_by_write object word place last (Write at other value) =
     if (other == object) && (at == word) then Some (slice_index (to_le_bytes w64 value) place)
     else last
 byte_by_write object word place last _ = last

@@ -1,8 +1,8 @@
 -- What one event finds before it, and what it leaves.
 use Rattle.std.specs.Prelude.{◌≡◌, ℕ, true, [], Some, IsSome, IfSome, MatchOption, ⊤, All, Contains, slice_index, sum_by}
 use Rattle.slub_page_pool.specs.Block.{HasNoBlock}
-use Rattle.slub_object_layout.specs.declared.event.Act.{Act}
-use Rattle.slub_object_layout.specs.declared.event.Act.TheVariants.{Alloc, Free, Write, Read, Poke}
+use Rattle.slub_events.specs.declared.event.Act.{Act}
+use Rattle.slub_events.specs.declared.event.Act.TheVariants.{Alloc, Free, Write, Read, Poke}
 use Rattle.slub_object_layout.specs.declared.layout.Layout.{Layout}
 use Rattle.slub_red_zone.specs.declared.slab.ObjectState.TheVariants.{Free as FreeObject}
 use Rattle.slub_red_zone.specs.declared.checked.Slot.{Slot}
@@ -90,7 +90,7 @@ KeepsButPoked s worker object after =
 abbrev pub SparesWords : State → ℕ → Act → State → Type 0
 SparesWords s worker (Alloc place object) after = KeepsWords s object after
 SparesWords s worker (Free object) after = KeepsWords s object after
-SparesWords s worker (Write object word value) after = KeepsWords s object after
-SparesWords s worker (Read object word) after = KeepsWords s object after
+SparesWords s worker (Write word object value) after = KeepsWords s object after
+SparesWords s worker (Read word object) after = KeepsWords s object after
 SparesWords s worker (Poke object offset byte) after = KeepsButPoked s worker object after
 SparesWords s worker _ after = ⊤

@@ -1,6 +1,6 @@
 -- Bytes that were poked, by the replies.
 use Rattle.std.specs.Prelude.{◌≡◌, ℕ, true, List, Contains, pos, ◌+ℤ◌, ℤ}
-use Rattle.slub_object_layout.specs.declared.event.Act.TheVariants.{Free, Poke}
+use Rattle.slub_events.specs.declared.event.Act.TheVariants.{Free, Poke}
 use Rattle.slub_answers.specs.declared.reply.Reply.TheVariants as reply
 use Rattle.slub_red_zone.specs.declared.zones.Damage.{Damage}
 use Rattle.slub_red_zone.specs.declared.zones.Report.{Report}

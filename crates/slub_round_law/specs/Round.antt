@@ -4,9 +4,9 @@ use Rattle.std.specs.Prelude.{◌≡◌, ◌≢◌, ℕ, ◌+◌, ◌*◌, ◌^�
 use Rattle.std.specs.Int.{from_le_bytes, w64}
 use Rattle.std.specs.List.{IsDistinct, fold, zip}
 use Rattle.std.specs.Option.{option_and_then, option_map, option_map_or}
-use Rattle.slub_object_layout.specs.declared.event.Act.{Act}
-use Rattle.slub_object_layout.specs.declared.event.Act.TheVariants.{Alloc, Free, Write, Read, Poke, Trim, Flush}
-use Rattle.slub_object_layout.specs.declared.event.Round.{Round}
+use Rattle.slub_events.specs.declared.event.Act.{Act}
+use Rattle.slub_events.specs.declared.event.Act.TheVariants.{Alloc, Free, Write, Read, Poke, Trim, Flush}
+use Rattle.slub_events.specs.declared.event.Round.{Round}
 use Rattle.slub_object_layout.specs.declared.layout.Layout.{Layout}
 use Rattle.slub_object_layout.specs.Layout.{address_of}
 use Rattle.slub_red_zone.specs.declared.zones.Report.{Report}
@@ -227,8 +227,8 @@ FlushCause _ = ⊥
 abbrev pub Cause : State → List Answered → List Answered → Act → Reply → Type 0
 Cause before answers own (Alloc place object) reply = AllocCause before answers own place reply
 Cause before answers own (Free object) reply = FreeCause before answers own object reply
-Cause before answers own (Write object word value) reply = WriteCause before own object word reply
-Cause before answers own (Read object word) reply = ReadCause before answers own object word reply
+Cause before answers own (Write word object value) reply = WriteCause before own object word reply
+Cause before answers own (Read word object) reply = ReadCause before answers own object word reply
 Cause before answers own (Poke object offset byte) reply = PokeCause reply
 Cause before answers own (Trim place) reply = TrimCause before place reply
 Cause before answers own Flush reply = FlushCause reply

@@ -2,8 +2,8 @@
 //! anything.
 
 ghost use Rattle.std.specs.Prelude.{◌≡◌, ℕ, ◌^◌, ◌<◌, List, Some, length};
-ghost use Rattle.slub_object_layout.specs.declared.event.Event.{Event};
-ghost use Rattle.slub_object_layout.specs.declared.event.Round.{Round};
+ghost use Rattle.slub_events.specs.declared.event.Event.{Event};
+ghost use Rattle.slub_events.specs.declared.event.Round.{Round};
 ghost use Rattle.slub_answers.specs.declared.reply.Reply.{Reply};
 ghost use Rattle.slub_answers.specs.declared.reply.Reply.TheVariants.{Given, NoFrames};
 ghost use Rattle.slub_lists.specs.Coherent.{IsCoherent};

@@ -12,8 +12,8 @@ use Rattle.std.proofs.Math.ListN.{get_or-map}
 use mir.Syntax.{w64}
 use mir.Val.{Fits}
 use Rattle.slub_common.proofs.Writes.{get_or-replicate_any}
-use Rattle.slub_object_layout.specs.declared.event.Event.{Event}
-use Rattle.slub_object_layout.specs.declared.event.Round.{Round}
+use Rattle.slub_events.specs.declared.event.Event.{Event}
+use Rattle.slub_events.specs.declared.event.Round.{Round}
 use Rattle.slub_trace_reader.specs.declared.trace.Trace.{Trace}
 use Rattle.slub_cache_create.specs.Table.{Table}
 use Rattle.slub_lists.specs.State.{State}
@@ -30,7 +30,7 @@ use Rattle.slub_core.specs.Steps.{rested}
 use Rattle.slub_core.proofs.CallsStay.{script, rested_at-script}
 use Rattle.slub_core.proofs.Turns.{run_both}
 use Rattle.slub_core.proofs.Update.{update_same, update_other}
-use Rattle.slub_schedule.specs.Schedule.{is_between, unfinished}
+use Rattle.slub_schedule.specs.Schedule.{is_between, unfinished, IsCall}
 use Rattle.slub_schedule.specs.Turns.{turns_of}
 use Rattle.slub_schedule.proofs.Picks.{all_finished}
 use Rattle.slub_bounds.proofs.Turns.{get_or-beyond}
@@ -47,27 +47,27 @@ use Rattle.slub_rounds.proofs.Threads.{all-between}
 
 -- ---- how many events a worker has
 
-abbrev count : ℕ → List Event → ℕ
+abbrev pub count : ℕ → List Event → ℕ
 count worker events = length (events_by worker events)
 
-count-own : (e : Event) (es : List Event) (v : ℕ) → e.worker ≡ v → count v (e ∷ es) ≡ suc (count v es)
+pub count-own : (e : Event) (es : List Event) (v : ℕ) → e.worker ≡ v → count v (e ∷ es) ≡ suc (count v es)
 count-own e es v is = rw (eq-eqb e.worker v is) refl
 
-count-other : (e : Event) (es : List Event) (v : ℕ) → e.worker ≢ v → count v (e ∷ es) ≡ count v es
+pub count-other : (e : Event) (es : List Event) (v : ℕ) → e.worker ≢ v → count v (e ∷ es) ≡ count v es
 count-other e es v other = rw (ne_eqb e.worker v other) refl
 
 -- among one event more
-more-own : (es : List Event) (k v : ℕ) (d : Event) → k < length es → (get_or es k d).worker ≡ v → count v (take (k + 1) es) ≡ count v (take k es) + 1
+pub more-own : (es : List Event) (k v : ℕ) (d : Event) → k < length es → (get_or es k d).worker ≡ v → count v (take (k + 1) es) ≡ count v (take k es) + 1
 more-own es k v d below is =
     length-filter_more (λ (e : Event). e.worker == v) es k d below
     ∙ ap (λ (b : Bool). count v (take k es) + cond b 1 0) (eq-eqb (get_or es k d).worker v is)
 
-more-other : (es : List Event) (k v : ℕ) (d : Event) → k < length es → (get_or es k d).worker ≢ v → count v (take (k + 1) es) ≡ count v (take k es)
+pub more-other : (es : List Event) (k v : ℕ) (d : Event) → k < length es → (get_or es k d).worker ≢ v → count v (take (k + 1) es) ≡ count v (take k es)
 more-other es k v d below other =
     length-filter_more (λ (e : Event). e.worker == v) es k d below
     ∙ ap (λ (b : Bool). count v (take k es) + cond b 1 0) (ne_eqb (get_or es k d).worker v other) ∙ (let e : count v (take k es) + 0 ≡ count v (take k es) = omega arith in e)
 
-few-taken : (es : List Event) (n v : ℕ) → count v (take n es) ≤ count v es
+pub few-taken : (es : List Event) (n v : ℕ) → count v (take n es) ≤ count v es
 few-taken [] zero v = omega arith
 few-taken [] (suc n) v = omega arith
 few-taken (e ∷ es) zero v = omega arith
@@ -80,7 +80,7 @@ few-taken (e ∷ es) (suc n) v = elim (cases_eq e.worker v) [
 
 -- where all but one worker have replies to their events among the first n, and that one has not, the
 -- first event without a reply is its
-next-is : (es : List Event) (n w : ℕ) (answers : ℕ → ℕ) → ((v : ℕ) → v ≢ w → count v (take n es) ≤ answers v) → answers w < count w (take n es) → next_worker es answers ≡ Some w
+pub next-is : (es : List Event) (n w : ℕ) (answers : ℕ → ℕ) → ((v : ℕ) → v ≢ w → count v (take n es) ≤ answers v) → answers w < count w (take n es) → next_worker es answers ≡ Some w
 next-is [] zero w answers others less = absurd (let never : ⊥ = omega (arith, less) in never)
 next-is [] (suc n) w answers others less = absurd (let never : ⊥ = omega (arith, less) in never)
 next-is (e ∷ es) zero w answers others less = absurd (let never : ⊥ = omega (arith, less) in never)
@@ -130,7 +130,7 @@ one-busy n (suc w) (l ∷ ls) below busy others =
     let under : w < length ls = omega (arith, below) in
     rw first (one-busy (suc n) w ls under busy (λ v other. others (suc v) (λ is. other (let e : v ≡ w = omega (arith, is) in e))) ∙ ap Some same)
 
-between-spot : (s : Spot) → is_between s ≡ true → s ≡ Between
+pub between-spot : (s : Spot) → is_between s ≡ true → s ≡ Between
 between-spot Between is = refl
 between-spot _ is = absurd (false≢true is)
 
@@ -139,7 +139,7 @@ next-busy es s w below busy others =
     let same : 0 + w ≡ w = omega arith in
     ap (λ (o : Option ℕ). option_or o (next_worker es (answered s))) (one-busy 0 w s.locals below busy others) ∙ ap Some same
 
-next-free : (es : List Event) (s : System) (w : ℕ) → ((v : ℕ) → (local_at s v).spot ≡ Between) → next_worker es (answered s) ≡ Some w → next_in es s ≡ Some w
+pub next-free : (es : List Event) (s : System) (w : ℕ) → ((v : ℕ) → (local_at s v).spot ≡ Between) → next_worker es (answered s) ≡ Some w → next_in es s ≡ Some w
 next-free es s w free is = ap (λ (o : Option ℕ). option_or o (next_worker es (answered s))) (none-busy 0 s.locals free) ∙ is
 
 -- ---- the turns of one worker
@@ -157,7 +157,7 @@ pub record Leads (m : Setup) (es : List Event) (w : ℕ) (s t : System) (picks :
   pub long : length t.locals ≡ length s.locals
   pub others : (v : ℕ) → v ≢ w → local_at t v ≡ local_at s v
 
-leads : (m : Setup) (es : List Event) (n w passed : ℕ) (s : System) (picks : List Pick) → w < length s.locals → ((v : ℕ) → v ≢ w → (local_at s v).spot ≡ Between) → ((v : ℕ) → v ≢ w → count v (take n es) ≤ answered s v)
+pub leads : (m : Setup) (es : List Event) (n w passed : ℕ) (s : System) (picks : List Pick) → w < length s.locals → ((v : ℕ) → v ≢ w → (local_at s v).spot ≡ Between) → ((v : ℕ) → v ≢ w → count v (take n es) ≤ answered s v)
     → passed < count w (take n es) → AreUnder m w passed s picks → Leads m es w s (run m s picks) picks
 leads m es n w passed s [] below free had less under = record { in_order = tt; long = refl; others = λ v other. refl }
 leads m es n w passed s (pick ∷ picks) below free had less under =
@@ -169,9 +169,9 @@ leads m es n w passed s (pick ∷ picks) below free had less under =
     let rest = leads m es n w passed t picks (omega (arith, long, below))
     (λ v other. ap (λ (l : Local). l.spot) (stay v other) ∙ free v other)
     (λ v other. subst (λ k. count v (take n es) ≤ k) (sym (ap (λ (l : Local). length l.done) (stay v other))) (had v other))
-    less under.2 in
+    less under.3 in
     record {
-      in_order = (next ∙ ap Some (sym mine), rest.in_order);
+      in_order = (next ∙ ap Some (sym mine), under.1, rest.in_order);
       long = rest.long ∙ long;
       others = λ v other. rest.others v other ∙ stay v other;
     }
@@ -179,7 +179,7 @@ leads m es n w passed s (pick ∷ picks) below free had less under =
     next : next_in es s ≡ Some w
     next = elim (cases_Bool (is_between (local_at s w).spot)) [
       | inr busy ↦ next-busy es s w below busy free
-      | inl so ↦ elim (and_cases (is_between (local_at s w).spot) (nat_lt passed (answered s w)) under.1) [
+      | inl so ↦ elim (and_cases (is_between (local_at s w).spot) (nat_lt passed (answered s w)) under.2) [
         | inl not ↦ absurd (false≢true (sym not ∙ so))
         | inr few ↦
             let late : answered s w ≤ passed = ltb-false passed (answered s w) few in
@@ -194,30 +194,30 @@ leads m es n w passed s (pick ∷ picks) below free had less under =
 
 -- ---- the turns of a round
 
-order-more : (m : Setup) (es : List Event) (s : System) (ps qs : List Pick) → AreInOrder m es s ps → AreInOrder m es (run m s ps) qs → AreInOrder m es s (ps ++ qs)
+pub order-more : (m : Setup) (es : List Event) (s : System) (ps qs : List Pick) → AreInOrder m es s ps → AreInOrder m es (run m s ps) qs → AreInOrder m es s (ps ++ qs)
 order-more m es s [] qs one other = other
-order-more m es s (p ∷ ps) qs one other = (one.0, order-more m es (turn m s p) ps qs one.1 other)
+order-more m es s (p ∷ ps) qs one other = (one.0, one.1, order-more m es (turn m s p) ps qs one.2 other)
 
-run-more : (m : Setup) (s : System) (ps qs : List Pick) → run m s (ps ++ qs) ≡ run m (run m s ps) qs
+pub run-more : (m : Setup) (s : System) (ps qs : List Pick) → run m s (ps ++ qs) ≡ run m (run m s ps) qs
 run-more m s [] qs = refl
 run-more m s (p ∷ ps) qs = run-more m (turn m s p) ps qs
 
-under-more : (m : Setup) (w passed : ℕ) (s : System) (ps : List Pick) (pick : Pick) → AreUnder m w passed s ps → pick.worker ≡ w → is_through passed (local_at (run m s ps) w) ≡ false → AreUnder m w passed s (ps ++ pick ∷ [])
-under-more m w passed s [] pick under is not = (is, not, tt)
-under-more m w passed s (p ∷ ps) pick under is not = (under.0, under.1, under-more m w passed (turn m s p) ps pick under.2 is not)
+under-more : (m : Setup) (w passed : ℕ) (s : System) (ps : List Pick) (pick : Pick) → AreUnder m w passed s ps → pick.worker ≡ w → IsCall pick → is_through passed (local_at (run m s ps) w) ≡ false → AreUnder m w passed s (ps ++ pick ∷ [])
+under-more m w passed s [] pick under is call not = (is, call, not, tt)
+under-more m w passed s (p ∷ ps) pick under is call not = (under.0, under.1, under.2, under-more m w passed (turn m s p) ps pick under.3 is call not)
 
 pub turned-none : (m : Setup) (w passed : ℕ) (s : System) (made : ℕ) → HasTurned m w passed s s made made
 turned-none m w passed s made = record { picks = []; under = tt; run = refl; count = (let e : made + 0 ≡ made = omega arith in e) }
 
 pub turned-more : (m k : Setup) (w passed : ℕ) (first s t : System) (made now : ℕ) (refused : Bool) → HasTurned m w passed first s made now → k ≡ m → is_through passed (local_at s w) ≡ false
-    → t ≡ turn k s (record { worker = w; refused = refused }) → HasTurned m w passed first t made (now + 1)
+    → t ≡ turn k s (record { worker = w; refused = refused; tries = false }) → HasTurned m w passed first t made (now + 1)
 turned-more m k w passed first s t made now refused turned same not is =
-    let pick : Pick = record { worker = w; refused = refused } in
+    let pick : Pick = record { worker = w; refused = refused; tries = false } in
     let ps = turned.picks in
     let long : length (ps ++ pick ∷ []) ≡ length ps + 1 = length-append ps (pick ∷ []) in
     record {
       picks = ps ++ pick ∷ [];
-      under = under-more m w passed first ps pick turned.under refl (subst (λ (x : System). is_through passed (local_at x w) ≡ false) turned.run not);
+      under = under-more m w passed first ps pick turned.under refl refl (subst (λ (x : System). is_through passed (local_at x w) ≡ false) turned.run not);
       run = is ∙ (λ i. turn (same i) (turned.run i) pick) ∙ sym (run-more m first ps (pick ∷ []));
       count = omega (arith, long, turned.count);
     }
@@ -250,7 +250,7 @@ done-none m es first passed awaits is = record {
 }
 
 -- each worker has as many calls as events throughout
-calls-stay : (m : Setup) (opening : World) (first : System) (picks : List Pick) (es : List Event) → IsCoherentSystem m opening first → AwaitsEvents es first.locals → (v : ℕ)
+pub calls-stay : (m : Setup) (opening : World) (first : System) (picks : List Pick) (es : List Event) → IsCoherentSystem m opening first → AwaitsEvents es first.locals → (v : ℕ)
     → length (local_at (run m first picks) v).done + length (local_at (run m first picks) v).todo ≡ count v es
 calls-stay m opening first picks es coherent awaits v =
     let last = run m first picks in
@@ -398,7 +398,7 @@ done-all m opening es first s n made passed coherent awaits done all within = (
 -- ---- the begin
 
 -- each worker has its events as calls
-events-each : (table : Table) (round : Round) → All (λ (e : Event). e.worker < round.workers) round.events → (v : ℕ)
+pub events-each : (table : Table) (round : Round) → All (λ (e : Event). e.worker < round.workers) round.events → (v : ℕ)
     → length (get_or (workers_of table round) v idle).done + length (get_or (workers_of table round) v idle).todo ≡ count v round.events
 events-each table round inside v =
     let ls = workers_of table round in

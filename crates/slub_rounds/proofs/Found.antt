@@ -285,13 +285,13 @@ step-within opening m value words refused most x others long s ac ok =
     noted-less l None = omega arith
     noted-less l (Some r) = answered-fewer l r
 
-begun-todo : (m : Setup) (l : Local) (spot : Spot) → (begun_at m false l spot).todo ≡ l.todo
-begun-todo m l Between = by_todo l.todo
+begun-todo : (m : Setup) (tries : Bool) (l : Local) (spot : Spot) → (begun_at m tries l spot).todo ≡ l.todo
+begun-todo m tries l Between = by_todo l.todo
   where
-    by_todo : (calls : List Call) → (begun_with m false l calls).todo ≡ l.todo
+    by_todo : (calls : List Call) → (begun_with m tries l calls).todo ≡ l.todo
     by_todo [] = refl
     by_todo (call ∷ calls) = refl
-begun-todo m l _ = refl
+begun-todo m tries l _ = refl
 
 -- ---- a run
 
@@ -306,10 +306,10 @@ turn-below m opening s pick below is =
     let k = pick.worker in
     let l = get_or s.locals k idle in
     let most = found_behind s.value + length l.todo in
-    let start : Within most s.value (begun m false l) = omega (arith, ap (λ (calls : List Call). length calls) (begun-todo m l l.spot)) in
-    let step = step_of m s.value (begun m false l) in
+    let start : Within most s.value (begun m pick.tries l) = omega (arith, ap (λ (calls : List Call). length calls) (begun-todo m pick.tries l l.spot)) in
+    let step = step_of m s.value (begun m pick.tries l) in
     let q = get_or s.words (number_of m step.place) 0 in
-    let c = advance_of m pick.refused s.value (begun m false l) (answer_of step.op q) in
+    let c = advance_of m pick.refused s.value (begun m pick.tries l) (answer_of step.op q) in
     let moved : Within most c.value c.local =
     subst (λ b. let step = step_of m s.value b in let q = get_or s.words (number_of m step.place) 0 in let c = advance_of m pick.refused s.value b (answer_of step.op q) in Within most c.value c.local) b.local
     (step-within opening m s.value s.words pick.refused most b.x (b.front ++ b.back) is.words b.stands b.accounted (subst (Within most s.value) (sym b.local) start)) in

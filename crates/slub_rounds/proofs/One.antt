@@ -5,8 +5,8 @@ use Rattle.std.specs.Option.{option_map, option_map_or}
 use Rattle.std.proofs.lemmas.Bool.{cases_eq, cases_lt, eq-eqb, ne_eqb}
 use Rattle.std.proofs.lemmas.List.{ext_get_or}
 use Rattle.std.proofs.Math.ListN.{get_or-map}
-use Rattle.slub_object_layout.specs.declared.event.Event.{Event}
-use Rattle.slub_object_layout.specs.declared.event.Round.{Round}
+use Rattle.slub_events.specs.declared.event.Event.{Event}
+use Rattle.slub_events.specs.declared.event.Round.{Round}
 use Rattle.slub_cache_create.specs.Table.{Table, cache_of as live_cache}
 use Rattle.slub_red_zone.specs.State.{CheckedState}
 use Rattle.slub_answers.specs.declared.reply.Reply.{Reply}
@@ -33,7 +33,7 @@ use Rattle.slub_rounds.specs.Laws.{RoundsBySeedAreOne}
 
 -- ---- what stands beside the lists
 
-same-beside : (s : State) (ids : List ℕ) (b d : Beside) → StandsBeside s ids b → StandsBeside s ids d → b.means ≡ the_means → d.means ≡ the_means → b ≡ d
+pub same-beside : (s : State) (ids : List ℕ) (b d : Beside) → StandsBeside s ids b → StandsBeside s ids d → b.means ≡ the_means → d.means ≡ the_means → b ≡ d
 same-beside s ids b d one other means also =
     let step : b.step ≡ d.step = one-step s.cpus b.step d.step one.step other.step in
     λ i. record {
@@ -73,7 +73,7 @@ other-reply : (worker : ℕ) (e : Event) (x : Reply) (answers : List (Event × R
 other-reply worker e x answers other = rw (ne_eqb e.worker worker other) refl
 
 -- the replies to each worker in their order are all replies in theirs
-same-replies : (es : List Event) (xs ys : List Reply) → length xs ≡ length es → length ys ≡ length es → ((worker : ℕ) → replies_by worker (zip es xs) ≡ replies_by worker (zip es ys)) → xs ≡ ys
+pub same-replies : (es : List Event) (xs ys : List Reply) → length xs ≡ length es → length ys ≡ length es → ((worker : ℕ) → replies_by worker (zip es xs) ≡ replies_by worker (zip es ys)) → xs ≡ ys
 same-replies [] [] [] long also same = refl
 same-replies [] (x ∷ xs) ys long also same = absurd (omega (arith, long))
 same-replies [] [] (y ∷ ys) long also same = absurd (omega (arith, also))
@@ -94,7 +94,7 @@ on-board : (s : State) (o : ℕ) → held_under (all_on_board s) o ≡ option_ma
 on-board s o = get_or-map (option_map laid_down) s.board o None
 
 -- machines that are alike are so with all objects on the board
-alike-on-board : (t u : State) → AreAlike t u → AreAlike (all_on_board t) (all_on_board u)
+pub alike-on-board : (t u : State) → AreAlike t u → AreAlike (all_on_board t) (all_on_board u)
 alike-on-board t u alike = record {
   pool = alike.pool;
   slab = alike.slab;
@@ -106,14 +106,14 @@ alike-on-board t u alike = record {
 }
 
 module _ (s t u : State) (table : t.table ≡ u.table) (alike : AreAlike t u) (long : length t.checked ≡ 32) (also : length u.checked ≡ 32) where
-  same-checked : (cache : ℕ) → checked_of t cache ≡ checked_of u cache
+  pub same-checked : (cache : ℕ) → checked_of t cache ≡ checked_of u cache
   same-checked cache = elim (cases_lt cache 32) [
     | inl below ↦ alike.checked cache below
     | inr past ↦ get_or-beyond t.checked cache None (omega (arith, long, past)) ∙ sym (get_or-beyond u.checked cache None (omega (arith, also, past)))
   ]
 
   -- what is told of damages
-  same-found : found_in s t ≡ found_in s u
+  pub same-found : found_in s t ≡ found_in s u
   same-found = λ i. flat_map (λ cache. map (λ report. record { title = title cache i; report = report }) (drop (length (reports_of s cache)) (reports cache i))) cache_numbers
     where
       title : (cache : ℕ) → title_of t cache ≡ title_of u cache
@@ -125,7 +125,7 @@ module _ (s t u : State) (table : t.table ≡ u.table) (alike : AreAlike t u) (l
 -- ---- the transaction ids
 
 -- they are those of the words
-same-ids : (t u : State) (d e : Beside) (one other : System) → one ≡ other → setup_of t d ≡ setup_of u e → RestsIn t d one → RestsIn u e other → length d.tids ≡ 512 → length e.tids ≡ 512 → d.tids ≡ e.tids
+pub same-ids : (t u : State) (d e : Beside) (one other : System) → one ≡ other → setup_of t d ≡ setup_of u e → RestsIn t d one → RestsIn u e other → length d.tids ≡ 512 → length e.tids ≡ 512 → d.tids ≡ e.tids
 same-ids t u d e one other same stays rests also long count = ext_get_or 0 d.tids e.tids (long ∙ sym count) (λ n below.
     let inside : n < 512 = omega (arith, below, long) in
     sym (rests.rests.cpu n inside).tid ∙ (λ i. ((world_of (stays i) (same i).value (same i).words).cpu n).tid) ∙ (also.rests.cpu n inside).tid)

@@ -6,7 +6,7 @@ use Rattle.std.proofs.lemmas.List.{append-nil, get_or-replicate, get_or-set_othe
 use Rattle.std.proofs.lemmas.List.Elements.{filter-append}
 use Rattle.indexmap.proofs.ReorderLemmas.{map-reverse}
 use Rattle.std.proofs.Math.ListN.{get_or-map}
-use Rattle.slub_object_layout.specs.declared.event.Event.{Event}
+use Rattle.slub_events.specs.declared.event.Event.{Event}
 use Rattle.slub_answers.specs.declared.reply.Reply.{Reply}
 use Rattle.slub_answers.specs.declared.ledger.Ledger.{Ledger}
 use Rattle.slub_lists.specs.State.{State}

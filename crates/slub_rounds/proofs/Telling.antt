@@ -9,10 +9,10 @@ use Rattle.std.proofs.lemmas.List.FromFn.{get_or-map-range_with_len, get_or-rang
 use Rattle.std.proofs.lemmas.List.Sums.{sum_by-cons}
 use Rattle.std.proofs.Math.ListN.{get_or-map}
 use Rattle.slub_common.proofs.Sums.{sum_by-map, sum_by-same}
-use Rattle.slub_object_layout.specs.declared.event.Act.{Act}
-use Rattle.slub_object_layout.specs.declared.event.Act.TheVariants as act
-use Rattle.slub_object_layout.specs.declared.event.Event.{Event}
-use Rattle.slub_object_layout.specs.declared.event.Round.{Round}
+use Rattle.slub_events.specs.declared.event.Act.{Act}
+use Rattle.slub_events.specs.declared.event.Act.TheVariants as act
+use Rattle.slub_events.specs.declared.event.Event.{Event}
+use Rattle.slub_events.specs.declared.event.Round.{Round}
 use Rattle.slub_cache_create.specs.Table.{Table}
 use Rattle.slub_red_zone.specs.State.{CheckedState}
 use Rattle.slub_red_zone.specs.Objects.{findable}
@@ -154,8 +154,8 @@ reports-stay m s picks cache opening checks = let kept = (contents_end m s picks
 known-act : (s t : State) (trace : Trace) (act : Act) → length t.table.kept ≡ length trace.names → length t.board ≡ trace.objects + 1 → IsSoundAct trace act → IsKnownAct t act
 known-act s t trace (act.Alloc place object) names board sound = (omega (arith, sound.0), sound.1, omega (arith, sound.2))
 known-act s t trace (act.Free object) names board sound = omega (arith, sound.1)
-known-act s t trace (act.Write object word value) names board sound = (omega (arith, sound.1), sound.2)
-known-act s t trace (act.Read object word) names board sound = (omega (arith, sound.1), sound.2)
+known-act s t trace (act.Write word object value) names board sound = (omega (arith, sound.1), sound.2)
+known-act s t trace (act.Read word object) names board sound = (omega (arith, sound.1), sound.2)
 known-act s t trace (act.Poke object offset byte) names board sound = omega (arith, sound.1)
 known-act s t trace (act.Trim place) names board sound = omega (arith, sound)
 known-act s t trace act.Flush names board sound = tt

@@ -2,7 +2,7 @@
 use Rattle.std.proofs.Common.{◌≡◌, ℕ, List, [], ◌∷◌, length, get_or, refl, sym, ap, ◌∙◌, subst, All, Option, None, Some, arith}
 use Rattle.std.proofs.lemmas.List.Elements.{All-map}
 use Rattle.std.specs.List.{range_with_len}
-use Rattle.slub_object_layout.specs.declared.event.Round.{Round}
+use Rattle.slub_events.specs.declared.event.Round.{Round}
 use Rattle.slub_trace_reader.specs.declared.trace.Trace.{Trace}
 use Rattle.slub_answers.specs.declared.reply.Reply.{Reply}
 use Rattle.slub_lists.specs.State.{State}
@@ -83,7 +83,7 @@ module _ (s : State) (ids : List ℕ) (b : Beside) (trace : Trace) (round : Roun
       has-ended s ids b trace round m n rest answers worked.picks may begun (ap (λ (f : Facts). local.setup_of f the_means) worked.facts) worked.ready worked.ran worked.finished room
 
   pub finishes : Finishes (local.setup_of m.setup the_means) (system_in m) worked.picks (system_in n)
-  finishes = record { run = worked.ran; finished = worked.finished }
+  finishes = record { calls = worked.calls; run = worked.ran; finished = worked.finished }
 
 -- ---- the whole
 

@@ -5,10 +5,10 @@ use Rattle.std.proofs.lemmas.List.{length-map}
 use Rattle.std.proofs.lemmas.List.FromFn.{length-range_with_len}
 use Rattle.std.proofs.lemmas.List.Sums.{sum_by-cons}
 use Rattle.slub_common.proofs.Sums.{sum_by-map, sum_by-same}
-use Rattle.slub_object_layout.specs.declared.event.Act.{Act}
-use Rattle.slub_object_layout.specs.declared.event.Act.TheVariants as act
-use Rattle.slub_object_layout.specs.declared.event.Event.{Event}
-use Rattle.slub_object_layout.specs.declared.event.Round.{Round}
+use Rattle.slub_events.specs.declared.event.Act.{Act}
+use Rattle.slub_events.specs.declared.event.Act.TheVariants as act
+use Rattle.slub_events.specs.declared.event.Event.{Event}
+use Rattle.slub_events.specs.declared.event.Round.{Round}
 use Rattle.slub_cache_create.specs.Table.{Table}
 use Rattle.slub_lists.specs.State.{State}
 use Rattle.slub_core.specs.declared.call.Call.{Call}
@@ -41,8 +41,8 @@ rested-events m l =
 call-weight : (table : Table) (rooms : List Known) (cpu : ℕ) (a : Act) → weight (call_for table rooms cpu a).kind ≡ weight_in a
 call-weight table rooms cpu (act.Alloc place object) = refl
 call-weight table rooms cpu (act.Free object) = refl
-call-weight table rooms cpu (act.Write object word value) = refl
-call-weight table rooms cpu (act.Read object word) = refl
+call-weight table rooms cpu (act.Write word object value) = refl
+call-weight table rooms cpu (act.Read word object) = refl
 call-weight table rooms cpu (act.Poke object offset byte) = refl
 call-weight table rooms cpu (act.Trim place) = refl
 call-weight table rooms cpu act.Flush = refl

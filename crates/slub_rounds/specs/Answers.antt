@@ -1,8 +1,8 @@
 -- What a round answers, as the crate's own functions have it. The promise doesn't speak of it.
 use Rattle.std.specs.Prelude.{◌≡◌, ℕ, ◌+◌, ◌≤◌, List, [], length, map, replicate, reverse, slice_index_or, vec_capacity, All}
 use Rattle.std.specs.List.{zip}
-use Rattle.slub_object_layout.specs.declared.event.Event.{Event}
-use Rattle.slub_object_layout.specs.declared.event.Round.{Round}
+use Rattle.slub_events.specs.declared.event.Event.{Event}
+use Rattle.slub_events.specs.declared.event.Round.{Round}
 use Rattle.slub_answers.specs.declared.reply.Reply.{Reply}
 use Rattle.slub_core.specs.declared.local.Answered.{Answered}
 use Rattle.slub_lists.specs.State.{State}

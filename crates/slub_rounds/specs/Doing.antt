@@ -1,12 +1,12 @@
 -- How the workers do the events in their order, as the crate's own functions have it. The promise
 -- doesn't speak of it.
 use Rattle.std.specs.Prelude.{◌≡◌, ℕ, ◌+◌, ◌≤◌, nat_lt, Bool, true, false, ◌&&◌, List, [], ◌∷◌, length, slice_index_or}
-use Rattle.slub_object_layout.specs.declared.event.Event.{Event}
+use Rattle.slub_events.specs.declared.event.Event.{Event}
 use Rattle.slub_core.specs.declared.spot.Spot.TheVariants.{Between}
 use Rattle.slub_core.specs.Setup.{Setup}
 use Rattle.slub_core.specs.Local.{Local}
 use Rattle.slub_core.specs.Run.{System, Pick, idle, run, turn}
-use Rattle.slub_schedule.specs.Schedule.{is_between}
+use Rattle.slub_schedule.specs.Schedule.{is_between, IsCall}
 use Rattle.slub_calls.specs.Calls.{events_by}
 
 abbrev pub local_at : System → ℕ → Local
@@ -16,11 +16,11 @@ local_at s worker = slice_index_or s.locals worker idle
 abbrev pub is_through : ℕ → Local → Bool
 is_through passed l = is_between l.spot && nat_lt passed (length l.done)
 
--- each turn is that of this worker, before which it isn't through
+-- each turn is that of this worker, before which it isn't through, and no call is a try
 abbrev pub AreUnder : Setup → ℕ → ℕ → System → List Pick → Type 0
 AreUnder m worker passed s [] = Unit {0}
 AreUnder m worker passed s (pick ∷ picks) =
-    (pick.worker ≡ worker) × (is_through passed (local_at s worker) ≡ false)
+    (pick.worker ≡ worker) × IsCall pick × (is_through passed (local_at s worker) ≡ false)
     × AreUnder m worker passed (turn m s pick) picks
 
 -- by such turns the machine comes from one state to another; so many were made before and are now

@@ -1,12 +1,12 @@
 -- A round by steps in the order of the text: each event is done to its end before the next begins.
 use Rattle.std.specs.Prelude.{◌≡◌, ℕ, suc, ◌-◌, ◌≤◌, ◌==◌, if◌then◌else◌, List, [], ◌∷◌, length, slice_index_or, Option, Some, None}
 use Rattle.std.specs.Option.{option_or}
-use Rattle.slub_object_layout.specs.declared.event.Event.{Event}
+use Rattle.slub_events.specs.declared.event.Event.{Event}
 use Rattle.slub_core.specs.Setup.{Setup}
 use Rattle.slub_core.specs.World.{update}
 use Rattle.slub_core.specs.Local.{Local}
 use Rattle.slub_core.specs.Run.{System, Pick, idle, run, turn}
-use Rattle.slub_schedule.specs.Schedule.{is_between, unfinished}
+use Rattle.slub_schedule.specs.Schedule.{is_between, unfinished, IsCall}
 use Rattle.slub_schedule.specs.Rounds.{IsFinishedSystem}
 use Rattle.slub_schedule.specs.Turns.{turns_of}
 
@@ -32,11 +32,11 @@ busy_from n (l ∷ ls) = if is_between l.spot then busy_from (suc n) ls else Som
 abbrev pub next_in : List Event → System → Option ℕ
 next_in events s = option_or (busy_from 0 s.locals) (next_worker events (answered s))
 
--- each turn is that of this worker
+-- each turn is that of this worker, and no call is a try
 abbrev pub AreInOrder : Setup → List Event → System → List Pick → Type 0
 AreInOrder m events s [] = Unit {0}
 AreInOrder m events s (pick ∷ picks) =
-    (next_in events s ≡ Some pick.worker)
+    (next_in events s ≡ Some pick.worker) × IsCall pick
     × AreInOrder m events (turn m s pick) picks
 
 -- after these picks, no more than the turns of the round, each worker is finished

@@ -1,9 +1,9 @@
 -- The memory of a round, as the crate's own functions have it. The promise doesn't speak of it.
 use Rattle.std.specs.Prelude.{◌≡◌, ℕ, true, List, length, replicate, sum_by}
-use Rattle.slub_object_layout.specs.declared.event.Act.{Act}
-use Rattle.slub_object_layout.specs.declared.event.Act.TheVariants.{Trim, Flush}
-use Rattle.slub_object_layout.specs.declared.event.Event.{Event}
-use Rattle.slub_object_layout.specs.declared.event.Round.{Round}
+use Rattle.slub_events.specs.declared.event.Act.{Act}
+use Rattle.slub_events.specs.declared.event.Act.TheVariants.{Trim, Flush}
+use Rattle.slub_events.specs.declared.event.Event.{Event}
+use Rattle.slub_events.specs.declared.event.Round.{Round}
 use Rattle.slub_lists.specs.State.{State}
 use Rattle.slub_core.specs.Setup.{Means}
 use Rattle.slub_schedule.specs.Schedule.{places_of}

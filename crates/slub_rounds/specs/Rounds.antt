@@ -1,8 +1,8 @@
 -- A round by steps, from the lists before it to the lists after it: in turns that a seed draws, in
 -- whatever order threads make their steps, or in the order of the text.
-use Rattle.std.specs.Prelude.{◌≡◌, ℕ, List}
+use Rattle.std.specs.Prelude.{◌≡◌, ℕ, List, All}
 use Rattle.std.specs.List.{zip}
-use Rattle.slub_object_layout.specs.declared.event.Round.{Round}
+use Rattle.slub_events.specs.declared.event.Round.{Round}
 use Rattle.slub_lists.specs.State.{State}
 use Rattle.slub_lists.specs.Coherent.{all_on_board}
 use Rattle.slub_core.specs.World.{World, world_of}
@@ -10,6 +10,7 @@ use Rattle.slub_core.specs.Setup.{Setup}
 use Rattle.slub_core.specs.Run.{System, Pick, run}
 use Rattle.slub_core.specs.Opening.{opened as begun}
 use Rattle.slub_core.specs.Law.{CoherentAlong, replies_of}
+use Rattle.slub_schedule.specs.Schedule.{IsCall}
 use Rattle.slub_schedule.specs.Rounds.{Ends, IsFinishedSystem, IsSpent}
 use Rattle.slub_opening.specs.Opening.{Beside, IsBeside, setup_of}
 use Rattle.slub_opening.specs.Table.{system_of}
@@ -82,9 +83,10 @@ DoesRoundBySeed s ids seed round result after ids_after =
     DoesRoundBySteps (λ m first picks last. Ends m seed first picks last)
     s ids round result after ids_after
 
--- after these picks, whichever they are, each worker is finished
+-- after these picks, whichever they are, each worker is finished, and no call is a try
 pub record Finishes (m : Setup) (first : System) (picks : List Pick) (last : System)
     : Type 0 where
+  pub calls : All IsCall picks
   pub run : last ≡ run m first picks
   pub finished : IsFinishedSystem last
 

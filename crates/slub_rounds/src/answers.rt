@@ -16,10 +16,10 @@ use slub_common::no_memory::NoMemory;
 use slub_common::sequence::Sequence;
 use slub_engine::found::{counts_told, push_found, room_to_find};
 use slub_engine::item::{blank_ledgers, note_own};
+use slub_events::event::{Event, Round};
 use slub_journal::journal::{Found, RoundResult};
 use slub_list_machine::lists::Lists;
 use slub_local::local::Local;
-use slub_object_layout::event::{Event, Round};
 use std::alloc::Global;
 
 /// Room for what a round answers.

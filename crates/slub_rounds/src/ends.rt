@@ -1,7 +1,7 @@
 //! The two ends of a round on words: its begin, with the lists opened, and its close.
 
 ghost use Rattle.std.specs.Prelude.{◌≡◌, ℕ, List};
-ghost use Rattle.slub_object_layout.specs.declared.event.Round.{Round as Events};
+ghost use Rattle.slub_events.specs.declared.event.Round.{Round as Events};
 ghost use Rattle.slub_trace_reader.specs.declared.trace.Trace.{Trace};
 ghost use Rattle.slub_lists.specs.State.{State};
 ghost use Rattle.slub_calls.specs.Calls.{workers_of};
@@ -11,11 +11,11 @@ ghost use Rattle.slub_rounds.specs.Machine.{HasClosed, HasEnded, IsBegun, beside
 
 use crate::answers::{Answers, result_of};
 use crate::ended::Ended;
+use slub_events::event::Round;
 use slub_into_lists::closing::close;
 use slub_into_words::ids::Ids;
 use slub_into_words::opened::{Opened, Rest};
 use slub_local::local::Local;
-use slub_object_layout::event::Round;
 use slub_turns::machine::Machine;
 
 /// The machine in words with its workers, each of which has the replies that take no step.

@@ -1,7 +1,7 @@
 //! A round by steps in the order of the text.
 
 ghost use Rattle.std.specs.Prelude.{◌≡◌, ◌≤◌, ◌<◌, ◌^◌, ℕ, List, All, IfErr, IfOk, MatchResult, OnErr, OnOk, length, replicate, slice_index_or};
-ghost use Rattle.slub_object_layout.specs.declared.event.Event.{Event as OneEvent};
+ghost use Rattle.slub_events.specs.declared.event.Event.{Event as OneEvent};
 ghost use Rattle.slub_trace_reader.specs.declared.trace.Trace.{Trace};
 ghost use Rattle.slub_lists.specs.State.{State};
 ghost use Rattle.slub_lists.specs.Coherent.{IsCoherent};
@@ -30,12 +30,12 @@ use crate::room::{Room, take_room};
 use crate::scheduled::Stopped;
 use slub_common::no_memory::NoMemory;
 use slub_core::spot::Spot;
+use slub_events::event::{Event, Round};
 use slub_into_words::ids::Ids;
 use slub_into_words::opened::Opened;
 use slub_into_words::opening::open;
 use slub_list_machine::lists::Lists;
 use slub_local::local::Local;
-use slub_object_layout::event::{Event, Round};
 use slub_schedule::machine::{Machine as Turns, TurnsSpent};
 use slub_turns::machine::Machine;
 use std::alloc::Global;

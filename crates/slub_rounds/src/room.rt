@@ -11,12 +11,12 @@ ghost use Rattle.slub_rounds.specs.Room.{IsTakenFor, all_workers, weight_in, wei
 use crate::answers::Answers;
 use slub_calls::workers::workers;
 use slub_common::no_memory::NoMemory;
+use slub_events::event::{Act, Event, Round};
 use slub_into_words::beside::Beside;
 use slub_into_words::ids::Ids;
 use slub_into_words::laws::besides_fit;
 use slub_list_machine::lists::Lists;
 use slub_local::local::Local;
-use slub_object_layout::event::{Act, Event, Round};
 use slub_schedule::order::Order;
 use slub_schedule::turns::turns_for;
 use slub_turns::begin::is_finished;

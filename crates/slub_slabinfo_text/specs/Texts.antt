@@ -1,9 +1,9 @@
 -- The texts to the byte. Every line ends with a line feed.
 use Rattle.std.specs.Prelude.{ℕ, ◌-◌, ◌/◌, ◌%◌, ◌<◌, Bool, true, false, List, [], ◌∷◌, ◌++◌, length, flat_map, replicate, codes, slice_index_or, Result, Ok, Err}
 use Rattle.std.specs.Fmt.{decimal, digit_glyph, signed_decimal}
-use Rattle.slub_object_layout.specs.declared.event.Act.{Act}
-use Rattle.slub_object_layout.specs.declared.event.Act.TheVariants.{Alloc, Free, Write, Read, Poke, Trim, Flush}
-use Rattle.slub_object_layout.specs.declared.event.Event.{Event}
+use Rattle.slub_events.specs.declared.event.Act.{Act}
+use Rattle.slub_events.specs.declared.event.Act.TheVariants.{Alloc, Free, Write, Read, Poke, Trim, Flush}
+use Rattle.slub_events.specs.declared.event.Event.{Event}
 use Rattle.slub_object_layout.specs.declared.layout.Layout.{Layout}
 use Rattle.slub_object_layout.specs.declared.layout.LayoutRefusal.{LayoutRefusal}
 use Rattle.slub_object_layout.specs.declared.layout.LayoutRefusal.TheVariants as refusal
@@ -78,9 +78,9 @@ IsNamed names _ = Unit {0}
 abbrev pub act_words : List (List ℕ) → ℕ → Act → List ℕ
 act_words names cpu (Alloc cache object) = codes "alloc " ++ decimal object
 act_words names cpu (Free object) = codes "free " ++ decimal object
-act_words names cpu (Write object word value) =
+act_words names cpu (Write word object value) =
     codes "write " ++ decimal object ++ 32 ∷ decimal word
-act_words names cpu (Read object word) = codes "read " ++ decimal object ++ 32 ∷ decimal word
+act_words names cpu (Read word object) = codes "read " ++ decimal object ++ 32 ∷ decimal word
 act_words names cpu (Poke object offset byte) =
     codes "poke " ++ decimal object ++ 32 ∷ signed_decimal offset
 act_words names cpu (Trim place) = codes "trim " ++ slice_index_or names place []

@@ -5,7 +5,7 @@ use crate::text::{
     ItemAnswer, ItemWord, push_damage_line, push_item_line, push_reply_line, push_slabinfo,
 };
 use slub_answers::reply::Reply;
-use slub_object_layout::event::{Act, Event};
+use slub_events::event::{Act, Event};
 use slub_object_layout::name::Name;
 use slub_red_zone::zones::{Damage, Report, Zone};
 use std::test::Fail;

@@ -8,7 +8,7 @@ use crate::counts::{Counts, InfoRow};
 use itoa::Buffer;
 use slub_answers::reply::Reply;
 use slub_common::no_memory::NoMemory;
-use slub_object_layout::event::{Act, Event};
+use slub_events::event::{Act, Event};
 use slub_object_layout::layout::{Layout, LayoutRefusal};
 use slub_object_layout::name::Name;
 use slub_red_zone::zones::{Damage, Report, Zone};
@@ -74,11 +74,11 @@ fn push_event(text: &mut Vec<u8>, names: &[Name], event: &Event) -> Result<(), N
         Act::Alloc { cache: _, object } => push_numbered(text, b"alloc ", u64::from(*object)),
         Act::Free { object } => push_numbered(text, b"free ", u64::from(*object)),
         Act::Write {
-            object,
             word,
+            object,
             value: _,
         } => push_word_of(text, b"write ", *object, *word),
-        Act::Read { object, word } => push_word_of(text, b"read ", *object, *word),
+        Act::Read { word, object } => push_word_of(text, b"read ", *object, *word),
         Act::Poke {
             object,
             offset,
@@ -98,7 +98,7 @@ fn push_numbered(text: &mut Vec<u8>, words: &[u8], n: u64) -> Result<(), NoMemor
 }
 
 /// What the line of a write or a read says before the answer.
-fn push_word_of(text: &mut Vec<u8>, words: &[u8], object: u32, word: u32) -> Result<(), NoMemory>
+fn push_word_of(text: &mut Vec<u8>, words: &[u8], object: u32, word: u16) -> Result<(), NoMemory>
     ensures { OnOk result (text.new.items ≡
         text.old.items ++ words.now ++ decimal object ++ 32 ∷ decimal word) }
 {

@@ -4,10 +4,10 @@ use Rattle.std.specs.List.{zip}
 use Rattle.std.proofs.lemmas.Bool.{cases_lt}
 use Rattle.std.proofs.lemmas.List.{length-append}
 use Rattle.std.proofs.lemmas.List.Sums.{sum_by-cons}
-use Rattle.slub_object_layout.specs.declared.event.Act.{Act}
-use Rattle.slub_object_layout.specs.declared.event.Act.TheVariants.{Alloc, Free, Write, Read, Poke, Trim, Flush}
-use Rattle.slub_object_layout.specs.declared.event.Event.{Event}
-use Rattle.slub_object_layout.specs.declared.event.Round.{Round}
+use Rattle.slub_events.specs.declared.event.Act.{Act}
+use Rattle.slub_events.specs.declared.event.Act.TheVariants.{Alloc, Free, Write, Read, Poke, Trim, Flush}
+use Rattle.slub_events.specs.declared.event.Event.{Event}
+use Rattle.slub_events.specs.declared.event.Round.{Round}
 use Rattle.slub_answers.specs.declared.reply.Reply.{Reply}
 use Rattle.slub_answers.specs.Kinds.{is_no_frames}
 use Rattle.slub_trace_reader.specs.Sound.{objects_of}
@@ -32,8 +32,8 @@ one-lacks s order (Alloc place object) line worker cpu reply events =
     let event : Event = record { line = line; worker = worker; cpu = cpu; act = Alloc place object } in
     omega (arith, one-most (lacks s order (event, reply)))
 one-lacks s order (Free object) line worker cpu reply events = none-more (is_no_frames reply) (length (objects_of events))
-one-lacks s order (Write object word value) line worker cpu reply events = none-more (is_no_frames reply) (length (objects_of events))
-one-lacks s order (Read object word) line worker cpu reply events = none-more (is_no_frames reply) (length (objects_of events))
+one-lacks s order (Write word object value) line worker cpu reply events = none-more (is_no_frames reply) (length (objects_of events))
+one-lacks s order (Read word object) line worker cpu reply events = none-more (is_no_frames reply) (length (objects_of events))
 one-lacks s order (Poke object offset byte) line worker cpu reply events = none-more (is_no_frames reply) (length (objects_of events))
 one-lacks s order (Trim place) line worker cpu reply events = none-more (is_no_frames reply) (length (objects_of events))
 one-lacks s order Flush line worker cpu reply events = none-more (is_no_frames reply) (length (objects_of events))

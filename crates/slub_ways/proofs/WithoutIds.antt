@@ -1,7 +1,7 @@
 -- Where the first transaction id of a trace is 0 the machine has no ids, rounds in the order of the text are done on its lists alone, and no turns of them are spent.
 use Rattle.std.proofs.Common.{◌≡◌, ℕ, ◌==◌, if◌then◌else◌, List, [], ◌∷◌, length, take, ◌∙◌, ap, subst, Option, Some, None, MatchOption, slice_get, inl, inr}
 use Rattle.std.specs.Option.{option_map}
-use Rattle.slub_object_layout.specs.declared.event.Round.{Round}
+use Rattle.slub_events.specs.declared.event.Round.{Round}
 use Rattle.slub_lists.specs.State.{State}
 use Rattle.slub_trace_reader.specs.declared.trace.Item.{Item}
 use Rattle.slub_trace_reader.specs.declared.trace.Item.TheVariants as item

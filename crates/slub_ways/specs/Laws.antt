@@ -1,6 +1,6 @@
 -- What holds of rounds of every way, and of machines before an item and after it.
 use Rattle.std.specs.Prelude.{◌≡◌, ℕ, ◌+◌, ◌^◌, ◌≤◌, List, length, Option, Some, slice_get, slice_index}
-use Rattle.slub_object_layout.specs.declared.event.Round.{Round as Events}
+use Rattle.slub_events.specs.declared.event.Round.{Round as Events}
 use Rattle.slub_trace_reader.specs.declared.trace.Item.TheVariants.{Round}
 use Rattle.slub_trace_reader.specs.declared.trace.Trace.{Trace}
 use Rattle.slub_trace_reader.specs.Sound.{IsSound}

@@ -1,7 +1,7 @@
 use Rattle.std.proofs.Common.{◌≡◌, sym, ◌∙◌, ap, subst, All, List, ℕ}
 use Rattle.std.specs.List.{IsDistinct}
 use Rattle.std.specs.Prelude.{nat_eq}
-use Rattle.slub_object_layout.specs.declared.event.Act.{Act}
+use Rattle.slub_events.specs.declared.event.Act.{Act}
 use Rattle.slub_trace_reader.specs.Sound.{objects_of}
 use Rattle.slub_journal.specs.Asked.{round_of}
 use Rattle.slub_journal.specs.BulkLines.{allocs_of}

@@ -2,7 +2,7 @@ use Rattle.std.proofs.Common.{◌≡◌, ◌∙◌, sym, ap, subst, All, List, �
 use Rattle.std.specs.List.{IsDistinct}
 use Rattle.std.specs.Prelude.{nat_eq}
 use Rattle.std.proofs.lemmas.List.Elements.{All-nil}
-use Rattle.slub_object_layout.specs.declared.event.Act.{Act}
+use Rattle.slub_events.specs.declared.event.Act.{Act}
 use Rattle.slub_trace_reader.specs.Sound.{objects_of}
 use Rattle.slub_journal.specs.Asked.{DoesAsked, frees_of, round_of}
 use Rattle.slub_journal.specs.Lawful.{IsUnheld}

@@ -13,7 +13,7 @@ returns-in-Alloc-clause-unheld c =
 
 pub returns-in-Free-clause-unheld : goal.returns-in-Free-clause-unheld
 returns-in-Free-clause-unheld c =
-    free_keeps c.args.lists.now c.free.new.self c.args.event.now c.in-Free.object c.free.result c.free.ensures.frees c.free.ensures.others
+    free_keeps c.args.lists.now c.free.new.self c.args.event.now _ _ c.in-Free.object c.free.result c.free.ensures.frees c.free.ensures.others
 
 pub returns-in-Write-clause-unheld : goal.returns-in-Write-clause-unheld
 returns-in-Write-clause-unheld c = board_keeps c.args.lists.now c.write.new.self _ c.write.ensures.board

@@ -1,5 +1,5 @@
 use Rattle.std.proofs.Common.{◌≡◌, ◌∙◌, ap, length, subst, arith, List, ℕ}
-use Rattle.slub_object_layout.specs.declared.event.Event.{Event}
+use Rattle.slub_events.specs.declared.event.Event.{Event}
 use Rattle.slub_trace_reader.specs.Sound.{objects_of}
 use Rattle.slub_engine.specs.Steps.{KeepsUnheld, found_since, told_in}
 use Rattle.slub_engine.proofs.Damages.{found_few, found_is}

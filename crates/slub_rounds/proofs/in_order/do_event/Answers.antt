@@ -36,7 +36,7 @@ loop-count-preserved c =
     let t : System = system_in c.turn.new.self in
     let i = c.loop-count.invariant in
     let (refused, turned) = c.turn.ensures.turned in
-    let pick : Pick = record { worker = c.args.worker; refused = refused } in
+    let pick : Pick = record { worker = c.args.worker; refused = refused; tries = false } in
     let not : is_through c.args.passed (local_at s c.args.worker) ≡ false = said c.has_come.result c.args.passed c.args.worker c.deref.result.now c.loop-count.machine.locals.items c.has_come.ensures c.deref.ensures.value ∙ c.if-has_come.false in
     let long : length t.locals ≡ length s.locals = ap (λ (y : System). length y.locals) turned ∙ turn-long k s pick in
     let below : c.args.worker < length s.locals = i.worker in

@@ -1,5 +1,5 @@
 use Rattle.std.proofs.Common.{◌≡◌, ◌^◌, ◌<◌, ◌≤◌, ℕ, List, All, ◌∙◌, ap, sym, subst, length, replicate}
-use Rattle.slub_object_layout.specs.declared.event.Event.{Event}
+use Rattle.slub_events.specs.declared.event.Event.{Event}
 use Rattle.slub_local.specs.Facts as local
 use Rattle.slub_schedule.specs.Turns.{turns_of}
 use Rattle.slub_turns.specs.Means.{the_means}

@@ -1,5 +1,5 @@
 use Rattle.std.proofs.Common.{◌≡◌, List, ap, sym, subst, ◌∙◌, length, arith}
-use Rattle.slub_object_layout.specs.declared.event.Event.{Event}
+use Rattle.slub_events.specs.declared.event.Event.{Event}
 use Rattle.slub_cache_create.specs.Table.{Table}
 use Rattle.slub_calls.specs.Calls.{workers_of}
 use Rattle.slub_schedule.specs.Turns.{turns_for}

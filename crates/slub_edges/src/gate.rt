@@ -1,7 +1,8 @@
 //! Gates that the workers of a round by threads pass.
 //!
 //! A gate can hold a worker up, so that a test gets the order that it wants. It tells nothing: what
-//! a round by threads comes to is said for every order of its workers.
+//! a round by threads comes to is said for every order of its workers. At the end of its events a
+//! worker tells the gate what it waited for, for those who measure.
 
 use std::sync::atomic::{AtomicBool, Ordering};
 use std::thread::yield_now;
@@ -12,6 +13,11 @@ use std::thread::yield_now;
 pub trait Gate {
     /// Lets the worker on to this event. A worker counts its own events from 0.
     fn pass(&self, worker: u32, event: u32);
+
+    /// Tells the gate, once, that the worker has no event left: how many exchanges of words that
+    /// aren't locks it has lost, and how often it has slept on a lock. A count that comes to its
+    /// greatest value stays there. No clause says what the counts are.
+    fn left(&self, _worker: u32, _lost: u64, _parked: u64) {}
 }
 
 /// A gate that lets everything pass at once: the program's own.

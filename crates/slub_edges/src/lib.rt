@@ -6,7 +6,8 @@
 //! to, ends that never fail, adapters over the readers and writers of std, and what is built on
 //! the traits alone: writing a whole piece, writing a text line by line, reading to the end. The
 //! order of threads comes from outside too: a `Gate` is what each worker of a round by threads
-//! passes before its events, so that a test can hold one up. It tells nothing.
+//! passes before its events, so that a test can hold one up, and is told at their end how often the
+//! worker had to wait. It tells nothing.
 //!
 //! Contracts cite `Rose` and `AppendsFront` (`specs/Edges.antt`), the pieces that a sink is given
 //! (`specs/Pieces.antt`), the states of the ends in memory (`specs/Memory.antt`), what an adapter
@@ -22,7 +23,7 @@
 //! that. `write_all` and `write_lines` take all of a text, or at a fault a front of it that isn't
 //! the whole; each line with its line feed is one piece. `read_all` reads to the end, or says why
 //! not. That the adapters carry bytes to and from the operating system is only tested. A gate
-//! promises no more than that passing it returns.
+//! promises no more than that passing and leaving it return.
 #![tactic(auto)]
 
 pub mod adapters;

@@ -32,7 +32,7 @@ const NO_CALL: Call = Call {
 /// A worker's share of the events of a round, as far as they were handed out.
 #[derive(Drop)]
 pub struct Share {
-    worker: u32,
+    worker: u8,
     /// The object numbers that its events name, each once, in the order in which they come.
     numbers: IndexSet<u32>,
     /// The calls of its events, with room for their replies.
@@ -41,7 +41,7 @@ pub struct Share {
 
 impl Share {
     /// The share of a worker that has no event yet, with room for so many.
-    pub fn open(alloc: Global, worker: u32, events: usize) -> Result<Share, NoMemory>
+    pub fn open(alloc: Global, worker: u8, events: usize) -> Result<Share, NoMemory>
         ensures { IfOk result (λ share. gathered share ≡ record idle { worker = worker }) }
     {
         let script = Vec::with_capacity(alloc, events)?;

@@ -1,6 +1,6 @@
 //! The workers of a round, with all their events to come.
 
-ghost use Rattle.std.specs.Prelude.{◌≡◌, All, IfOk, length, map};
+ghost use Rattle.std.specs.Prelude.{◌≡◌, ◌≤◌, All, IfOk, length, map};
 ghost use Rattle.std.specs.List.{range_with_len};
 ghost use Rattle.slub_core.specs.Run.{idle};
 ghost use Rattle.slub_calls.specs.Calls.{IsNamedEvent, events_by, workers_of};
@@ -15,9 +15,11 @@ use std::alloc::Global;
 
 /// All workers of a round, in rising number. An event of no worker of the round is no worker's call.
 ///
-/// The cost is in proportion to the events, however many workers there are.
+/// A worker's number is a byte, so there are at most 256. The cost is in proportion to the events, however many workers
+/// there are.
 pub fn workers(alloc: Global, table: &Caches, round: &Round) -> Result<Vec<Local>, NoMemory>
-    requires { All (IsNamedEvent table.now) round.now.events }
+    requires named { All (IsNamedEvent table.now) round.now.events }
+    requires few { round.now.workers ≤ 256 }
     ensures { IfOk result (λ workers. workers.items ≡ workers_of table.now round.now) }
 {
     let shares = shares(alloc, table, round)?;
@@ -30,7 +32,8 @@ pub fn workers(alloc: Global, table: &Caches, round: &Round) -> Result<Vec<Local
 
 /// Each worker's share of the events.
 fn shares(alloc: Global, table: &Caches, round: &Round) -> Result<Vec<Share>, NoMemory>
-    requires { All (IsNamedEvent table.now) round.now.events }
+    requires named { All (IsNamedEvent table.now) round.now.events }
+    requires few { round.now.workers ≤ 256 }
     ensures { IfOk result (λ shares. map gathered shares.items ≡ workers_of table.now round.now) }
 {
     let events = round.events.as_slice();
@@ -46,12 +49,13 @@ fn shares(alloc: Global, table: &Caches, round: &Round) -> Result<Vec<Share>, No
 
 /// The shares before the first event, each with room for all that its worker will have of these.
 fn open_shares(alloc: Global, workers: u32, events: &[Event]) -> Result<Vec<Share>, NoMemory>
+    requires { workers ≤ 256 }
     ensures { IfOk result (λ shares. map gathered shares.items ≡ map (λ worker. record idle { worker = worker }) (range_with_len 0 workers)) }
 {
     let counts = counts(alloc, workers, events)?;
     let mut shares = Vec::with_capacity(alloc, counts.len())?;
     for worker in 0..workers {
-        shares.push(Share::open(alloc, worker, counts[worker as usize])?)?;
+        shares.push(Share::open(alloc, worker as u8, counts[worker as usize])?)?;
     }
     Ok(shares)
 }

@@ -50,7 +50,7 @@ impl Lists {
     /// (`___slab_alloc`).
     ///
     /// Object numbers begin at 1, and the number is one that no object on the board has.
-    pub fn alloc_named(&mut self, place: u32, cpu: u32, worker: u32, object: u32) -> Reply
+    pub fn alloc_named(&mut self, place: u32, cpu: u32, worker: u8, object: u32) -> Reply
         requires coherent { IsCoherent self.old }
         requires place { place < length self.old.table.kept }
         requires cpu { cpu < self.old.cpus }
@@ -64,7 +64,7 @@ impl Lists {
     }
 
     /// Allocates an object of the cache that a name names.
-    fn alloc_by_name(&mut self, place: u32, cpu: u32, worker: u32, object: u32) -> Reply
+    fn alloc_by_name(&mut self, place: u32, cpu: u32, worker: u8, object: u32) -> Reply
         requires consistent { IsConsistent self.old }
         requires place { place < length self.old.table.kept }
         requires cpu { cpu < self.old.cpus }
@@ -81,7 +81,7 @@ impl Lists {
     }
 
     /// Allocates an object of a live cache, checked or not.
-    fn alloc_from(&mut self, cache: u8, cpu: u32, worker: u32, object: u32) -> Reply
+    fn alloc_from(&mut self, cache: u8, cpu: u32, worker: u8, object: u32) -> Reply
         requires consistent { IsConsistent self.old }
         requires live { IsSome (cache_of self.old cache) }
         requires cpu { cpu < self.old.cpus }
@@ -100,7 +100,7 @@ impl Lists {
     }
 
     /// Allocates an object of a live cache that is not checked.
-    fn alloc(&mut self, cache: u8, cpu: u32, worker: u32, object: u32, layout: &Layout) -> Reply
+    fn alloc(&mut self, cache: u8, cpu: u32, worker: u8, object: u32, layout: &Layout) -> Reply
         requires consistent { IsConsistent self.old }
         requires live { HasLayout self.old cache layout.now }
         requires unchecked { checked_of self.old cache ≡ None }
@@ -119,7 +119,7 @@ impl Lists {
     }
 
     /// Allocates the first object of a new slab.
-    fn alloc_new(&mut self, cache: u8, cpu: u32, worker: u32, object: u32, layout: &Layout) -> Reply
+    fn alloc_new(&mut self, cache: u8, cpu: u32, worker: u8, object: u32, layout: &Layout) -> Reply
         requires consistent { IsConsistent self.old }
         requires live { HasLayout self.old cache layout.now }
         requires unchecked { checked_of self.old cache ≡ None }
@@ -175,7 +175,7 @@ impl Lists {
     }
 
     /// Gives the first object of the CPU freelist, and says its address.
-    fn give(&mut self, cache: u8, cpu: u32, worker: u32, object: u32, layout: &Layout) -> u32
+    fn give(&mut self, cache: u8, cpu: u32, worker: u8, object: u32, layout: &Layout) -> u32
         requires consistent { IsConsistent self.old }
         requires live { HasLayout self.old cache layout.now }
         requires unchecked { checked_of self.old cache ≡ None }

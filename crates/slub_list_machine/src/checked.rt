@@ -28,7 +28,7 @@ impl Lists {
     pub(crate) fn alloc_checked(
         &mut self,
         cache: u8,
-        worker: u32,
+        worker: u8,
         object: u32,
         layout: &Layout,
     ) -> Reply
@@ -51,7 +51,7 @@ impl Lists {
 
     /// Allocates the first object of a new checked slab (`alloc_single_from_new_slab`). Where no
     /// memory is there for it, its run is put back.
-    fn alloc_new_checked(&mut self, cache: u8, worker: u32, object: u32, layout: &Layout) -> Reply
+    fn alloc_new_checked(&mut self, cache: u8, worker: u8, object: u32, layout: &Layout) -> Reply
         requires consistent { IsConsistent self.old }
         requires live { HasLayout self.old cache layout.now }
         requires checked { IsSome (checked_of self.old cache) }
@@ -108,7 +108,7 @@ impl Lists {
     }
 
     /// Puts an object on the board, for a worker, and says its address.
-    fn hold(&mut self, cache: u8, worker: u32, object: u32, slot: Slot, layout: &Layout) -> u32
+    fn hold(&mut self, cache: u8, worker: u8, object: u32, slot: Slot, layout: &Layout) -> u32
         requires object { object < length self.old.board }
         requires cache { cache < length self.old.live }
         requires room { slice_index_or self.old.live cache 0 ≤ 2 ^ 32 }
@@ -131,7 +131,7 @@ impl Lists {
     /// worker holds it.
     pub(crate) fn free_checked(
         &mut self,
-        worker: u32,
+        worker: u8,
         object: u32,
         held: &Held,
         layout: &Layout,
@@ -163,7 +163,7 @@ impl Lists {
     }
 
     /// Leaves an object on the board, for a worker.
-    fn keep(&mut self, worker: u32, object: u32, held: &Held)
+    fn keep(&mut self, worker: u8, object: u32, held: &Held)
         requires { object < length self.old.board }
         ensures { self.new ≡ kept_by self.old object worker held.now }
     {

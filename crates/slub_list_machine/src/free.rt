@@ -16,7 +16,7 @@ impl Lists {
     /// Frees the object under a number, on a CPU, for a worker (`__slab_free`).
     ///
     /// The worker holds the object, or it is on the board between rounds, when anyone may free it.
-    pub fn free(&mut self, cpu: u32, worker: u32, object: u32) -> Reply
+    pub fn free(&mut self, cpu: u32, worker: u8, object: u32) -> Reply
         requires coherent { IsCoherent self.old }
         requires cpu { cpu < self.old.cpus }
         requires object { object < length self.old.board }
@@ -28,7 +28,7 @@ impl Lists {
     }
 
     /// Frees what a number names.
-    fn free_number(&mut self, cpu: u32, worker: u32, object: u32) -> Reply
+    fn free_number(&mut self, cpu: u32, worker: u8, object: u32) -> Reply
         requires consistent { IsConsistent self.old }
         requires cpu { cpu < self.old.cpus }
         requires object { object < length self.old.board }
@@ -46,7 +46,7 @@ impl Lists {
     }
 
     /// Frees an object that was given, of a cache that is checked or not.
-    fn free_held(&mut self, cpu: u32, worker: u32, object: u32, held: &Held) -> Reply
+    fn free_held(&mut self, cpu: u32, worker: u8, object: u32, held: &Held) -> Reply
         requires consistent { IsConsistent self.old }
         requires cpu { cpu < self.old.cpus }
         requires held { slice_index_or self.old.board object None ≡ Some held.now }
@@ -66,7 +66,7 @@ impl Lists {
     fn free_unchecked(
         &mut self,
         cpu: u32,
-        worker: u32,
+        worker: u8,
         object: u32,
         held: &Held,
         layout: &Layout,
@@ -90,7 +90,7 @@ impl Lists {
     }
 
     /// Notes who freed the number in this round.
-    pub(crate) fn note_gone(&mut self, worker: u32, object: u32, held: &Held)
+    pub(crate) fn note_gone(&mut self, worker: u8, object: u32, held: &Held)
         requires consistent { IsConsistent self.old }
         requires object { object < length self.old.board }
         ensures noted { self.new ≡ with_gone self.old object worker held.now }
@@ -183,7 +183,7 @@ fn is_current(frame: u16, current: Option<u16>) -> bool
 }
 
 /// The worker may free what this worker holds, or no worker.
-fn is_freeable(worker: u32, holder: Option<u32>) -> bool
+fn is_freeable(worker: u8, holder: Option<u8>) -> bool
     ensures { result ≡ is_freeable worker holder }
 {
     match holder {

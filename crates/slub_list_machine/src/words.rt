@@ -18,7 +18,7 @@ use slub_red_zone::checked::{OutOfSlot, Slot};
 
 impl Lists {
     /// Writes a word, of eight bytes, of an object that the worker holds.
-    pub fn write(&mut self, worker: u32, object: u32, word: u32, value: u64) -> Reply
+    pub fn write(&mut self, worker: u8, object: u32, word: u32, value: u64) -> Reply
         requires coherent { IsCoherent self.old }
         requires object { object < length self.old.board }
         requires word { word ≤ 4095 }
@@ -40,7 +40,7 @@ impl Lists {
 
     /// Reads a word of an object that the worker holds: of a checked object its bytes as they stand, of
     /// any other what its holder wrote there last.
-    pub fn read(&self, worker: u32, object: u32, word: u32) -> Reply
+    pub fn read(&self, worker: u8, object: u32, word: u32) -> Reply
         requires coherent { IsCoherent self.now }
         requires object { object < length self.now.board }
         requires word { word ≤ 4095 }
@@ -58,7 +58,7 @@ impl Lists {
 
     /// Writes one byte in the slot of a checked object that the worker holds, or freed in this round (a
     /// use after free); `offset` counts in bytes from the object's address.
-    pub fn poke(&mut self, worker: u32, object: u32, offset: i32, byte: u8) -> Reply
+    pub fn poke(&mut self, worker: u8, object: u32, offset: i32, byte: u8) -> Reply
         requires coherent { IsCoherent self.old }
         requires object { object < length self.old.board }
         ensures pokes { Pokes self.old worker object offset byte result self.new }
@@ -73,7 +73,7 @@ impl Lists {
     }
 
     /// The object that a worker holds under a number.
-    fn held_by(&self, worker: u32, object: u32) -> Option<Held>
+    fn held_by(&self, worker: u8, object: u32) -> Option<Held>
         requires { object < length self.now.board }
         ensures { result ≡ held_by self.now worker object }
     {
@@ -81,7 +81,7 @@ impl Lists {
     }
 
     /// The object that a worker holds under a number, or freed under it in this round.
-    fn known_to(&self, worker: u32, object: u32) -> Option<Held>
+    fn known_to(&self, worker: u8, object: u32) -> Option<Held>
         requires board { object < length self.now.board }
         requires gone { object < length self.now.gone }
         ensures { result ≡ known_to self.now worker object }
@@ -203,7 +203,7 @@ impl Lists {
 }
 
 /// The object, where it is this worker's.
-fn own(worker: u32, held: Option<Held>) -> Option<Held>
+fn own(worker: u8, held: Option<Held>) -> Option<Held>
     ensures { result ≡ option_and_then (own worker) held }
 {
     match held {
@@ -212,7 +212,7 @@ fn own(worker: u32, held: Option<Held>) -> Option<Held>
     }
 }
 
-fn is_worker(worker: u32, holder: Option<u32>) -> bool
+fn is_worker(worker: u8, holder: Option<u8>) -> bool
     ensures { result ≡ is_worker worker holder }
 {
     match holder {

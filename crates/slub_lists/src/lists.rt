@@ -41,12 +41,14 @@ pub struct CpuLists {
 }
 
 /// An object that was given and not freed.
+///
+/// It has 8 bytes, and where it may be missing 10; a machine has two such places for each object number.
 #[derive(Clone, Copy, Debug, PartialEq, Eq)]
 pub struct Held {
     pub frame: u16,
     pub index: u16,
     /// The number of its cache, 0 to 31.
     pub cache: u8,
-    /// The worker that holds it, or none where it is on the board between rounds.
-    pub worker: Option<u32>,
+    /// The worker that holds it, 0 to 15, or none where it is on the board between rounds.
+    pub worker: Option<u8>,
 }

@@ -57,15 +57,15 @@ const NO_CALL: Call = Call {
 /// A worker of a round.
 #[derive(Debug, Drop)]
 pub struct Local {
-    /// From 0 on.
-    worker: u32,
+    /// 0 to 15.
+    worker: u8,
     spot: Spot,
     /// The cache and the CPU of its call; in a trim or a flush those that it has come to.
     cache: u8,
     cpu: u8,
     /// The place of the call's object among those that it knows.
     place: usize,
-    /// The call is a try, which ends where the fast path does.
+    /// The call is a try: of the fast path alone, if it allocates from a cache that isn't checked.
     fast: bool,
     /// The words that it loaded last, and the index plus one that a free pointer had.
     cpu_word: CpuWord,
@@ -129,7 +129,7 @@ impl Local {
     /// A worker between two calls, before the first one of its script, whose replies are room as yet.
     pub fn open(
         alloc: Global,
-        worker: u32,
+        worker: u8,
         known: Vec<Known>,
         script: Vec<Answered>,
     ) -> Result<Local, NoMemory>
@@ -172,7 +172,7 @@ impl Local {
     }
 
     /// Its number.
-    pub fn worker(&self) -> u32
+    pub fn worker(&self) -> u8
         ensures { result ≡ self.now.worker }
     {
         self.worker

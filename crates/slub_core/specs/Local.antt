@@ -26,7 +26,7 @@ pub record Local : Type 0 where
   pub cpu : ℕ
   -- the place of the call's object among those that it knows
   pub place : ℕ
-  -- the call is a try, which ends where the fast path does
+  -- the call is a try: of the fast path alone, if it allocates from a cache that isn't checked
   pub fast : Bool
   -- noted: the words that it loaded last, and the index plus one that a free pointer had
   pub cpu_word : CpuWord

@@ -13,11 +13,17 @@ pub record System : Type 0 where
   pub value : ℕ → LockValue
   pub locals : List Local
 
--- whose step comes next, whether memory is refused in it, and whether a call that begins with it is
--- a try, which ends without a reply where the fast path does: it stays the worker's next call then
+-- the turn that comes next
 pub record Pick : Type 0 where
+  -- whose step it is
   pub worker : ℕ
+  -- whether memory is refused in it
   pub refused : Bool
+  -- whether a call that begins with it is a try: an allocation of a cache that isn't checked then
+  -- goes by the fast path alone (`slab_alloc_node`). It gives up, with no reply, where the CPU
+  -- freelist is empty, so that it would go the slow way, where its exchange is lost, or where the
+  -- CPU's transaction ids are spent; it stays the worker's next call then. Any other call is made
+  -- the same as a try or not, and so is one that began before
   pub tries : Bool
 
 -- a worker that has nothing to do

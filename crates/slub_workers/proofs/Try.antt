@@ -1,5 +1,6 @@
 -- The turns of a try, and where they lead.
-use Rattle.std.proofs.Common.{◌≡◌, ◌≢◌, ℕ, ◌-◌, Bool, true, false, ◌||◌, ◌==◌, if◌then◌else◌, List, [], ◌∷◌, ◌++◌, length, nat_lt, get_or, Option, Some, None, refl, sym, ap, ◌∙◌, subst, arith, append_assoc, inl, inr}
+use Rattle.std.proofs.Common.{◌≡◌, ◌≢◌, ℕ, ◌+◌, ◌-◌, ◌%◌, ◌^◌, Bool, true, false, ◌||◌, ◌==◌, if◌then◌else◌, List, [], ◌∷◌, ◌++◌, length, nat_lt, get_or, Option, Some, None, refl, sym, ap, ◌∙◌, subst, arith, append_assoc, inl, inr}
+use Rattle.std.proofs.Math.Nat.{mod-add-mod}
 use Rattle.std.proofs.lemmas.Bool.{cases_Bool, eq-eqb, ne_eqb}
 use Rattle.slub_object_layout.specs.Layout.{address_of}
 use Rattle.slub_words.specs.declared.cpu.CpuWord.{CpuWord}
@@ -28,11 +29,11 @@ use Rattle.slub_local.specs.Values.{values_of, rooms_of}
 use Rattle.slub_workers.specs.declared.fast.Fast.TheVariants.{Given, Empty, Moved, IdsSpent}
 use Rattle.slub_workers.specs.Begun.{Begun}
 use Rattle.slub_workers.specs.Locks.{move_of, values_moved}
-use Rattle.slub_workers.specs.Standing.{Standing, begun_in, step_in, after_turn, all_guarded}
+use Rattle.slub_workers.specs.Standing.{Standing, counted, begun_in, step_in, after_turn, all_guarded}
 use Rattle.slub_workers.specs.Rule.{setup_in}
 use Rattle.slub_workers.specs.Sits.{HasTurned}
 use Rattle.slub_workers.specs.Turns.{after_turns, IsAnswered, IsUnanswered}
-use Rattle.slub_workers.specs.Try.{MayTry, met_by_try, fast_answer, HasTried}
+use Rattle.slub_workers.specs.Try.{MayTry, steps_of_try, met_by_try, fast_answer, HasTried}
 use Rattle.slub_workers.proofs.StepValues.{all_guarded_is}
 
 -- ---- replies that take no step come on top of those that there are
@@ -64,11 +65,11 @@ turn_at m x l found value refused =
     let step = step_of m (values_of x.values) l in
     let values = values_moved (move_of step found) value x.values in
     let c = advance_of m refused (values_of values) l (answer_of step.op found) in
-    record { local = c.local; values = all_guarded (rooms_of values) c.value; tried = x.tried || true; answer = answer_of step.op found }
+    record { local = c.local; values = all_guarded (rooms_of values) c.value; tried = x.tried || true; answer = answer_of step.op found; steps = counted x.steps 1 }
 
 -- a try leaves what the worker has in hand
 abbrev pub stands : Standing → Local → Answer → Standing
-stands x l a = record { local = l; values = x.values; tried = x.tried || true; answer = a }
+stands x l a = record { local = l; values = x.values; tried = x.tried || true; answer = a; steps = counted x.steps 1 }
 
 module _ (m : Setup) (x : Standing) (may : MayTry m x.local) where
   -- where it has begun
@@ -152,6 +153,15 @@ module _ (m : Setup) (x : Standing) (may : MayTry m x.local) where
     pub answers_lost : is_spent m (cpu_in w) ≡ false → ((cpu_in w).head == 0) ≡ false → (found == w) ≡ false → fast_answer m may.cache w found ≡ Moved found
     answers_lost e z is = rw (e, z, is) refl
 
+    pub steps_spent : is_spent m (cpu_in w) ≡ true → steps_of_try m w ≡ 1
+    steps_spent e = rw e refl
+
+    pub steps_none : is_spent m (cpu_in w) ≡ false → ((cpu_in w).head == 0) ≡ true → steps_of_try m w ≡ 1
+    steps_none e z = rw (e, z) refl
+
+    pub steps_some : is_spent m (cpu_in w) ≡ false → ((cpu_in w).head == 0) ≡ false → steps_of_try m w ≡ 3
+    steps_some e z = rw (e, z) refl
+
   pub stays_next : (y : Standing) (w : ℕ) → y ≡ stands x (loaded_at w Between) (Word w) → IsUnanswered x.local y.local
   stays_next y w is = record {
     between = ap (λ (y : Standing). y.local.spot) is;
@@ -188,6 +198,17 @@ abbrev word_in : Answer → ℕ
 word_in (Word w) = w
 word_in (Lost w) = w
 word_in _ = 0
+
+-- ---- three steps more
+
+thrice : (steps : ℕ) → counted (counted (counted steps 1) 1) 1 ≡ counted steps 3
+thrice steps = mod-add-mod ((steps + 1) % 2 ^ 64 + 1) (2 ^ 64) 1 ∙ ap (λ (n : ℕ). n % 2 ^ 64) (sum ((steps + 1) % 2 ^ 64)) ∙ mod-add-mod (steps + 1) (2 ^ 64) 2 ∙ ap (λ (n : ℕ). n % 2 ^ 64) (more steps)
+  where
+    sum : (n : ℕ) → n + 1 + 1 ≡ n + 2
+    sum n = omega arith
+
+    more : (n : ℕ) → n + 1 + 2 ≡ n + 3
+    more n = omega arith
 
 -- ---- the try
 
@@ -238,6 +259,7 @@ module _ (key : Begun) (facts : Facts) (same : key.facts ≡ facts) (x : Standin
         answers = ap (λ (c : CpuWord). IdsSpent c.tid) word_is ∙ sym (answers_spent m x may w 0 0 e);
         leads = h.leads ∙ finds_spent m x may w h.value h.refused e ∙ sym (leads_spent m x may w 0 0 e);
         told = stays_next m x may y w (h.leads ∙ finds_spent m x may w h.value h.refused e);
+        steps = ap (λ (y : Standing). y.steps) (h.leads ∙ finds_spent m x may w h.value h.refused e) ∙ ap (counted x.steps) (sym (steps_spent m x may w 0 0 e));
       }
 
   pub tried_none : is_spent_by facts.step word ≡ false → word.head ≡ 0 → (loaded : ℕ) → made.1 ≡ Word loaded → HasTried key may.cache x (Empty loaded) y
@@ -251,6 +273,7 @@ module _ (key : Begun) (facts : Facts) (same : key.facts ≡ facts) (x : Standin
         answers = ap Empty (ap word_in (sym told ∙ answers_word)) ∙ sym (answers_none m x may w 0 0 e z);
         leads = h.leads ∙ finds_none m x may w h.value h.refused e z ∙ sym (leads_none m x may w 0 0 e z);
         told = stays_next m x may y w (h.leads ∙ finds_none m x may w h.value h.refused e z);
+        steps = ap (λ (y : Standing). y.steps) (h.leads ∙ finds_none m x may w h.value h.refused e z) ∙ ap (counted x.steps) (sym (steps_none m x may w 0 0 e z));
       }
 
   -- where it goes on
@@ -272,6 +295,9 @@ module _ (key : Begun) (facts : Facts) (same : key.facts ≡ facts) (x : Standin
     answers : third.1 ≡ (if f.found == cpu_bits (cpu_in w) then Won else Lost f.found)
     answers = f.answer ∙ ap (λ (s : Step). answer_of s.op f.found) f.step ∙ ap (λ (y : Standing). answer_of (step_in m true y).op f.found) has
 
+    three : (y : Standing) → y.steps ≡ counted (counted (counted x.steps 1) 1) 1 → y.steps ≡ counted x.steps (steps_of_try m w)
+    three y is = is ∙ thrice x.steps ∙ ap (counted x.steps) (sym (steps_some m x may w g.found f.found unspent filled))
+
     compared : (f.found == w) ≡ (f.found == cpu_bits (cpu_in w))
     compared = ap (λ (n : ℕ). f.found == n) (sym (bits_of w))
 
@@ -285,6 +311,7 @@ module _ (key : Begun) (facts : Facts) (same : key.facts ≡ facts) (x : Standin
           answers = sym (answers_lost m x may w g.found f.found unspent filled (compared ∙ away));
           leads = lost ∙ sym (leads_some m x may w g.found f.found unspent filled ∙ loses m x may w g.found f.found Nothing false away);
           told = stays_lost m x may u w g.found f.found lost;
+          steps = three u (ap (λ (y : Standing). y.steps) lost);
         }
 
     given : (f.found == cpu_bits (cpu_in w)) ≡ true → HasTried key may.cache x (Given (address_of (cpu_in w).frame ((cpu_in w).head - 1) (m.layout may.cache))) u
@@ -297,6 +324,7 @@ module _ (key : Begun) (facts : Facts) (same : key.facts ≡ facts) (x : Standin
           answers = sym (answers_won m x may w g.found f.found unspent filled (compared ∙ won));
           leads = won_so ∙ sym (leads_some m x may w g.found f.found unspent filled ∙ wins m x may w g.found f.found Nothing false won);
           told = is_given m x may u w g.found won_so;
+          steps = three u (ap (λ (y : Standing). y.steps) won_so);
         }
 
     pub tried_lost : (found : ℕ) → third.1 ≡ Lost found → HasTried key may.cache x (Moved found) u

@@ -20,7 +20,7 @@ use Rattle.slub_turns.proofs.Turned.{step_fits}
 use Rattle.slub_turns.proofs.Alone.{back_whole}
 use Rattle.slub_workers.specs.Begun.{Begun}
 use Rattle.slub_workers.specs.Locks.{locks_of, slots_out}
-use Rattle.slub_workers.specs.Standing.{Standing, Fork, begun_in, step_in, in_hand, after_turn, fork_after, all_guarded}
+use Rattle.slub_workers.specs.Standing.{Standing, Fork, counted, begun_in, step_in, in_hand, after_turn, fork_after, all_guarded}
 use Rattle.slub_workers.specs.Rule.{setup_in}
 use Rattle.slub_workers.specs.Sits.{Sits, MayStand, Made, HasTurned}
 use Rattle.slub_workers.proofs.StepValues.{all_guarded_is}
@@ -107,9 +107,9 @@ module _ (key : Begun) (tries : Bool) (x : Standing) (me : Me Guarded (List Fork
   -- all of the turn
   module _ (now : List Guarded) (settles_to rests : Local) (refused : Bool) (value : values_of now ≡ (settled (setup_in key) refused (ways.changed values after reply)).value)
       (settle : settles_to ≡ noted (settled (setup_in key) refused (ways.changed values after reply)).local (settled (setup_in key) refused (ways.changed values after reply)).reply)
-      (rooms : rooms_of now ≡ rooms_of values) (rest : rests ≡ rested (setup_in key) settles_to) (tried : Bool) (tried_is : tried ≡ (x.tried || tries)) where
+      (rooms : rooms_of now ≡ rooms_of values) (rest : rests ≡ rested (setup_in key) settles_to) (tried : Bool) (tried_is : tried ≡ (x.tried || tries)) (steps : ℕ) (steps_is : steps ≡ counted x.steps 1) where
     abbrev pub standing : Standing
-    standing = record { local = rests; values = now; tried = tried; answer = answer }
+    standing = record { local = rests; values = now; tried = tried; answer = answer; steps = steps }
 
     pub turned_is : standing ≡ after_turn (setup_in key) tries x made.found made.value refused
     turned_is =
@@ -118,7 +118,7 @@ module _ (key : Begun) (tries : Bool) (x : Standing) (me : Me Guarded (List Fork
         rest ∙ ap (λ (k : Local). rested m k) settle ∙ ap (λ (c : Change). rested m (noted (settled m refused c).local (settled m refused c).reply)) start_is in
         let guards : all_guarded (rooms_of hand) (settled m refused start).value ≡ now =
         all_guarded_is _ _ _ (value ∙ ap (λ (c : Change). (settled m refused c).value) start_is) (rooms ∙ ap rooms_of made.values_are) in
-        λ i. record { local = local i; values = sym guards i; tried = tried_is i; answer = made.answer_is i }
+        λ i. record { local = local i; values = sym guards i; tried = tried_is i; answer = made.answer_is i; steps = steps_is i }
 
     pub sits_again : Sits me standing
     sits_again =

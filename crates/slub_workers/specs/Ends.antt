@@ -21,17 +21,19 @@ pub record IsRoom (table : TableId) (count : ℕ) (rest : Rest) : Type 0 where
   pub locals : (rest.locals.items ≡ []) × (count ≤ vec_capacity rest.locals)
   pub done : (rest.done.items ≡ []) × (count ≤ vec_capacity rest.done)
 
--- all workers of the round have seats at this table, the last one first, and none has tried
+-- it sits at this table, and is between two calls
+abbrev pub IsIdleAt : TableId → TableId × Standing → Type 0
+IsIdleAt table w = (w.0 ≡ table) × (w.1.local.spot ≡ Between)
+
+-- all workers of the round have seats at this table, the last one first; each is between two calls,
+-- and none has tried
 pub record AreSeated (key : Begun) (table : TableId) (ws : Workers) : Type 0 where
   pub list : All (MayWorkAt key table) ws.list.items
+  pub idle : All (IsIdleAt table) ws.list.items
   pub numbers : map worker_in ws.list.items ≡ countdown (length key.locals)
   pub room : IsRoom table (length key.locals) ws.rest
 
 -- ---- the end
-
--- it sits at this table, and is between two calls
-abbrev pub IsIdleAt : TableId → TableId × Standing → Type 0
-IsIdleAt table w = (w.0 ≡ table) × (w.1.local.spot ≡ Between)
 
 abbrev pub HasNotTried : TableId × Standing → Type 0
 HasNotTried w = w.1.tried ≡ false

@@ -6,7 +6,7 @@ use Rattle.slub_workers.specs.Begun.{Begun}
 use Rattle.slub_workers.specs.Standing.{Standing}
 
 abbrev pub nobody : Standing
-nobody = record { local = idle; values = []; tried = false; answer = Done }
+nobody = record { local = idle; values = []; tried = false; answer = Done; steps = 0 }
 
 abbrev pub no_key : Begun
 no_key = record {

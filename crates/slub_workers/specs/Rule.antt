@@ -95,9 +95,15 @@ pub record Holds (key : Begun) (s : State Guarded (List Fork)) : Type 0 where
   pub slots : length s.homes ≡ 33
   pub count : length forks ≡ length key.locals
 
--- before the first turn a worker has no lock and no answer
+-- before the first turn a worker has no lock, no answer and no step
 abbrev pub standing_first : Local → Standing
-standing_first l = record { local = l; values = replicate 33 Nothing; tried = false; answer = Done }
+standing_first l = record {
+  local = l;
+  values = replicate 33 Nothing;
+  tried = false;
+  answer = Done;
+  steps = 0;
+}
 
 abbrev pub first_view : Begun → List Fork
 first_view key = map (λ l. one_way (standing_first l)) key.locals

@@ -1,5 +1,5 @@
 -- What a worker has between two turns, and what its turn makes of it.
-use Rattle.std.specs.Prelude.{ℕ, suc, Bool, true, false, ◌||◌, List, [], ◌∷◌, length, map, slice_index_or, if◌then◌else◌}
+use Rattle.std.specs.Prelude.{ℕ, suc, ◌+◌, ◌%◌, ◌^◌, Bool, true, false, ◌||◌, List, [], ◌∷◌, length, map, slice_index_or, if◌then◌else◌}
 use Rattle.std.specs.List.{range_with_len}
 use Rattle.slub_core.specs.declared.step.Answer.{Answer}
 use Rattle.slub_core.specs.declared.step.Step.{Step}
@@ -15,12 +15,18 @@ use Rattle.slub_local.specs.Values.{values_of, rooms_of}
 use Rattle.slub_workers.specs.Locks.{move_of, values_moved}
 
 -- a worker, what the locks guard that it has, by the number of the lock, whether a turn of it was
--- one in which a call that begins is a try, and what its last step was answered
+-- one in which a call that begins is a try, what its last step was answered, and how many steps it
+-- has made on the table, of which 2 ^ 64 count as none
 pub record Standing : Type 0 where
   pub local : Local
   pub values : List Guarded
   pub tried : Bool
   pub answer : Answer
+  pub steps : ℕ
+
+-- a count of steps after so many more
+abbrev pub counted : ℕ → ℕ → ℕ
+counted steps more = (steps + more) % 2 ^ 64
 
 -- where it stands when it has begun its call, as a try or not, and the step that it makes there
 abbrev pub begun_in : Setup → Bool → Standing → Local
@@ -59,6 +65,7 @@ after_turn m tries x found value refused =
       values = all_guarded (rooms_of values) c.value;
       tried = x.tried || tries;
       answer = answer_of (step_in m tries x).op found;
+      steps = counted x.steps 1;
     }
 
 -- ---- memory may be refused

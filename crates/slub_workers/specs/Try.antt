@@ -1,7 +1,8 @@
 -- A try of a worker's next call, an allocation, by the fast path alone (`slab_alloc_node`): it
 -- loads the CPU word, and where a free object may be taken, the object's free pointer, and then
 -- takes the object off by one exchange of the CPU word. It takes no lock, waits for nobody, and
--- doesn't begin again where it is lost.
+-- doesn't begin again where it is lost: it makes one step on the table where no object may be
+-- taken, and three where one may.
 use Rattle.std.specs.Prelude.{◌≡◌, ℕ, ◌-◌, Bool, true, false, not, ◌&&◌, ◌==◌, if◌then◌else◌, List, [], ◌∷◌, Some}
 use Rattle.slub_object_layout.specs.Layout.{address_of}
 use Rattle.slub_answers.specs.declared.reply.Reply.TheVariants as reply
@@ -16,7 +17,7 @@ use Rattle.slub_workers.specs.declared.fast.Fast.{Fast}
 use Rattle.slub_workers.specs.declared.fast.Fast.TheVariants.{Given, Empty, Moved, IdsSpent}
 use Rattle.slub_workers.specs.Begun.{Begun}
 use Rattle.slub_workers.specs.Rule.{setup_in}
-use Rattle.slub_workers.specs.Standing.{Standing}
+use Rattle.slub_workers.specs.Standing.{Standing, counted}
 use Rattle.slub_workers.specs.Turns.{Met, word_alone, after_turns, IsAnswered, IsUnanswered}
 
 -- the worker is between two calls, and the next one allocates an object of this cache, which isn't
@@ -42,6 +43,10 @@ abbrev pub met_by_try : Setup → ℕ → ℕ → ℕ → List Met
 met_by_try m loaded next found =
     if may_take m loaded then word_alone loaded ∷ word_alone next ∷ word_alone found ∷ []
     else word_alone loaded ∷ []
+
+-- how many steps a try makes on the table that loads this CPU word
+abbrev pub steps_of_try : Setup → ℕ → ℕ
+steps_of_try m loaded = if may_take m loaded then 3 else 1
 
 -- what a try answers that loads this CPU word, and where it goes on, finds that one in its exchange
 abbrev pub fast_answer : Setup → ℕ → ℕ → ℕ → Fast
@@ -69,3 +74,5 @@ pub record HasTried (key : Begun) (cache : ℕ) (x : Standing) (answer : Fast) (
   pub leads : after
       ≡ after_turns (setup_in key) true x (met_by_try (setup_in key) loaded next found)
   pub told : IsTold x.local answer after.local
+  -- it makes no other step on the table
+  pub steps : after.steps ≡ counted x.steps (steps_of_try (setup_in key) loaded)

@@ -54,8 +54,9 @@ impl Worker {
         false
     }
 
-    /// Tries the worker's next call, an allocation, by the fast path alone (`slab_alloc_node`): three steps at most, no
-    /// lock, no waiting, no memory. Without an object the call stays the worker's next one.
+    /// Tries the worker's next call, an allocation, by the fast path alone (`slab_alloc_node`): one step where the CPU
+    /// word has no object or a spent id, and three where it has one; no lock, no waiting, no memory. Without an object
+    /// the call stays the worker's next one.
     pub fn try_alloc_fast(&mut self, shared: &Shared) -> Fast
         requires seat { MayTurnAt (begun_at shared.now) (table_of shared.now) self.old }
         requires alloc { MayTry (setup_in (begun_at shared.now)) self.old.1.local }

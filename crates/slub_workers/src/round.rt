@@ -104,6 +104,7 @@ fn seat_one(shared: &Shared, root: &mut WorkerSeat, local: Local, values: Vec<Gu
             values,
             tried: false,
             answer: Answer::Done,
+            steps: 0,
         },
     }
 }
@@ -123,6 +124,7 @@ fn seat_all(
     requires room { (list.items ≡ []) × (length locals.old.items ≤ vec_capacity list) }
     ensures root { (root.new.table_id ≡ root.old.table_id) × (root.new.me ≡ ([], [])) }
     ensures seated { All (MayWorkAt shared.now.words.shared.key shared.now.words.shared.table_id) result.items }
+    ensures idle { All (IsIdleAt shared.now.words.shared.table_id) result.items }
     ensures numbers { map worker_in result.items ≡ countdown (length locals.old.items) }
     ensures locals { (locals.new.items ≡ []) × (vec_capacity locals.new ≡ vec_capacity locals.old) }
 {
@@ -206,6 +208,7 @@ fn take_back(shared: &Shared, root: &mut WorkerSeat, worker: Worker) -> (Local, 
         values: _,
         tried,
         answer: _,
+        steps: _,
     } = standing;
     (local, tried)
 }

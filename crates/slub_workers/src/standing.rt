@@ -15,6 +15,8 @@ pub struct Standing {
     pub(crate) tried: bool,
     /// What its last step was answered; `Answer::Done` before the first one.
     pub(crate) answer: Answer,
+    /// How many steps it has made on the table; after 2^64 of them the count begins again.
+    pub(crate) steps: u64,
 }
 
 impl Model for Standing {
@@ -22,7 +24,7 @@ impl Model for Standing {
 
     ghost Value = { Standing };
 
-    ghost view = { λ x. record { local = x.local; values = x.values.items; tried = x.tried; answer = x.answer } };
+    ghost view = { λ x. record { local = x.local; values = x.values.items; tried = x.tried; answer = x.answer; steps = x.steps } };
 }
 
 /// Where a worker stands when memory was refused in its turn, and when it wasn't. No value of it is made.

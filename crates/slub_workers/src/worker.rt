@@ -2,6 +2,7 @@
 
 ghost use Rattle.std.specs.Prelude.{◌≡◌, ◌||◌, false};
 ghost use Rattle.slub_workers.specs.Sits.{Sits, MayStand, HasTurned};
+ghost use Rattle.slub_workers.specs.Standing.{counted};
 ghost use Rattle.slub_workers.specs.Workers.{HasWorkedAt, MayTurnAt, MayWorkAt, worker_in};
 
 use crate::rule::Naming;
@@ -41,11 +42,38 @@ impl Model for Worker {
     ghost invariant = { λ w. Sits w.seat.me w.standing };
 }
 
+/// How often a worker had to wait. No clause speaks of it.
+#[derive(Clone, Copy, Debug, Default, PartialEq, Eq)]
+struct Waits {
+    /// Exchanges of words that aren't locks, which it lost.
+    lost: u64,
+    /// How often it slept on a lock.
+    parked: u64,
+}
+
+impl Waits {
+    /// Counts what comes after a step.
+    fn count(&mut self, step: Step, answer: Answer) {
+        match (step.place, answer) {
+            (Place::LockOf(_), Answer::Lost(_)) => self.parked = self.parked.saturating_add(1),
+            (_, Answer::Lost(_)) => self.lost = self.lost.saturating_add(1),
+            _ => {}
+        }
+    }
+}
+
 /// Whether a worker has tried, once it makes a turn more.
 fn tried_with(tried: bool, tries: bool) -> bool
     ensures { result ≡ (tried || tries) }
 {
     tried || tries
+}
+
+/// A count of steps, with one step more.
+fn one_more(steps: u64) -> u64
+    ensures { result ≡ counted steps 1 }
+{
+    steps.wrapping_add(1)
 }
 
 /// The turn of a worker: it begins a call where it is in none (as a try, where `tries` says so), makes a step on the
@@ -72,6 +100,7 @@ fn turn_of<N: Naming>(
     picks_fit();
     turns_keep_ready();
     standing.tried = tried_with(standing.tried, tries);
+    standing.steps = one_more(standing.steps);
     begin(&shared.setup, &mut standing.local, tries);
     let spot = standing.local.spot();
     let step = step_at(&shared.setup, &standing.values, &standing.local, spot);
@@ -105,7 +134,8 @@ impl Worker {
         turn_of::<Brand>(shared, &mut self.seat, &mut self.standing, tries)
     }
 
-    /// Makes turns until each of its calls has a reply; none is a try. It passes the gate before each of its events.
+    /// Makes turns until each of its calls has a reply; none is a try. It passes the gate before each of its events, and
+    /// tells it at the end how often it had to wait.
     pub(crate) fn work<W: Wait, G: Gate>(mut self, wait: &W, gate: &G, shared: &Shared) -> Worker
         requires { MayWorkAt shared.now.words.shared.key shared.now.words.shared.table_id self }
         ensures worked { HasWorkedAt shared.now.words.shared.table_id result }
@@ -113,12 +143,19 @@ impl Worker {
     {
         let backoff = Backoff::new();
         let mut passed = 0;
+        let mut waits = Waits::default();
         for _ in wait.forever() {
             passed = pass(gate, &self.standing.local, passed);
             if is_finished(&self.standing.local) {
+                gate.left(
+                    u32::from(self.standing.local.worker()),
+                    waits.lost,
+                    waits.parked,
+                );
                 return self;
             }
             let (step, answer) = self.turn(shared, false);
+            waits.count(step, answer);
             pause(wait, shared, &backoff, step, answer);
         }
         unreachable!()
@@ -131,10 +168,10 @@ pub(crate) fn pass<G: Gate>(gate: &G, local: &Local, passed: usize) -> usize {
     if let Spot::Between = local.spot() {
         let told = local.answers().len();
         for event in passed..told {
-            gate.pass(local.worker(), number_of(event));
+            gate.pass(u32::from(local.worker()), number_of(event));
         }
         if local.has_call() && passed <= told {
-            gate.pass(local.worker(), number_of(told));
+            gate.pass(u32::from(local.worker()), number_of(told));
         }
         return told.saturating_add(1);
     }

@@ -26,6 +26,7 @@ returns-clause-seated c =
     let ok = c.in_ok-shared.field-0.locals.ok in
     record {
       list = s.seated;
+      idle = s.idle;
       numbers = s.numbers ∙ ap countdown (same ∙ sym known);
       room = record {
         seat = (s.root.0 ∙ o.root.0, s.root.1);

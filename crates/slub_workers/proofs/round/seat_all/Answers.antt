@@ -6,6 +6,7 @@ use Rattle.slub_local.specs.declared.guarded.Guarded.{Guarded}
 use Rattle.slub_local.specs.declared.guarded.Guarded.TheVariants.{Nothing}
 use Rattle.slub_workers.specs.Standing.{Standing, Fork, one_way}
 use Rattle.slub_workers.specs.Rule.{standing_first}
+use Rattle.slub_workers.specs.Ends.{IsIdleAt}
 use Rattle.slub_workers.specs.Ranks.{view_of}
 use Rattle.slub_workers.specs.Seats.{all_but_last}
 use Rattle.slub_workers.specs.Workers.{MayWorkAt, worker_in}
@@ -41,6 +42,7 @@ loop-local-preserved c =
     ap (λ (m : Me Guarded (List Fork)). all_but_last m.0) inv.view ∙ ap (λ (ls : List Local). all_but_last (view_of ls)) popped ∙ ap all_but_last (view-snoc left l)
     ∙ front-snoc (view_of left) (one_way (standing_first l)) in
     let may : MayWorkAt key table c.seat_one.result = subst (λ (w : TableId × Standing). MayWorkAt key table w) (sym s.worker) ((inv.table, fresh.may), refl) in
+    let idle : IsIdleAt table c.seat_one.result = subst (λ (w : TableId × Standing). IsIdleAt table w) (sym s.worker) (inv.table, fresh.between) in
     record {
       table = s.root.0 ∙ inv.table;
       view = s.root.1 ∙ ap (λ (v : List Fork). (v, [])) front;
@@ -49,6 +51,7 @@ loop-local-preserved c =
       count = omega arith;
       room = omega arith;
       seated = all_pushed (MayWorkAt key table) _ _ c.seat_one.result p.items inv.seated may;
+      idle = all_pushed (IsIdleAt table) _ _ c.seat_one.result p.items inv.idle idle;
       numbers = numbers_seated _ _ (length left) _ _ c.seat_one.result a p.items (ap worker_in s.worker ∙ fresh.number) inv.numbers;
       capacity = c.pop.ensures.capacity ∙ inv.capacity;
     }

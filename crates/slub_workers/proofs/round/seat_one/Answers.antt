@@ -26,6 +26,6 @@ invariant_of-result c =
       fork = f;
       refused = false;
       view = ap (λ (m : Me Guarded (List Fork)). m.0) me ∙ ap (λ (m : Me Guarded (List Fork)). last_alone m.0) r.last.1 ∙ end-snoc r.last.0 f;
-      here = λ i. record { local = c.args.local; values = r.values i; tried = false; answer = Done };
+      here = λ i. record { local = c.args.local; values = r.values i; tried = false; answer = Done; steps = 0 };
       slots = ap (λ (m : Me Guarded (List Fork)). m.1) me ∙ sym (ap slots_out (no_locks c.args.local r.between));
     }

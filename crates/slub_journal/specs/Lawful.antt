@@ -276,17 +276,6 @@ pub record IsTotal (s : State) (dones : List Done) (total : Total) : Type 0 wher
 abbrev pub opening_of : Trace → State
 opening_of trace = opening trace.frames trace.cpus trace.objects trace.names
 
--- ---- what is built
-
--- it is no client's line
-abbrev pub IsOwn : Item → Type 0
-IsOwn (item.Client client) = ⊥
-IsOwn _ = ⊤
-
--- the trace is one that is replayed today: beside clients' lines no transaction id to start at
-abbrev pub IsBuilt : Trace → Type 0
-IsBuilt trace = (trace.tid ≡ 0) ⊎ All IsOwn trace.items
-
 -- ---- where the machine stands
 
 -- no object that was given and not freed has this number

@@ -1,11 +1,8 @@
 pub mod Asked
 pub mod Bulk
-pub mod BulkLines
 pub mod Classes
 pub mod ClientText
 pub mod Journal
-pub mod Kmalloc
 pub mod Lawful
 pub mod Lines
-pub mod Reserves
 pub mod Text

@@ -4,6 +4,7 @@ pub mod Reports
 pub mod Orders
 pub mod Rounds
 pub mod Damages
+pub mod UnderWay
 pub mod Ready
 pub mod Few
 pub mod CountSums

@@ -1,15 +1,14 @@
 //! Doing an item.
 
-ghost use Rattle.std.specs.Prelude.{◌≡◌, ℕ, ◌+◌, ◌-◌, ◌^◌, ◌<◌, ◌≤◌, [], ◌∷◌, length, All, IfOk, IfSome, OnOk, OnErr, nat_eq, vec_capacity};
-ghost use Rattle.std.specs.List.{IsDistinct, zip};
-ghost use Rattle.slub_lists.specs.Coherent.{AddsReportsOf, IsCoherent, KeepsMachine, KeepsOthers, findable_in};
-ghost use Rattle.slub_lists.specs.Alloc.{checked_of};
+ghost use Rattle.std.specs.Prelude.{◌≡◌, ◌+◌, ◌-◌, ◌^◌, ◌<◌, ◌≤◌, [], ◌∷◌, length, All, IfOk, IfSome, OnOk, OnErr, nat_eq};
+ghost use Rattle.std.specs.List.{IsDistinct};
+ghost use Rattle.slub_lists.specs.Coherent.{IsCoherent, KeepsMachine, KeepsOthers};
 ghost use Rattle.slub_trace_reader.specs.Sound.{IsSound, objects_of};
-ghost use Rattle.slub_journal.specs.Lawful.{Answers, AreLedgers, CreatesName, DoesPlainAt, DoesRound, IsPlainAt, IsReady, IsTotal, IsUnheld, RunsEvents, TakesMemoryAt, all_freed, all_given, least_order_of};
-ghost use Rattle.slub_engine.specs.Steps.{IsBelow, IsBlank, IsKnown, IsKnownAct, KeepsCaches, KeepsSizes, KeepsUnheld, Notes, NotesOwn, object_of};
+ghost use Rattle.slub_journal.specs.Lawful.{Answers, CreatesName, DoesPlainAt, DoesRound, IsPlainAt, IsReady, IsTotal, IsUnheld, TakesMemoryAt, all_freed, all_given, least_order_of};
+ghost use Rattle.slub_engine.specs.Steps.{IsBelow, IsBlank, IsKnown, IsKnownAct, KeepsSizes, KeepsUnheld, Notes, NotesOwn, object_of};
 
 use crate::counts::info_rows;
-use crate::found::{counts_told, push_found, room_to_find};
+use crate::running::Running;
 use crate::sums::{self, CacheSums};
 use slub_answers::create::{CreateRefusal, Created};
 use slub_answers::ledger::Ledger;
@@ -86,8 +85,7 @@ pub fn create(
 
 /// Does a round: each event to its end, in the order of the text.
 ///
-/// All memory is taken before the first event: each event makes at most one more slab that may be
-/// reported.
+/// All memory is taken before the first event.
 pub fn serial(alloc: Global, lists: &mut Lists, round: &Round) -> Result<RoundResult, NoMemory>
     requires coherent { IsCoherent lists.old }
     requires known { All (IsKnown lists.old round.now.workers) round.now.events }
@@ -100,18 +98,11 @@ pub fn serial(alloc: Global, lists: &mut Lists, round: &Round) -> Result<RoundRe
     ensures err { OnErr result (lists.new ≡ lists.old) }
 {
     let events = round.events.as_slice();
-    let mut replies = Vec::with_capacity(alloc, events.len())?;
-    let mut ledgers = blank_ledgers(alloc, round.workers as usize)?;
-    let told = counts_told(alloc, lists)?;
-    let mut damages = Vec::with_capacity(alloc, room_to_find(lists, events.len()))?;
-    run_events(lists, events, &mut replies, &mut ledgers);
-    push_found(lists, told.as_slice(), &mut damages);
-    lists.end_round();
-    Ok(RoundResult {
-        replies: Sequence::from_vec(replies),
-        damages: Sequence::from_vec(damages),
-        ledgers: Sequence::from_vec(ledgers),
-    })
+    let mut running = Running::begin(alloc, lists, round.workers as usize, events.len())?;
+    for event in events {
+        running.event(lists, event);
+    }
+    Ok(running.end(lists))
 }
 
 /// So many ledgers with nothing counted.
@@ -127,34 +118,8 @@ pub fn blank_ledgers(alloc: Global, workers: usize) -> Result<Vec<Ledger>, NoMem
     Ok(vec![in alloc; blank; workers]?)
 }
 
-/// Answers events in their order, and counts the replies in the ledgers of the workers.
-fn run_events(lists: &mut Lists, events: &[Event], replies: &mut Vec<Reply>, ledgers: &mut [Ledger])
-    requires coherent { IsCoherent lists.old }
-    requires known { All (IsKnown lists.old (length ledgers.old)) events.now }
-    requires unheld { All (IsUnheld lists.old) (objects_of events.now) }
-    requires distinct { IsDistinct nat_eq (objects_of events.now) }
-    requires empty { replies.old.items ≡ [] }
-    requires room { vec_capacity replies.old ≡ length events.now }
-    requires blank { All IsBlank ledgers.old }
-    ensures runs { RunsEvents lists.old events.now replies.new.items lists.new }
-    ensures coherent { IsCoherent lists.new }
-    ensures caches { KeepsCaches lists.old lists.new }
-    ensures reports { (cache : ℕ) →
-        AddsReportsOf (checked_of lists.old cache) (checked_of lists.new cache) }
-    ensures findable { findable_in lists.new ≤ findable_in lists.old + length events.now }
-    ensures unheld { KeepsUnheld lists.old (objects_of events.now) lists.new }
-    ensures ledgers { AreLedgers lists.old (zip events.now replies.new.items)
-        (length ledgers.old) ledgers.new }
-{
-    for event in events {
-        let reply = answer(lists, event);
-        note_own(ledgers, lists, event, reply);
-        replies.push_reserved(reply);
-    }
-}
-
 /// Answers an event.
-fn answer(lists: &mut Lists, event: &Event) -> Reply
+pub(crate) fn answer(lists: &mut Lists, event: &Event) -> Reply
     requires coherent { IsCoherent lists.old }
     requires cpu { event.now.cpu < lists.old.cpus }
     requires known { IsKnownAct lists.old event.now.act }
@@ -164,7 +129,7 @@ fn answer(lists: &mut Lists, event: &Event) -> Reply
     ensures others { KeepsOthers lists.old (object_of event.now.act) lists.new }
     ensures unheld { KeepsUnheld lists.old (objects_of (event.now ∷ [])) lists.new }
 {
-    let (cpu, worker) = (u32::from(event.cpu), u32::from(event.worker));
+    let (cpu, worker) = (u32::from(event.cpu), event.worker);
     match event.act {
         Act::Alloc { cache, object } => lists.alloc_named(cache, cpu, worker, object),
         Act::Free { object } => lists.free(cpu, worker, object),

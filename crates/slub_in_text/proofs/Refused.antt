@@ -121,7 +121,7 @@ begun-done m fast l s = refl
 
 -- ---- turns
 
-turn-same : (m : Setup) (s : System) (w : ℕ) (refused : Bool) → HasHad (local_at (after_step m refused s w (begun m false (local_at s w))) w) → after_step m refused s w (begun m false (local_at s w)) ≡ turn m s (own_pick w)
+pub turn-same : (m : Setup) (s : System) (w : ℕ) (refused : Bool) → HasHad (local_at (after_step m refused s w (begun m false (local_at s w))) w) → after_step m refused s w (begun m false (local_at s w)) ≡ turn m s (own_pick w)
 turn-same m s w false has = refl
 turn-same m s w true has = elim (cases_lt w (length s.locals)) [
   | inl below ↦
@@ -157,7 +157,7 @@ turn-back m s pick has v = elim (cases_eq v pick.worker) [
   | inr other ↦ subst HasHad (get_or-set_other s.locals pick.worker v _ idle other) (has v)
 ]
 
-run-back : (m : Setup) (s : System) (picks : List Pick) → AllHad (run m s picks) → AllHad s
+pub run-back : (m : Setup) (s : System) (picks : List Pick) → AllHad (run m s picks) → AllHad s
 run-back m s [] has = has
 run-back m s (pick ∷ picks) has = turn-back m s pick (run-back m (turn m s pick) picks has)
 

@@ -1,38 +1,18 @@
 -- Machines that are alike, of one size, with the same names and caches, are the same but for words of frames.
-use Rattle.std.proofs.Common.{◌≡◌, ℕ, ◌+◌, ◌-◌, ◌*◌, ◌/◌, ◌%◌, ◌<◌, ◌≤◌, List, [], ◌∷◌, length, get_or, map, Option, None, refl, sym, ap, ◌∙◌, subst, arith, inl, inr}
-use Rattle.std.specs.Prelude.{nat_lt, sum_by}
+use Rattle.std.proofs.Common.{◌≡◌, ℕ, ◌+◌, ◌*◌, ◌/◌, ◌%◌, ◌<◌, ◌≤◌, List, [], ◌∷◌, length, get_or, map, Option, None, refl, sym, ap, ◌∙◌, subst, arith}
+use Rattle.std.specs.Prelude.{sum_by}
 use Rattle.std.specs.Option.{option_map}
-use Rattle.std.proofs.lemmas.Bool.{cases_lt, cond-true, lt-ltb}
 use Rattle.std.proofs.lemmas.List.{ext_get_or}
 use Rattle.slub_lists.specs.declared.lists.Held.{Held}
 use Rattle.slub_lists.specs.State.{State}
-use Rattle.slub_lists.specs.Alloc.{lists_of, no_lists}
+use Rattle.slub_lists.specs.Alloc.{no_lists}
 use Rattle.slub_lists.specs.Coherent.{IsAccounted, IsShaped, all_on_board, held_of, laid_down}
 use Rattle.slub_core.specs.Setup.{Setup}
 use Rattle.slub_opening.specs.Opening.{Beside, cpu_at, setup_of}
 use Rattle.slub_opening.specs.Closing.{AreAlike, HasLengths}
-use Rattle.slub_opening.proofs.Cpus.{number-block}
+use Rattle.slub_rounds.proofs.Lists.{cache-below, lists-at}
 
--- ---- numbers of caches and CPUs
-
-times-more : (a d n : ℕ) → a ≤ d → a * n ≤ d * n
-times-more a d n le = let t : d * n ≡ (a + (d - a)) * n = ap (λ (z : ℕ). z * n) (let q : d ≡ a + (d - a) = omega (arith, le) in q) in omega (arith, t)
-
-cache-below : (p cpus : ℕ) → p < 32 * cpus → p / cpus < 32
-cache-below p cpus below = elim (cases_lt (p / cpus) 32) [
-  | inl l ↦ l
-  | inr g ↦ absurd (let m = times-more 32 (p / cpus) cpus g in let e : p / cpus * cpus + p % cpus ≡ p = omega arith in omega arith)
-]
-
--- what stands at a place is what a CPU has of a cache
-lists-at : (s : State) (p : ℕ) → 1 ≤ s.cpus → s.cpus ≤ 16 → cpu_at s (p / s.cpus * 16 + p % s.cpus) ≡ get_or s.cpu_lists p no_lists
-lists-at s p some few =
-    let n = p / s.cpus * 16 + p % s.cpus in
-    let under : p % s.cpus < s.cpus = omega (arith, some) in
-    let q = number-block (p / s.cpus) (p % s.cpus) (omega (arith, under, few)) in
-    let back : n / 16 * s.cpus + n % 16 ≡ p = ap (λ (k : ℕ). k * s.cpus + n % 16) q.0 ∙ ap (λ (c : ℕ). p / s.cpus * s.cpus + c) q.1 ∙ (let e : p / s.cpus * s.cpus + p % s.cpus ≡ p = omega arith in e) in
-    cond-true (nat_lt (n % 16) s.cpus) (lists_of s (n / 16) (n % 16)) no_lists (lt-ltb (n % 16) s.cpus (omega (arith, q.1, under)))
-    ∙ ap (λ (z : ℕ). get_or s.cpu_lists z no_lists) back
+-- ---- what was freed
 
 abbrev forgotten : Option Held → Option Held
 forgotten freed = None

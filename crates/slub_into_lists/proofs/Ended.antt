@@ -36,7 +36,7 @@ use Rattle.slub_into_words.specs.Values.{IsKeptOf}
 use Rattle.slub_into_lists.specs.Joins.{Joins}
 use Rattle.slub_into_lists.specs.Reads.{lists_at, own_at, on_board}
 use Rattle.slub_into_lists.specs.Closing.{IsEnded, IsClosed, HasSizes, IsWritten, MayTakeBack, IsPutTogether, AreKnown, system_of, links_at, memory_at}
-use Rattle.slub_into_lists.proofs.Made.{IsRead, closes}
+use Rattle.slub_into_lists.proofs.Made.{IsRead, closes, keeps}
 
 -- ---- what is behind a lock, and what was kept of its node list
 
@@ -205,4 +205,5 @@ module _ (facts : Facts) (table : WordTable) (values : List Guarded) (rest : Res
     is-closed =
         let z = closes facts s t b (beside_of beside b.means) world system ended.setup ended.may_open ended.coherent ended.may_close read-so in
         let r = closed-are_coherent s t b (beside_of beside b.means) world system ended.may_open ended.coherent z in
-        record { closes = z; coherent = r.0; again = r.1 }
+        let k = keeps facts s t b (beside_of beside b.means) world system ended.setup ended.may_open ended.coherent ended.may_close read-so in
+        record { closes = z; words = k; coherent = r.0; again = r.1 }

@@ -31,6 +31,7 @@ use Rattle.slub_opening.proofs.Counts.{locals_of}
 use Rattle.slub_opening.proofs.Cpus.{number-block}
 use Rattle.slub_opening.proofs.Made.{IsCut, read, made, made_beside, checked-at, stays, made-rests, made-lengths, made-live}
 use Rattle.slub_opening.proofs.Once.{named-once}
+use Rattle.slub_into_lists.specs.Closing.{KeepsWords}
 use Rattle.slub_into_lists.specs.Reads.{slab_at, slab_or, slab_in_values, own_at, chain_in, next_in, string_in, link_in, lists_at, cpu_word_in, front_in, on_board}
 use Rattle.slub_into_lists.proofs.Walked.{walked-chain, walked-string}
 use Rattle.slub_into_lists.proofs.Bounds.{own-small, own-few, cpu-small, cpu-few, list-real, list-few}
@@ -305,6 +306,10 @@ module _ (facts : Facts) (s t : State) (b d : Beside) (opening : World) (system 
       all-zero zero f = refl
       all-zero (suc n) zero = refl
       all-zero (suc n) (suc f) = all-zero n f
+
+  -- every word was read, and nothing is noted as freed
+  pub keeps : KeepsWords s b system t
+  keeps = record { memory = memories; gone = r.gone ∙ ap (λ n. replicate n None) (sym r.object_count) }
 
   -- what was read is what the machine closes into
   pub closes : Closes s b system t d

@@ -10,7 +10,7 @@ use Rattle.slub_core.specs.Accounted.{AreDistinct}
 use Rattle.slub_core.specs.Law.{IsCoherentSystem}
 use Rattle.slub_core.specs.Local.{Local}
 use Rattle.slub_core.specs.Run.{System}
-use Rattle.slub_core.specs.World.{World, LockValue, frames_in, pool_in}
+use Rattle.slub_core.specs.World.{World, LockValue, frames_in, pool_in, world_of}
 use Rattle.slub_local.specs.declared.guarded.Guarded.{Guarded}
 use Rattle.slub_local.specs.declared.guarded.Guarded.TheVariants.{Nothing}
 use Rattle.slub_local.specs.Facts.{Facts}
@@ -49,11 +49,19 @@ pub record IsEnded (facts : Facts) (table : WordTable) (values : List Guarded) (
 
 -- ---- what it closes into
 
+-- each word of a frame is as it stands in the machine, whoever has it, and nothing is noted as
+-- freed
+pub record KeepsWords (s : State) (b : opening.Beside) (system : System) (t : State) : Type 0 where
+  pub memory : (p : ℕ) → slice_index_or t.memory p 0
+      ≡ (world_of (setup_of s b) system.value system.words).memory p
+  pub gone : t.gone ≡ replicate (length t.board) None
+
 -- the lists are those into which the machine closes; they are coherent, and with all objects on the
 -- board they may be opened again
 pub record IsClosed (s : State) (b : opening.Beside) (system : System) (t : State)
     (d : opening.Beside) : Type 0 where
   pub closes : Closes s b system t d
+  pub words : KeepsWords s b system t
   pub coherent : IsCoherent t
   pub again : MayOpen (all_on_board t) d
 

@@ -76,7 +76,7 @@ fn put_known(local: &Local, board: &mut [Option<Held>])
 }
 
 /// Puts an object that a worker holds beside what stands there.
-fn put_held(worker: u32, known: Known, board: &mut [Option<Held>])
+fn put_held(worker: u8, known: Known, board: &mut [Option<Held>])
     ensures length { length board.new ≡ length board.old }
     ensures put { (object : ℕ) → object < length board.old → slice_index_or board.new object None ≡ option_or (slice_index_or board.old object None) (held_in worker (known ∷ []) object) }
 {

@@ -112,7 +112,7 @@ next-is (e ∷ es) (suc n) w answers others less =
           (omega (arith, update_other answers e.worker (x - 1) w (λ is. away (sym is)), count-other e (take n es) w away, less)))
     ]
 
-none-busy : (n : ℕ) (ls : List Local) → ((v : ℕ) → (get_or ls v idle).spot ≡ Between) → busy_from n ls ≡ None
+pub none-busy : (n : ℕ) (ls : List Local) → ((v : ℕ) → (get_or ls v idle).spot ≡ Between) → busy_from n ls ≡ None
 none-busy n [] all = refl
 none-busy n (l ∷ ls) all =
     let first : is_between l.spot ≡ true = ap is_between (all 0) in

@@ -5,8 +5,10 @@ pub mod Telling
 pub mod Weights
 pub mod Machines
 pub mod Following
+pub mod Lists
 pub mod One
 pub mod Threads
 pub mod Lawful
 pub mod Doing
+pub mod OneInOrder
 pub mod Coming

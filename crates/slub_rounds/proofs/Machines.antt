@@ -170,6 +170,7 @@ is-done Ending s ids b trace round m n rest picks done may begun ends closed = r
     lists = closed.lists;
     left = closed.left;
     closes = closed.closes;
+    words = closed.words;
     after_is = closed.after_is;
     ids_are = closed.ids_are;
     replies = closed.told.replies;

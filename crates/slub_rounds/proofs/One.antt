@@ -1,35 +1,38 @@
 -- A seed has one round.
-use Rattle.std.proofs.Common.{◌≡◌, ◌≢◌, ℕ, ◌<◌, List, [], ◌∷◌, length, drop, map, Option, None, refl, sym, ap, ◌∙◌, subst, arith, inl, inr}
+use Rattle.std.proofs.Common.{◌≡◌, ◌≢◌, ℕ, ◌<◌, ◌≤◌, List, [], ◌∷◌, length, drop, get_or, map, Option, None, refl, sym, ap, ◌∙◌, subst, arith, inl, inr}
 use Rattle.std.specs.List.{flat_map, zip}
-use Rattle.std.specs.Option.{option_map, option_map_or}
+use Rattle.std.specs.Option.{option_map_or}
 use Rattle.std.proofs.lemmas.Bool.{cases_eq, cases_lt, eq-eqb, ne_eqb}
 use Rattle.std.proofs.lemmas.List.{ext_get_or}
-use Rattle.std.proofs.Math.ListN.{get_or-map}
 use Rattle.slub_events.specs.declared.event.Event.{Event}
 use Rattle.slub_events.specs.declared.event.Round.{Round}
 use Rattle.slub_cache_create.specs.Table.{Table, cache_of as live_cache}
 use Rattle.slub_red_zone.specs.State.{CheckedState}
+use Rattle.slub_answers.specs.declared.ledger.Ledger.{Ledger}
 use Rattle.slub_answers.specs.declared.reply.Reply.{Reply}
 use Rattle.slub_lists.specs.State.{State}
 use Rattle.slub_lists.specs.Alloc.{checked_of}
-use Rattle.slub_lists.specs.Coherent.{all_on_board, held_under, laid_down}
+use Rattle.slub_lists.specs.Coherent.{all_on_board}
 use Rattle.slub_core.specs.Law.{replies_of}
 use Rattle.slub_core.specs.Run.{System, Pick}
+use Rattle.slub_core.specs.Setup.{Setup}
 use Rattle.slub_core.specs.World.{world_of}
 use Rattle.slub_schedule.specs.Schedule.{AreRefusedAlike}
 use Rattle.slub_schedule.specs.Rounds.{Ends, IsSpent}
 use Rattle.slub_schedule.proofs.Picks.{rounds_unique}
 use Rattle.slub_opening.specs.Opening.{Beside, setup_of}
 use Rattle.slub_opening.specs.Table.{RestsIn}
-use Rattle.slub_opening.specs.Closing.{AreAlike}
-use Rattle.slub_opening.proofs.Telling.{words-tell}
+use Rattle.slub_opening.specs.Closing.{AreAlike, Closes}
 use Rattle.slub_bounds.proofs.Turns.{get_or-beyond}
+use Rattle.slub_into_lists.specs.Closing.{KeepsWords}
 use Rattle.slub_into_words.proofs.Firsts.{one-step}
-use Rattle.slub_journal.specs.Lawful.{cache_numbers, found_in, reports_of, title_of}
+use Rattle.slub_journal.specs.Lawful.{AreLedgers, IsLedger, cache_numbers, found_in, reports_of, title_of}
+use Rattle.slub_journal.specs.declared.journal.RoundResult.{RoundResult}
 use Rattle.slub_turns.specs.Means.{the_means}
 use Rattle.slub_round_causes.specs.Ran.{replies_by, told_to}
-use Rattle.slub_rounds.specs.Rounds.{StandsBeside, system_begun}
-use Rattle.slub_rounds.specs.Laws.{RoundsBySeedAreOne}
+use Rattle.slub_rounds.specs.Rounds.{DoesRoundBySteps, StandsBeside, system_begun}
+use Rattle.slub_rounds.specs.Laws.{AreOneRound, CountAlike, RoundsBySeedAreOne}
+use Rattle.slub_rounds.proofs.Lists.{same-close}
 
 -- ---- what stands beside the lists
 
@@ -42,19 +45,6 @@ same-beside s ids b d one other means also =
       step = step i;
       means = (means ∙ sym also) i;
     }
-
--- ---- the last turn
-
-module _ (s : State) (seed : ℕ) (round : Round) (b d : Beside) (ps qs : List Pick) (x y : System) (same : b ≡ d) (alike : AreRefusedAlike ps qs)
-    (ends : Ends (setup_of s b) seed (system_begun s b round) ps x) where
-  moved : Ends (setup_of s d) seed (system_begun s d round) ps x
-  moved = subst (λ (b : Beside). Ends (setup_of s b) seed (system_begun s b round) ps x) same ends
-
-  same-last : Ends (setup_of s d) seed (system_begun s d round) qs y → x ≡ y
-  same-last other = ((rounds_unique (setup_of s d) seed (system_begun s d round) ps qs x y alike).0 moved other).1
-
-  not-spent : IsSpent (setup_of s d) seed (system_begun s d round) qs y → ⊥
-  not-spent spent = (rounds_unique (setup_of s d) seed (system_begun s d round) ps qs x y alike).2 moved spent
 
 -- ---- replies
 
@@ -69,7 +59,7 @@ behind (x ∷ xs) = xs
 own-reply : (e : Event) (x : Reply) (answers : List (Event × Reply)) → replies_by e.worker ((e, x) ∷ answers) ≡ x ∷ replies_by e.worker answers
 own-reply e x answers = rw (eq-eqb e.worker e.worker refl) refl
 
-other-reply : (worker : ℕ) (e : Event) (x : Reply) (answers : List (Event × Reply)) → e.worker ≢ worker → replies_by worker ((e, x) ∷ answers) ≡ replies_by worker answers
+pub other-reply : (worker : ℕ) (e : Event) (x : Reply) (answers : List (Event × Reply)) → e.worker ≢ worker → replies_by worker ((e, x) ∷ answers) ≡ replies_by worker answers
 other-reply worker e x answers other = rw (ne_eqb e.worker worker other) refl
 
 -- the replies to each worker in their order are all replies in theirs
@@ -89,21 +79,6 @@ same-replies (e ∷ es) (x ∷ xs) (y ∷ ys) long also same =
     λ i. first i ∷ rest i
 
 -- ---- the lists
-
-on-board : (s : State) (o : ℕ) → held_under (all_on_board s) o ≡ option_map laid_down (held_under s o)
-on-board s o = get_or-map (option_map laid_down) s.board o None
-
--- machines that are alike are so with all objects on the board
-pub alike-on-board : (t u : State) → AreAlike t u → AreAlike (all_on_board t) (all_on_board u)
-alike-on-board t u alike = record {
-  pool = alike.pool;
-  slab = alike.slab;
-  own = alike.own;
-  cpu = alike.cpu;
-  node = alike.node;
-  checked = alike.checked;
-  board = λ o. on-board t o ∙ ap (option_map laid_down) (alike.board o) ∙ sym (on-board u o);
-}
 
 module _ (s t u : State) (table : t.table ≡ u.table) (alike : AreAlike t u) (long : length t.checked ≡ 32) (also : length u.checked ≡ 32) where
   pub same-checked : (cache : ℕ) → checked_of t cache ≡ checked_of u cache
@@ -130,27 +105,79 @@ same-ids t u d e one other same stays rests also long count = ext_get_or 0 d.tid
     let inside : n < 512 = omega (arith, below, long) in
     sym (rests.rests.cpu n inside).tid ∙ (λ i. ((world_of (stays i) (same i).value (same i).words).cpu n).tid) ∙ (also.rests.cpu n inside).tid)
 
+-- ---- ledgers
+
+same-counts : (s : State) (answers : List (Event × Reply)) (worker : ℕ) (one other : Ledger) → IsLedger s answers worker one → IsLedger s answers worker other → CountAlike one other
+same-counts s answers worker one other x y = record {
+  given = x.given ∙ sym y.given;
+  freed = x.freed ∙ sym y.freed;
+  no_frames = λ order below. x.no_frames order below ∙ sym (y.no_frames order below);
+}
+
 -- ---- the round
+
+-- rounds whose last machine is the same are one
+module _ (Ending : Setup → System → List Pick → System → Type 0) (s : State) (ids : List ℕ) (round : Round) (one other : RoundResult) (t u : State) (left kept : List ℕ)
+    (does : DoesRoundBySteps Ending s ids round one t left) (also : DoesRoundBySteps Ending s ids round other u kept) where
+  pub beside-one : does.beside ≡ also.beside
+  beside-one = same-beside s ids does.beside also.beside does.stands also.stands does.means also.means
+
+  module _ (last : does.last ≡ also.last) where
+    closes : Closes s also.beside also.last does.lists does.left
+    closes = subst (λ (b : Beside). Closes s b also.last does.lists does.left) beside-one (subst (λ (x : System). Closes s does.beside x does.lists does.left) last does.closes)
+
+    words : KeepsWords s also.beside also.last does.lists
+    words = subst (λ (b : Beside). KeepsWords s b also.last does.lists) beside-one (subst (λ (x : System). KeepsWords s does.beside x does.lists) last does.words)
+
+    few : s.cpus ≤ 16
+    few = omega (arith, also.stands.fits.step.0, also.stands.fits.step.1)
+
+    lists : does.lists ≡ also.lists
+    lists = same-close s does.lists also.lists also.beside does.left also.left also.last few closes also.closes words also.words
+
+    replies : one.replies ≡ other.replies
+    replies = same-replies round.events one.replies other.replies does.replies.each also.replies.each
+        (λ worker. does.replies.own worker ∙ ap (λ (x : System). told_to worker (replies_of x)) last ∙ sym (also.replies.own worker))
+
+    ledgers : AreLedgers s (zip round.events other.replies) round.workers one.ledgers
+    ledgers = subst (λ (xs : List Reply). AreLedgers s (zip round.events xs) round.workers one.ledgers) replies does.ledgers
+
+    pub one-round : AreOneRound one other t u left kept
+    one-round = record {
+      replies = replies;
+      damages = does.damages ∙ ap (found_in s) lists ∙ sym also.damages;
+      workers = ledgers.each ∙ sym also.ledgers.each;
+      ledgers = λ worker x y below. same-counts s (zip round.events other.replies) worker (get_or one.ledgers worker x) (get_or other.ledgers worker y)
+          (ledgers.counts worker x (omega (arith, below, ledgers.each)))
+          (also.ledgers.counts worker y (omega (arith, below, ledgers.each)));
+      ids = does.ids_are
+          ∙ same-ids does.lists also.lists does.left also.left also.last also.last refl (closes.stays ∙ sym also.closes.stays) closes.rests also.closes.rests closes.tids also.closes.tids
+          ∙ sym also.ids_are;
+      left = does.after_is ∙ ap all_on_board lists ∙ sym also.after_is;
+    }
+
+-- ---- by a seed
+
+module _ (s : State) (seed : ℕ) (round : Round) (b d : Beside) (ps qs : List Pick) (x y : System) (same : b ≡ d) (alike : AreRefusedAlike ps qs)
+    (ends : Ends (setup_of s b) seed (system_begun s b round) ps x) where
+  moved : Ends (setup_of s d) seed (system_begun s d round) ps x
+  moved = subst (λ (b : Beside). Ends (setup_of s b) seed (system_begun s b round) ps x) same ends
+
+  pub same-last : Ends (setup_of s d) seed (system_begun s d round) qs y → x ≡ y
+  same-last other = ((rounds_unique (setup_of s d) seed (system_begun s d round) ps qs x y alike).0 moved other).1
+
+  not-spent : IsSpent (setup_of s d) seed (system_begun s d round) qs y → ⊥
+  not-spent spent = (rounds_unique (setup_of s d) seed (system_begun s d round) ps qs x y alike).2 moved spent
+
+abbrev EndsBy : ℕ → Setup → System → List Pick → System → Type 0
+EndsBy seed m first picks last = Ends m seed first picks last
 
 pub are-one : RoundsBySeedAreOne
 are-one s ids seed round one other t u left kept does = (
   λ also refused.
-      let beside = same-beside s ids does.beside also.beside does.stands also.stands does.means also.means in
-      let last = same-last s seed round does.beside also.beside does.picks also.picks does.last also.last beside refused does.ends also.ends in
-      let alike = words-tell does.lists also.lists does.left also.left does.last (does.closes.stays ∙ ap (setup_of s) beside ∙ sym also.closes.stays) does.closes.rests
-      (subst (RestsIn also.lists also.left) (sym last) also.closes.rests) in
-      record {
-        replies = same-replies round.events one.replies other.replies does.replies.each also.replies.each
-            (λ worker. does.replies.own worker ∙ ap (λ (x : System). told_to worker (replies_of x)) last ∙ sym (also.replies.own worker));
-        damages = does.damages
-            ∙ same-found s does.lists also.lists (does.closes.table ∙ sym also.closes.table) alike does.closes.lengths.checked also.closes.lengths.checked
-            ∙ sym also.damages;
-        ids = does.ids_are
-            ∙ same-ids does.lists also.lists does.left also.left does.last also.last last (does.closes.stays ∙ ap (setup_of s) beside ∙ sym also.closes.stays) does.closes.rests also.closes.rests does.closes.tids also.closes.tids
-            ∙ sym also.ids_are;
-        left = subst (λ (x : State). AreAlike x u) (sym does.after_is)
-            (subst (AreAlike (all_on_board does.lists)) (sym also.after_is) (alike-on-board does.lists also.lists alike));
-      },
+      let beside = beside-one (EndsBy seed) s ids round one other t u left kept does also in
+      one-round (EndsBy seed) s ids round one other t u left kept does also
+      (same-last s seed round does.beside also.beside does.picks also.picks does.last also.last beside refused does.ends also.ends),
   λ spends alike.
       let beside = same-beside s ids does.beside spends.beside does.stands spends.stands does.means spends.means in
       not-spent s seed round does.beside spends.beside does.picks spends.picks does.last spends.last beside alike does.ends spends.spent,

@@ -14,6 +14,7 @@ use Rattle.slub_schedule.specs.Rounds.{Ends}
 use Rattle.slub_opening.specs.Opening.{IsLaidDown, setup_of}
 use Rattle.slub_opening.specs.Opening as opening
 use Rattle.slub_opening.specs.Closing.{Closes}
+use Rattle.slub_into_lists.specs.Closing.{KeepsWords}
 use Rattle.slub_calls.specs.Calls.{workers_of}
 use Rattle.slub_calls.specs.Laws.{MayDo}
 use Rattle.slub_into_words.specs.declared.beside.Beside.{Beside}
@@ -76,6 +77,7 @@ pub record HasClosed (s : State) (b : opening.Beside) (round : Round) (last : Sy
   pub lists : State
   pub left : opening.Beside
   pub closes : Closes s b last lists left
+  pub words : KeepsWords s b last lists
   pub after_is : done.lists ≡ all_on_board lists
   pub ids_are : done.ids ≡ left.tids
   pub coherent : IsCoherent done.lists

@@ -15,6 +15,7 @@ use Rattle.slub_schedule.specs.Rounds.{Ends, IsFinishedSystem, IsSpent}
 use Rattle.slub_opening.specs.Opening.{Beside, IsBeside, setup_of}
 use Rattle.slub_opening.specs.Table.{system_of}
 use Rattle.slub_opening.specs.Closing.{Closes}
+use Rattle.slub_into_lists.specs.Closing.{KeepsWords}
 use Rattle.slub_calls.specs.Calls.{workers_of}
 use Rattle.slub_into_words.specs.Beside.{first_links}
 use Rattle.slub_into_words.specs.Ids.{IsStepOf}
@@ -70,6 +71,7 @@ pub record DoesRoundBySteps (Ending : Setup → System → List Pick → System 
   pub lists : State
   pub left : Beside
   pub closes : Closes s beside last lists left
+  pub words : KeepsWords s beside last lists
   pub after_is : after ≡ all_on_board lists
   pub ids_are : ids_after ≡ left.tids
   pub replies : AreReplies round.events (replies_of last) result.replies

@@ -1,6 +1,6 @@
 //! What follows from the definitions. None of these does anything.
 
-ghost use Rattle.slub_rounds.specs.Laws.{RoundsBySeedAreLawful, RoundsBySeedAreOne, RoundsByThreadsAreLawful, RoundsInOrderAreLawful, RoundsLeadOn};
+ghost use Rattle.slub_rounds.specs.Laws.{RoundsBySeedAreLawful, RoundsBySeedAreOne, RoundsByThreadsAreLawful, RoundsInOrderAreLawful, RoundsInOrderAreOne, RoundsLeadOn};
 
 use slub_round_causes::laws::{drawn_rounds_are_lawful, rounds_are_lawful};
 
@@ -26,11 +26,16 @@ pub fn rounds_in_order_are_lawful()
     rounds_are_lawful();
 }
 
-/// Want of memory aside, the replies and damages of a round by a seed and the transaction ids that it leaves are a
-/// function of the machine, the ids before, the round and the seed, and so is whether it ends or its turns are spent; the
-/// machines that it can leave are alike.
+/// Want of memory aside, the replies and damages of a round by a seed, what its ledgers count, the transaction ids and
+/// the machine that it leaves are a function of the machine, the ids before, the round and the seed, and so is whether
+/// it ends or its turns are spent.
 pub fn rounds_by_seed_are_one()
     ensures { RoundsBySeedAreOne }
+{}
+
+/// And of a round by steps in the order of the text they are one of the machine, the ids before and the round.
+pub fn rounds_in_order_are_one()
+    ensures { RoundsInOrderAreOne }
 {}
 
 /// A lawful round leaves a machine that can do the next one of its trace: with the same sizes and names, none of the

@@ -17,8 +17,8 @@
 //! are spent (`SpendsTurns`). `in_order`: the same of a round each turn of which is that of the worker that is in a call,
 //! or else of the worker of the first event without a reply (`DoesRoundInOrder`, `SpendsTurnsInOrder`). `threaded`: the
 //! same of a round by some picks, in whatever order the threads made their steps (`DoesRoundByThreads`). `laws`: rounds of
-//! all three kinds are lawful, and there is one round of each machine, round and seed, want of memory aside; on the
-//! machine that a lawful round leaves the next one of its trace can be done.
+//! all three kinds are lawful, and there is one round of each machine, round and seed, and one in the order of the
+//! text, want of memory aside; on the machine that a lawful round leaves the next one of its trace can be done.
 #![tactic(auto)]
 
 mod answers;

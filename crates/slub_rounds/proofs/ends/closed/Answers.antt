@@ -61,6 +61,7 @@ returns c = λ s ids b trace ended.
       lists = c.close-lists.result.0;
       left = beside_of c.close-lists.result.1 the_means;
       closes = closes.closes;
+      words = closes.words;
       after_is = c.end_round.ensures.on_board;
       ids_are = refl;
       coherent = c.end_round.ensures.coherent;

@@ -32,3 +32,6 @@ returns c =
       turns = c.turns_for-turns.ensures ∙ ap (λ n. turns_for n c.args.round.now.workers) (c.weight_of.ensures.weight ∙ ap (λ (es : List Event). weight_of es) events);
       answers = subst (λ (es : List Event). IsRoomFor s (length es) c.args.round.now.workers c.in_ok-answers.answers) events c.in_ok-answers.ensures;
     }
+
+pub workers-requires-clause-few : goal.workers-requires-clause-few
+workers-requires-clause-few c = let few = (c.requires.may_do).1.sound.workers.1 in omega (arith, few)

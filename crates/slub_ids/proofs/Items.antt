@@ -42,7 +42,7 @@ use Rattle.slub_ids.proofs.Fitting.{ids-begun, ids-detached, ids-kept}
 use Rattle.slub_ids.proofs.Leaving.{Leaves, current_in, leaves-both, leaves-tabled, live-changed, live-without}
 
 -- nothing changed
-unchanged : (s after : State) (ids : List ℕ) → after ≡ s → AreIds s ids → AreIds after ids
+pub unchanged : (s after : State) (ids : List ℕ) → after ≡ s → AreIds s ids → AreIds after ids
 unchanged s after ids is are = subst (λ (t : State). AreIds t ids) (sym is) are
 
 -- another table, of no cache more
@@ -53,7 +53,7 @@ tabled s table now after e is fewer =
 -- ---- creating
 
 module _ (s : State) (trace : Trace) (name : List ℕ) (spec : Spec) (after : State) (ids : List ℕ) where
-  new-keeps : (cache : ℕ) → IsSound trace → s.cpus ≡ trace.cpus → IsCoherent s → AreIds s ids → CreatesCache s name spec (made.New cache) after → AreIds after (with_first trace.tid s.cpus cache ids)
+  pub new-keeps : (cache : ℕ) → IsSound trace → s.cpus ≡ trace.cpus → IsCoherent s → AreIds s ids → CreatesCache s name spec (made.New cache) after → AreIds after (with_first trace.tid s.cpus cache ids)
   new-keeps cache sound cpus coherent are creates =
       match-some (live_cache creates.0 cache) _ (AreIds after (with_first trace.tid s.cpus cache ids)) creates.2
       (λ (live : Cache) is.
@@ -68,7 +68,7 @@ module _ (s : State) (trace : Trace) (name : List ℕ) (spec : Spec) (after : St
           at_written (λ (x : Option Cache). IsSome x → IsSome (cache_of s other)) s.table.caches cache other (Some (record { title = name; flags = spec.flags; layout = creates.1.2; names = 1 })) None
           (λ e some. absurd (ne e)) (λ some. some)
 
-  merged-keeps : (cache : ℕ) → AreIds s ids → CreatesCache s name spec (made.Merged cache) after → AreIds after ids
+  pub merged-keeps : (cache : ℕ) → AreIds s ids → CreatesCache s name spec (made.Merged cache) after → AreIds after ids
   merged-keeps cache are creates =
       ids-kept s after ids (tabled s (with_alias s.table name spec cache) creates.0 after creates.1.1 creates.2 (live-changed s cache (merged_with spec))) are
 

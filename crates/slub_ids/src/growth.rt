@@ -52,12 +52,21 @@ pub fn settle(ids: &mut Ids, trace: &Trace, number: usize, due: &Due, done: &Don
 {
     let item = &trace.items.as_slice()[number];
     if let Some(cache) = made_by(item, done) {
-        begin(&mut ids.by_word, trace.tid, trace.cpus, cache);
+        begin_cache(ids, trace, cache);
     } else if came_about(item, done) {
         if let Some(cache) = due.cache {
             detach(&mut ids.by_word, step_of(trace.cpus), cache, &due.current);
         }
     }
+}
+
+/// The words of a cache that is made begin at the first ids of the trace (`init_tid`).
+pub fn begin_cache(ids: &mut Ids, trace: &Trace, cache: u8)
+    requires sound { IsSound trace.now }
+    requires words { length ids.old ≡ 512 }
+    ensures { ids.new ≡ with_first trace.now.tid trace.now.cpus cache ids.old }
+{
+    begin(&mut ids.by_word, trace.tid, trace.cpus, cache);
 }
 
 /// The cache that an item detaches where it comes about: a shrink, and a tune of what the partial lists of CPUs hold
@@ -180,7 +189,7 @@ fn is_tuned(done: &Done) -> bool
     }
 }
 
-/// The words of a cache that is made begin at the first ids of their CPUs.
+/// They begin at the first ids of their CPUs.
 fn begin(words: &mut [u32], first: u32, cpus: u32, cache: u8)
     requires words { length words.old ≡ 512 }
     requires few { first + cpus ≤ 2 ^ 32 }
@@ -228,7 +237,7 @@ fn stepped(step: u32, cache: u8, current: &[bool; 16], number: usize, id: u32) -
 }
 
 /// What each change of a CPU word adds to its id (`TID_STEP`).
-fn step_of(cpus: u32) -> u32
+pub fn step_of(cpus: u32) -> u32
     requires { (1 ≤ cpus) × (cpus ≤ 16) }
     ensures { result ≡ step_of cpus }
 {

@@ -7,8 +7,8 @@ use Rattle.slub_ids.specs.Growth.{with_first}
 use Rattle.slub_ids.proofs.Settling.{item-at, room-of, settled-begun, settled-detached, settled-same}
 use Rattle.slub_ids.proofs.growth.settle.Goals as goal
 
-pub begin-requires-clause-words : goal.begin-requires-clause-words
-begin-requires-clause-words c = ap length (c.deref_mut.ensures.value ∙ c.ids.view_is) ∙ c.requires.fits.3.count
+pub begin_cache-requires-clause-words : goal.begin_cache-requires-clause-words
+begin_cache-requires-clause-words c = c.requires.fits.3.count
 
 pub detach-requires-clause-room : goal.detach-requires-clause-room
 detach-requires-clause-room c =
@@ -16,7 +16,7 @@ detach-requires-clause-room c =
     let it = c.index-as_slice-number.result in
     let read : it ≡ get_or c.args.trace.now.items c.args.number it = rw (← c.as_slice.ensures) c.index-as_slice-number.is in
     let at = item-at c.args.trace.now c.args.number it c.requires.within read in
-    let was : c.deref_mut-in-Some-cache.result.now ≡ c.args.ids.now = c.deref_mut-in-Some-cache.ensures.value ∙ c.ids.view_is in
+    let was : c.deref_mut.result.now ≡ c.args.ids.now = c.deref_mut.ensures.value ∙ c.ids.view_is in
     λ n. subst (λ ids. HasRoom c.step_of.result c.in-Some-cache.cache c.args.due.now.current n (id_at ids n)) (sym was)
     (room-of fits.0 c.args.trace.now c.args.number it c.args.due.now c.args.ids.now c.in-Some-cache.cache c.step_of.result at c.in-Some-cache.is c.step_of.ensures c.requires.sound.cpus fits.1 fits.2 fits.3 n)
 
@@ -25,10 +25,8 @@ returns-in-Some c =
     let it = c.index-as_slice-number.result in
     let read : it ≡ get_or c.args.trace.now.items c.args.number it = rw (← c.as_slice.ensures) c.index-as_slice-number.is in
     let at = item-at c.args.trace.now c.args.number it c.requires.within read in
-    let was : c.deref_mut.result.now ≡ c.args.ids.now = c.deref_mut.ensures.value ∙ c.ids.view_is in
-    let now : (with_items c.ids.inside.by_word c.begin.new.words).items ≡ c.begin.new.words = with_items_is c.ids.inside.by_word c.begin.new.words (omega (arith, c.begin.auto.words, c.deref_mut.ensures.len)) in
-    settled-begun c.args.trace.now c.args.number it c.args.due.now c.args.done.now c.args.ids.now (with_items c.ids.inside.by_word c.begin.new.words).items at c.in-Some.cache (sym c.made_by.ensures ∙ c.in-Some.is)
-    (now ∙ c.begin.ensures ∙ ap (λ ids. with_first c.args.trace.now.tid c.args.trace.now.cpus c.in-Some.cache ids) was)
+    settled-begun c.args.trace.now c.args.number it c.args.due.now c.args.done.now c.args.ids.now c.begin_cache.new.ids at c.in-Some.cache (sym c.made_by.ensures ∙ c.in-Some.is)
+    c.begin_cache.ensures
 
 pub returns-in-Some-cache : goal.returns-in-Some-cache
 returns-in-Some-cache c =
@@ -36,8 +34,8 @@ returns-in-Some-cache c =
     let read : it ≡ get_or c.args.trace.now.items c.args.number it = rw (← c.as_slice.ensures) c.index-as_slice-number.is in
     let at = item-at c.args.trace.now c.args.number it c.requires.within read in
     let came : came_about it c.args.done.now ≡ true = sym c.came_about.ensures ∙ c.if-came_about.true in
-    let was : c.deref_mut-in-Some-cache.result.now ≡ c.args.ids.now = c.deref_mut-in-Some-cache.ensures.value ∙ c.ids.view_is in
-    let now : (with_items c.ids.inside.by_word c.detach.new.words).items ≡ c.detach.new.words = with_items_is c.ids.inside.by_word c.detach.new.words (omega (arith, c.detach.auto.words, c.deref_mut-in-Some-cache.ensures.len)) in
+    let was : c.deref_mut.result.now ≡ c.args.ids.now = c.deref_mut.ensures.value ∙ c.ids.view_is in
+    let now : (with_items c.ids.inside.by_word c.detach.new.words).items ≡ c.detach.new.words = with_items_is c.ids.inside.by_word c.detach.new.words (omega (arith, c.detach.auto.words, c.deref_mut.ensures.len)) in
     settled-detached c.args.trace.now c.args.number it c.args.due.now c.args.done.now c.args.ids.now (with_items c.ids.inside.by_word c.detach.new.words).items at c.in-Some-cache.cache c.step_of.result came c.in-Some-cache.is c.step_of.ensures
     (now ∙ c.detach.ensures ∙ ap (λ ids. with_steps c.step_of.result c.in-Some-cache.cache c.args.due.now.current ids) was)
 

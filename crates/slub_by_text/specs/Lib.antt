@@ -1,0 +1,5 @@
+pub mod ByText
+pub mod Heap
+pub mod Laws
+pub mod Raising
+pub mod Stopped

@@ -1,24 +1,25 @@
 //! Serving `kmalloc`, `kget` and `krealloc`.
 
-ghost use Rattle.std.specs.Prelude.{◌≡◌, ◌+◌, ◌^◌, ◌<◌, ◌≤◌, [], ◌∷◌, not, false, length, position, IfOk, IfSome, IsSome, Ok};
+ghost use Rattle.std.specs.Prelude.{◌≡◌, ◌^◌, ◌<◌, [], ◌∷◌, not, false, length, position, IfErr, IfOk, IfSome, IsSome, Ok};
 ghost use Rattle.std.specs.List.{list_any};
 ghost use Rattle.std.specs.Option.{option_map_or};
 ghost use Rattle.std.specs.Str.{bytes_eq};
 ghost use Rattle.slub_object_layout.specs.Layout.{is_checked};
 ghost use Rattle.slub_lists.specs.Alloc.{cache_of};
-ghost use Rattle.slub_lists.specs.Coherent.{IsCoherent, KeepsMachine};
-ghost use Rattle.slub_trace_reader.specs.Sound.{asked_objects};
-ghost use Rattle.slub_journal.specs.Asked.{IsServable};
-ghost use Rattle.slub_journal.specs.Kmalloc.{IsKmallocLine, Moves, MovesOn, ServesClasses, ServesHeld, ServesKget, ServesKmalloc, ServesKrealloc, TakesOfClass, given_answer, is_enough, is_kmalloc, names_cache, place_of_class};
-ghost use Rattle.slub_journal.specs.Lawful.{IsAtRest, IsUnheld};
-ghost use Rattle.slub_engine.specs.Steps.{KeepsSizes, KeepsUnheld};
+ghost use Rattle.slub_trace_reader.specs.Sound.{IsSound, IsSoundObject, asked_objects};
+ghost use Rattle.slub_journal.specs.Lawful.{IsUnheld};
+ghost use Rattle.slub_journal.specs.Asked.{round_of};
+ghost use Rattle.slub_engine.specs.Steps.{KeepsUnheld};
+ghost use Rattle.slub_events.specs.declared.event.Act.TheVariants.{Free};
+ghost use Rattle.slub_clients.specs.Asked.{IsOpenTo, IsServable, StaysOpen};
+ghost use Rattle.slub_clients.specs.Kmalloc.{IsKmallocLine, Moves, MovesOn, ServesClasses, ServesHeld, ServesKget, ServesKmalloc, ServesKrealloc, TakesOfClass, given_answer, is_enough, is_kmalloc, names_cache, place_of_class};
+ghost use Rattle.slub_clients.specs.Stopped.{IsLineStopped, IsRoundStopped};
 
 use crate::classes::{class_place, class_spec};
-use slub_answers::create::{CreateRefusal, Created};
-use slub_common::no_memory::NoMemory;
+use slub_by_text::heap::Heap;
+use slub_clients::client::{Stopped, client_round, told};
+use slub_clients::create::create;
 use slub_common::sequence::Sequence;
-use slub_engine::client::{client_round, told};
-use slub_engine::item::create;
 use slub_events::event::Act;
 use slub_journal::client::{CacheRefusal, ClientAnswer, ClientDone, ClientRound};
 use slub_journal::names::class_names;
@@ -53,35 +54,33 @@ fn place_of(names: &[Name], name: &Name) -> Option<usize>
 /// A name that the trace doesn't have names none.
 fn take_of_class(
     alloc: Global,
-    lists: &mut Lists,
+    heap: Heap,
     trace: &Trace,
     cpu: u32,
     class: u32,
     object: u32,
     rounds: &mut Vec<ClientRound>,
-) -> Result<Result<u32, CacheRefusal>, NoMemory>
-    requires coherent { IsCoherent lists.old }
+) -> Result<(Heap, Result<u32, CacheRefusal>), Stopped>
+    requires asks { IsOpenTo heap trace.now 1 }
     requires few { length trace.now.names < 2 ^ 32 }
-    requires names { lists.old.table.kept ≡ trace.now.names }
-    requires cpu { cpu < lists.old.cpus }
+    requires cpu { cpu < trace.now.cpus }
     requires class { class < 13 }
-    requires object { (1 ≤ object) × (object < length lists.old.board) }
-    requires unheld { IsUnheld lists.old object }
+    requires object { IsSoundObject trace.now object }
+    requires unheld { IsUnheld heap.lists object }
     requires empty { rounds.old.items ≡ [] }
-    ensures takes { IfOk result (λ told.
-        TakesOfClass lists.old trace.now cpu class object rounds.new.items told lists.new) }
-    ensures coherent { IsCoherent lists.new }
-    ensures sizes { KeepsSizes lists.old lists.new }
-    ensures unheld { KeepsUnheld lists.old (object ∷ []) lists.new }
-    ensures rest { IsAtRest lists.old → IsAtRest lists.new }
+    ensures takes { IfOk result (λ done.
+        TakesOfClass heap trace.now cpu class object rounds.new.items done.1 done.0) }
+    ensures stays { IfOk result (λ done. StaysOpen heap trace.now 1 done.0) }
+    ensures unheld { IfOk result (λ done. KeepsUnheld heap.lists (object ∷ []) done.0.lists) }
+    ensures stopped { IfErr result (IsLineStopped heap) }
 {
     let Some(cache) = place_of_class(trace, class) else {
-        return Ok(Err(CacheRefusal::NoSuchCache));
+        return Ok((heap, Err(CacheRefusal::NoSuchCache)));
     };
-    let round = client_round(alloc, lists, cpu, &[Act::Alloc { cache, object }])?;
+    let (after, round) = client_round(alloc, heap, cpu, &[Act::Alloc { cache, object }])?;
     let told = told(&round)?;
     rounds.push(round)?;
-    Ok(told)
+    Ok((after, told))
 }
 
 /// An answer without a round.
@@ -108,50 +107,52 @@ fn given_answer(told: Result<u32, CacheRefusal>) -> ClientAnswer
 /// Allocates an object of at least this size, in bytes (`kmalloc`).
 fn kget(
     alloc: Global,
-    lists: &mut Lists,
+    heap: Heap,
     trace: &Trace,
     cpu: u32,
     size: u32,
     object: u32,
-) -> Result<ClientDone, NoMemory>
-    requires coherent { IsCoherent lists.old }
+) -> Result<(Heap, ClientDone), Stopped>
+    requires asks { IsOpenTo heap trace.now 1 }
     requires few { length trace.now.names < 2 ^ 32 }
-    requires names { lists.old.table.kept ≡ trace.now.names }
-    requires cpu { cpu < lists.old.cpus }
-    requires object { (1 ≤ object) × (object < length lists.old.board) }
-    requires unheld { IsUnheld lists.old object }
-    ensures served { IfOk result (λ done.
-        ServesKget lists.old trace.now cpu size object done lists.new) }
-    ensures coherent { IsCoherent lists.new }
-    ensures sizes { KeepsSizes lists.old lists.new }
-    ensures unheld { KeepsUnheld lists.old (object ∷ []) lists.new }
-    ensures rest { IsAtRest lists.old → IsAtRest lists.new }
+    requires cpu { cpu < trace.now.cpus }
+    requires object { IsSoundObject trace.now object }
+    requires unheld { IsUnheld heap.lists object }
+    ensures served { IfOk result (λ done. ServesKget heap trace.now cpu size object done.1 done.0) }
+    ensures stays { IfOk result (λ done. StaysOpen heap trace.now 1 done.0) }
+    ensures unheld { IfOk result (λ done. KeepsUnheld heap.lists (object ∷ []) done.0.lists) }
+    ensures stopped { IfErr result (IsLineStopped heap) }
 {
     let Some(class) = class_place(size) else {
-        return Ok(at_once(alloc, ClientAnswer::TooLarge));
+        return Ok((heap, at_once(alloc, ClientAnswer::TooLarge)));
     };
     let mut rounds = Vec::new(alloc);
-    let told = take_of_class(alloc, lists, trace, cpu, class, object, &mut rounds)?;
-    Ok(ClientDone {
+    let (after, told) = take_of_class(alloc, heap, trace, cpu, class, object, &mut rounds)?;
+    let done = ClientDone {
         rounds: Sequence::from_vec(rounds),
         answer: given_answer(told),
-    })
+    };
+    Ok((after, done))
 }
 
 /// Creates the caches of the classes, in rising order (`create_kmalloc_caches`).
-fn kmalloc(alloc: Global, lists: &mut Lists) -> Result<ClientDone, NoMemory>
-    requires coherent { IsCoherent lists.old }
-    ensures served { IfOk result (λ done. ServesKmalloc lists.old done lists.new) }
-    ensures coherent { IsCoherent lists.new }
-    ensures kept { KeepsMachine lists.old lists.new }
-    ensures board { lists.new.board ≡ lists.old.board }
+fn kmalloc(alloc: Global, heap: Heap, trace: &Trace) -> Result<(Heap, ClientDone), Stopped>
+    requires sound { IsSound trace.now }
+    requires asks { IsOpenTo heap trace.now 0 }
+    ensures served { IfOk result (λ done. ServesKmalloc heap trace.now done.1 done.0) }
+    ensures stays { IfOk result (λ done. StaysOpen heap trace.now 0 done.0) }
+    ensures board { IfOk result (λ done. done.0.lists.board ≡ heap.lists.board) }
+    ensures stopped { IfErr result (IsLineStopped heap) }
 {
+    let mut now = heap;
     let mut answers = Vec::new(alloc);
     for class in 0..13 {
-        let made = create(lists, &class_name(class), &class_spec(class))?;
+        let (after, made) = create(now, trace, &class_name(class), &class_spec(class))?;
+        now = after;
         answers.push(made)?;
     }
-    Ok(at_once(alloc, ClientAnswer::Created(Sequence::from_vec(answers))))
+    let answer = ClientAnswer::Created(Sequence::from_vec(answers));
+    Ok((now, at_once(alloc, answer)))
 }
 
 /// What a `krealloc` asks: an object of at least this size, in bytes, in the place of another one, under a
@@ -209,92 +210,86 @@ fn is_enough(lists: &Lists, cache: u8, size: u32) -> bool
 /// Has an object that is large enough: the one that is there, or a fresh one in its place (`krealloc`).
 fn krealloc(
     alloc: Global,
-    lists: &mut Lists,
+    heap: Heap,
     trace: &Trace,
     asked: Wish,
-) -> Result<ClientDone, NoMemory>
-    requires coherent { IsCoherent lists.old }
+) -> Result<(Heap, ClientDone), Stopped>
+    requires asks { IsOpenTo heap trace.now 1 }
     requires few { length trace.now.names < 2 ^ 32 }
-    requires names { lists.old.table.kept ≡ trace.now.names }
-    requires cpu { asked.cpu < lists.old.cpus }
-    requires object { asked.object < length lists.old.board }
-    requires fresh { (1 ≤ asked.fresh) × (asked.fresh < length lists.old.board) }
-    requires unheld { IsUnheld lists.old asked.fresh }
-    ensures served { IfOk result (λ done. ServesKrealloc lists.old trace.now asked.cpu asked.object
-        asked.size asked.fresh done lists.new) }
-    ensures coherent { IsCoherent lists.new }
-    ensures sizes { KeepsSizes lists.old lists.new }
-    ensures unheld { KeepsUnheld lists.old (asked.fresh ∷ []) lists.new }
-    ensures rest { IsAtRest lists.old → IsAtRest lists.new }
+    requires cpu { asked.cpu < trace.now.cpus }
+    requires object { IsSoundObject trace.now asked.object }
+    requires fresh { IsSoundObject trace.now asked.fresh }
+    requires unheld { IsUnheld heap.lists asked.fresh }
+    ensures served { IfOk result (λ done. ServesKrealloc heap trace.now asked.cpu asked.object
+        asked.size asked.fresh done.1 done.0) }
+    ensures stays { IfOk result (λ done. StaysOpen heap trace.now 1 done.0) }
+    ensures unheld { IfOk result (λ done. KeepsUnheld heap.lists (asked.fresh ∷ []) done.0.lists) }
+    ensures stopped { IfErr result (IsLineStopped heap) }
 {
-    match lists.board()[asked.object as usize] {
-        None => Ok(at_once(alloc, ClientAnswer::NotHeld)),
-        Some(held) => krealloc_of(alloc, lists, trace, asked, held.cache),
+    match heap.lists.board()[asked.object as usize] {
+        None => Ok((heap, at_once(alloc, ClientAnswer::NotHeld))),
+        Some(held) => krealloc_of(alloc, heap, trace, asked, held.cache),
     }
 }
 
 /// The same for an object of this live cache.
 fn krealloc_of(
     alloc: Global,
-    lists: &mut Lists,
+    heap: Heap,
     trace: &Trace,
     asked: Wish,
     cache: u8,
-) -> Result<ClientDone, NoMemory>
-    requires coherent { IsCoherent lists.old }
-    requires live { IsSome (cache_of lists.old cache) }
+) -> Result<(Heap, ClientDone), Stopped>
+    requires asks { IsOpenTo heap trace.now 1 }
+    requires live { IsSome (cache_of heap.lists cache) }
     requires few { length trace.now.names < 2 ^ 32 }
-    requires names { lists.old.table.kept ≡ trace.now.names }
-    requires cpu { asked.cpu < lists.old.cpus }
-    requires object { asked.object < length lists.old.board }
-    requires fresh { (1 ≤ asked.fresh) × (asked.fresh < length lists.old.board) }
-    requires unheld { IsUnheld lists.old asked.fresh }
-    ensures served { IfOk result (λ done. ServesHeld lists.old trace.now asked.cpu asked.object
-        asked.size asked.fresh cache done lists.new) }
-    ensures coherent { IsCoherent lists.new }
-    ensures sizes { KeepsSizes lists.old lists.new }
-    ensures unheld { KeepsUnheld lists.old (asked.fresh ∷ []) lists.new }
-    ensures rest { IsAtRest lists.old → IsAtRest lists.new }
+    requires cpu { asked.cpu < trace.now.cpus }
+    requires object { IsSoundObject trace.now asked.object }
+    requires fresh { IsSoundObject trace.now asked.fresh }
+    requires unheld { IsUnheld heap.lists asked.fresh }
+    ensures served { IfOk result (λ done. ServesHeld heap trace.now asked.cpu asked.object
+        asked.size asked.fresh cache done.1 done.0) }
+    ensures stays { IfOk result (λ done. StaysOpen heap trace.now 1 done.0) }
+    ensures unheld { IfOk result (λ done. KeepsUnheld heap.lists (asked.fresh ∷ []) done.0.lists) }
+    ensures stopped { IfErr result (IsLineStopped heap) }
 {
-    if !is_kmalloc(lists, cache) {
-        return Ok(at_once(alloc, ClientAnswer::NotKmalloc));
+    if !is_kmalloc(&heap.lists, cache) {
+        return Ok((heap, at_once(alloc, ClientAnswer::NotKmalloc)));
     }
     let Some(class) = class_place(asked.size) else {
-        return Ok(at_once(alloc, ClientAnswer::TooLarge));
+        return Ok((heap, at_once(alloc, ClientAnswer::TooLarge)));
     };
-    if is_enough(lists, cache, asked.size) {
-        return Ok(at_once(alloc, ClientAnswer::Stays));
+    if is_enough(&heap.lists, cache, asked.size) {
+        return Ok((heap, at_once(alloc, ClientAnswer::Stays)));
     }
-    move_to(alloc, lists, trace, asked, class)
+    move_to(alloc, heap, trace, asked, class)
 }
 
 /// Takes a fresh object of a class, and then frees the other one. Where none is given, the other one stays.
 fn move_to(
     alloc: Global,
-    lists: &mut Lists,
+    heap: Heap,
     trace: &Trace,
     asked: Wish,
     class: u32,
-) -> Result<ClientDone, NoMemory>
-    requires coherent { IsCoherent lists.old }
+) -> Result<(Heap, ClientDone), Stopped>
+    requires asks { IsOpenTo heap trace.now 1 }
     requires few { length trace.now.names < 2 ^ 32 }
-    requires names { lists.old.table.kept ≡ trace.now.names }
-    requires cpu { asked.cpu < lists.old.cpus }
+    requires cpu { asked.cpu < trace.now.cpus }
     requires class { class < 13 }
-    requires object { asked.object < length lists.old.board }
-    requires fresh { (1 ≤ asked.fresh) × (asked.fresh < length lists.old.board) }
-    requires unheld { IsUnheld lists.old asked.fresh }
-    ensures served { IfOk result (λ done. Moves lists.old trace.now asked.cpu class asked.object
-        asked.fresh done lists.new) }
-    ensures coherent { IsCoherent lists.new }
-    ensures sizes { KeepsSizes lists.old lists.new }
-    ensures unheld { KeepsUnheld lists.old (asked.fresh ∷ []) lists.new }
-    ensures rest { IsAtRest lists.old → IsAtRest lists.new }
+    requires object { IsSoundObject trace.now asked.object }
+    requires fresh { IsSoundObject trace.now asked.fresh }
+    requires unheld { IsUnheld heap.lists asked.fresh }
+    ensures served { IfOk result (λ done. Moves heap trace.now asked.cpu class asked.object
+        asked.fresh done.1 done.0) }
+    ensures stays { IfOk result (λ done. StaysOpen heap trace.now 1 done.0) }
+    ensures unheld { IfOk result (λ done. KeepsUnheld heap.lists (asked.fresh ∷ []) done.0.lists) }
+    ensures stopped { IfErr result (IsLineStopped heap) }
 {
     let mut rounds = Vec::new(alloc);
-    let told = take_of_class(
+    let (mid, told) = take_of_class(
         alloc,
-        lists,
+        heap,
         trace,
         asked.cpu,
         class,
@@ -302,61 +297,67 @@ fn move_to(
         &mut rounds,
     )?;
     match told {
-        Ok(address) => free_other(alloc, lists, asked.cpu, asked.object, address, rounds),
-        Err(why) => Ok(ClientDone {
-            rounds: Sequence::from_vec(rounds),
-            answer: ClientAnswer::Refused(why),
-        }),
+        Ok(address) => free_other(alloc, mid, trace, asked, address, rounds),
+        Err(why) => {
+            let done = ClientDone {
+                rounds: Sequence::from_vec(rounds),
+                answer: ClientAnswer::Refused(why),
+            };
+            Ok((mid, done))
+        }
     }
 }
 
 /// Frees the object that a fresh one at this address stands for, after these rounds.
 fn free_other(
     alloc: Global,
-    lists: &mut Lists,
-    cpu: u32,
-    object: u32,
+    heap: Heap,
+    trace: &Trace,
+    asked: Wish,
     address: u32,
     rounds: Vec<ClientRound>,
-) -> Result<ClientDone, NoMemory>
-    requires coherent { IsCoherent lists.old }
-    requires cpu { cpu < lists.old.cpus }
-    requires object { object < length lists.old.board }
+) -> Result<(Heap, ClientDone), Stopped>
+    requires asks { IsOpenTo heap trace.now 0 }
+    requires cpu { asked.cpu < trace.now.cpus }
+    requires object { IsSoundObject trace.now asked.object }
     ensures moved { IfOk result (λ done.
-        MovesOn lists.old cpu object (Ok address) rounds.items done lists.new) }
-    ensures coherent { IsCoherent lists.new }
-    ensures sizes { KeepsSizes lists.old lists.new }
-    ensures unheld { KeepsUnheld lists.old [] lists.new }
-    ensures rest { IsAtRest lists.old → IsAtRest lists.new }
+        MovesOn heap asked.cpu asked.object (Ok address) rounds.items done.1 done.0) }
+    ensures stays { IfOk result (λ done. StaysOpen heap trace.now 0 done.0) }
+    ensures unheld { IfOk result (λ done. KeepsUnheld heap.lists [] done.0.lists) }
+    ensures stopped { IfErr result (IsRoundStopped heap (round_of asked.cpu (Free asked.object ∷ []))) }
 {
     let mut rounds = rounds;
-    let round = client_round(alloc, lists, cpu, &[Act::Free { object }])?;
+    let freed = Act::Free {
+        object: asked.object,
+    };
+    let (after, round) = client_round(alloc, heap, asked.cpu, &[freed])?;
     rounds.push(round)?;
-    Ok(ClientDone {
+    let done = ClientDone {
         rounds: Sequence::from_vec(rounds),
         answer: ClientAnswer::Moved(address),
-    })
+    };
+    Ok((after, done))
 }
 
-/// Does a `kmalloc`, a `kget` or a `krealloc`. Where it finds no memory, the machine is as it was left so
-/// far.
+/// Does a `kmalloc`, a `kget` or a `krealloc`. Where it finds no memory, or all turns of a round of it are made, the
+/// heap is gone.
 pub fn serve(
     alloc: Global,
-    lists: &mut Lists,
+    heap: Heap,
     trace: &Trace,
     client: &Client,
-) -> Result<ClientDone, NoMemory>
-    requires servable { IsServable lists.old trace.now client.now }
+) -> Result<(Heap, ClientDone), Stopped>
+    requires servable { IsServable heap trace.now client.now }
     requires line { IsKmallocLine client.now }
-    ensures served { IfOk result (λ done.
-        ServesClasses lists.old trace.now client.now done lists.new) }
-    ensures coherent { IsCoherent lists.new }
-    ensures sizes { KeepsSizes lists.old lists.new }
-    ensures unheld { KeepsUnheld lists.old (asked_objects client.now) lists.new }
-    ensures rest { IsAtRest lists.old → IsAtRest lists.new }
+    ensures served { IfOk result (λ done. ServesClasses heap trace.now client.now done.1 done.0) }
+    ensures stays { IfOk result (λ done.
+        StaysOpen heap trace.now (length (asked_objects client.now)) done.0) }
+    ensures unheld { IfOk result (λ done.
+        KeepsUnheld heap.lists (asked_objects client.now) done.0.lists) }
+    ensures stopped { IfErr result (IsLineStopped heap) }
 {
     match client {
-        Client::Kget { cpu, size, object } => kget(alloc, lists, trace, *cpu, *size, *object),
+        Client::Kget { cpu, size, object } => kget(alloc, heap, trace, *cpu, *size, *object),
         Client::Krealloc {
             cpu,
             object,
@@ -369,9 +370,9 @@ pub fn serve(
                 size: *size,
                 fresh: *fresh,
             };
-            krealloc(alloc, lists, trace, asked)
+            krealloc(alloc, heap, trace, asked)
         }
-        Client::Kmalloc => kmalloc(alloc, lists),
+        Client::Kmalloc => kmalloc(alloc, heap, trace),
         Client::Bulk { .. }
         | Client::Bulkfree { .. }
         | Client::Mempool { .. }

@@ -1,0 +1,5 @@
+pub mod Allowed
+pub mod Created
+pub mod Staying
+pub mod Stopping
+pub mod Wanted

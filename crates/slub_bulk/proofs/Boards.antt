@@ -1,61 +1,51 @@
 -- What rounds of allocations and rounds of frees leave on the board.
-use Rattle.std.proofs.Common.{◌≡◌, ◌≢◌, ℕ, suc, ◌+◌, ◌<◌, ◌≤◌, cond, Bool, true, false, ◌&&◌, eqb, List, [], ◌∷◌, length, refl, sym, ◌∙◌, ap, subst, All, arith, Option, Some, None, IsSome, MatchOption, Result, Ok, Err, IfOk, inl, inr}
-use Rattle.std.specs.List.{IsDistinct, cons_option, filter_map, zip}
+use Rattle.std.proofs.Common.{◌≡◌, ◌≢◌, ℕ, suc, ◌+◌, ◌^◌, ◌<◌, ◌≤◌, cond, Bool, true, false, ◌&&◌, eqb, List, [], ◌∷◌, ◌++◌, append_assoc, length, refl, sym, ◌∙◌, ap, subst, All, arith, Option, Some, None, IsSome, MatchOption, Result, Ok, Err, IfOk, inl, inr}
+use Rattle.std.specs.List.{Contains, IsDistinct, cons_option, filter_map, zip}
 use Rattle.std.specs.Prelude.{nat_eq, slice_get}
 use Rattle.std.proofs.lemmas.List.Elements.{All-cons, All-contains, All-head, All-nil, All-tail}
 use Rattle.std.proofs.lemmas.List.Sums.{sum_by-cons}
 use Rattle.slub_events.specs.declared.event.Act.{Act}
 use Rattle.slub_events.specs.declared.event.Act.TheVariants.{Alloc, Free}
-use Rattle.slub_events.specs.declared.event.Event.{Event}
 use Rattle.slub_answers.specs.declared.reply.Reply.{Reply}
+use Rattle.slub_answers.specs.declared.reply.Reply.TheVariants as reply
 use Rattle.slub_answers.specs.Kinds.{is_freed, is_given, is_no_memory}
 use Rattle.slub_common.specs.Times.{times}
 use Rattle.slub_common.proofs.Times.{times-absent, times-cons, times-cons_other}
 use Rattle.slub_lists.specs.declared.lists.Held.{Held}
 use Rattle.slub_lists.specs.State.{State}
 use Rattle.slub_lists.specs.Coherent.{IsCoherent, held_under}
+use Rattle.slub_trace_reader.specs.declared.trace.Trace.{Trace}
 use Rattle.slub_trace_reader.specs.Sound.{objects_of}
+use Rattle.slub_calls.specs.Laws.{MayDo}
 use Rattle.slub_journal.specs.declared.client.CacheRefusal.{CacheRefusal}
 use Rattle.slub_journal.specs.declared.client.ClientAnswer.TheVariants as answer
 use Rattle.slub_journal.specs.declared.client.ClientDone.{ClientDone}
 use Rattle.slub_journal.specs.declared.client.ClientRound.{ClientRound}
-use Rattle.slub_journal.specs.Asked.{AnswersAtOnce, DoesAsked, event_of, first_refusal, frees_of, refusal_of, round_of}
+use Rattle.slub_journal.specs.declared.journal.RoundResult.{RoundResult}
+use Rattle.slub_journal.specs.Asked.{event_of, first_refusal, frees_of, refusal_of, round_of}
 use Rattle.slub_journal.specs.Bulk.{free_order}
-use Rattle.slub_journal.specs.BulkLines.{FreesAgain, FreesInOrder, ServesBulkFree, TakesAll, allocs_of, first_unheld, places_under, replied}
-use Rattle.slub_journal.specs.Lawful.{IsAtRest, IsUnheld, RunsEvents}
-use Rattle.slub_round_law.specs.Answered.{Answered, did_free, gave, times_freed, times_given}
-use Rattle.slub_round_law.specs.Round.{Fits, IsRound}
-use Rattle.slub_round_law.proofs.Rounds.{runs-even}
-use Rattle.slub_round_law.proofs.Steps.{Step, event-step, flushes, frees, gives, keeps, lacks, nameless, pokes, pokes_not, reads, reads_none, reads_not, refuses, trims, trims_checked, trims_none, wants, writes, writes_none, writes_not}
+use Rattle.slub_journal.specs.Lawful.{IsAtRest, IsUnheld}
+use Rattle.slub_round_law.specs.Answered.{Answered, did_free, gave, of_worker, times_freed, times_given}
+use Rattle.slub_round_law.specs.Round.{AllocCause, HaveCauses, IsRound}
 use Rattle.slub_round_law.proofs.Times.{events_given}
-use Rattle.slub_round_law.proofs.Whole.{lawful}
-use Rattle.slub_bulk.specs.Numbers.{IsNumber}
-use Rattle.slub_bulk.proofs.Bulking.{allocs_objects, frees_objects, none_differ, one_differs, replied_all}
+use Rattle.slub_rounds.specs.Laws.{MayFollow}
+use Rattle.slub_rounds.proofs.Following.{leads-on}
+use Rattle.slub_by_text.specs.Heap.{HeapState}
+use Rattle.slub_by_text.specs.Laws.{RoundsByTextAreLawful}
+use Rattle.slub_clients.specs.Asked.{AnswersAtOnce, DoesAsked, IsOpenTo}
+use Rattle.slub_clients.specs.BulkLines.{FreesAgain, FreesInOrder, ServesBulkFree, TakesAll, allocs_of, first_unheld, places_under, replied}
+use Rattle.slub_clients.specs.Laws.{IsNumber}
+use Rattle.slub_clients.proofs.Allowed.{allocations-may, frees-may, frees-objects, none-differ, one-differs}
+use Rattle.slub_clients.proofs.Staying.{open-fewer}
+use Rattle.slub_bulk.specs.Taking.{MayTake}
+use Rattle.slub_bulk.proofs.Bulking.{replied_all, replied_long}
 
--- ---- which rounds fit
-
-pub allocs_fit : (s : State) (cpu place : ℕ) (numbers : List ℕ) → All (IsNumber s) numbers → All (IsUnheld s) numbers → IsDistinct nat_eq numbers → Fits s (round_of cpu (allocs_of place numbers))
-allocs_fit s cpu place numbers known unheld distinct =
-    let mine = sym (allocs_objects cpu place numbers) in
-    record {
-      within = subst (All (λ object. object < length s.board)) mine (λ k d inside. (known k d inside).1);
-      unheld = subst (All (IsUnheld s)) mine unheld;
-      distinct = subst (IsDistinct nat_eq) mine distinct;
-    }
-
-pub frees_fit : (s : State) (cpu : ℕ) (numbers : List ℕ) → Fits s (round_of cpu (frees_of numbers))
-frees_fit s cpu numbers =
-    let mine = sym (frees_objects cpu numbers) in
-    record {
-      within = subst (All (λ object. object < length s.board)) mine (All-nil (λ object. object < length s.board));
-      unheld = subst (All (IsUnheld s)) mine (All-nil (IsUnheld s));
-      distinct = subst (IsDistinct nat_eq) mine none_differ;
-    }
+-- ---- which rounds are lawful
 
 -- a client's round is a lawful round
-pub asked_lawful : (s : State) (cpu : ℕ) (acts : List Act) (round : ClientRound) (after : State) → IsCoherent s → IsAtRest s → Fits s (round_of cpu acts) → DoesAsked s cpu acts round after
-    → IsRound s (round_of cpu acts) round.result after
-asked_lawful s cpu acts round after coherent rest fits done = lawful s (round_of cpu acts) round.result after coherent rest fits done.does
+pub asked_lawful : (h : HeapState) (trace : Trace) (cpu : ℕ) (acts : List Act) (round : ClientRound) (after : HeapState) → RoundsByTextAreLawful → IsCoherent h.lists → IsAtRest h.lists
+    → MayDo h.lists trace (round_of cpu acts) → DoesAsked h cpu acts round after → IsRound h.lists (round_of cpu acts) round.result after.lists
+asked_lawful h trace cpu acts round after lawful coherent rest may done = lawful h.lists h.ids trace (round_of cpu acts) round.result after.lists after.ids coherent rest may done.does
 
 -- ---- how often a number is given and freed
 
@@ -72,7 +62,7 @@ allocs_free_none object cpu place (number ∷ numbers) (answer ∷ replies) =
 pub frees_give_none : (object cpu : ℕ) (numbers : List ℕ) (replies : List Reply) → times_given object (answers_of cpu (frees_of numbers) replies) ≡ 0
 frees_give_none object cpu numbers replies =
     let few = events_given object (round_of cpu (frees_of numbers)).events replies in
-    let none : times object (objects_of (round_of cpu (frees_of numbers)).events) ≡ 0 = ap (times object) (frees_objects cpu numbers) in
+    let none : times object (objects_of (round_of cpu (frees_of numbers)).events) ≡ 0 = ap (times object) (frees-objects cpu numbers) in
     omega (arith, few, none)
 
 -- a number is freed no more often than that is asked
@@ -120,18 +110,20 @@ pub frees_events : (cpu : ℕ) (numbers : List ℕ) → length (round_of cpu (fr
 frees_events cpu [] = refl
 frees_events cpu (number ∷ numbers) = ap suc (frees_events cpu numbers)
 
-pub replies_even : (s : State) (cpu : ℕ) (numbers : List ℕ) (round : ClientRound) (after : State) → DoesAsked s cpu (frees_of numbers) round after → length round.result.replies ≡ length numbers
-replies_even s cpu numbers round after done =
-    omega (arith, runs-even s (round_of cpu (frees_of numbers)).events round.result.replies done.does.last done.does.runs, frees_events cpu numbers)
+pub replies_even : (s : State) (cpu : ℕ) (numbers : List ℕ) (result : RoundResult) (after : State) → IsRound s (round_of cpu (frees_of numbers)) result after → length result.replies ≡ length numbers
+replies_even s cpu numbers result after law = omega (arith, law.replies, frees_events cpu numbers)
 
 -- one act has one reply
-one_of : (s : State) (event : Event) (replies : List Reply) (last : State) → RunsEvents s (event ∷ []) replies last → (told : Reply) × (replies ≡ told ∷ [])
-one_of s event [] last runs = absurd runs
-one_of s event (told ∷ []) last runs = (told, refl)
-one_of s event (told ∷ more ∷ replies) last runs = absurd runs.3
+pub one_reply : (s : State) (cpu : ℕ) (act : Act) (result : RoundResult) (after : State) → IsRound s (round_of cpu (act ∷ [])) result after → (told : Reply) × (result.replies ≡ told ∷ [])
+one_reply s cpu act result after law = by result.replies refl
+  where
+    one : length result.replies ≡ 1
+    one = law.replies
 
-pub one_reply : (s : State) (cpu : ℕ) (act : Act) (round : ClientRound) (after : State) → DoesAsked s cpu (act ∷ []) round after → (told : Reply) × (round.result.replies ≡ told ∷ [])
-one_reply s cpu act round after done = one_of s (event_of cpu act) round.result.replies done.does.last done.does.runs
+    by : (replies : List Reply) → result.replies ≡ replies → (told : Reply) × (result.replies ≡ told ∷ [])
+    by [] is = absurd (let long = ap (λ (l : List Reply). length l) is in let never : ⊥ = omega (arith, long, one) in never)
+    by (told ∷ []) is = (told, is)
+    by (told ∷ more ∷ replies) is = absurd (let long = ap (λ (l : List Reply). length l) is in let never : ⊥ = omega (arith, long, one) in never)
 
 pub if_ok : {A E : Type 0} (P Q : A → Type 0) (result : Result A E) → ((value : A) → P value → Q value) → IfOk result P → IfOk result Q
 if_ok P Q (Ok value) leads is = leads value is
@@ -139,51 +131,49 @@ if_ok P Q (Err why) leads is = tt
 
 -- ---- what an allocation is answered
 
-given_step : (s : State) (event : Event) (place object : ℕ) (answer : Reply) (after : State) → event.act ≡ Alloc place object → Step s event answer after
-    → refusal_of answer ≡ None → is_no_memory answer ≡ false → is_given answer ≡ true
-given_step s event place object answer after asks (gives p o live held a n l w is u b g t m c f d) none memory = rw is refl
-given_step s event place object answer after asks (lacks p o cache live a n l is b g t m c f d) none memory = absurd (let never = rw is at none in cc)
-given_step s event place object answer after asks (wants p o cache live slabs a n l ch is k) none memory = absurd (let never = rw is at memory in cc)
-given_step s event place object answer after asks (nameless p o a n is now) none memory = absurd (let never = rw is at none in cc)
-given_step s event place object answer after asks (frees o live held a w m l is b g t me c f d) none memory = absurd (cc)
-given_step s event place object answer after asks (keeps o damage held slabs a w m ch t is now) none memory = absurd (cc)
-given_step s event place object answer after asks (refuses o a why is now) none memory = absurd (cc)
-given_step s event place object answer after asks (writes o word value live held a h w is now) none memory = absurd (cc)
-given_step s event place object answer after asks (writes_none o word value live held a h w is now) none memory = absurd (cc)
-given_step s event place object answer after asks (writes_not o word value a n is now) none memory = absurd (cc)
-given_step s event place object answer after asks (reads o word live held a h w is now) none memory = absurd (cc)
-given_step s event place object answer after asks (reads_none o word live held a h w is now) none memory = absurd (cc)
-given_step s event place object answer after asks (reads_not o word a n is now) none memory = absurd (cc)
-given_step s event place object answer after asks (pokes o offset byte held slabs a k ch i is now) none memory = absurd (cc)
-given_step s event place object answer after asks (pokes_not o offset byte a why now) none memory = absurd (cc)
-given_step s event place object answer after asks (trims p cache slabs a n u is k ss) none memory = absurd (cc)
-given_step s event place object answer after asks (trims_checked p cache slabs a n ch is now) none memory = absurd (cc)
-given_step s event place object answer after asks (trims_none p a n is now) none memory = absurd (cc)
-given_step s event place object answer after asks (flushes slabs a is k ss) none memory = absurd (cc)
+-- it is given, where it isn't refused and memory is there
+given-of : (before : State) (all own : List Answered) (place : ℕ) (told : Reply) → AllocCause before all own place told → refusal_of told ≡ None → is_no_memory told ≡ false → is_given told ≡ true
+given-of before all own place (reply.Given address) cause none memory = refl
+given-of before all own place reply.NoFrames cause none memory = absurd (cc)
+given-of before all own place reply.NoMemory cause none memory = absurd (let never : true ≡ false = memory in cc)
+given-of before all own place (reply.IdsSpent tid) cause none memory = absurd (cc)
+given-of before all own place reply.NoSuchCache cause none memory = absurd (cc)
+given-of before all own place told cause none memory = absurd cause
+
+-- every event of such a round is worker 0's
+own-all : (cpu : ℕ) (acts : List Act) (replies : List Reply) → of_worker 0 (answers_of cpu acts replies) ≡ answers_of cpu acts replies
+own-all cpu [] replies = refl
+own-all cpu (act ∷ acts) [] = refl
+own-all cpu (act ∷ acts) (told ∷ replies) = ap (λ (l : List Answered). (event_of cpu act, told) ∷ l) (own-all cpu acts replies)
 
 -- none is refused: all are given
-pub all_given : (s : State) (cpu place : ℕ) (numbers : List ℕ) (replies : List Reply) (last : State) → RunsEvents s (round_of cpu (allocs_of place numbers)).events replies last
-    → first_refusal replies ≡ None → All (λ answer. is_no_memory answer ≡ false) replies → All (λ answer. is_given answer ≡ true) replies
-all_given s cpu place [] [] last runs none memory = All-nil (λ answer. is_given answer ≡ true)
-all_given s cpu place [] (answer ∷ replies) last runs none memory = absurd runs
-all_given s cpu place (number ∷ numbers) [] last runs none memory = absurd runs
-all_given s cpu place (number ∷ numbers) (answer ∷ replies) last runs none memory =
-    by (refusal_of answer) refl (λ rest. all_given runs.0 cpu place numbers replies last runs.3 rest (All-tail (λ answer. is_no_memory answer ≡ false) answer replies memory))
+given-all : (before : State) (all own : List Answered) (cpu place : ℕ) (numbers : List ℕ) (replies : List Reply) → of_worker 0 all ≡ own ++ answers_of cpu (allocs_of place numbers) replies → HaveCauses before all
+    → length replies ≡ length numbers → first_refusal replies ≡ None → All (λ told. is_no_memory told ≡ false) replies → All (λ told. is_given told ≡ true) replies
+given-all before all own cpu place [] [] split causes even none memory = All-nil (λ told. is_given told ≡ true)
+given-all before all own cpu place [] (told ∷ replies) split causes even none memory = absurd (let never : ⊥ = omega arith in never)
+given-all before all own cpu place (number ∷ numbers) [] split causes even none memory = absurd (let never : ⊥ = omega arith in never)
+given-all before all own cpu place (number ∷ numbers) (told ∷ replies) split causes even none memory =
+    by (refusal_of told) refl (λ rest. given-all before all (own ++ (event_of cpu (Alloc place number), told) ∷ []) cpu place numbers replies (split ∙ sym (append_assoc own ((event_of cpu (Alloc place number), told) ∷ []) (answers_of cpu (allocs_of place numbers) replies))) causes (omega arith) rest (All-tail (λ told. is_no_memory told ≡ false) told replies memory))
   where
-    by : (x : Option CacheRefusal) → refusal_of answer ≡ x → (first_refusal replies ≡ None → All (λ answer. is_given answer ≡ true) replies) → All (λ answer. is_given answer ≡ true) (answer ∷ replies)
-    by None is later =
+    by : (x : Option CacheRefusal) → refusal_of told ≡ x → (first_refusal replies ≡ None → All (λ told. is_given told ≡ true) replies) → All (λ told. is_given told ≡ true) (told ∷ replies)
+    by None is rest_of =
         let rest : first_refusal replies ≡ None = sym (ap (λ x. slice_get (cons_option x (filter_map refusal_of replies)) 0) is) ∙ none in
-        All-cons (λ answer. is_given answer ≡ true) answer replies
-        (given_step s (event_of cpu (Alloc place number)) place number answer runs.0 refl (event-step s (event_of cpu (Alloc place number)) answer runs.0 runs.1) is (All-head (λ answer. is_no_memory answer ≡ false) answer replies memory))
-        (later rest)
-    by (Some why) is later = absurd (let never : Some why ≡ None = sym (ap (λ x. slice_get (cons_option x (filter_map refusal_of replies)) 0) is) ∙ none in cc)
+        All-cons (λ told. is_given told ≡ true) told replies
+        (given-of before all own place told (causes 0 own (event_of cpu (Alloc place number), told) (record { later = answers_of cpu (allocs_of place numbers) replies; split = split })) is (All-head (λ told. is_no_memory told ≡ false) told replies memory))
+        (rest_of rest)
+    by (Some why) is rest_of = absurd (let never : Some why ≡ None = sym (ap (λ x. slice_get (cons_option x (filter_map refusal_of replies)) 0) is) ∙ none in cc)
+
+pub all_given : (s : State) (cpu place : ℕ) (numbers : List ℕ) (result : RoundResult) (after : State) → IsRound s (round_of cpu (allocs_of place numbers)) result after
+    → first_refusal result.replies ≡ None → All (λ told. is_no_memory told ≡ false) result.replies → All (λ told. is_given told ≡ true) result.replies
+all_given s cpu place numbers result after law none memory =
+    given-all s (answers_of cpu (allocs_of place numbers) result.replies) [] cpu place numbers result.replies (own-all cpu (allocs_of place numbers) result.replies) law.causes (omega (arith, law.replies, allocs_events cpu place numbers)) none memory
 
 -- ---- the board
 
 -- a number that isn't freed stays
-pub stays_there : (s : State) (cpu : ℕ) (acts : List Act) (round : ClientRound) (after : State) (object : ℕ) → IsRound s (round_of cpu acts) round.result after
-    → times_freed object (answers_of cpu acts round.result.replies) ≡ 0 → IsSome (held_under s object) → IsSome (held_under after object)
-stays_there s cpu acts round after object law none some = (law.board.numbers object).1 (inl some, none)
+pub stays_there : (s : State) (cpu : ℕ) (acts : List Act) (result : RoundResult) (after : State) (object : ℕ) → IsRound s (round_of cpu acts) result after
+    → times_freed object (answers_of cpu acts result.replies) ≡ 0 → IsSome (held_under s object) → IsSome (held_under after object)
+stays_there s cpu acts result after object law none some = (law.board.numbers object).1 (inl some, none)
 
 -- ---- all or nothing
 
@@ -199,74 +189,142 @@ apart : (s : State) (numbers : List ℕ) (object : ℕ) → All (IsUnheld s) num
 apart s numbers object unheld some = times-absent object numbers (λ mine. held-or-none s object some (All-contains (IsUnheld s) numbers object unheld mine))
 
 -- a second round was made
-pub again_made : (s : State) (cpu : ℕ) (numbers : List ℕ) (first second : ClientRound) (rounds : List ClientRound) (after : State) → eqb (length numbers) 0 ≡ false
-    → DoesAsked s cpu (frees_of numbers) second after → rounds ≡ first ∷ second ∷ [] → FreesAgain s cpu numbers first rounds after
-again_made s cpu [] first second rounds after some done is = absurd (let never : true ≡ false = some in cc)
-again_made s cpu (number ∷ numbers) first second rounds after some done is = (second, done, is)
+pub again_made : (h : HeapState) (cpu : ℕ) (numbers : List ℕ) (first second : ClientRound) (rounds : List ClientRound) (after : HeapState) → eqb (length numbers) 0 ≡ false
+    → DoesAsked h cpu (frees_of numbers) second after → rounds ≡ first ∷ second ∷ [] → FreesAgain h cpu numbers first rounds after
+again_made h cpu [] first second rounds after some done is = absurd (let never : true ≡ false = some in cc)
+again_made h cpu (number ∷ numbers) first second rounds after some done is = (second, done, is)
+
+-- none was
+pub none_made : (h : HeapState) (cpu : ℕ) (numbers : List ℕ) (first : ClientRound) (rounds : List ClientRound) → eqb (length numbers) 0 ≡ true → rounds ≡ first ∷ [] → FreesAgain h cpu numbers first rounds h
+none_made h cpu [] first rounds none is = (is, refl)
+none_made h cpu (number ∷ numbers) first rounds none is = absurd (let same : length (number ∷ numbers) ≡ 0 = grind (arith, none) in let never : ⊥ = omega (arith, same) in never)
 
 -- all were on the board, and are freed in the order of a bulk free
-pub in_order_made : (s : State) (cpu : ℕ) (numbers asked order : List ℕ) (done : ClientDone) (after : State) → asked ≡ numbers → order ≡ free_order (places_under s numbers) → None ≡ first_unheld s asked
-    → FreesInOrder s cpu order done after → ServesBulkFree s cpu numbers done after
-in_order_made s cpu numbers asked order done after same is none freed =
-    let all : first_unheld s numbers ≡ None = sym (ap (first_unheld s) same) ∙ sym none in
-    subst (λ (x : Option ℕ). MatchOption x (FreesInOrder s cpu (free_order (places_under s numbers)) done after) (λ number. AnswersAtOnce s (answer.NotHeldOf number) done after)) (sym all)
-    (subst (λ (l : List ℕ). FreesInOrder s cpu l done after) is freed)
+pub in_order_made : (h : HeapState) (cpu : ℕ) (numbers asked order : List ℕ) (done : ClientDone) (after : HeapState) → asked ≡ numbers → order ≡ free_order (places_under h.lists numbers) → None ≡ first_unheld h.lists asked
+    → FreesInOrder h cpu order done after → ServesBulkFree h cpu numbers done after
+in_order_made h cpu numbers asked order done after same is none freed =
+    let all : first_unheld h.lists numbers ≡ None = sym (ap (first_unheld h.lists) same) ∙ sym none in
+    subst (λ (x : Option ℕ). MatchOption x (FreesInOrder h cpu (free_order (places_under h.lists numbers)) done after) (λ number. AnswersAtOnce h (answer.NotHeldOf number) done after)) (sym all)
+    (subst (λ (l : List ℕ). FreesInOrder h cpu l done after) is freed)
 
--- numbers that are freed again leave the others
-again_stay : (s : State) (cpu : ℕ) (numbers : List ℕ) (first : ClientRound) (rounds : List ClientRound) (after : State) (object : ℕ) → IsCoherent s → IsAtRest s
-    → FreesAgain s cpu numbers first rounds after → times object numbers ≡ 0 → IsSome (held_under s object) → IsSome (held_under after object)
-again_stay s cpu [] first rounds after object coherent rest again none some = rw again.1 some
-again_stay s cpu (number ∷ numbers) first rounds after object coherent rest again none some =
-    let law = asked_lawful s cpu (frees_of (number ∷ numbers)) again.0 after coherent rest (frees_fit s cpu (number ∷ numbers)) again.1 in
-    stays_there s cpu (frees_of (number ∷ numbers)) again.0 after object law (omega (arith, none, frees_few object cpu (number ∷ numbers) again.0.result.replies)) some
+-- ---- numbers that are asked of a heap
 
--- what was on the board stays
-pub takes_stay : (s : State) (cpu place : ℕ) (numbers : List ℕ) (refusal : Option CacheRefusal) (rounds : List ClientRound) (after : State) → IsCoherent s → IsAtRest s
-    → All (IsNumber s) numbers → All (IsUnheld s) numbers → IsDistinct nat_eq numbers → TakesAll s cpu place numbers refusal rounds after
-    → (object : ℕ) → IsSome (held_under s object) → IsSome (held_under after object)
-takes_stay s cpu place numbers refusal rounds after coherent rest known unheld distinct takes object some = by refusal takes.4
-  where
-    law : IsRound s (round_of cpu (allocs_of place numbers)) takes.0.result takes.1
-    law = asked_lawful s cpu (allocs_of place numbers) takes.0 takes.1 coherent rest (allocs_fit s cpu place numbers known unheld distinct) takes.2
+pub may_take : (h : HeapState) (trace : Trace) (cpu place : ℕ) (numbers : List ℕ) → IsOpenTo h trace (length numbers) → cpu < h.lists.cpus → place < length h.lists.table.kept
+    → All (IsNumber h) numbers → All (IsUnheld h.lists) numbers → IsDistinct nat_eq numbers → MayTake h trace cpu place numbers
+may_take h trace cpu place numbers heap on_cpu of_name known unheld distinct = record {
+  heap = heap;
+  on_cpu = omega (arith, on_cpu, heap.cpus);
+  of_name = omega (arith, of_name, ap (λ (l : List (List ℕ)). length l) heap.names);
+  known = known;
+  unheld = unheld;
+  distinct = distinct;
+}
 
-    mid : IsSome (held_under takes.1 object)
-    mid = stays_there s cpu (allocs_of place numbers) takes.0 takes.1 object law (allocs_free_none object cpu place numbers takes.0.result.replies) some
+-- one number may be asked
+pub one_may : (h : HeapState) (trace : Trace) (cpu place object : ℕ) → IsOpenTo h trace 1 → cpu < trace.cpus → place < length trace.names → IsNumber h object → IsUnheld h.lists object → MayTake h trace cpu place (object ∷ [])
+one_may h trace cpu place object heap on_cpu of_name known unheld = record {
+  heap = heap;
+  on_cpu = on_cpu;
+  of_name = of_name;
+  known = All-cons (IsNumber h) object [] known (All-nil (IsNumber h));
+  unheld = All-cons (IsUnheld h.lists) object [] unheld (All-nil (IsUnheld h.lists));
+  distinct = one-differs object;
+}
 
-    given : List ℕ
-    given = replied is_given numbers takes.0.result.replies
+pub one_take : (h : HeapState) (trace : Trace) (cpu place object : ℕ) → IsOpenTo h trace 1 → cpu < h.lists.cpus → place < length h.lists.table.kept → IsNumber h object → IsUnheld h.lists object → MayTake h trace cpu place (object ∷ [])
+one_take h trace cpu place object heap on_cpu of_name known unheld =
+    one_may h trace cpu place object heap (omega (arith, on_cpu, heap.cpus)) (omega (arith, of_name, ap (λ (l : List (List ℕ)). length l) heap.names)) known unheld
 
-    by : (x : Option CacheRefusal) → MatchOption x ((rounds ≡ takes.0 ∷ []) × (after ≡ takes.1)) (λ why. FreesAgain takes.1 cpu (replied is_given numbers takes.0.result.replies) takes.0 rounds after) → IsSome (held_under after object)
-    by None told = rw told.1 mid
-    by (Some why) again =
-        again_stay takes.1 cpu (replied is_given numbers takes.0.result.replies) takes.0 rounds after object takes.2.coherent law.rest again
-        (apart s (replied is_given numbers takes.0.result.replies) object (replied_all (IsUnheld s) is_given numbers takes.0.result.replies unheld) some) mid
+pub allocs_may : (h : HeapState) (trace : Trace) (cpu place : ℕ) (numbers : List ℕ) → MayTake h trace cpu place numbers → MayDo h.lists trace (round_of cpu (allocs_of place numbers))
+allocs_may h trace cpu place numbers may = allocations-may h trace cpu place numbers may.heap may.on_cpu may.of_name may.known may.unheld may.distinct
 
--- where none was refused each number comes
-pub takes_come : (s : State) (cpu place : ℕ) (numbers : List ℕ) (rounds : List ClientRound) (after : State) → IsCoherent s → IsAtRest s
-    → All (IsNumber s) numbers → All (IsUnheld s) numbers → IsDistinct nat_eq numbers → TakesAll s cpu place numbers None rounds after
-    → (object : ℕ) → 0 < times object numbers → IsSome (held_under after object)
-takes_come s cpu place numbers rounds after coherent rest known unheld distinct takes object some =
-    let done = takes.2 in
-    let fits = allocs_fit s cpu place numbers known unheld distinct in
-    let law = asked_lawful s cpu (allocs_of place numbers) takes.0 takes.1 coherent rest fits done in
-    let given = all_given s cpu place numbers takes.0.result.replies done.does.last done.does.runs (sym takes.3) done.memory in
-    let even = runs-even s (round_of cpu (allocs_of place numbers)).events takes.0.result.replies done.does.last done.does.runs in
-    let long : length takes.0.result.replies ≡ length numbers = omega (arith, even, allocs_events cpu place numbers) in
-    let often = allocs_give_all object cpu place numbers takes.0.result.replies long given in
-    rw takes.4.1 ((law.board.numbers object).1 (inr (omega (arith, some, often)), allocs_free_none object cpu place numbers takes.0.result.replies))
+-- what replies gave of them is no more than can be freed in a round
+pub few_given : (h : HeapState) (trace : Trace) (cpu place : ℕ) (numbers : List ℕ) (replies : List Reply) → MayTake h trace cpu place numbers → length (replied is_given numbers replies) ≤ 2 ^ 32
+few_given h trace cpu place numbers replies may =
+    omega (arith, replied_long is_given numbers replies, (allocs_may h trace cpu place numbers may).few, allocs_events cpu place numbers)
+
+-- the round that asks them
+module _ (lawful : RoundsByTextAreLawful) (h : HeapState) (trace : Trace) (cpu place : ℕ) (numbers : List ℕ) (may : MayTake h trace cpu place numbers) where
+  module _ (first : ClientRound) (mid : HeapState) (done : DoesAsked h cpu (allocs_of place numbers) first mid) where
+    abbrev given : List ℕ
+    given = replied is_given numbers first.result.replies
+
+    pub allocs_lawful : IsRound h.lists (round_of cpu (allocs_of place numbers)) first.result mid.lists
+    allocs_lawful = asked_lawful h trace cpu (allocs_of place numbers) first mid lawful may.heap.sound.coherent may.heap.rest (allocs_may h trace cpu place numbers may) done
+
+    -- what was given can be freed, before
+    frees_before : MayDo h.lists trace (round_of cpu (frees_of given))
+    frees_before =
+        frees-may h trace cpu given (open-fewer h trace (length numbers) 0 (omega arith) may.heap) may.on_cpu (few_given h trace cpu place numbers first.result.replies may)
+        (replied_all (IsNumber h) is_given numbers first.result.replies may.known)
+
+    -- and after the round
+    pub frees_may : MayDo mid.lists trace (round_of cpu (frees_of given))
+    frees_may = leads-on h.lists trace (round_of cpu (allocs_of place numbers)) (round_of cpu (frees_of given)) first.result mid.lists (allocs_may h trace cpu place numbers may) follow allocs_lawful
+      where
+        none : (P : ℕ → Type 0) → All P (objects_of (round_of cpu (frees_of given)).events)
+        none P = subst (All P) (sym (frees-objects cpu given)) (All-nil P)
+
+        follow : MayFollow h.lists trace (round_of cpu (allocs_of place numbers)) (round_of cpu (frees_of given))
+        follow = record {
+          sound = frees_before.sound;
+          unheld = none (λ object. held_under h.lists object ≡ None);
+          new = none (λ object. ¬ Contains (objects_of (round_of cpu (allocs_of place numbers)).events) object);
+          distinct = subst (IsDistinct nat_eq) (sym (frees-objects cpu given)) none-differ;
+          few = frees_before.few;
+          dry = λ order. omega (arith, may.heap.dry order, allocs_events cpu place numbers);
+        }
+
+    pub frees_lawful : (second : ClientRound) (after : HeapState) → DoesAsked mid cpu (frees_of given) second after → IsRound mid.lists (round_of cpu (frees_of given)) second.result after.lists
+    frees_lawful second after again = asked_lawful mid trace cpu (frees_of given) second after lawful done.coherent allocs_lawful.rest frees_may again
+
+    -- numbers that are freed again leave the others
+    again_stay : (rounds : List ClientRound) (after : HeapState) (object : ℕ) → FreesAgain mid cpu given first rounds after → times object given ≡ 0 → IsSome (held_under mid.lists object) → IsSome (held_under after.lists object)
+    again_stay rounds after object again none some = by given refl again
+      where
+        by : (again_numbers : List ℕ) → given ≡ again_numbers → FreesAgain mid cpu again_numbers first rounds after → IsSome (held_under after.lists object)
+        by [] is again = rw again.1 some
+        by (number ∷ more) is again =
+            let second : DoesAsked mid cpu (frees_of given) again.0 after = subst (λ (l : List ℕ). DoesAsked mid cpu (frees_of l) again.0 after) (sym is) again.1 in
+            stays_there mid.lists cpu (frees_of given) again.0.result after.lists object (frees_lawful again.0 after second) (omega (arith, none, frees_few object cpu given again.0.result.replies)) some
+
+  -- what was on the board stays
+  pub takes_stay : (refusal : Option CacheRefusal) (rounds : List ClientRound) (after : HeapState) → TakesAll h cpu place numbers refusal rounds after
+      → (object : ℕ) → IsSome (held_under h.lists object) → IsSome (held_under after.lists object)
+  takes_stay refusal rounds after takes object some = by refusal takes.4
+    where
+      mid : IsSome (held_under takes.1.lists object)
+      mid = stays_there h.lists cpu (allocs_of place numbers) takes.0.result takes.1.lists object (allocs_lawful takes.0 takes.1 takes.2) (allocs_free_none object cpu place numbers takes.0.result.replies) some
+
+      by : (x : Option CacheRefusal) → MatchOption x ((rounds ≡ takes.0 ∷ []) × (after ≡ takes.1)) (λ why. FreesAgain takes.1 cpu (replied is_given numbers takes.0.result.replies) takes.0 rounds after) → IsSome (held_under after.lists object)
+      by None told = rw told.1 mid
+      by (Some why) again =
+          again_stay takes.0 takes.1 takes.2 rounds after object again
+          (apart h.lists (replied is_given numbers takes.0.result.replies) object (replied_all (IsUnheld h.lists) is_given numbers takes.0.result.replies may.unheld) some) mid
+
+  -- where none was refused each number is given as often as it is asked
+  pub takes_often : (rounds : List ClientRound) (after : HeapState) (takes : TakesAll h cpu place numbers None rounds after) (object : ℕ)
+      → times_given object (answers_of cpu (allocs_of place numbers) takes.0.result.replies) ≡ times object numbers
+  takes_often rounds after takes object =
+      let law = allocs_lawful takes.0 takes.1 takes.2 in
+      let given = all_given h.lists cpu place numbers takes.0.result takes.1.lists law (sym takes.3) takes.2.memory in
+      allocs_give_all object cpu place numbers takes.0.result.replies (omega (arith, law.replies, allocs_events cpu place numbers)) given
+
+  -- and comes
+  pub takes_come : (rounds : List ClientRound) (after : HeapState) → TakesAll h cpu place numbers None rounds after → (object : ℕ) → 0 < times object numbers → IsSome (held_under after.lists object)
+  takes_come rounds after takes object some =
+      let law = allocs_lawful takes.0 takes.1 takes.2 in
+      rw takes.4.1 ((law.board.numbers object).1 (inr (omega (arith, some, takes_often rounds after takes object)), allocs_free_none object cpu place numbers takes.0.result.replies))
 
 -- the object of one more number comes or not, and each other one stays
-pub one_stays : (s : State) (cpu place number : ℕ) (round : ClientRound) (after : State) → IsCoherent s → IsAtRest s → IsNumber s number → IsUnheld s number
-    → DoesAsked s cpu (Alloc place number ∷ []) round after → (object : ℕ) → IsSome (held_under s object) → IsSome (held_under after object)
-one_stays s cpu place number round after coherent rest known unheld done object some =
-    let fits = allocs_fit s cpu place (number ∷ []) (All-cons (IsNumber s) number [] known (All-nil (IsNumber s))) (All-cons (IsUnheld s) number [] unheld (All-nil (IsUnheld s))) (one_differs number) in
-    let law = asked_lawful s cpu (Alloc place number ∷ []) round after coherent rest fits done in
-    stays_there s cpu (Alloc place number ∷ []) round after object law (allocs_free_none object cpu place (number ∷ []) round.result.replies) some
+pub one_stays : (s : State) (cpu place number : ℕ) (result : RoundResult) (after : State) → IsRound s (round_of cpu (Alloc place number ∷ [])) result after
+    → (object : ℕ) → IsSome (held_under s object) → IsSome (held_under after object)
+one_stays s cpu place number result after law object some =
+    stays_there s cpu (Alloc place number ∷ []) result after object law (allocs_free_none object cpu place (number ∷ []) result.replies) some
 
 -- one is freed, and each other one stays
-pub others_stay : (s : State) (cpu number : ℕ) (round : ClientRound) (after : State) → IsCoherent s → IsAtRest s
-    → DoesAsked s cpu (Free number ∷ []) round after → (object : ℕ) → object ≢ number → IsSome (held_under s object) → IsSome (held_under after object)
-others_stay s cpu number round after coherent rest done object differ some =
-    let law = asked_lawful s cpu (Free number ∷ []) round after coherent rest (frees_fit s cpu (number ∷ [])) done in
+pub others_stay : (s : State) (cpu number : ℕ) (result : RoundResult) (after : State) → IsRound s (round_of cpu (Free number ∷ [])) result after
+    → (object : ℕ) → object ≢ number → IsSome (held_under s object) → IsSome (held_under after object)
+others_stay s cpu number result after law object differ some =
     let none : times object (number ∷ []) ≡ 0 = times-cons_other object number [] (λ same. differ (sym same)) in
-    stays_there s cpu (Free number ∷ []) round after object law (omega (arith, none, frees_few object cpu (number ∷ []) round.result.replies)) some
+    stays_there s cpu (Free number ∷ []) result after object law (omega (arith, none, frees_few object cpu (number ∷ []) result.replies)) some

@@ -8,47 +8,21 @@ use Rattle.std.proofs.lemmas.Slice.Zip.{get_or-zip, length-zip}
 use Rattle.std.proofs.lemmas.List.FromFn.{get_or-range_with_len, length-range_with_len}
 use Rattle.std.proofs.lemmas.Map.Keys.{IsDistinct-from_apart}
 use Rattle.slub_common.proofs.Lists.{range_with_len-append}
-use Rattle.slub_events.specs.declared.event.Act.TheVariants.{Alloc, Free}
 use Rattle.slub_answers.specs.declared.reply.Reply.{Reply}
 use Rattle.slub_answers.specs.Kinds.{is_given}
 use Rattle.slub_lists.specs.State.{State}
-use Rattle.slub_trace_reader.specs.Sound.{objects_of}
+use Rattle.slub_trace_reader.specs.declared.trace.Trace.{Trace}
 use Rattle.slub_journal.specs.declared.client.CacheRefusal.{CacheRefusal}
-use Rattle.slub_journal.specs.Asked.{first_refusal, frees_of, refusal_of, round_of}
+use Rattle.slub_journal.specs.Asked.{first_refusal, refusal_of}
 use Rattle.slub_journal.specs.Bulk.{free_order, objects_of_slab, slabs_among}
-use Rattle.slub_journal.specs.BulkLines.{allocs_of, frame_under, places_under, replied}
-use Rattle.slub_engine.specs.Steps.{IsKnownAct, KeepsSizes, KeepsUnheld}
-use Rattle.slub_bulk.specs.Numbers.{IsNumber}
+use Rattle.slub_clients.specs.BulkLines.{frame_under, places_under, replied}
+use Rattle.slub_engine.specs.Steps.{KeepsUnheld}
+use Rattle.slub_by_text.specs.Heap.{HeapState}
+use Rattle.slub_clients.specs.Asked.{IsOpenTo}
+use Rattle.slub_clients.specs.Laws.{IsNumber}
 use Rattle.slub_bulk.proofs.Counting.{total_whole}
 
--- ---- what acts allocate
-
-pub allocs_objects : (cpu place : ℕ) (numbers : List ℕ) → objects_of (round_of cpu (allocs_of place numbers)).events ≡ numbers
-allocs_objects cpu place [] = refl
-allocs_objects cpu place (number ∷ numbers) = ap (λ (rest : List ℕ). number ∷ rest) (allocs_objects cpu place numbers)
-
-pub frees_objects : (cpu : ℕ) (numbers : List ℕ) → objects_of (round_of cpu (frees_of numbers)).events ≡ []
-frees_objects cpu [] = refl
-frees_objects cpu (number ∷ numbers) = frees_objects cpu numbers
-
--- ---- known acts
-
-pub allocs_known : (s : State) (place : ℕ) (numbers : List ℕ) → place < length s.table.kept → All (IsNumber s) numbers → All (IsKnownAct s) (allocs_of place numbers)
-allocs_known s place numbers within known = All-map (IsKnownAct s) (Alloc place) numbers (λ k d inside. (within, (known k d inside).0, (known k d inside).1))
-
-pub frees_known : (s : State) (numbers : List ℕ) → All (IsNumber s) numbers → All (IsKnownAct s) (frees_of numbers)
-frees_known s numbers known = All-map (IsKnownAct s) Free numbers (λ k d inside. (known k d inside).1)
-
-pub numbers_kept : (s after : State) (numbers : List ℕ) → KeepsSizes s after → All (IsNumber s) numbers → All (IsNumber after) numbers
-numbers_kept s after numbers sizes known = λ k d inside. ((known k d inside).0, (let more = (known k d inside).1 in omega (arith, more, sizes.board)))
-
 -- ---- numbers that differ
-
-pub none_differ : IsDistinct nat_eq []
-none_differ = IsDistinct-from_apart nat_eq [] (λ i j d before within. absurd (let never : ⊥ = omega (arith, within) in never))
-
-pub one_differs : (object : ℕ) → IsDistinct nat_eq (object ∷ [])
-one_differs object = IsDistinct-from_apart nat_eq (object ∷ []) (λ i j d before within. absurd (let never : ⊥ = omega (arith, before, within) in never))
 
 -- numbers that follow one another
 pub range_differs : (first count : ℕ) → IsDistinct nat_eq (range_with_len first count)
@@ -58,8 +32,8 @@ range_differs first count = IsDistinct-from_apart nat_eq (range_with_len first c
     let other : slice_index_or (range_with_len first count) j d ≡ first + j = get_or-range_with_len first count j d (omega (arith, within, long)) in
     rw (one, other) (grind (arith, before)))
 
-pub range_known : (s : State) (first count : ℕ) → 1 ≤ first → first + count ≤ length s.board → All (IsNumber s) (range_with_len first count)
-range_known s first count from within k d inside =
+pub range_known : (h : HeapState) (first count : ℕ) → 1 ≤ first → first + count ≤ length h.lists.board → All (IsNumber h) (range_with_len first count)
+range_known h first count from within k d inside =
     let long = length-range_with_len first count in
     let at = get_or-range_with_len first count k d (omega (arith, inside, long)) in
     rw at (omega (arith, from), omega (arith, within, inside, long))
@@ -135,24 +109,22 @@ slabs_all P places (frame ∷ frames) all = All-append P (objects_of_slab places
 pub order_all : (P : ℕ → Type 0) (places : List (ℕ × ℕ)) → All (λ place. P place.0) places → All P (free_order places)
 order_all P places all = slabs_all P places (slabs_among places) all
 
-pub order_known : (s : State) (numbers : List ℕ) → All (IsNumber s) numbers → All (IsNumber s) (free_order (places_under s numbers))
-order_known s numbers known = order_all (IsNumber s) (places_under s numbers) (All-map (λ (place : ℕ × ℕ). IsNumber s place.0) (λ number. (number, frame_under s number)) numbers known)
+pub order_known : (h : HeapState) (numbers : List ℕ) → All (IsNumber h) numbers → All (IsNumber h) (free_order (places_under h.lists numbers))
+order_known h numbers known = order_all (IsNumber h) (places_under h.lists numbers) (All-map (λ (place : ℕ × ℕ). IsNumber h place.0) (λ number. (number, frame_under h.lists number)) numbers known)
 
 pub order_long : (s : State) (numbers : List ℕ) → length (free_order (places_under s numbers)) ≡ length numbers
 order_long s numbers = total_whole (places_under s numbers) ∙ length-map numbers (λ number. (number, frame_under s number))
 
+pub replied_long : (is : Reply → Bool) (numbers : List ℕ) (replies : List Reply) → length (replied is numbers replies) ≤ length numbers
+replied_long is [] replies = omega arith
+replied_long is (number ∷ numbers) [] = omega arith
+replied_long is (number ∷ numbers) (reply ∷ replies) = by (is reply) (replied_long is numbers replies) refl
+  where
+    by : (b : Bool) → length (replied is numbers replies) ≤ length numbers → is reply ≡ b → length (replied is (number ∷ numbers) (reply ∷ replies)) ≤ length (number ∷ numbers)
+    by true rest e = rw e (omega (arith, rest))
+    by false rest e = rw e (omega (arith, rest))
+
 -- ---- what rounds keep
-
-pub sizes_kept : (s mid after : State) → KeepsSizes s mid → KeepsSizes mid after → KeepsSizes s after
-sizes_kept s mid after first second = record {
-  frames = second.frames ∙ first.frames;
-  cpus = second.cpus ∙ first.cpus;
-  kept = second.kept ∙ first.kept;
-  board = second.board ∙ first.board;
-}
-
-pub sizes_same : (s : State) → KeepsSizes s s
-sizes_same s = record { frames = refl; cpus = refl; kept = refl; board = refl }
 
 pub unheld_same : (s : State) (objects : List ℕ) → KeepsUnheld s objects s
 unheld_same s objects object unheld out = unheld
@@ -162,3 +134,7 @@ unheld_after s mid after objects first second object unheld out = second object 
   where
     none_of : (object : ℕ) → Contains [] object → ⊥
     none_of object mine = absurd (let never : ⊥ = omega (arith, mine.1) in never)
+
+-- the numbers of a trace's heap are those of every other one
+pub numbers_kept : (h after : HeapState) (trace : Trace) (asked more : ℕ) (numbers : List ℕ) → IsOpenTo h trace asked → IsOpenTo after trace more → All (IsNumber h) numbers → All (IsNumber after) numbers
+numbers_kept h after trace asked more numbers before now known = λ k d inside. ((known k d inside).0, (let less = (known k d inside).1 in omega (arith, less, before.objects, now.objects)))

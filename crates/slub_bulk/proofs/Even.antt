@@ -15,7 +15,7 @@ use Rattle.slub_common.specs.Times.{times}
 use Rattle.slub_common.proofs.Times.{times-cons}
 use Rattle.slub_lists.specs.State.{State}
 use Rattle.slub_journal.specs.Asked.{event_of, round_of}
-use Rattle.slub_journal.specs.BulkLines.{allocs_of, replied}
+use Rattle.slub_clients.specs.BulkLines.{allocs_of, replied}
 use Rattle.slub_journal.specs.Lawful.{AreLedgers, RunsEvents, freed_in, given_in, is_by}
 use Rattle.slub_round_law.specs.Answered.{Answered}
 use Rattle.slub_round_law.proofs.Steps.{event-step}

@@ -1,10 +1,12 @@
 -- The board after a bulk line.
-use Rattle.std.proofs.Common.{◌≡◌, ℕ, zero, suc, ◌+◌, ◌<◌, ◌≤◌, cond, Bool, true, false, ◌&&◌, eqb, is_none, List, [], ◌∷◌, length, filter, refl, sym, ◌∙◌, ap, subst, All, arith, Option, Some, None, IsSome, IfSome, inl, inr, ◌⊎◌}
-use Rattle.std.specs.List.{Contains, IsDistinct, filter_map, range_with_len}
-use Rattle.std.specs.Prelude.{count_by, nat_eq, slice_get}
+use Rattle.std.proofs.Common.{◌≡◌, ℕ, zero, suc, ◌+◌, ◌^◌, ◌<◌, ◌≤◌, cond, Bool, true, false, ◌&&◌, eqb, is_none, List, [], ◌∷◌, length, filter, refl, sym, ◌∙◌, ap, subst, All, arith, Option, Some, None, IsSome, IfSome, inl, inr, ◌⊎◌}
+use Rattle.std.specs.List.{Contains, filter_map, range_with_len}
+use Rattle.std.specs.Prelude.{count_by, slice_get}
+use Rattle.std.proofs.lemmas.List.FromFn.{length-range_with_len}
 use Rattle.std.proofs.lemmas.List.Sums.{sum_by-cons}
 use Rattle.std.proofs.lemmas.List.Elements.{All-cons, All-contains, All-head, All-nil, All-tail}
 use Rattle.slub_events.specs.declared.event.Act.TheVariants.{Alloc, Free}
+use Rattle.slub_events.specs.declared.event.Round.{Round}
 use Rattle.slub_object_layout.specs.Layout.{address_of}
 use Rattle.slub_answers.specs.declared.reply.Reply.{Reply}
 use Rattle.slub_answers.specs.Kinds.{is_freed, is_given}
@@ -23,22 +25,29 @@ use Rattle.slub_lists.proofs.CheckedSlabs.{at_some}
 use Rattle.slub_lists.proofs.CheckedTaking.{held-slab}
 use Rattle.slub_lists.proofs.Kept.{consistent-of}
 use Rattle.slub_lists.proofs.Places.{layout-of}
+use Rattle.slub_trace_reader.specs.declared.trace.Trace.{Trace}
+use Rattle.slub_calls.specs.Laws.{MayDo}
 use Rattle.slub_journal.specs.declared.client.CacheRefusal.{CacheRefusal}
 use Rattle.slub_journal.specs.declared.client.ClientDone.{ClientDone}
 use Rattle.slub_journal.specs.declared.client.ClientAnswer.TheVariants as answer
 use Rattle.slub_journal.specs.declared.client.ClientRound.{ClientRound}
-use Rattle.slub_journal.specs.Asked.{AnswersAtOnce, DoesAsked, event_of, frees_of, round_of}
+use Rattle.slub_journal.specs.declared.journal.RoundResult.{RoundResult}
+use Rattle.slub_journal.specs.Asked.{event_of, frees_of, round_of}
 use Rattle.slub_journal.specs.Bulk.{free_order}
-use Rattle.slub_journal.specs.BulkLines.{AddsNumbers, DropsNumbers, FreesAgain, FreesInOrder, IsEven, LeavesBulk, LeavesBulkFree, ServesBulk, ServesBulkFree, TakesAll, address_under, allocs_of, bulk_answer, first_unheld, freed_by, freed_number, places_under, replied}
-use Rattle.slub_journal.specs.Lawful.{IsAtRest, IsUnheld, freed_in, given_in}
+use Rattle.slub_journal.specs.Lawful.{DoesRound, IsUnheld, freed_in, given_in}
 use Rattle.slub_round_law.specs.Answered.{Answered, did_free, gave, times_freed, times_given}
 use Rattle.slub_round_law.specs.Round.{IsRound}
-use Rattle.slub_round_law.proofs.Rounds.{runs-even}
 use Rattle.slub_round_law.proofs.Steps.{match_either}
 use Rattle.slub_round_law.proofs.Times.{once_times}
-use Rattle.slub_bulk.specs.Numbers.{IsNumber}
-use Rattle.slub_bulk.proofs.Boards.{all_given, allocs_events, allocs_fit, allocs_free_none, allocs_give_all, answers_of, asked_lawful, frees_events, frees_fit, frees_give_none, replies_even, stays_there, takes_come, takes_stay}
-use Rattle.slub_bulk.proofs.Bulking.{replied_all}
+use Rattle.slub_by_text.specs.ByText.{DoesByText}
+use Rattle.slub_by_text.specs.Heap.{HeapState}
+use Rattle.slub_by_text.specs.Laws.{RoundsByTextAreLawful}
+use Rattle.slub_clients.specs.Asked.{AnswersAtOnce, DoesAsked, IsOpenTo}
+use Rattle.slub_clients.specs.BulkLines.{AddsNumbers, DropsNumbers, FreesAgain, FreesInOrder, IsEven, LeavesBulk, LeavesBulkFree, ServesBulk, ServesBulkFree, TakesAll, address_under, allocs_of, bulk_answer, first_unheld, freed_by, freed_number, places_under, replied}
+use Rattle.slub_clients.proofs.Allowed.{frees-may}
+use Rattle.slub_bulk.specs.Taking.{MayTake}
+use Rattle.slub_bulk.proofs.Boards.{allocs_free_none, allocs_lawful, answers_of, asked_lawful, frees_give_none, frees_lawful, replies_even, stays_there, takes_come, takes_often, takes_stay}
+use Rattle.slub_bulk.proofs.Bulking.{order_known, order_long, range_known, replied_all}
 use Rattle.slub_bulk.proofs.Even.{ledger-freed, ledger-given, none-freed, none-given, replied-all, replied-few, replied-none}
 use Rattle.slub_bulk.proofs.Undamaged.{IsFreed, IsUndamaged, frees-all, given-whole-all, laid-whole}
 
@@ -97,30 +106,27 @@ apart s one other coherent here there same = by (held_under s one) (held_under s
 
 -- ---- all were given
 
-pub adds : (s : State) (cpu place : ℕ) (numbers : List ℕ) (rounds : List ClientRound) (after : State) → IsCoherent s → IsAtRest s
-    → All (IsNumber s) numbers → All (IsUnheld s) numbers → IsDistinct nat_eq numbers → TakesAll s cpu place numbers None rounds after → AddsNumbers s numbers after
-adds s cpu place numbers rounds after coherent rest known unheld distinct takes = record {
-  stay = λ object some. either-way s after object (subst (λ (t : State). IfSome (held_under s object) (λ held. (held_under t object ≡ Some held) ⊎ (held_under t object ≡ None))) (sym takes.4.1) (law.board.stays object)) some (takes_stay s cpu place numbers None rounds after coherent rest known unheld distinct takes object some);
-  come = λ object none. (λ some. to object none some, λ mine. takes_come s cpu place numbers rounds after coherent rest known unheld distinct takes object (times-contained object numbers mine));
-  apart = λ one other mine also same. apart after one other (rw takes.4.1 takes.2.coherent) (come one mine) (come other also) same;
+pub adds : (lawful : RoundsByTextAreLawful) (h : HeapState) (trace : Trace) (cpu place : ℕ) (numbers : List ℕ) (rounds : List ClientRound) (after : HeapState) → MayTake h trace cpu place numbers
+    → TakesAll h cpu place numbers None rounds after → AddsNumbers h.lists numbers after.lists
+adds lawful h trace cpu place numbers rounds after may takes = record {
+  stay = λ object some. either-way h.lists after.lists object (subst (λ (t : State). IfSome (held_under h.lists object) (λ held. (held_under t object ≡ Some held) ⊎ (held_under t object ≡ None))) same (law.board.stays object)) some (takes_stay lawful h trace cpu place numbers may None rounds after takes object some);
+  come = λ object none. (λ some. to object none some, λ mine. come object mine);
+  apart = λ one other mine also same. apart after.lists one other (rw takes.4.1 takes.2.coherent) (come one mine) (come other also) same;
 }
   where
-    law : IsRound s (round_of cpu (allocs_of place numbers)) takes.0.result takes.1
-    law = asked_lawful s cpu (allocs_of place numbers) takes.0 takes.1 coherent rest (allocs_fit s cpu place numbers known unheld distinct) takes.2
+    law : IsRound h.lists (round_of cpu (allocs_of place numbers)) takes.0.result takes.1.lists
+    law = allocs_lawful lawful h trace cpu place numbers may takes.0 takes.1 takes.2
 
-    come : (object : ℕ) → Contains numbers object → IsSome (held_under after object)
-    come object mine = takes_come s cpu place numbers rounds after coherent rest known unheld distinct takes object (times-contained object numbers mine)
+    same : takes.1.lists ≡ after.lists
+    same = ap (λ (t : HeapState). t.lists) (sym takes.4.1)
 
-    often : (object : ℕ) → times_given object (answers_of cpu (allocs_of place numbers) takes.0.result.replies) ≡ times object numbers
-    often object =
-        let done = takes.2.does in
-        let even = runs-even s (round_of cpu (allocs_of place numbers)).events takes.0.result.replies done.last done.runs in
-        allocs_give_all object cpu place numbers takes.0.result.replies (omega (arith, even, allocs_events cpu place numbers)) (all_given s cpu place numbers takes.0.result.replies done.last done.runs (sym takes.3) takes.2.memory)
+    come : (object : ℕ) → Contains numbers object → IsSome (held_under after.lists object)
+    come object mine = takes_come lawful h trace cpu place numbers may rounds after takes object (times-contained object numbers mine)
 
-    to : (object : ℕ) → held_under s object ≡ None → IsSome (held_under after object) → Contains numbers object
-    to object none some = elim ((law.board.numbers object).0 (rw takes.4.1 at some)).0 [
-      | inl before ↦ absurd (not-some (held_under s object) none before)
-      | inr given ↦ Contains-times object numbers (omega (arith, given, often object))
+    to : (object : ℕ) → held_under h.lists object ≡ None → IsSome (held_under after.lists object) → Contains numbers object
+    to object none some = elim ((law.board.numbers object).0 (rw same some)).0 [
+      | inl before ↦ absurd (not-some (held_under h.lists object) none before)
+      | inr given ↦ Contains-times object numbers (omega (arith, given, takes_often lawful h trace cpu place numbers may rounds after takes object))
     ]
 
 -- ---- what a bulk free frees
@@ -164,12 +170,9 @@ freed-count (number ∷ numbers) (told ∷ replies) even =
     by false is rest split = rw is (let here = rw is at split in omega (arith, here, rest))
 
 -- a round of frees drops what it freed
-pub drops : (s : State) (cpu : ℕ) (numbers : List ℕ) (round : ClientRound) (after : State) → IsCoherent s → IsAtRest s → DoesAsked s cpu (frees_of numbers) round after → DropsNumbers s (replied is_freed numbers round.result.replies) after
-drops s cpu numbers round after coherent rest done = record { go = go; stay = stay }
+pub drops : (s : State) (cpu : ℕ) (numbers : List ℕ) (round : ClientRound) (after : State) → IsRound s (round_of cpu (frees_of numbers)) round.result after → DropsNumbers s (replied is_freed numbers round.result.replies) after
+drops s cpu numbers round after law = record { go = go; stay = stay }
   where
-    law : IsRound s (round_of cpu (frees_of numbers)) round.result after
-    law = asked_lawful s cpu (frees_of numbers) round after coherent rest (frees_fit s cpu numbers) done
-
     often : (object : ℕ) → times_freed object (answers_of cpu (frees_of numbers) round.result.replies) ≡ times object (replied is_freed numbers round.result.replies)
     often object = freed-often object cpu numbers round.result.replies
 
@@ -215,13 +218,21 @@ given-often object cpu place (number ∷ numbers) (told ∷ replies) =
         nothing true rest = omega (arith, rest)
         nothing false rest = omega (arith, rest)
 
-module _ (s : State) (cpu place : ℕ) (numbers : List ℕ) (first : ClientRound) (mid : State) (coherent : IsCoherent s) (rest : IsAtRest s) (known : All (IsNumber s) numbers) (unheld : All (IsUnheld s) numbers) (distinct : IsDistinct nat_eq numbers)
-    (does : DoesAsked s cpu (allocs_of place numbers) first mid) where
+-- a heap without ids does each round on its lists
+on-lists : (s : State) (ids : Option (List ℕ)) (round : Round) (result : RoundResult) (after : State) (left : Option (List ℕ)) → ids ≡ None → DoesByText s ids round result after left → DoesRound s round result after × (left ≡ None)
+on-lists s None round result after left none does = does
+on-lists s (Some ids) round result after left none does = absurd (cc)
+
+module _ (lawful : RoundsByTextAreLawful) (h : HeapState) (trace : Trace) (cpu place : ℕ) (numbers : List ℕ) (may : MayTake h trace cpu place numbers) (beside : h.ids ≡ None) (first : ClientRound) (mid : HeapState)
+    (does : DoesAsked h cpu (allocs_of place numbers) first mid) where
   abbrev given : List ℕ
   given = replied is_given numbers first.result.replies
 
-  law : IsRound s (round_of cpu (allocs_of place numbers)) first.result mid
-  law = asked_lawful s cpu (allocs_of place numbers) first mid coherent rest (allocs_fit s cpu place numbers known unheld distinct) does
+  law : IsRound h.lists (round_of cpu (allocs_of place numbers)) first.result mid.lists
+  law = allocs_lawful lawful h trace cpu place numbers may first mid does
+
+  on : DoesRound h.lists (round_of cpu (allocs_of place numbers)) first.result mid.lists × (mid.ids ≡ None)
+  on = on-lists h.lists h.ids (round_of cpu (allocs_of place numbers)) first.result mid.lists mid.ids beside does.does
 
   no_free : (object : ℕ) → times_freed object (answers_of cpu (allocs_of place numbers) first.result.replies) ≡ 0
   no_free object = allocs_free_none object cpu place numbers first.result.replies
@@ -230,78 +241,84 @@ module _ (s : State) (cpu place : ℕ) (numbers : List ℕ) (first : ClientRound
   often object = given-often object cpu place numbers first.result.replies
 
   once : (x : ℕ) → times x given ≤ 1
-  once x = omega (arith, once_times x numbers distinct, replied-few is_given x numbers first.result.replies)
+  once x = omega (arith, once_times x numbers may.distinct, replied-few is_given x numbers first.result.replies)
 
   -- what was given can be freed again
-  each-freed : (number : ℕ) → 0 < times number given → IsUndamaged does.does.last number → IsFreed mid number
-  each-freed number some whole = by (held_under mid number) refl ((law.board.numbers number).1 (inr (omega (arith, some, often number)), no_free number))
+  each-freed : (number : ℕ) → 0 < times number given → IsUndamaged on.0.last number → IsFreed mid.lists number
+  each-freed number some whole = by (held_under mid.lists number) refl ((law.board.numbers number).1 (inr (omega (arith, some, often number)), no_free number))
     where
-      by : (x : Option Held) → held_under mid number ≡ x → IsSome (held_under mid number) → IsFreed mid number
-      by None is there = absurd (not-some (held_under mid number) is there)
+      by : (x : Option Held) → held_under mid.lists number ≡ x → IsSome (held_under mid.lists number) → IsFreed mid.lists number
+      by None is there = absurd (not-some (held_under mid.lists number) is there)
       by (Some held) is there = record {
         held = held;
         there = is;
-        laid = at_some (held_under mid number) held (λ held. held.worker ≡ None) is (law.rest.laid_down number);
-        whole = laid-whole does.does.last mid number does.does.after_is whole;
+        laid = at_some (held_under mid.lists number) held (λ held. held.worker ≡ None) is (law.rest.laid_down number);
+        whole = laid-whole on.0.last mid.lists number on.0.after_is whole;
       }
 
-  all-freed : All (IsFreed mid) given
-  all-freed = by given (λ number some. some) (given-whole-all cpu place numbers s first.result.replies does.does.last coherent (λ k d inside. (known k d inside).1) (λ x. once_times x numbers distinct) does.does.runs)
+  all-freed : All (IsFreed mid.lists) given
+  all-freed = by given (λ number some. some) (given-whole-all cpu place numbers h.lists first.result.replies on.0.last may.heap.sound.coherent (λ k d inside. (may.known k d inside).1) (λ x. once_times x numbers may.distinct) on.0.runs)
     where
-      by : (some : List ℕ) → ((number : ℕ) → 0 < times number some → 0 < times number given) → All (IsUndamaged does.does.last) some → All (IsFreed mid) some
-      by [] among whole = All-nil (IsFreed mid)
+      by : (some : List ℕ) → ((number : ℕ) → 0 < times number some → 0 < times number given) → All (IsUndamaged on.0.last) some → All (IsFreed mid.lists) some
+      by [] among whole = All-nil (IsFreed mid.lists)
       by (number ∷ some) among whole =
-          All-cons (IsFreed mid) number some
-          (each-freed number (among number (times-contained number (number ∷ some) (0, omega arith, refl))) (All-head (IsUndamaged does.does.last) number some whole))
-          (by some (λ n there. among n (omega (arith, there, times-cons n number some))) (All-tail (IsUndamaged does.does.last) number some whole))
+          All-cons (IsFreed mid.lists) number some
+          (each-freed number (among number (times-contained number (number ∷ some) (0, omega arith, refl))) (All-head (IsUndamaged on.0.last) number some whole))
+          (by some (λ n there. among n (omega (arith, there, times-cons n number some))) (All-tail (IsUndamaged on.0.last) number some whole))
 
   -- the board, where what was given is gone again
-  board-back : (after : State) → DropsNumbers mid given after → (object : ℕ) → held_under after object ≡ held_under s object
+  board-back : (after : State) → DropsNumbers mid.lists given after → (object : ℕ) → held_under after object ≡ held_under h.lists object
   board-back after drop object = by-times (times object given) refl
     where
       absent : times object given ≡ 0 → ¬ Contains given object
       absent nothing mine = let some = times-contained object given mine in let never : ⊥ = omega (arith, some, nothing) in never
 
-      back : times object given ≡ 0 → (x : Option Held) → held_under s object ≡ x → held_under mid object ≡ held_under s object
-      back nothing None is = nobody (held_under mid object) (λ some. elim ((law.board.numbers object).0 some).0 [
-        | inl before ↦ absurd (not-some (held_under s object) is before)
+      back : times object given ≡ 0 → (x : Option Held) → held_under h.lists object ≡ x → held_under mid.lists object ≡ held_under h.lists object
+      back nothing None is = nobody (held_under mid.lists object) (λ some. elim ((law.board.numbers object).0 some).0 [
+        | inl before ↦ absurd (not-some (held_under h.lists object) is before)
         | inr came ↦ absurd (let never : ⊥ = omega (arith, came, often object, nothing) in never)
       ]) ∙ sym is
       back nothing (Some held) is =
-          let there = is-there (held_under s object) held is in
-          either-way s mid object (law.board.stays object) there (stays_there s cpu (allocs_of place numbers) first mid object law (no_free object) there)
+          let there = is-there (held_under h.lists object) held is in
+          either-way h.lists mid.lists object (law.board.stays object) there (stays_there h.lists cpu (allocs_of place numbers) first.result mid.lists object law (no_free object) there)
 
-      by-times : (n : ℕ) → times object given ≡ n → held_under after object ≡ held_under s object
-      by-times zero nothing = drop.stay object (absent nothing) ∙ back nothing (held_under s object) refl
+      by-times : (n : ℕ) → times object given ≡ n → held_under after object ≡ held_under h.lists object
+      by-times zero nothing = drop.stay object (absent nothing) ∙ back nothing (held_under h.lists object) refl
       by-times (suc n) some =
           let mine = Contains-times object given (omega (arith, some)) in
-          drop.go object mine ∙ sym (All-contains (IsUnheld s) given object (replied_all (IsUnheld s) is_given numbers first.result.replies unheld) mine)
+          drop.go object mine ∙ sym (All-contains (IsUnheld h.lists) given object (replied_all (IsUnheld h.lists) is_given numbers first.result.replies may.unheld) mine)
 
   first-given : given_in first.result.ledgers ≡ length given
-  first-given = ledger-given s (Alloc place) cpu numbers first.result.replies first.result.ledgers does.does.ledgers
+  first-given = ledger-given h.lists (Alloc place) cpu numbers first.result.replies first.result.ledgers law.ledgers
 
   first-freed : freed_in first.result.ledgers ≡ 0
   first-freed =
-      ledger-freed s (Alloc place) cpu numbers first.result.replies first.result.ledgers does.does.ledgers
-      ∙ ap (λ (l : List ℕ). length l) (replied-none is_freed numbers first.result.replies (none-freed cpu place numbers s first.result.replies does.does.last does.does.runs))
+      ledger-freed h.lists (Alloc place) cpu numbers first.result.replies first.result.ledgers law.ledgers
+      ∙ ap (λ (l : List ℕ). length l) (replied-none is_freed numbers first.result.replies (none-freed cpu place numbers h.lists first.result.replies on.0.last on.0.runs))
 
   -- what was given is freed again
-  module _ (second : ClientRound) (after : State) (again : DoesAsked mid cpu (frees_of given) second after) where
+  module _ (second : ClientRound) (after : HeapState) (again : DoesAsked mid cpu (frees_of given) second after) where
+    law_again : IsRound mid.lists (round_of cpu (frees_of given)) second.result after.lists
+    law_again = frees_lawful lawful h trace cpu place numbers may first mid does second after again
+
+    on_again : DoesRound mid.lists (round_of cpu (frees_of given)) second.result after.lists
+    on_again = (on-lists mid.lists mid.ids (round_of cpu (frees_of given)) second.result after.lists after.ids on.1 again.does).0
+
     all-told : All (λ told. is_freed told ≡ true) second.result.replies
-    all-told = frees-all cpu given mid second.result.replies again.does.last does.coherent all-freed once again.does.runs
+    all-told = frees-all cpu given mid.lists second.result.replies on_again.last does.coherent all-freed once on_again.runs
 
     back-all : replied is_freed given second.result.replies ≡ given
-    back-all = replied-all is_freed given second.result.replies (replies_even mid cpu given second after again) all-told
+    back-all = replied-all is_freed given second.result.replies (replies_even mid.lists cpu given second.result after.lists law_again) all-told
 
-    pub dropped : DropsNumbers mid given after
-    dropped = subst (λ (l : List ℕ). DropsNumbers mid l after) back-all (drops mid cpu given second after does.coherent law.rest again)
+    pub dropped : DropsNumbers mid.lists given after.lists
+    dropped = subst (λ (l : List ℕ). DropsNumbers mid.lists l after.lists) back-all (drops mid.lists cpu given second after.lists law_again)
 
     second-freed : freed_in second.result.ledgers ≡ length given
-    second-freed = ledger-freed mid Free cpu given second.result.replies second.result.ledgers again.does.ledgers ∙ ap (λ (l : List ℕ). length l) back-all
+    second-freed = ledger-freed mid.lists Free cpu given second.result.replies second.result.ledgers law_again.ledgers ∙ ap (λ (l : List ℕ). length l) back-all
 
     second-given : given_in second.result.ledgers ≡ 0
     second-given =
-        ledger-given mid Free cpu given second.result.replies second.result.ledgers again.does.ledgers
+        ledger-given mid.lists Free cpu given second.result.replies second.result.ledgers law_again.ledgers
         ∙ ap (λ (l : List ℕ). length l) (replied-none is_given given second.result.replies (none-given second.result.replies all-told))
 
     pub even-two : IsEven (first ∷ second ∷ [])
@@ -330,35 +347,41 @@ module _ (s : State) (cpu place : ℕ) (numbers : List ℕ) (first : ClientRound
         sum_by-cons (λ (round : ClientRound). freed_in round.result.ledgers) first [],
       )
 
-  pub back-again : (rounds : List ClientRound) (after : State) → FreesAgain mid cpu given first rounds after → ((object : ℕ) → held_under after object ≡ held_under s object) × IsEven rounds
+  pub back-again : (rounds : List ClientRound) (after : HeapState) → FreesAgain mid cpu given first rounds after → ((object : ℕ) → held_under after.lists object ≡ held_under h.lists object) × IsEven rounds
   back-again rounds after again = by given refl again
     where
-      by : (numbers : List ℕ) → given ≡ numbers → FreesAgain mid cpu numbers first rounds after → ((object : ℕ) → held_under after object ≡ held_under s object) × IsEven rounds
+      by : (again_numbers : List ℕ) → given ≡ again_numbers → FreesAgain mid cpu again_numbers first rounds after → ((object : ℕ) → held_under after.lists object ≡ held_under h.lists object) × IsEven rounds
       by [] nothing again =
-          let drop : DropsNumbers mid given after = record {
+          let drop : DropsNumbers mid.lists given after.lists = record {
             go = λ object mine. absurd (let some = times-contained object given mine in let never : ⊥ = omega (arith, some, ap (times object) nothing) in never);
-            stay = λ object out. ap (λ (t : State). held_under t object) again.1;
+            stay = λ object out. ap (λ (t : HeapState). held_under t.lists object) again.1;
           } in
-          (board-back after drop, subst IsEven (sym again.0) (even-one nothing))
+          (board-back after.lists drop, subst IsEven (sym again.0) (even-one nothing))
       by (number ∷ more) are again =
           let does_again : DoesAsked mid cpu (frees_of given) again.0 after = subst (λ (l : List ℕ). DoesAsked mid cpu (frees_of l) again.0 after) (sym are) again.1 in
-          (board-back after (dropped again.0 after does_again), subst IsEven (sym again.2) (even-two again.0 after does_again))
+          (board-back after.lists (dropped again.0 after does_again), subst IsEven (sym again.2) (even-two again.0 after does_again))
 
-none : (s : State) (cpu place : ℕ) (numbers : List ℕ) (why : CacheRefusal) (rounds : List ClientRound) (after : State) → IsCoherent s → IsAtRest s
-    → All (IsNumber s) numbers → All (IsUnheld s) numbers → IsDistinct nat_eq numbers → TakesAll s cpu place numbers (Some why) rounds after
-    → ((object : ℕ) → held_under after object ≡ held_under s object) × IsEven rounds
-none s cpu place numbers why rounds after coherent rest known unheld distinct takes =
-    back-again s cpu place numbers takes.0 takes.1 coherent rest known unheld distinct takes.2 rounds after takes.4
+none : (lawful : RoundsByTextAreLawful) (h : HeapState) (trace : Trace) (cpu place : ℕ) (numbers : List ℕ) (why : CacheRefusal) (rounds : List ClientRound) (after : HeapState) → MayTake h trace cpu place numbers → h.ids ≡ None
+    → TakesAll h cpu place numbers (Some why) rounds after → ((object : ℕ) → held_under after.lists object ≡ held_under h.lists object) × IsEven rounds
+none lawful h trace cpu place numbers why rounds after may beside takes = back-again lawful h trace cpu place numbers may beside takes.0 takes.1 takes.2 rounds after takes.4
 
 -- ---- a bulk
 
-pub bulks : (s : State) (cpu place : ℕ) (numbers : List ℕ) (done : ClientDone) (after : State) → IsCoherent s → IsAtRest s
-    → All (IsNumber s) numbers → All (IsUnheld s) numbers → IsDistinct nat_eq numbers → ServesBulk s cpu place numbers done after → LeavesBulk s numbers done after done.answer
-bulks s cpu place numbers done after coherent rest known unheld distinct serves = by serves.0 serves.1 serves.2
+pub bulks_add : (lawful : RoundsByTextAreLawful) (h : HeapState) (trace : Trace) (cpu place : ℕ) (numbers : List ℕ) (done : ClientDone) (after : HeapState) → MayTake h trace cpu place numbers
+    → ServesBulk h cpu place numbers done after → done.answer ≡ answer.All → AddsNumbers h.lists numbers after.lists
+bulks_add lawful h trace cpu place numbers done after may serves all = by serves.0 serves.1 serves.2
   where
-    by : (refusal : Option CacheRefusal) → TakesAll s cpu place numbers refusal done.rounds after → done.answer ≡ bulk_answer refusal → LeavesBulk s numbers done after done.answer
-    by None takes is = subst (LeavesBulk s numbers done after) (sym is) (adds s cpu place numbers done.rounds after coherent rest known unheld distinct takes)
-    by (Some why) takes is = subst (LeavesBulk s numbers done after) (sym is) (none s cpu place numbers why done.rounds after coherent rest known unheld distinct takes)
+    by : (refusal : Option CacheRefusal) → TakesAll h cpu place numbers refusal done.rounds after → done.answer ≡ bulk_answer refusal → AddsNumbers h.lists numbers after.lists
+    by None takes is = adds lawful h trace cpu place numbers done.rounds after may takes
+    by (Some why) takes is = absurd (let never : answer.All ≡ answer.Nothing why = sym all ∙ is in cc)
+
+pub bulks : (lawful : RoundsByTextAreLawful) (h : HeapState) (trace : Trace) (cpu place : ℕ) (numbers : List ℕ) (done : ClientDone) (after : HeapState) → MayTake h trace cpu place numbers → h.ids ≡ None
+    → ServesBulk h cpu place numbers done after → LeavesBulk h numbers done after done.answer
+bulks lawful h trace cpu place numbers done after may beside serves = by serves.0 serves.1 serves.2
+  where
+    by : (refusal : Option CacheRefusal) → TakesAll h cpu place numbers refusal done.rounds after → done.answer ≡ bulk_answer refusal → LeavesBulk h numbers done after done.answer
+    by None takes is = subst (LeavesBulk h numbers done after) (sym is) (adds lawful h trace cpu place numbers done.rounds after may takes)
+    by (Some why) takes is = subst (LeavesBulk h numbers done after) (sym is) (none lawful h trace cpu place numbers why done.rounds after may beside takes)
 
 -- ---- the least number that isn't on the board
 
@@ -400,22 +423,34 @@ least-of s first (suc count) number is = by (is_none (held_under s first)) refl 
 
 -- ---- a bulk free
 
-pub frees : (s : State) (cpu first count : ℕ) (done : ClientDone) (after : State) → IsCoherent s → IsAtRest s → ServesBulkFree s cpu (range_with_len first count) done after → LeavesBulkFree s (range_with_len first count) done after done.answer
-frees s cpu first count done after coherent rest serves =
-    match_either (first_unheld s (range_with_len first count)) _ _ (LeavesBulkFree s (range_with_len first count) done after done.answer) serves (λ none freed. in_order freed) (λ number is told. at_once number is told)
-  where
-    at_once : (number : ℕ) → first_unheld s (range_with_len first count) ≡ Some number → AnswersAtOnce s (answer.NotHeldOf number) done after → LeavesBulkFree s (range_with_len first count) done after done.answer
-    at_once number is told =
-        let least = least-of s first count number is in
-        subst (LeavesBulkFree s (range_with_len first count) done after) (sym told.1) (least.mine, least.none, told.2, least.least)
+module _ (lawful : RoundsByTextAreLawful) (h : HeapState) (trace : Trace) (cpu first count : ℕ) (done : ClientDone) (after : HeapState) (heap : IsOpenTo h trace 0) (on_cpu : cpu < trace.cpus) (from : 1 ≤ first)
+    (within : first + count ≤ length h.lists.board) (serves : ServesBulkFree h cpu (range_with_len first count) done after) where
+  abbrev numbers : List ℕ
+  numbers = range_with_len first count
 
-    in_order : FreesInOrder s cpu (free_order (places_under s (range_with_len first count))) done after → LeavesBulkFree s (range_with_len first count) done after done.answer
-    in_order freed =
-        let round = freed.0 in
-        let does = freed.1 in
-        let asks : filter_map freed_number round.asked.events ≡ free_order (places_under s (range_with_len first count)) = rw does.asked (asked-numbers cpu (free_order (places_under s (range_with_len first count)))) in
-        let mine : freed_by round ≡ replied is_freed (free_order (places_under s (range_with_len first count))) round.result.replies = ap (λ (l : List ℕ). replied is_freed l round.result.replies) asks in
-        let even = runs-even s (round_of cpu (frees_of (free_order (places_under s (range_with_len first count))))).events round.result.replies does.does.last does.does.runs in
-        let count_is = freed-count (free_order (places_under s (range_with_len first count))) round.result.replies (omega (arith, even, frees_events cpu (free_order (places_under s (range_with_len first count))))) in
-        subst (LeavesBulkFree s (range_with_len first count) done after) (sym freed.3)
-        (round, freed.2, count_is ∙ ap (λ (l : List ℕ). length l) (sym mine), subst (λ (l : List ℕ). DropsNumbers s l after) (sym mine) (drops s cpu (free_order (places_under s (range_with_len first count))) round after coherent rest does))
+  abbrev order : List ℕ
+  order = free_order (places_under h.lists numbers)
+
+  few : length order ≤ 2 ^ 32
+  few = omega (arith, order_long h.lists numbers, length-range_with_len first count, within, heap.objects, heap.numbers)
+
+  order_may : MayDo h.lists trace (round_of cpu (frees_of order))
+  order_may = frees-may h trace cpu order heap on_cpu few (order_known h numbers (range_known h first count from within))
+
+  at_once : (number : ℕ) → first_unheld h.lists numbers ≡ Some number → AnswersAtOnce h (answer.NotHeldOf number) done after → LeavesBulkFree h numbers done after done.answer
+  at_once number is told =
+      let least = least-of h.lists first count number is in
+      subst (LeavesBulkFree h numbers done after) (sym told.1) (least.mine, least.none, told.2, least.least)
+
+  in_order : FreesInOrder h cpu order done after → LeavesBulkFree h numbers done after done.answer
+  in_order freed =
+      let round = freed.0 in
+      let law : IsRound h.lists (round_of cpu (frees_of order)) round.result after.lists = asked_lawful h trace cpu (frees_of order) round after lawful heap.sound.coherent heap.rest order_may freed.1 in
+      let asks : filter_map freed_number round.asked.events ≡ order = rw freed.1.asked (asked-numbers cpu order) in
+      let mine : freed_by round ≡ replied is_freed order round.result.replies = ap (λ (l : List ℕ). replied is_freed l round.result.replies) asks in
+      let count_is = freed-count order round.result.replies (replies_even h.lists cpu order round.result after.lists law) in
+      subst (LeavesBulkFree h numbers done after) (sym freed.3)
+      (round, freed.2, count_is ∙ ap (λ (l : List ℕ). length l) (sym mine), subst (λ (l : List ℕ). DropsNumbers h.lists l after.lists) (sym mine) (drops h.lists cpu order round after.lists law))
+
+  pub frees : LeavesBulkFree h numbers done after done.answer
+  frees = match_either (first_unheld h.lists numbers) _ _ (LeavesBulkFree h numbers done after done.answer) serves (λ none freed. in_order freed) (λ number is told. at_once number is told)

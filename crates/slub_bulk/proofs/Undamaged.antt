@@ -48,7 +48,7 @@ use Rattle.slub_lists.proofs.CheckedTaking.{held-frame, held-slab, held-used}
 use Rattle.slub_lists.proofs.Keeps.{unchecked_keeps}
 use Rattle.slub_lists.proofs.Kept.{consistent-of}
 use Rattle.slub_journal.specs.Asked.{event_of, frees_of, round_of}
-use Rattle.slub_journal.specs.BulkLines.{allocs_of, replied}
+use Rattle.slub_clients.specs.BulkLines.{allocs_of, replied}
 use Rattle.slub_journal.specs.Lawful.{Answers, RunsEvents}
 use Rattle.slub_round_law.proofs.Bytes.{Has, outside-used, set-up-at, set-up-length}
 use Rattle.slub_round_law.proofs.Clean.{new-bytes, slot-byte}

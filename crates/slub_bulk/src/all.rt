@@ -1,21 +1,23 @@
 //! Taking all of some numbers, or none.
 
-ghost use Rattle.std.specs.Prelude.{◌≡◌, ◌<◌, ◌++◌, [], ◌∷◌, length, All, IfOk, if◌then◌else◌, nat_eq};
+ghost use Rattle.std.specs.Prelude.{◌≡◌, ◌^◌, ◌<◌, ◌≤◌, ◌++◌, [], ◌∷◌, length, All, IfErr, IfOk, if◌then◌else◌, nat_eq};
 ghost use Rattle.std.specs.List.{IsDistinct};
 ghost use Rattle.slub_answers.specs.Kinds.{is_given};
-ghost use Rattle.slub_lists.specs.Coherent.{IsCoherent};
-ghost use Rattle.slub_journal.specs.Asked.{DoesAsked, first_refusal, frees_of};
-ghost use Rattle.slub_journal.specs.BulkLines.{FreesAgain, TakesAll, allocs_of, replied};
-ghost use Rattle.slub_journal.specs.Lawful.{IsAtRest, IsUnheld};
-ghost use Rattle.slub_engine.specs.Steps.{KeepsSizes, KeepsUnheld};
-ghost use Rattle.slub_bulk.specs.Numbers.{IsNumber};
+ghost use Rattle.slub_trace_reader.specs.declared.trace.Trace.{Trace};
+ghost use Rattle.slub_journal.specs.Asked.{first_refusal, frees_of, round_of};
+ghost use Rattle.slub_journal.specs.Lawful.{IsUnheld};
+ghost use Rattle.slub_engine.specs.Steps.{KeepsUnheld};
+ghost use Rattle.slub_clients.specs.Asked.{DoesAsked, IsOpenTo, StaysOpen};
+ghost use Rattle.slub_clients.specs.BulkLines.{FreesAgain, TakesAll, allocs_of, replied};
+ghost use Rattle.slub_clients.specs.Laws.{IsNumber};
+ghost use Rattle.slub_clients.specs.Stopped.{IsLineStopped, IsRoundStopped};
 
 use slub_answers::reply::{Kind, Reply};
+use slub_by_text::heap::Heap;
+use slub_clients::client::{Stopped, client_round};
 use slub_common::no_memory::NoMemory;
-use slub_engine::client::client_round;
 use slub_events::event::Act;
 use slub_journal::client::{CacheRefusal, ClientRound};
-use slub_list_machine::lists::Lists;
 use std::alloc::{AllocError, Global};
 
 /// Allocates an object under each of these numbers from the cache that the name at a place names, in one
@@ -23,114 +25,107 @@ use std::alloc::{AllocError, Global};
 /// refusal, or none where all were given.
 pub fn take_all(
     alloc: Global,
-    lists: &mut Lists,
+    heap: Heap,
     cpu: u32,
     place: u32,
     numbers: &[u32],
     rounds: &mut Vec<ClientRound>,
-) -> Result<Option<CacheRefusal>, NoMemory>
-    requires coherent { IsCoherent lists.old }
-    requires cpu { cpu < lists.old.cpus }
-    requires place { place < length lists.old.table.kept }
-    requires known { All (IsNumber lists.old) numbers.now }
-    requires unheld { All (IsUnheld lists.old) numbers.now }
+) -> Result<(Heap, Option<CacheRefusal>), Stopped>
+    requires asks { (trace : Trace) × IsOpenTo heap trace (length numbers.now) }
+    requires cpu { cpu < heap.lists.cpus }
+    requires place { place < length heap.lists.table.kept }
+    requires known { All (IsNumber heap) numbers.now }
+    requires unheld { All (IsUnheld heap.lists) numbers.now }
     requires distinct { IsDistinct nat_eq numbers.now }
     requires empty { rounds.old.items ≡ [] }
-    ensures taken { IfOk result (λ refusal.
-        TakesAll lists.old cpu place numbers.now refusal rounds.new.items lists.new) }
-    ensures coherent { IsCoherent lists.new }
-    ensures sizes { KeepsSizes lists.old lists.new }
-    ensures unheld { KeepsUnheld lists.old numbers.now lists.new }
-    ensures rest { IsAtRest lists.old → IsAtRest lists.new }
+    ensures taken { IfOk result (λ done.
+        TakesAll heap cpu place numbers.now done.1 rounds.new.items done.0) }
+    ensures stays { IfOk result (λ done. (trace : Trace) → StaysOpen heap trace (length numbers.now) done.0) }
+    ensures unheld { IfOk result (λ done. KeepsUnheld heap.lists numbers.now done.0.lists) }
+    ensures stopped { IfErr result (IsLineStopped heap) }
 {
-    let first = alloc_round(alloc, lists, cpu, place, numbers)?;
+    let (mid, first) = alloc_round(alloc, heap, cpu, place, numbers)?;
     let replies = first.result.replies.as_slice();
-    let refusal = first_refusal(replies);
-    if refusal.is_none() {
+    let Some(why) = first_refusal(replies) else {
         rounds.push(first)?;
-    } else {
-        let given = given_of(alloc, numbers, replies)?;
-        free_again(alloc, lists, cpu, given.as_slice(), first, rounds)?;
-    }
-    Ok(refusal)
+        return Ok((mid, None));
+    };
+    let given = given_of(alloc, numbers, replies)?;
+    let after = free_again(alloc, mid, cpu, given.as_slice(), first, rounds)?;
+    Ok((after, Some(why)))
 }
 
 /// Frees these numbers by one more round, where there are any, behind the first round.
 fn free_again(
     alloc: Global,
-    lists: &mut Lists,
+    heap: Heap,
     cpu: u32,
     numbers: &[u32],
     first: ClientRound,
     rounds: &mut Vec<ClientRound>,
-) -> Result<(), NoMemory>
-    requires coherent { IsCoherent lists.old }
-    requires cpu { cpu < lists.old.cpus }
-    requires known { All (IsNumber lists.old) numbers.now }
+) -> Result<Heap, Stopped>
+    requires asks { (trace : Trace) × IsOpenTo heap trace 0 }
+    requires cpu { cpu < heap.lists.cpus }
+    requires known { All (IsNumber heap) numbers.now }
+    requires few { length numbers.now ≤ 2 ^ 32 }
     requires empty { rounds.old.items ≡ [] }
-    ensures freed { IfOk result (λ _.
-        FreesAgain lists.old cpu numbers.now first rounds.new.items lists.new) }
-    ensures coherent { IsCoherent lists.new }
-    ensures sizes { KeepsSizes lists.old lists.new }
-    ensures unheld { KeepsUnheld lists.old [] lists.new }
-    ensures rest { IsAtRest lists.old → IsAtRest lists.new }
+    ensures freed { IfOk result (λ after. FreesAgain heap cpu numbers.now first rounds.new.items after) }
+    ensures stays { IfOk result (λ after. (trace : Trace) → StaysOpen heap trace 0 after) }
+    ensures unheld { IfOk result (λ after. KeepsUnheld heap.lists [] after.lists) }
+    ensures stopped { IfErr result (IsRoundStopped heap (round_of cpu (frees_of numbers.now))) }
 {
     rounds.push(first)?;
     if numbers.is_empty() {
-        return Ok(());
+        return Ok(heap);
     }
-    let second = free_round(alloc, lists, cpu, numbers)?;
+    let (after, second) = free_round(alloc, heap, cpu, numbers)?;
     rounds.push(second)?;
-    Ok(())
+    Ok(after)
 }
 
 /// One round that allocates an object under each of these numbers from the cache that the name at a place
 /// names.
 fn alloc_round(
     alloc: Global,
-    lists: &mut Lists,
+    heap: Heap,
     cpu: u32,
     place: u32,
     numbers: &[u32],
-) -> Result<ClientRound, NoMemory>
-    requires coherent { IsCoherent lists.old }
-    requires cpu { cpu < lists.old.cpus }
-    requires place { place < length lists.old.table.kept }
-    requires known { All (IsNumber lists.old) numbers.now }
-    requires unheld { All (IsUnheld lists.old) numbers.now }
+) -> Result<(Heap, ClientRound), Stopped>
+    requires asks { (trace : Trace) × IsOpenTo heap trace (length numbers.now) }
+    requires cpu { cpu < heap.lists.cpus }
+    requires place { place < length heap.lists.table.kept }
+    requires known { All (IsNumber heap) numbers.now }
+    requires unheld { All (IsUnheld heap.lists) numbers.now }
     requires distinct { IsDistinct nat_eq numbers.now }
-    ensures done { IfOk result (λ round.
-        DoesAsked lists.old cpu (allocs_of place numbers.now) round lists.new) }
-    ensures coherent { IsCoherent lists.new }
-    ensures sizes { KeepsSizes lists.old lists.new }
-    ensures unheld { KeepsUnheld lists.old numbers.now lists.new }
-    ensures rest { IsAtRest lists.old → IsAtRest lists.new }
+    ensures done { IfOk result (λ done. DoesAsked heap cpu (allocs_of place numbers.now) done.1 done.0) }
+    ensures stays { IfOk result (λ done. (trace : Trace) → StaysOpen heap trace (length numbers.now) done.0) }
+    ensures unheld { IfOk result (λ done. KeepsUnheld heap.lists numbers.now done.0.lists) }
+    ensures stopped { IfErr result (IsRoundStopped heap (round_of cpu (allocs_of place numbers.now))) }
 {
     let asked = allocs(alloc, place, numbers)?;
-    client_round(alloc, lists, cpu, asked.as_slice())
+    client_round(alloc, heap, cpu, asked.as_slice())
 }
 
 /// One round that frees these numbers.
 pub(crate) fn free_round(
     alloc: Global,
-    lists: &mut Lists,
+    heap: Heap,
     cpu: u32,
     numbers: &[u32],
-) -> Result<ClientRound, NoMemory>
-    requires coherent { IsCoherent lists.old }
-    requires cpu { cpu < lists.old.cpus }
-    requires known { All (IsNumber lists.old) numbers.now }
-    ensures done { IfOk result (λ round.
-        DoesAsked lists.old cpu (frees_of numbers.now) round lists.new) }
-    ensures replies { IfOk result (λ round.
-        length round.result.replies ≡ length numbers.now) }
-    ensures coherent { IsCoherent lists.new }
-    ensures sizes { KeepsSizes lists.old lists.new }
-    ensures unheld { KeepsUnheld lists.old [] lists.new }
-    ensures rest { IsAtRest lists.old → IsAtRest lists.new }
+) -> Result<(Heap, ClientRound), Stopped>
+    requires asks { (trace : Trace) × IsOpenTo heap trace 0 }
+    requires cpu { cpu < heap.lists.cpus }
+    requires known { All (IsNumber heap) numbers.now }
+    requires few { length numbers.now ≤ 2 ^ 32 }
+    ensures done { IfOk result (λ done. DoesAsked heap cpu (frees_of numbers.now) done.1 done.0) }
+    ensures replies { IfOk result (λ done. length done.1.result.replies ≡ length numbers.now) }
+    ensures stays { IfOk result (λ done. (trace : Trace) → StaysOpen heap trace 0 done.0) }
+    ensures unheld { IfOk result (λ done. KeepsUnheld heap.lists [] done.0.lists) }
+    ensures stopped { IfErr result (IsRoundStopped heap (round_of cpu (frees_of numbers.now))) }
 {
     let acts = frees(alloc, numbers)?;
-    client_round(alloc, lists, cpu, acts.as_slice())
+    client_round(alloc, heap, cpu, acts.as_slice())
 }
 
 /// The allocations of these numbers.

@@ -1,28 +1,46 @@
 //! What bulk lines leave of the board. None of these does anything.
 
-ghost use Rattle.std.specs.Prelude.{ℕ, List, All, nat_eq};
-ghost use Rattle.std.specs.List.{IsDistinct, range_with_len};
-ghost use Rattle.slub_lists.specs.Coherent.{IsCoherent};
-ghost use Rattle.slub_lists.specs.State.{State};
+ghost use Rattle.std.specs.Prelude.{◌≡◌, ◌+◌, ◌<◌, ◌≤◌, ℕ, List, None, length};
+ghost use Rattle.std.specs.List.{range_with_len};
+ghost use Rattle.slub_trace_reader.specs.declared.trace.Trace.{Trace};
+ghost use Rattle.slub_journal.specs.declared.client.ClientAnswer.TheVariants.{All};
 ghost use Rattle.slub_journal.specs.declared.client.ClientDone.{ClientDone as Done};
-ghost use Rattle.slub_journal.specs.BulkLines.{LeavesBulk, LeavesBulkFree, ServesBulk, ServesBulkFree};
-ghost use Rattle.slub_journal.specs.Lawful.{IsAtRest, IsUnheld};
-ghost use Rattle.slub_bulk.specs.Numbers.{IsNumber};
+ghost use Rattle.slub_by_text.specs.Heap.{HeapState};
+ghost use Rattle.slub_clients.specs.Asked.{IsOpenTo};
+ghost use Rattle.slub_clients.specs.BulkLines.{AddsNumbers, LeavesBulk, LeavesBulkFree, ServesBulk, ServesBulkFree};
+ghost use Rattle.slub_bulk.specs.Taking.{MayTake};
 
-/// After a bulk that was given all, the board is the board before and the numbers, at different addresses;
-/// after one that was given none, it is the board before, and its rounds gave as many as they freed.
+use slub_by_text::laws::rounds_by_text_are_lawful;
+
+/// After a bulk that was given all, the board is the board before and the numbers, at different addresses:
+/// of every heap, whether ids stand beside its lists or not.
+pub fn bulks_of_all_add_their_numbers()
+    ensures { (h : HeapState) (trace : Trace) (cpu place : ℕ) (numbers : List ℕ) (done : Done)
+        (after : HeapState) → MayTake h trace cpu place numbers →
+        ServesBulk h cpu place numbers done after → done.answer ≡ All →
+        AddsNumbers h.lists numbers after.lists }
+{
+    rounds_by_text_are_lawful();
+}
+
+/// After a bulk that was given none, the board is the board before, too, and its rounds gave as many as
+/// they freed: of a heap without ids, whose rounds are all done on its lists.
 pub fn bulks_leave_the_board()
-    ensures { (s : State) (cpu place : ℕ) (numbers : List ℕ) (done : Done) (after : State) →
-        IsCoherent s → IsAtRest s → All (IsNumber s) numbers → All (IsUnheld s) numbers →
-        IsDistinct nat_eq numbers → ServesBulk s cpu place numbers done after →
-        LeavesBulk s numbers done after done.answer }
-{}
+    ensures { (h : HeapState) (trace : Trace) (cpu place : ℕ) (numbers : List ℕ) (done : Done)
+        (after : HeapState) → MayTake h trace cpu place numbers → h.ids ≡ None →
+        ServesBulk h cpu place numbers done after → LeavesBulk h numbers done after done.answer }
+{
+    rounds_by_text_are_lawful();
+}
 
 /// After a bulk free the board lacks exactly the numbers that were freed, which are as many as it says; or
-/// a number isn't on the board, the least such is named, and the machine is as it was.
+/// a number isn't on the board, the least such is named, and the heap is as it was: of every heap.
 pub fn bulk_frees_drop_what_they_freed()
-    ensures { (s : State) (cpu first count : ℕ) (done : Done) (after : State) →
-        IsCoherent s → IsAtRest s →
-        ServesBulkFree s cpu (range_with_len first count) done after →
-        LeavesBulkFree s (range_with_len first count) done after done.answer }
-{}
+    ensures { (h : HeapState) (trace : Trace) (cpu first count : ℕ) (done : Done)
+        (after : HeapState) → IsOpenTo h trace 0 → cpu < trace.cpus → 1 ≤ first →
+        first + count ≤ length h.lists.board →
+        ServesBulkFree h cpu (range_with_len first count) done after →
+        LeavesBulkFree h (range_with_len first count) done after done.answer }
+{
+    rounds_by_text_are_lawful();
+}

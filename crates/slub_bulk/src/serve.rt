@@ -1,25 +1,28 @@
 //! Serving `bulk` and `bulkfree`.
 
-ghost use Rattle.std.specs.Prelude.{◌≡◌, ◌+◌, ◌^◌, ◌<◌, ◌≤◌, [], length, count_by, All, IfOk};
+ghost use Rattle.std.specs.Prelude.{◌≡◌, ◌+◌, ◌^◌, ◌<◌, ◌≤◌, [], length, count_by, All, IfErr, IfOk};
 ghost use Rattle.std.specs.List.{range_with_len};
 ghost use Rattle.slub_answers.specs.Kinds.{is_freed};
-ghost use Rattle.slub_lists.specs.Coherent.{IsCoherent};
+ghost use Rattle.slub_trace_reader.specs.declared.trace.Trace.{Trace as Read};
 ghost use Rattle.slub_trace_reader.specs.Sound.{asked_objects};
-ghost use Rattle.slub_journal.specs.Asked.{IsServable};
+ghost use Rattle.slub_journal.specs.declared.client.ClientAnswer.TheVariants.{NotHeldOf};
 ghost use Rattle.slub_journal.specs.Bulk.{free_order};
-ghost use Rattle.slub_journal.specs.BulkLines.{FreesInOrder, IsBulkLine, ServesBulk, ServesBulkFree, ServesBulkLines, bulk_answer, first_unheld, frame_under, places_under};
-ghost use Rattle.slub_journal.specs.Lawful.{IsAtRest, IsUnheld};
-ghost use Rattle.slub_engine.specs.Steps.{KeepsSizes, KeepsUnheld};
-ghost use Rattle.slub_bulk.specs.Numbers.{IsNumber};
+ghost use Rattle.slub_journal.specs.Lawful.{IsUnheld};
+ghost use Rattle.slub_engine.specs.Steps.{KeepsUnheld};
+ghost use Rattle.slub_clients.specs.Asked.{IsOpenTo, IsServable, StaysOpen};
+ghost use Rattle.slub_clients.specs.BulkLines.{FreesInOrder, IsBulkLine, ServesBulk, ServesBulkFree, ServesBulkLines, bulk_answer, first_unheld, frame_under, places_under};
+ghost use Rattle.slub_clients.specs.Laws.{IsNumber};
+ghost use Rattle.slub_clients.specs.Stopped.{IsLineStopped};
 ghost use Rattle.slub_bulk.specs.Places.{places_of};
 
 use crate::all::{free_round, take_all};
 use crate::order::{Place, free_order};
 use slub_answers::reply::{Kind, Reply};
+use slub_by_text::heap::Heap;
+use slub_clients::client::Stopped;
 use slub_common::no_memory::NoMemory;
 use slub_common::sequence::Sequence;
 use slub_journal::client::{CacheRefusal, ClientAnswer, ClientDone};
-use slub_list_machine::lists::Lists;
 use slub_trace_reader::trace::{Client, Trace};
 use std::alloc::{AllocError, Global};
 
@@ -49,41 +52,42 @@ fn bulk_answer(refusal: Option<CacheRefusal>) -> ClientAnswer
 /// (`kmem_cache_alloc_bulk`).
 fn bulk(
     alloc: Global,
-    lists: &mut Lists,
+    heap: Heap,
     cpu: u32,
     place: u32,
     first: u32,
     count: u32,
-) -> Result<ClientDone, NoMemory>
-    requires coherent { IsCoherent lists.old }
-    requires cpu { cpu < lists.old.cpus }
-    requires place { place < length lists.old.table.kept }
+) -> Result<(Heap, ClientDone), Stopped>
+    requires asks { (trace : Read) × IsOpenTo heap trace (length (range_with_len first count)) }
+    requires cpu { cpu < heap.lists.cpus }
+    requires place { place < length heap.lists.table.kept }
     requires first { 1 ≤ first }
-    requires last { first + count ≤ length lists.old.board }
-    requires unheld { All (IsUnheld lists.old) (range_with_len first count) }
+    requires last { first + count ≤ length heap.lists.board }
+    requires unheld { All (IsUnheld heap.lists) (range_with_len first count) }
     ensures served { IfOk result (λ done.
-        ServesBulk lists.old cpu place (range_with_len first count) done lists.new) }
-    ensures coherent { IsCoherent lists.new }
-    ensures sizes { KeepsSizes lists.old lists.new }
-    ensures unheld { KeepsUnheld lists.old (range_with_len first count) lists.new }
-    ensures rest { IsAtRest lists.old → IsAtRest lists.new }
+        ServesBulk heap cpu place (range_with_len first count) done.1 done.0) }
+    ensures stays { IfOk result (λ done.
+        (trace : Read) → StaysOpen heap trace (length (range_with_len first count)) done.0) }
+    ensures unheld { IfOk result (λ done. KeepsUnheld heap.lists (range_with_len first count) done.0.lists) }
+    ensures stopped { IfErr result (IsLineStopped heap) }
 {
     let numbers = numbers_from(alloc, first, count)?;
     let mut rounds = Vec::new(alloc);
-    let refusal = take_all(alloc, lists, cpu, place, numbers.as_slice(), &mut rounds)?;
-    Ok(ClientDone {
+    let (after, refusal) = take_all(alloc, heap, cpu, place, numbers.as_slice(), &mut rounds)?;
+    let done = ClientDone {
         rounds: Sequence::from_vec(rounds),
         answer: bulk_answer(refusal),
-    })
+    };
+    Ok((after, done))
 }
 
 /// The first of these numbers that isn't on the board.
-fn first_unheld(lists: &Lists, numbers: &[u32]) -> Option<u32>
-    requires { All (IsNumber lists.now) numbers.now }
-    ensures { result ≡ first_unheld lists.now numbers.now }
+fn first_unheld(heap: &Heap, numbers: &[u32]) -> Option<u32>
+    requires { All (IsNumber heap.now) numbers.now }
+    ensures { result ≡ first_unheld heap.now.lists numbers.now }
 {
     for number in numbers {
-        if lists.board()[*number as usize].is_none() {
+        if heap.lists.board()[*number as usize].is_none() {
             return Some(*number);
         }
     }
@@ -91,26 +95,26 @@ fn first_unheld(lists: &Lists, numbers: &[u32]) -> Option<u32>
 }
 
 /// Numbers, each with the first frame of the slab in which its object stands.
-fn places(alloc: Global, lists: &Lists, numbers: &[u32]) -> Result<Vec<Place>, NoMemory>
-    requires { All (IsNumber lists.now) numbers.now }
-    ensures { IfOk result (λ places. places_of places.items ≡ places_under lists.now numbers.now) }
+fn places(alloc: Global, heap: &Heap, numbers: &[u32]) -> Result<Vec<Place>, NoMemory>
+    requires { All (IsNumber heap.now) numbers.now }
+    ensures { IfOk result (λ places. places_of places.items ≡ places_under heap.now.lists numbers.now) }
 {
     let mut places = Vec::with_capacity(alloc, numbers.len())?;
     for number in numbers {
         places.push(Place {
             object: *number,
-            frame: frame_under(lists, *number),
+            frame: frame_under(heap, *number),
         })?;
     }
     Ok(places)
 }
 
 /// The first frame of the slab in which the object of a number stands, or 0.
-fn frame_under(lists: &Lists, object: u32) -> u16
-    requires { IsNumber lists.now object }
-    ensures { result ≡ frame_under lists.now object }
+fn frame_under(heap: &Heap, object: u32) -> u16
+    requires { IsNumber heap.now object }
+    ensures { result ≡ frame_under heap.now.lists object }
 {
-    match lists.board()[object as usize] {
+    match heap.lists.board()[object as usize] {
         Some(held) => held.frame,
         None => 0,
     }
@@ -128,11 +132,11 @@ fn freed_in(replies: &[Reply]) -> usize
 }
 
 /// These numbers in the order of a bulk free.
-fn in_free_order(alloc: Global, lists: &Lists, numbers: &[u32]) -> Result<Vec<u32>, NoMemory>
-    requires { All (IsNumber lists.now) numbers.now }
-    ensures { IfOk result (λ order. order.items ≡ free_order (places_under lists.now numbers.now)) }
+fn in_free_order(alloc: Global, heap: &Heap, numbers: &[u32]) -> Result<Vec<u32>, NoMemory>
+    requires { All (IsNumber heap.now) numbers.now }
+    ensures { IfOk result (λ order. order.items ≡ free_order (places_under heap.now.lists numbers.now)) }
 {
-    let places = places(alloc, lists, numbers)?;
+    let places = places(alloc, heap, numbers)?;
     let mut order = vec![in alloc; 0; numbers.len()]?;
     free_order(places.as_slice(), order.as_mut_slice());
     Ok(order)
@@ -142,76 +146,80 @@ fn in_free_order(alloc: Global, lists: &Lists, numbers: &[u32]) -> Result<Vec<u3
 /// board.
 fn bulk_free(
     alloc: Global,
-    lists: &mut Lists,
+    heap: Heap,
     cpu: u32,
     first: u32,
     count: u32,
-) -> Result<ClientDone, NoMemory>
-    requires coherent { IsCoherent lists.old }
-    requires cpu { cpu < lists.old.cpus }
+) -> Result<(Heap, ClientDone), Stopped>
+    requires asks { (trace : Read) × IsOpenTo heap trace 0 }
+    requires cpu { cpu < heap.lists.cpus }
     requires first { 1 ≤ first }
-    requires last { first + count ≤ length lists.old.board }
+    requires last { first + count ≤ length heap.lists.board }
     ensures served { IfOk result (λ done.
-        ServesBulkFree lists.old cpu (range_with_len first count) done lists.new) }
-    ensures coherent { IsCoherent lists.new }
-    ensures sizes { KeepsSizes lists.old lists.new }
-    ensures unheld { KeepsUnheld lists.old [] lists.new }
-    ensures rest { IsAtRest lists.old → IsAtRest lists.new }
+        ServesBulkFree heap cpu (range_with_len first count) done.1 done.0) }
+    ensures stays { IfOk result (λ done. (trace : Read) → StaysOpen heap trace 0 done.0) }
+    ensures unheld { IfOk result (λ done. KeepsUnheld heap.lists [] done.0.lists) }
+    ensures stopped { IfErr result (IsLineStopped heap) }
 {
     let numbers = numbers_from(alloc, first, count)?;
-    if let Some(number) = first_unheld(lists, numbers.as_slice()) {
-        return Ok(ClientDone {
-            rounds: Sequence::new(alloc),
-            answer: ClientAnswer::NotHeldOf(number),
-        });
+    if let Some(number) = first_unheld(&heap, numbers.as_slice()) {
+        return Ok((heap, not_held(alloc, number)));
     }
-    let order = in_free_order(alloc, lists, numbers.as_slice())?;
-    free_all(alloc, lists, cpu, order.as_slice())
+    let order = in_free_order(alloc, &heap, numbers.as_slice())?;
+    free_all(alloc, heap, cpu, order.as_slice())
+}
+
+/// The answer that this number isn't on the board.
+fn not_held(alloc: Global, number: u32) -> ClientDone
+    ensures rounds { result.rounds ≡ [] }
+    ensures answer { result.answer ≡ NotHeldOf number }
+{
+    ClientDone {
+        rounds: Sequence::new(alloc),
+        answer: ClientAnswer::NotHeldOf(number),
+    }
 }
 
 /// Frees these numbers by one round, in this order.
 fn free_all(
     alloc: Global,
-    lists: &mut Lists,
+    heap: Heap,
     cpu: u32,
     numbers: &[u32],
-) -> Result<ClientDone, NoMemory>
-    requires coherent { IsCoherent lists.old }
-    requires cpu { cpu < lists.old.cpus }
-    requires known { All (IsNumber lists.old) numbers.now }
+) -> Result<(Heap, ClientDone), Stopped>
+    requires asks { (trace : Read) × IsOpenTo heap trace 0 }
+    requires cpu { cpu < heap.lists.cpus }
+    requires known { All (IsNumber heap) numbers.now }
     requires few { length numbers.now < 2 ^ 32 }
-    ensures served { IfOk result (λ done.
-        FreesInOrder lists.old cpu numbers.now done lists.new) }
-    ensures coherent { IsCoherent lists.new }
-    ensures sizes { KeepsSizes lists.old lists.new }
-    ensures unheld { KeepsUnheld lists.old [] lists.new }
-    ensures rest { IsAtRest lists.old → IsAtRest lists.new }
+    ensures served { IfOk result (λ done. FreesInOrder heap cpu numbers.now done.1 done.0) }
+    ensures stays { IfOk result (λ done. (trace : Read) → StaysOpen heap trace 0 done.0) }
+    ensures unheld { IfOk result (λ done. KeepsUnheld heap.lists [] done.0.lists) }
+    ensures stopped { IfErr result (IsLineStopped heap) }
 {
-    let round = free_round(alloc, lists, cpu, numbers)?;
+    let (after, round) = free_round(alloc, heap, cpu, numbers)?;
     let freed = freed_in(round.result.replies.as_slice()) as u32;
     let mut rounds = Vec::new(alloc);
     rounds.push(round)?;
-    Ok(ClientDone {
+    let done = ClientDone {
         rounds: Sequence::from_vec(rounds),
         answer: ClientAnswer::BulkFreed(freed),
-    })
+    };
+    Ok((after, done))
 }
 
-/// Does a `bulk` or a `bulkfree`. Where it finds no memory, the machine is as it was left so far.
+/// Does a `bulk` or a `bulkfree`. Where it stops, the heap is gone.
 pub fn serve(
     alloc: Global,
-    lists: &mut Lists,
+    heap: Heap,
     trace: &Trace,
     client: &Client,
-) -> Result<ClientDone, NoMemory>
-    requires servable { IsServable lists.old trace.now client.now }
+) -> Result<(Heap, ClientDone), Stopped>
+    requires servable { IsServable heap trace.now client.now }
     requires line { IsBulkLine client.now }
-    ensures served { IfOk result (λ done.
-        ServesBulkLines lists.old client.now done lists.new) }
-    ensures coherent { IsCoherent lists.new }
-    ensures sizes { KeepsSizes lists.old lists.new }
-    ensures unheld { KeepsUnheld lists.old (asked_objects client.now) lists.new }
-    ensures rest { IsAtRest lists.old → IsAtRest lists.new }
+    ensures served { IfOk result (λ done. ServesBulkLines heap client.now done.1 done.0) }
+    ensures stays { IfOk result (λ done. StaysOpen heap trace.now (length (asked_objects client.now)) done.0) }
+    ensures unheld { IfOk result (λ done. KeepsUnheld heap.lists (asked_objects client.now) done.0.lists) }
+    ensures stopped { IfErr result (IsLineStopped heap) }
 {
     match client {
         Client::Bulk {
@@ -219,8 +227,8 @@ pub fn serve(
             name,
             first,
             count,
-        } => bulk(alloc, lists, *cpu, *name, *first, *count),
-        Client::Bulkfree { cpu, first, count } => bulk_free(alloc, lists, *cpu, *first, *count),
+        } => bulk(alloc, heap, *cpu, *name, *first, *count),
+        Client::Bulkfree { cpu, first, count } => bulk_free(alloc, heap, *cpu, *first, *count),
         Client::Kmalloc
         | Client::Kget { .. }
         | Client::Krealloc { .. }

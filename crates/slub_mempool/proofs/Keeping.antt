@@ -13,7 +13,7 @@ use Rattle.slub_lists.specs.Coherent.{held_under}
 use Rattle.slub_trace_reader.specs.declared.trace.Trace.{Trace}
 use Rattle.slub_common.proofs.Writes.{inside-of}
 use Rattle.slub_mempool.specs.Serving.{AreKnown, IsUsable}
-use Rattle.slub_journal.specs.Reserves.{AreReserves, AreSoundReserves, IsSoundReserve, Reserve, has_number, kept_in, kept_of, no_reserve, reserve_at, times_in, with_numbers}
+use Rattle.slub_clients.specs.Reserves.{AreReserves, AreSoundReserves, IsSoundReserve, Reserve, has_number, kept_in, kept_of, no_reserve, reserve_at, times_in, with_numbers}
 
 -- ---- on the board or not
 
@@ -101,6 +101,10 @@ known-of s trace reserves are number some = by (held_under s number) refl (are.h
     by : (x : Option Held) → held_under s number ≡ x → IsSome x → number < length s.board
     by None is some = absurd (cc)
     by (Some held) is some = inside-of s.board number held is
+
+-- and still, on a board of as many numbers
+pub known-after : (s after : State) (reserves : List Reserve) → length after.board ≡ length s.board → AreKnown s reserves → AreKnown after reserves
+known-after s after reserves long known number some = omega (arith, known number some, long)
 
 pub usable-of : (s : State) (trace : Trace) (reserves : List Reserve) → s.table.kept ≡ trace.names → AreReserves s trace reserves → All (IsUsable s) reserves
 usable-of s trace reserves names are k d inside =

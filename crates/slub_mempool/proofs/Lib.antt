@@ -1,3 +1,6 @@
+pub mod Freeing
 pub mod Keeping
+pub mod Making
 pub mod Serving
 pub mod Spots
+pub mod Halting

@@ -1,24 +1,28 @@
 //! All reserves, and the lines of their clients.
 
-ghost use Rattle.std.specs.Prelude.{◌≡◌, ◌+◌, ◌^◌, ◌<◌, ◌≤◌, ◌==◌, ◌++◌, ◌∷◌, [], false, length, All, Err, IfOk, IfSome, IsSome, OnErr, vec_capacity};
+ghost use Rattle.std.specs.Prelude.{◌≡◌, ◌+◌, ◌^◌, ◌<◌, ◌≤◌, ◌==◌, ◌++◌, ◌∷◌, [], false, length, All, Err, IfErr, IfOk, IfSome, IsSome, OnErr, vec_capacity};
 ghost use Rattle.std.specs.List.{list_any, range_with_len};
 ghost use Rattle.slub_lists.specs.Coherent.{IsCoherent, held_under};
+ghost use Rattle.slub_trace_reader.specs.declared.trace.Trace.{Trace as Read};
 ghost use Rattle.slub_trace_reader.specs.Sound.{asked_objects};
-ghost use Rattle.slub_journal.specs.Asked.{IsServable};
-ghost use Rattle.slub_journal.specs.BulkLines.{address_under};
-ghost use Rattle.slub_journal.specs.Lawful.{IsAtRest, IsUnheld};
-ghost use Rattle.slub_journal.specs.Reserves.{AreReserves, AreSoundReserves, Fills, Gets, IsReserveLine, PutsBack, ServesKept, ServesMempool, ServesMget, ServesMput, ServesReserves, TakesOne, fresh_reserve, has_number, is_of_cache, kept_in, numbers_of, place_of, reserve_at};
-ghost use Rattle.slub_engine.specs.Steps.{KeepsSizes, KeepsUnheld};
-ghost use Rattle.slub_bulk.specs.Numbers.{IsNumber};
+ghost use Rattle.slub_journal.specs.Lawful.{IsUnheld};
+ghost use Rattle.slub_engine.specs.Steps.{KeepsUnheld};
+ghost use Rattle.slub_clients.specs.Asked.{IsOpenTo, IsServable, StaysOpen};
+ghost use Rattle.slub_clients.specs.BulkLines.{address_under};
+ghost use Rattle.slub_clients.specs.Laws.{IsNumber};
+ghost use Rattle.slub_clients.specs.Reserves.{AreReserves, AreSoundReserves, Fills, Gets, IsReserveLine, PutsBack, ServesKept, ServesMempool, ServesMget, ServesMput, ServesReserves, TakesOne, fresh_reserve, has_number, is_of_cache, kept_in, numbers_of, place_of, reserve_at};
+ghost use Rattle.slub_clients.specs.Stopped.{IsLineStopped};
 ghost use Rattle.slub_mempool.specs.Serving.{AreKnown, FreesHeld, IsUsable, TellsFreed};
 
 use crate::reserve::Reserve;
 use slub_answers::reply::Reply;
 use slub_bulk::all::take_all;
 use slub_bulk::serve::numbers_from;
+use slub_by_text::heap::Heap;
+use slub_by_text::laws::rounds_by_text_are_lawful;
+use slub_clients::client::{Stopped, client_round, told};
 use slub_common::no_memory::NoMemory;
 use slub_common::sequence::Sequence;
-use slub_engine::client::{client_round, told};
 use slub_events::event::Act;
 use slub_journal::client::{CacheRefusal, ClientAnswer, ClientDone, ClientRound};
 use slub_list_machine::lists::Lists;
@@ -44,7 +48,7 @@ pub struct Reserves {
 
 impl Model for Reserves {
     ghost use Rattle.std.specs.Prelude.{◌≡◌, ◌+◌, ◌≤◌, [], List, All, length, vec_capacity};
-    ghost use Rattle.slub_journal.specs.Reserves.{Reserve as Seen};
+    ghost use Rattle.slub_clients.specs.Reserves.{Reserve as Seen};
 
     ghost Value = { List Seen };
 
@@ -101,56 +105,53 @@ fn is_of_cache(lists: &Lists, reserve: &Reserve, cache: u8) -> bool
 /// One allocation from the cache that the name at a place names: the address, or why the cache gave none.
 fn take_one(
     alloc: Global,
-    lists: &mut Lists,
+    heap: Heap,
     cpu: u32,
     place: u32,
     object: u32,
     rounds: &mut Vec<ClientRound>,
-) -> Result<Result<u32, CacheRefusal>, NoMemory>
-    requires coherent { IsCoherent lists.old }
-    requires cpu { cpu < lists.old.cpus }
-    requires place { place < length lists.old.table.kept }
-    requires number { IsNumber lists.old object }
-    requires unheld { IsUnheld lists.old object }
+) -> Result<(Heap, Result<u32, CacheRefusal>), Stopped>
+    requires asks { (trace : Read) × IsOpenTo heap trace 1 }
+    requires cpu { cpu < heap.lists.cpus }
+    requires place { place < length heap.lists.table.kept }
+    requires number { IsNumber heap object }
+    requires unheld { IsUnheld heap.lists object }
     requires empty { rounds.old.items ≡ [] }
-    ensures taken { IfOk result (λ told.
-        TakesOne lists.old cpu place object rounds.new.items told lists.new) }
-    ensures coherent { IsCoherent lists.new }
-    ensures sizes { KeepsSizes lists.old lists.new }
-    ensures unheld { KeepsUnheld lists.old (object ∷ []) lists.new }
-    ensures rest { IsAtRest lists.old → IsAtRest lists.new }
+    ensures taken { IfOk result (λ done. TakesOne heap cpu place object rounds.new.items done.1 done.0) }
+    ensures stays { IfOk result (λ done. (trace : Read) → StaysOpen heap trace 1 done.0) }
+    ensures unheld { IfOk result (λ done. KeepsUnheld heap.lists (object ∷ []) done.0.lists) }
+    ensures stopped { IfErr result (IsLineStopped heap) }
 {
     let asked = Act::Alloc {
         cache: place,
         object,
     };
-    let round = client_round(alloc, lists, cpu, &[asked])?;
+    let (after, round) = client_round(alloc, heap, cpu, &[asked])?;
     let told = told(&round)?;
     rounds.push(round)?;
-    Ok(told)
+    Ok((after, told))
 }
 
 /// Frees an object that no reserve has room for.
-fn put_back(alloc: Global, lists: &mut Lists, cpu: u32, object: u32) -> Result<ClientDone, NoMemory>
-    requires coherent { IsCoherent lists.old }
-    requires rest { IsAtRest lists.old }
-    requires cpu { cpu < lists.old.cpus }
-    requires number { object < length lists.old.board }
-    requires held { IsSome (held_under lists.old object) }
-    ensures put { IfOk result (λ done. PutsBack lists.old cpu object done lists.new) }
-    ensures coherent { IsCoherent lists.new }
-    ensures sizes { KeepsSizes lists.old lists.new }
-    ensures unheld { KeepsUnheld lists.old [] lists.new }
-    ensures rest { IsAtRest lists.new }
+fn put_back(alloc: Global, heap: Heap, cpu: u32, object: u32) -> Result<(Heap, ClientDone), Stopped>
+    requires asks { (trace : Read) × IsOpenTo heap trace 0 }
+    requires cpu { cpu < heap.lists.cpus }
+    requires number { IsNumber heap object }
+    requires held { IsSome (held_under heap.lists object) }
+    ensures put { IfOk result (λ done. PutsBack heap cpu object done.1 done.0) }
+    ensures stays { IfOk result (λ done. (trace : Read) → StaysOpen heap trace 0 done.0) }
+    ensures unheld { IfOk result (λ done. KeepsUnheld heap.lists [] done.0.lists) }
+    ensures stopped { IfErr result (IsLineStopped heap) }
 {
-    let round = client_round(alloc, lists, cpu, &[Act::Free { object }])?;
+    let (after, round) = client_round(alloc, heap, cpu, &[Act::Free { object }])?;
     let answer = freed(&round);
     let mut rounds = Vec::new(alloc);
     rounds.push(round)?;
-    Ok(ClientDone {
+    let done = ClientDone {
         rounds: Sequence::from_vec(rounds),
         answer,
-    })
+    };
+    Ok((after, done))
 }
 
 /// What the reply to the one free of a round tells.
@@ -241,63 +242,63 @@ impl Reserves {
     fn mempool(
         &mut self,
         alloc: Global,
-        lists: &mut Lists,
+        heap: Heap,
         pool: &Name,
         place: u32,
         min_nr: u32,
         first: u32,
-    ) -> Result<ClientDone, NoMemory>
-        requires coherent { IsCoherent lists.old }
-        requires place { place < length lists.old.table.kept }
+    ) -> Result<(Heap, ClientDone), Stopped>
+        requires asks { (trace : Read) × IsOpenTo heap trace (length (range_with_len first min_nr)) }
+        requires place { place < length heap.lists.table.kept }
         requires first { 1 ≤ first }
-        requires last { first + min_nr ≤ length lists.old.board }
+        requires last { first + min_nr ≤ length heap.lists.board }
         requires few { min_nr ≤ 64 }
-        requires unheld { All (IsUnheld lists.old) (range_with_len first min_nr) }
-        ensures served { IfOk result (λ done. ServesMempool lists.old self.old
-            (fresh_reserve pool.now place min_nr first) done lists.new self.new) }
+        requires unheld { All (IsUnheld heap.lists) (range_with_len first min_nr) }
+        ensures served { IfOk result (λ done. ServesMempool heap self.old
+            (fresh_reserve pool.now place min_nr first) done.1 done.0 self.new) }
         ensures err { OnErr result (self.new ≡ self.old) }
-        ensures coherent { IsCoherent lists.new }
-        ensures sizes { KeepsSizes lists.old lists.new }
-        ensures unheld { KeepsUnheld lists.old (range_with_len first min_nr) lists.new }
-        ensures rest { IsAtRest lists.old → IsAtRest lists.new }
+        ensures stays { IfOk result (λ done.
+            (trace : Read) → StaysOpen heap trace (length (range_with_len first min_nr)) done.0) }
+        ensures unheld { IfOk result (λ done. KeepsUnheld heap.lists (range_with_len first min_nr) done.0.lists) }
+        ensures stopped { IfErr result (IsLineStopped heap) }
     {
         if self.place_of(pool).is_some() {
-            return Ok(at_once(alloc, ClientAnswer::Taken));
+            return Ok((heap, at_once(alloc, ClientAnswer::Taken)));
         }
         if self.made.len() >= RESERVES_MAX {
-            return Ok(at_once(alloc, ClientAnswer::TooMany));
+            return Ok((heap, at_once(alloc, ClientAnswer::TooMany)));
         }
-        self.fill(alloc, lists, pool, place, min_nr, first)
+        self.fill(alloc, heap, pool, place, min_nr, first)
     }
 
     /// Allocates the numbers of a new reserve on CPU 0.
     fn fill(
         &mut self,
         alloc: Global,
-        lists: &mut Lists,
+        heap: Heap,
         pool: &Name,
         place: u32,
         min_nr: u32,
         first: u32,
-    ) -> Result<ClientDone, NoMemory>
+    ) -> Result<(Heap, ClientDone), Stopped>
         requires room { length self.old < 8 }
-        requires coherent { IsCoherent lists.old }
-        requires place { place < length lists.old.table.kept }
+        requires asks { (trace : Read) × IsOpenTo heap trace (length (range_with_len first min_nr)) }
+        requires place { place < length heap.lists.table.kept }
         requires first { 1 ≤ first }
-        requires last { first + min_nr ≤ length lists.old.board }
+        requires last { first + min_nr ≤ length heap.lists.board }
         requires few { min_nr ≤ 64 }
-        requires unheld { All (IsUnheld lists.old) (range_with_len first min_nr) }
-        ensures filled { IfOk result (λ done. Fills lists.old self.old
-            (fresh_reserve pool.now place min_nr first) done lists.new self.new) }
+        requires unheld { All (IsUnheld heap.lists) (range_with_len first min_nr) }
+        ensures filled { IfOk result (λ done. Fills heap self.old
+            (fresh_reserve pool.now place min_nr first) done.1 done.0 self.new) }
         ensures err { OnErr result (self.new ≡ self.old) }
-        ensures coherent { IsCoherent lists.new }
-        ensures sizes { KeepsSizes lists.old lists.new }
-        ensures unheld { KeepsUnheld lists.old (range_with_len first min_nr) lists.new }
-        ensures rest { IsAtRest lists.old → IsAtRest lists.new }
+        ensures stays { IfOk result (λ done.
+            (trace : Read) → StaysOpen heap trace (length (range_with_len first min_nr)) done.0) }
+        ensures unheld { IfOk result (λ done. KeepsUnheld heap.lists (range_with_len first min_nr) done.0.lists) }
+        ensures stopped { IfErr result (IsLineStopped heap) }
     {
         let numbers = numbers_from(alloc, first, min_nr)?;
         let mut rounds = Vec::new(alloc);
-        let refusal = take_all(alloc, lists, 0, place, numbers.as_slice(), &mut rounds)?;
+        let (after, refusal) = take_all(alloc, heap, 0, place, numbers.as_slice(), &mut rounds)?;
         let answer = match refusal {
             None => {
                 self.make(pool, place, min_nr, numbers.as_slice());
@@ -305,44 +306,45 @@ impl Reserves {
             }
             Some(why) => ClientAnswer::Nothing(why),
         };
-        Ok(ClientDone {
+        let done = ClientDone {
             rounds: Sequence::from_vec(rounds),
             answer,
-        })
+        };
+        Ok((after, done))
     }
 
     /// Allocates an object of a reserve's cache, or lends one where the cache gives none (`mempool_alloc`).
     fn mget(
         &mut self,
         alloc: Global,
-        lists: &mut Lists,
+        heap: Heap,
         cpu: u32,
         pool: &Name,
         object: u32,
-    ) -> Result<ClientDone, NoMemory>
-        requires coherent { IsCoherent lists.old }
-        requires cpu { cpu < lists.old.cpus }
-        requires number { IsNumber lists.old object }
-        requires unheld { IsUnheld lists.old object }
-        requires known { AreKnown lists.old self.old }
-        requires usable { All (IsUsable lists.old) self.old }
-        ensures served { IfOk result (λ done. ServesMget lists.old self.old cpu pool.now object done lists.new self.new) }
+    ) -> Result<(Heap, ClientDone), Stopped>
+        requires asks { (trace : Read) × IsOpenTo heap trace 1 }
+        requires cpu { cpu < heap.lists.cpus }
+        requires number { IsNumber heap object }
+        requires unheld { IsUnheld heap.lists object }
+        requires known { AreKnown heap.lists self.old }
+        requires usable { All (IsUsable heap.lists) self.old }
+        ensures served { IfOk result (λ done. ServesMget heap self.old cpu pool.now object done.1 done.0 self.new) }
         ensures err { OnErr result (self.new ≡ self.old) }
-        ensures coherent { IsCoherent lists.new }
-        ensures sizes { KeepsSizes lists.old lists.new }
-        ensures unheld { KeepsUnheld lists.old (object ∷ []) lists.new }
-        ensures rest { IsAtRest lists.old → IsAtRest lists.new }
+        ensures stays { IfOk result (λ done. (trace : Read) → StaysOpen heap trace 1 done.0) }
+        ensures unheld { IfOk result (λ done. KeepsUnheld heap.lists (object ∷ []) done.0.lists) }
+        ensures stopped { IfErr result (IsLineStopped heap) }
     {
         let Some(at) = self.place_of(pool) else {
-            return Ok(at_once(alloc, ClientAnswer::NoPool));
+            return Ok((heap, at_once(alloc, ClientAnswer::NoPool)));
         };
         let mut rounds = Vec::new(alloc);
-        let told = take_one(alloc, lists, cpu, self.cache_at(at), object, &mut rounds)?;
-        let answer = self.get(lists, at, told);
-        Ok(ClientDone {
+        let (after, told) = take_one(alloc, heap, cpu, self.cache_at(at), object, &mut rounds)?;
+        let answer = self.get(&after.lists, at, told);
+        let done = ClientDone {
             rounds: Sequence::from_vec(rounds),
             answer,
-        })
+        };
+        Ok((after, done))
     }
 
     /// The place of the name of a reserve's cache.
@@ -387,60 +389,56 @@ impl Reserves {
     fn mput(
         &mut self,
         alloc: Global,
-        lists: &mut Lists,
+        heap: Heap,
         cpu: u32,
         pool: &Name,
         object: u32,
-    ) -> Result<ClientDone, NoMemory>
-        requires coherent { IsCoherent lists.old }
-        requires rest { IsAtRest lists.old }
-        requires cpu { cpu < lists.old.cpus }
-        requires number { object < length lists.old.board }
-        requires usable { All (IsUsable lists.old) self.old }
-        ensures served { IfOk result (λ done. ServesMput lists.old self.old cpu pool.now object done lists.new self.new) }
+    ) -> Result<(Heap, ClientDone), Stopped>
+        requires asks { (trace : Read) × IsOpenTo heap trace 0 }
+        requires cpu { cpu < heap.lists.cpus }
+        requires number { IsNumber heap object }
+        requires usable { All (IsUsable heap.lists) self.old }
+        ensures served { IfOk result (λ done. ServesMput heap self.old cpu pool.now object done.1 done.0 self.new) }
         ensures err { OnErr result (self.new ≡ self.old) }
-        ensures coherent { IsCoherent lists.new }
-        ensures sizes { KeepsSizes lists.old lists.new }
-        ensures unheld { KeepsUnheld lists.old [] lists.new }
-        ensures rest { IsAtRest lists.new }
+        ensures stays { IfOk result (λ done. (trace : Read) → StaysOpen heap trace 0 done.0) }
+        ensures unheld { IfOk result (λ done. KeepsUnheld heap.lists [] done.0.lists) }
+        ensures stopped { IfErr result (IsLineStopped heap) }
     {
         let Some(at) = self.place_of(pool) else {
-            return Ok(at_once(alloc, ClientAnswer::NoPool));
+            return Ok((heap, at_once(alloc, ClientAnswer::NoPool)));
         };
-        let Some(held) = lists.board()[object as usize] else {
-            return Ok(at_once(alloc, ClientAnswer::NotHeld));
+        let Some(held) = heap.lists.board()[object as usize] else {
+            return Ok((heap, at_once(alloc, ClientAnswer::NotHeld)));
         };
-        if !is_of_cache(lists, &self.made[at], held.cache) {
-            return Ok(at_once(alloc, ClientAnswer::WrongCache));
+        if !is_of_cache(&heap.lists, &self.made[at], held.cache) {
+            return Ok((heap, at_once(alloc, ClientAnswer::WrongCache)));
         }
         if self.has(object) {
-            return Ok(at_once(alloc, ClientAnswer::InReserve));
+            return Ok((heap, at_once(alloc, ClientAnswer::InReserve)));
         }
         if self.made[at].has_room() {
             self.made[at].put(object);
-            return Ok(at_once(alloc, ClientAnswer::Kept));
+            return Ok((heap, at_once(alloc, ClientAnswer::Kept)));
         }
-        put_back(alloc, lists, cpu, object)
+        put_back(alloc, heap, cpu, object)
     }
 
     /// Serves the line with reserves of which each number is on the board.
     fn serve_kept(
         &mut self,
         alloc: Global,
-        lists: &mut Lists,
+        heap: Heap,
         trace: &Trace,
         client: &Client,
-    ) -> Result<ClientDone, NoMemory>
-        requires servable { IsServable lists.old trace.now client.now }
+    ) -> Result<(Heap, ClientDone), Stopped>
+        requires servable { IsServable heap trace.now client.now }
         requires line { IsReserveLine client.now }
-        requires rest { IsAtRest lists.old }
-        requires reserves { AreReserves lists.old trace.now self.old }
-        ensures served { IfOk result (λ done. ServesKept lists.old self.old client.now done lists.new self.new) }
+        requires reserves { AreReserves heap.lists trace.now self.old }
+        ensures served { IfOk result (λ done. ServesKept heap self.old client.now done.1 done.0 self.new) }
         ensures err { OnErr result (self.new ≡ self.old) }
-        ensures coherent { IsCoherent lists.new }
-        ensures sizes { KeepsSizes lists.old lists.new }
-        ensures unheld { KeepsUnheld lists.old (asked_objects client.now) lists.new }
-        ensures rest { IsAtRest lists.new }
+        ensures stays { IfOk result (λ done. StaysOpen heap trace.now (length (asked_objects client.now)) done.0) }
+        ensures unheld { IfOk result (λ done. KeepsUnheld heap.lists (asked_objects client.now) done.0.lists) }
+        ensures stopped { IfErr result (IsLineStopped heap) }
     {
         match client {
             Client::Mempool {
@@ -448,9 +446,9 @@ impl Reserves {
                 name,
                 min,
                 first,
-            } => self.mempool(alloc, lists, pool, *name, *min, *first),
-            Client::Mget { cpu, pool, object } => self.mget(alloc, lists, *cpu, pool, *object),
-            Client::Mput { cpu, pool, object } => self.mput(alloc, lists, *cpu, pool, *object),
+            } => self.mempool(alloc, heap, pool, *name, *min, *first),
+            Client::Mget { cpu, pool, object } => self.mget(alloc, heap, *cpu, pool, *object),
+            Client::Mput { cpu, pool, object } => self.mput(alloc, heap, *cpu, pool, *object),
             Client::Kmalloc
             | Client::Kget { .. }
             | Client::Krealloc { .. }
@@ -460,32 +458,26 @@ impl Reserves {
     }
 
     /// Does a `mempool`, an `mget` or an `mput`. Before it, numbers that are no longer on the board are
-    /// dropped from every reserve. Where it finds no memory, the machine is as it was left so far.
+    /// dropped from every reserve. Where it stops, the heap is gone, and the reserves are as they were then.
     pub fn serve(
         &mut self,
         alloc: Global,
-        lists: &mut Lists,
+        heap: Heap,
         trace: &Trace,
         client: &Client,
-    ) -> Result<ClientDone, NoMemory>
-        requires servable { IsServable lists.old trace.now client.now }
+    ) -> Result<(Heap, ClientDone), Stopped>
+        requires servable { IsServable heap trace.now client.now }
         requires line { IsReserveLine client.now }
-        requires rest { IsAtRest lists.old }
         requires sound { AreSoundReserves trace.now self.old }
-        ensures served { IfOk result (λ done. ServesReserves lists.old self.old client.now done lists.new self.new) }
-        ensures reserves { AreReserves lists.new trace.now self.new }
-        ensures coherent { IsCoherent lists.new }
-        ensures sizes { KeepsSizes lists.old lists.new }
-        ensures unheld { KeepsUnheld lists.old (asked_objects client.now) lists.new }
-        ensures rest { IsAtRest lists.new }
+        ensures served { IfOk result (λ done. ServesReserves heap self.old client.now done.1 done.0 self.new) }
+        ensures reserves { IfOk result (λ done. AreReserves done.0.lists trace.now self.new) }
+        ensures err { OnErr result (self.new ≡ kept_in heap.lists self.old) }
+        ensures stays { IfOk result (λ done. StaysOpen heap trace.now (length (asked_objects client.now)) done.0) }
+        ensures unheld { IfOk result (λ done. KeepsUnheld heap.lists (asked_objects client.now) done.0.lists) }
+        ensures stopped { IfErr result (IsLineStopped heap) }
     {
-        self.drop_freed(lists);
-        match self.serve_kept(alloc, lists, trace, client) {
-            Ok(done) => Ok(done),
-            Err(NoMemory) => {
-                self.drop_freed(lists);
-                Err(NoMemory)
-            }
-        }
+        rounds_by_text_are_lawful();
+        self.drop_freed(&heap.lists);
+        self.serve_kept(alloc, heap, trace, client)
     }
 }

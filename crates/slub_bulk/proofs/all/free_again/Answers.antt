@@ -1,10 +1,23 @@
 use Rattle.std.proofs.Common.{◌≡◌, [], ◌∷◌, ◌++◌, List, sym, ◌∙◌, ap}
+use Rattle.std.proofs.lemmas.Result.{err_from_is_err_and}
 use Rattle.slub_journal.specs.declared.client.ClientRound.{ClientRound}
-use Rattle.slub_bulk.proofs.Boards.{again_made}
+use Rattle.slub_clients.proofs.Staying.{stays-same}
+use Rattle.slub_bulk.proofs.Boards.{again_made, none_made}
 use Rattle.slub_bulk.proofs.all.free_again.Goals as goal
+
+pub returns-then-is_empty-clause-freed : goal.returns-then-is_empty-clause-freed
+returns-then-is_empty-clause-freed c =
+    let items : c.push.new.self.items ≡ c.args.first ∷ [] = c.in_ok-push.ensures.items ∙ ap (λ (l : List ClientRound). l ++ c.args.first ∷ []) c.requires.empty in
+    none_made c.args.heap c.args.cpu c.args.numbers.now c.args.first c.push.new.self.items (sym c.is_empty.ensures ∙ c.if-is_empty.true) items
+
+pub returns-then-is_empty-clause-stays : goal.returns-then-is_empty-clause-stays
+returns-then-is_empty-clause-stays c = λ trace. stays-same c.args.heap trace 0
 
 pub returns-clause-freed : goal.returns-clause-freed
 returns-clause-freed c =
-    let items : c.push-2.new.self.items ≡ c.args.first ∷ c.in_ok-second.second ∷ [] =
-    c.in_ok-push-2.ensures.items ∙ ap (λ (l : List ClientRound). l ++ c.in_ok-second.second ∷ []) (c.in_ok-push.ensures.items ∙ ap (λ (l : List ClientRound). l ++ c.args.first ∷ []) c.requires.empty) in
-    again_made c.args.lists.now c.args.cpu c.args.numbers.now c.args.first c.in_ok-second.second c.push-2.new.self.items c.free_round.new.lists (sym c.is_empty.ensures ∙ c.if-is_empty.false) c.in_ok-second.ensures.done items
+    let items : c.push-2.new.self.items ≡ c.args.first ∷ c.in_ok-after.second ∷ [] =
+    c.in_ok-push-2.ensures.items ∙ ap (λ (l : List ClientRound). l ++ c.in_ok-after.second ∷ []) (c.in_ok-push.ensures.items ∙ ap (λ (l : List ClientRound). l ++ c.args.first ∷ []) c.requires.empty) in
+    again_made c.args.heap c.args.cpu c.args.numbers.now c.args.first c.in_ok-after.second c.push-2.new.self.items c.in_ok-after.after (sym c.is_empty.ensures ∙ c.if-is_empty.false) c.in_ok-after.ensures.done items
+
+pub returns-in_err-push-2-clause-stopped : goal.returns-in_err-push-2-clause-stopped
+returns-in_err-push-2-clause-stopped c = let p = err_from_is_err_and c.from_residual-in_err-push-2.result c.from_residual-in_err-push-2.ensures.1 in rw (p.1, p.2) tt

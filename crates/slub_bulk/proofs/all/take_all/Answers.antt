@@ -1,12 +1,57 @@
-use Rattle.std.proofs.Common.{◌≡◌, sym, ◌∙◌, subst, All}
+use Rattle.std.proofs.Common.{◌≡◌, ℕ, ◌≤◌, ◌^◌, List, length, sym, ◌∙◌, ap, subst, All, arith}
+use Rattle.std.proofs.lemmas.Result.{err_from_is_err_and}
+use Rattle.slub_answers.specs.declared.reply.Reply.{Reply}
 use Rattle.slub_answers.specs.Kinds.{is_given}
-use Rattle.slub_journal.specs.BulkLines.{replied}
-use Rattle.slub_bulk.specs.Numbers.{IsNumber}
-use Rattle.slub_bulk.proofs.Bulking.{numbers_kept, replied_all}
+use Rattle.slub_journal.specs.Asked.{first_refusal}
+use Rattle.slub_clients.specs.BulkLines.{FreesAgain, replied}
+use Rattle.slub_clients.specs.Laws.{IsNumber}
+use Rattle.slub_clients.proofs.Staying.{stays-now, stays-then}
+use Rattle.slub_bulk.proofs.Boards.{few_given, may_take}
+use Rattle.slub_bulk.proofs.Bulking.{numbers_kept, replied_all, unheld_after}
 use Rattle.slub_bulk.proofs.all.take_all.Goals as goal
+
+pub free_again-requires-clause-asks : goal.free_again-requires-clause-asks
+free_again-requires-clause-asks c =
+    let (trace, is) = c.requires.asks in
+    (trace, stays-now c.args.heap trace (length c.args.numbers.now) c.in_ok-mid.mid is (c.in_ok-mid.ensures.stays trace))
+
+pub free_again-requires-clause-cpu : goal.free_again-requires-clause-cpu
+free_again-requires-clause-cpu c =
+    let (trace, is) = c.requires.asks in
+    let now = stays-now c.args.heap trace (length c.args.numbers.now) c.in_ok-mid.mid is (c.in_ok-mid.ensures.stays trace) in
+    omega (arith, c.requires.cpu, is.cpus, now.cpus)
 
 pub free_again-requires-clause-known : goal.free_again-requires-clause-known
 free_again-requires-clause-known c =
+    let (trace, is) = c.requires.asks in
+    let now = stays-now c.args.heap trace (length c.args.numbers.now) c.in_ok-mid.mid is (c.in_ok-mid.ensures.stays trace) in
     let given : c.as_slice.result.now ≡ replied is_given c.args.numbers.now c.as_slice-replies.result.now = c.as_slice.ensures.value ∙ c.in_ok-given.ensures in
-    subst (All (IsNumber c.alloc_round.new.lists)) (sym given)
-    (replied_all (IsNumber c.alloc_round.new.lists) is_given c.args.numbers.now c.as_slice-replies.result.now (numbers_kept c.args.lists.now c.alloc_round.new.lists c.args.numbers.now c.alloc_round.ensures.sizes c.requires.known))
+    subst (All (IsNumber c.in_ok-mid.mid)) (sym given)
+    (replied_all (IsNumber c.in_ok-mid.mid) is_given c.args.numbers.now c.as_slice-replies.result.now (numbers_kept c.args.heap c.in_ok-mid.mid trace (length c.args.numbers.now) 0 c.args.numbers.now is now c.requires.known))
+
+pub free_again-requires-clause-few : goal.free_again-requires-clause-few
+free_again-requires-clause-few c =
+    let (trace, is) = c.requires.asks in
+    let may = may_take c.args.heap trace c.args.cpu c.args.place c.args.numbers.now is c.requires.cpu c.requires.place c.requires.known c.requires.unheld c.requires.distinct in
+    let given : c.as_slice.result.now ≡ replied is_given c.args.numbers.now c.as_slice-replies.result.now = c.as_slice.ensures.value ∙ c.in_ok-given.ensures in
+    subst (λ (l : List ℕ). length l ≤ 2 ^ 32) (sym given) (few_given c.args.heap trace c.args.cpu c.args.place c.args.numbers.now c.as_slice-replies.result.now may)
+
+pub returns-clause-stays : goal.returns-clause-stays
+returns-clause-stays c = λ trace. stays-then c.args.heap c.in_ok-mid.mid c.in_ok-after.after trace (length c.args.numbers.now) (c.in_ok-mid.ensures.stays trace) (c.in_ok-after.ensures.stays trace)
+
+pub returns-clause-unheld : goal.returns-clause-unheld
+returns-clause-unheld c = unheld_after c.args.heap.lists c.in_ok-mid.mid.lists c.in_ok-after.after.lists c.args.numbers.now c.in_ok-mid.ensures.unheld c.in_ok-after.ensures.unheld
+
+pub returns-in_err-push-clause-stopped : goal.returns-in_err-push-clause-stopped
+returns-in_err-push-clause-stopped c = let p = err_from_is_err_and c.from_residual-in_err-push.result c.from_residual-in_err-push.ensures.1 in rw (p.1, p.2) tt
+
+pub returns-in_err-given-clause-stopped : goal.returns-in_err-given-clause-stopped
+returns-in_err-given-clause-stopped c = let p = err_from_is_err_and c.from_residual-in_err-given.result c.from_residual-in_err-given.ensures.1 in rw (p.1, p.2) tt
+
+pub returns-clause-taken : goal.returns-clause-taken
+returns-clause-taken c =
+    let replies = c.as_slice-replies.ensures in
+    let first = c.in_ok-mid.first in
+    let given : c.as_slice.result.now ≡ replied is_given c.args.numbers.now first.result.replies = c.as_slice.ensures.value ∙ c.in_ok-given.ensures ∙ ap (λ (l : List Reply). replied is_given c.args.numbers.now l) replies in
+    let again = subst (λ (l : List ℕ). FreesAgain c.in_ok-mid.mid c.args.cpu l first c.free_again.new.rounds.items c.in_ok-after.after) given c.in_ok-after.ensures.freed in
+    (first, c.in_ok-mid.mid, c.in_ok-mid.ensures.done, c.in-Some.ensures ∙ ap first_refusal replies, again)

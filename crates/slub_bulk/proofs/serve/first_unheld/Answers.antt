@@ -6,4 +6,4 @@ use Rattle.slub_bulk.proofs.serve.first_unheld.Goals as goal
 
 pub returns-then-is_none : goal.returns-then-is_none
 returns-then-is_none c =
-    first_passes (λ number. is_none (held_under c.args.lists.now number)) c.args.numbers.now c.loop-number.number-index (omega arith) c.loop-number.invariant (grind (arith, common_steps))
+    first_passes (λ number. is_none (held_under c.args.heap.now.lists number)) c.args.numbers.now c.loop-number.number-index (omega arith) c.loop-number.invariant (grind (arith, common_steps))

@@ -1,20 +1,44 @@
-use Rattle.std.proofs.Common.{◌≡◌, [], ◌∷◌, ◌++◌, List, ◌∙◌, ap, subst, MatchOption}
+use Rattle.std.proofs.Common.{rules, IfErr, ◌≡◌, [], ◌∷◌, ◌++◌, List, ◌∙◌, ap, subst, MatchOption, arith}
 use Rattle.std.specs.Prelude.{slice_get}
+use Rattle.std.proofs.lemmas.List.Elements.{All-cons, All-nil}
+use Rattle.std.proofs.lemmas.Result.{err_from_is_err_and}
+use Rattle.slub_events.specs.declared.event.Act.TheVariants.{Free}
 use Rattle.slub_answers.specs.declared.reply.Reply.{Reply}
 use Rattle.slub_journal.specs.declared.client.ClientRound.{ClientRound}
-use Rattle.slub_journal.specs.Reserves.{TellsFree}
+use Rattle.slub_journal.specs.Asked.{round_of}
+use Rattle.slub_clients.specs.Laws.{IsNumber}
+use Rattle.slub_clients.specs.Stopped.{IsRoundStopped}
+use Rattle.slub_clients.specs.Reserves.{TellsFree}
+use Rattle.slub_clients.proofs.Allowed.{frees-may}
 use Rattle.slub_bulk.proofs.Boards.{one_reply}
-use Rattle.slub_bulk.proofs.Bulking.{none_differ}
+use Rattle.slub_mempool.proofs.Freeing.{frees-held}
+use Rattle.slub_mempool.proofs.Halting.{line-stops}
 use Rattle.slub_mempool.proofs.reserves.put_back.Goals as goal
 
-pub client_round-requires-clause-distinct : goal.client_round-requires-clause-distinct
-client_round-requires-clause-distinct c = none_differ
+pub client_round-requires-clause-asks : goal.client_round-requires-clause-asks
+client_round-requires-clause-asks c = c.requires.asks
+
+pub client_round-requires-clause-may_do : goal.client_round-requires-clause-may_do
+client_round-requires-clause-may_do c =
+    let (trace, is) = c.requires.asks in
+    (trace, frees-may c.args.heap trace c.args.cpu (c.args.object ∷ []) is (omega (arith, c.requires.cpu, is.cpus)) (omega arith) (All-cons (IsNumber c.args.heap) c.args.object [] c.requires.number (All-nil (IsNumber c.args.heap))))
+
+pub freed-answer-requires : goal.freed-answer-requires
+freed-answer-requires c = frees-held c.args.heap.lists c.args.cpu c.args.object c.in_ok-after.round.result c.in_ok-after.after.lists c.in_ok-after.ensures.lawful c.requires.held
 
 pub returns-clause-put : goal.returns-clause-put
 returns-clause-put c =
-    let round = c.in_ok-round.round in
-    let done = c.in_ok-round.ensures.done in
-    let one = one_reply c.args.lists.now c.args.cpu _ round c.client_round.new.lists done in
+    let round = c.in_ok-after.round in
+    let made = c.in_ok-after.ensures in
+    let one = one_reply c.args.heap.lists c.args.cpu _ round.result c.in_ok-after.after.lists made.lawful in
     let items : c.from_vec.result ≡ round ∷ [] = c.from_vec.ensures ∙ c.in_ok-push.ensures.items ∙ ap (λ (l : List ClientRound). l ++ round ∷ []) c.new-rounds.ensures.items in
     let tells : TellsFree one.0 c.freed-answer.result = subst (λ (replies : List Reply). MatchOption (slice_get replies 0) ⊥ (λ reply. TellsFree reply c.freed-answer.result)) one.1 c.freed-answer.ensures in
-    (round, one.0, done, one.1, tells, items)
+    (round, one.0, made.done, one.1, tells, items)
+
+pub returns-in_err-push-clause-stopped : goal.returns-in_err-push-clause-stopped
+returns-in_err-push-clause-stopped c = let p = err_from_is_err_and c.from_residual-in_err-push.result c.from_residual-in_err-push.ensures.1 in rw (p.1, p.2) tt
+
+pub returns-in_err-after-clause-stopped : goal.returns-in_err-after-clause-stopped
+returns-in_err-after-clause-stopped c =
+    let round : IfErr c.from_residual.result (IsRoundStopped c.args.heap (round_of c.args.cpu (Free c.args.object ∷ []))) = search rules in
+    line-stops c.args.heap c.args.cpu (Free c.args.object ∷ []) c.from_residual.result round

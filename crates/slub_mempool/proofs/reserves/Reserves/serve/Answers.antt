@@ -1,19 +1,20 @@
-use Rattle.std.proofs.Common.{sym, subst}
-use Rattle.slub_journal.specs.Reserves.{AreReserves, AreSoundReserves}
+use Rattle.std.proofs.Common.{sym, ◌∙◌, ap, subst}
+use Rattle.slub_lists.specs.State.{State}
+use Rattle.slub_by_text.specs.Heap.{HeapState}
+use Rattle.slub_clients.specs.Reserves.{AreReserves, kept_in}
+use Rattle.slub_bulk.proofs.Boards.{if_ok}
 use Rattle.slub_mempool.proofs.Keeping.{dropped}
 use Rattle.slub_mempool.proofs.Serving.{serves_keep}
 use Rattle.slub_mempool.proofs.reserves.Reserves.serve.Goals as goal
 
 pub serve_kept-requires-clause-reserves : goal.serve_kept-requires-clause-reserves
-serve_kept-requires-clause-reserves c = subst (AreReserves c.args.lists.now c.args.trace.now) (sym c.drop_freed.ensures) (dropped c.args.lists.now c.args.trace.now c.args.self.now c.requires.sound)
+serve_kept-requires-clause-reserves c =
+    let left = c.drop_freed.ensures ∙ ap (λ (s : State). kept_in s c.args.self.now) (ap (λ (h : HeapState). h.lists) c.heap.view_is) in
+    subst (AreReserves c.args.heap.lists c.args.trace.now) (sym left) (dropped c.args.heap.lists c.args.trace.now c.args.self.now c.requires.sound)
 
-pub returns-in-Ok-clause-reserves : goal.returns-in-Ok-clause-reserves
-returns-in-Ok-clause-reserves c =
-    let are = subst (AreReserves c.args.lists.now c.args.trace.now) (sym c.drop_freed.ensures) (dropped c.args.lists.now c.args.trace.now c.args.self.now c.requires.sound) in
-    serves_keep c.args.lists.now c.args.trace.now c.drop_freed.new.self c.args.client.now c.in-Ok.done c.serve_kept.new.lists c.serve_kept.new.self c.requires.servable c.requires.rest are c.in-Ok.ensures.served
-
-pub returns-in-Err-clause-reserves : goal.returns-in-Err-clause-reserves
-returns-in-Err-clause-reserves c =
-    let are = subst (AreReserves c.args.lists.now c.args.trace.now) (sym c.drop_freed.ensures) (dropped c.args.lists.now c.args.trace.now c.args.self.now c.requires.sound) in
-    let sound = subst (AreSoundReserves c.args.trace.now) (sym c.in-Err.ensures.err) are.sound in
-    subst (AreReserves c.serve_kept.new.lists c.args.trace.now) (sym c.drop_freed-in-Err.ensures) (dropped c.serve_kept.new.lists c.args.trace.now c.serve_kept.new.self sound)
+pub returns-clause-reserves : goal.returns-clause-reserves
+returns-clause-reserves c =
+    let left = c.drop_freed.ensures ∙ ap (λ (s : State). kept_in s c.args.self.now) (ap (λ (h : HeapState). h.lists) c.heap.view_is) in
+    let are = subst (AreReserves c.args.heap.lists c.args.trace.now) (sym left) (dropped c.args.heap.lists c.args.trace.now c.args.self.now c.requires.sound) in
+    if_ok _ _ c.serve_kept.result
+    (λ done served. serves_keep c.rounds_by_text_are_lawful.ensures c.args.heap c.args.trace.now c.drop_freed.new.self c.args.client.now done.1 done.0 c.serve_kept.new.self c.requires.servable are served) c.serve_kept.ensures.served

@@ -1,0 +1,19 @@
+-- Which objects may be asked of a cache.
+use Rattle.std.specs.Prelude.{ℕ, ◌<◌, List, length, All, nat_eq}
+use Rattle.std.specs.List.{IsDistinct}
+use Rattle.slub_trace_reader.specs.declared.trace.Trace.{Trace}
+use Rattle.slub_journal.specs.Lawful.{IsUnheld}
+use Rattle.slub_by_text.specs.Heap.{HeapState}
+use Rattle.slub_clients.specs.Asked.{IsOpenTo}
+use Rattle.slub_clients.specs.Laws.{IsNumber}
+
+-- an object under each of these numbers may be asked on a CPU of the cache that the name at a place
+-- names: they are numbers of the heap that differ, and no object has one of them
+pub record MayTake (h : HeapState) (trace : Trace) (cpu place : ℕ) (numbers : List ℕ)
+    : Type 0 where
+  pub heap : IsOpenTo h trace (length numbers)
+  pub on_cpu : cpu < trace.cpus
+  pub of_name : place < length trace.names
+  pub known : All (IsNumber h) numbers
+  pub unheld : All (IsUnheld h.lists) numbers
+  pub distinct : IsDistinct nat_eq numbers

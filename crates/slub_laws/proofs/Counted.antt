@@ -21,16 +21,17 @@ use Rattle.slub_journal.specs.declared.journal.Done.{Done}
 use Rattle.slub_journal.specs.declared.journal.Done.TheVariants as done
 use Rattle.slub_journal.specs.declared.journal.RoundResult.{RoundResult}
 use Rattle.slub_journal.specs.Lawful.{DoesPlain, all_freed, all_given, freed_by, freed_in, freed_of, given_by, given_in, given_of}
+use Rattle.slub_by_text.specs.Heap.{HeapState}
 use Rattle.slub_round_law.specs.Answered.{did_free, gave}
 use Rattle.slub_round_law.specs.Round.{IsRound}
 use Rattle.slub_round_law.proofs.Runs.{on_board}
 use Rattle.slub_round_law.proofs.Times.{events_given, one_where, times_append}
 use Rattle.slub_ways.specs.declared.way.Way.{Way}
-use Rattle.slub_ways.specs.Runs.{Does, MachineState, RunsItems}
-use Rattle.slub_ways.proofs.Made.{ClientEffect, MakesRounds, client_effect, made_caches, made_rounds, objects_asked}
+use Rattle.slub_ways.specs.Runs.{Does, MachineState, RunsItems, heap_of}
+use Rattle.slub_ways.proofs.Made.{ClientEffect, IsSoundLine, MakesRounds, client_effect, made_caches, made_rounds, objects_asked}
 use Rattle.slub_ways.proofs.Numbers.{IsBrief}
 use Rattle.slub_ways.proofs.Rests.{classes-rest, creates-rest, destroys-rest, rests-same, shrinks-rest, tunes-rest}
-use Rattle.slub_ways.proofs.Standing.{Stands, made-numbers}
+use Rattle.slub_ways.proofs.Standing.{Stands, StandsBefore, made-numbers}
 use Rattle.slub_laws.specs.Freed.{answered_by, rounds_among, rounds_of}
 use Rattle.slub_laws.specs.Rounds.{AreLawful, AreRounds}
 use Rattle.slub_laws.proofs.Adding.{upto}
@@ -127,14 +128,14 @@ made-counted s trace rounds numbers coming after objects stands manned are =
     less (inl all) few = omega (arith, few, ap (λ (xs : List ℕ). length xs) all)
     less (inr none) few = omega (arith, few, ap (λ (xs : List ℕ). length xs) none)
 
-made-manned : (s : State) (rounds : List ClientRound) (after : State) → MakesRounds s rounds after → AreManned rounds
-made-manned s [] after same = tt
-made-manned s (round ∷ rounds) after makes = (makes.1.workers, made-manned makes.0 rounds after makes.2)
+made-manned : (trace : Trace) (sound : Type 0) (h : HeapState) (rounds : List ClientRound) (after : HeapState) → MakesRounds trace sound h rounds after → AreManned rounds
+made-manned trace sound h [] after same = tt
+made-manned trace sound h (round ∷ rounds) after makes = (makes.1.workers, made-manned trace sound makes.0 rounds after makes.2)
 
 -- what a client's rounds leave, where there are none too
-made-are : (s : State) (rounds : List ClientRound) (after : State) → MakesRounds s rounds after → AreRounds s rounds after → AreLawful s rounds after
-made-are s [] after same are = same
-made-are s (round ∷ rounds) after makes are = are
+made-are : (trace : Trace) (sound : Type 0) (h : HeapState) (rounds : List ClientRound) (after : HeapState) → MakesRounds trace sound h rounds after → AreRounds h.lists rounds after.lists → AreLawful h.lists rounds after.lists
+made-are trace sound h [] after same are = ap (λ (now : HeapState). now.lists) same
+made-are trace sound h (round ∷ rounds) after makes are = are
 
 abbrev ItemCounted : State → Item → Done → State → Type 0
 ItemCounted s it dn after = Counted s (given_of dn) (freed_of dn) (rounds_of it dn) (objects_in it) after
@@ -147,13 +148,13 @@ round-counted s trace round result coming after stands sound are =
     subst (λ (now : State). Counted s (given_in result.ledgers) (freed_in result.ledgers) (record { asked = round; result = result } ∷ []) (objects_of round.events) now) (sym are.2)
     (one-counted s one coming are.0 workers (room-of s trace (objects_of round.events ++ coming) stands) are.1)
 
-client-counted : (s : State) (trace : Trace) (client : Asked) (outcome : ClientDone) (coming : List ℕ) (after : State) → Stands s trace (asked_objects client ++ coming) → ClientEffect s client outcome after → AreRounds s outcome.rounds after
-    → ItemCounted s (item.Client client) (done.Client outcome) after
-client-counted s trace client outcome coming after stands (made_rounds made) are =
-    made-counted s trace outcome.rounds (asked_objects client) coming after made.objects stands (made-manned s outcome.rounds after made.runs) (made-are s outcome.rounds after made.runs are)
-client-counted s trace client outcome coming after stands (made_caches answers none creates) are =
-    subst (λ (rounds : List ClientRound). Counted s (given_by rounds) (freed_by rounds) rounds (asked_objects client) after) (sym none)
-    (counted-none s (asked_objects client) after (classes-rest s (range_with_len 0 13) answers after creates).board)
+client-counted : (sound : Type 0) (h : HeapState) (trace : Trace) (client : Asked) (outcome : ClientDone) (coming : List ℕ) (after : HeapState) → Stands h.lists trace (asked_objects client ++ coming) → ClientEffect trace sound h client outcome after
+    → AreRounds h.lists outcome.rounds after.lists → ItemCounted h.lists (item.Client client) (done.Client outcome) after.lists
+client-counted sound h trace client outcome coming after stands (made_rounds made) are =
+    made-counted h.lists trace outcome.rounds (asked_objects client) coming after.lists made.objects stands (made-manned trace sound h outcome.rounds after made.runs) (made-are trace sound h outcome.rounds after made.runs are)
+client-counted sound h trace client outcome coming after stands (made_caches answers none creates) are =
+    subst (λ (rounds : List ClientRound). Counted h.lists (given_by rounds) (freed_by rounds) rounds (asked_objects client) after.lists) (sym none)
+    (counted-none h.lists (asked_objects client) after.lists (classes-rest h trace (range_with_len 0 13) answers after creates).board)
 
 plain-counted : (s : State) (trace : Trace) (it : Item) (dn : Done) (after : State) → DoesPlain s trace it dn after → ItemCounted s it dn after
 unfolding DoesPlain
@@ -164,16 +165,17 @@ plain-counted s trace item.Slabinfo (done.Slabinfo rows) after does = counted-no
 plain-counted s trace (item.Tune place setting) (done.Tuned answer) after does = counted-none s [] after (tunes-rest s _ setting answer after does).board
 plain-counted s trace _ _ after does = absurd does
 
-item-counted : (way : Way) (m : MachineState) (trace : Trace) (it : Item) (dn : Done) (coming : List ℕ) (after : MachineState) → Stands m.lists trace (objects_in it ++ coming) → IsSoundItem trace it → Does way m trace it dn after
+item-counted : (way : Way) (m : MachineState) (trace : Trace) (it : Item) (dn : Done) (coming : List ℕ) (after : MachineState) → StandsBefore m trace (objects_in it ++ coming) → IsSoundItem trace it → Does way m trace it dn after
     → AreRounds m.lists (rounds_of it dn) after.lists → ItemCounted m.lists it dn after.lists
 unfolding Does
-item-counted way m trace (item.Round round) (done.Round result) coming after stands sound does are = round-counted m.lists trace round result coming after.lists stands sound are
-item-counted way m trace (item.Client client) (done.Client outcome) coming after stands sound does are = client-counted m.lists trace client outcome coming after.lists stands (client_effect m trace client outcome after does.0) are
+item-counted way m trace (item.Round round) (done.Round result) coming after stands sound does are = round-counted m.lists trace round result coming after.lists stands.lists sound are
+item-counted way m trace (item.Client client) (done.Client outcome) coming after stands sound does are =
+    client-counted (IsSoundLine trace m.reserves client) (heap_of m) trace client outcome coming (heap_of after) stands.lists (client_effect m trace client outcome after does.0) are
 item-counted way m trace it dn coming after stands sound does are = plain-counted m.lists trace it dn after.lists does.0
 
 -- ---- a run
 
-pub run-counted : (way : Way) (m : MachineState) (trace : Trace) (items : List Item) (dones : List Done) (after : MachineState) → Stands m.lists trace (flat_map objects_in items) → All (IsSoundItem trace) items → All IsBrief items
+pub run-counted : (way : Way) (m : MachineState) (trace : Trace) (items : List Item) (dones : List Done) (after : MachineState) → StandsBefore m trace (flat_map objects_in items) → All (IsSoundItem trace) items → All IsBrief items
     → RunsItems way m trace items dones after → Counted m.lists (all_given dones) (all_freed dones) (rounds_among items dones) (flat_map objects_in items) after.lists
 run-counted way m trace [] [] after stands sound brief run = counted-none m.lists [] after.lists (ap (λ (t : MachineState). t.lists.board) run)
 run-counted way m trace [] (dn ∷ dones) after stands sound brief run = absurd run

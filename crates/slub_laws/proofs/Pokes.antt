@@ -54,9 +54,10 @@ use Rattle.slub_journal.specs.declared.journal.Done.TheVariants as done
 use Rattle.slub_journal.specs.declared.journal.Journal.{Journal}
 use Rattle.slub_journal.specs.declared.client.ClientDone.{ClientDone}
 use Rattle.slub_journal.specs.declared.client.ClientRound.{ClientRound}
-use Rattle.slub_journal.specs.Kmalloc.{CreatesClasses}
 use Rattle.slub_journal.specs.declared.journal.RoundResult.{RoundResult}
-use Rattle.slub_journal.specs.Lawful.{CreatesName, DoesPlain, DoesRound, opening_of}
+use Rattle.slub_journal.specs.Lawful.{CreatesName, DoesPlain, opening_of}
+use Rattle.slub_by_text.specs.Heap.{DoesRoundOf, HeapState}
+use Rattle.slub_clients.specs.Kmalloc.{CreatesClasses}
 use Rattle.slub_round_law.specs.Answered.{Answered}
 use Rattle.slub_round_law.specs.Pokes.{WasGiven, WasPoked}
 use Rattle.slub_round_law.proofs.Clean.{CleanSlab, parts_of}
@@ -68,14 +69,15 @@ use Rattle.slub_round_law.proofs.Telling.{round-told}
 use Rattle.slub_laws.specs.Freed.{answered_by, rounds_among, rounds_of}
 use Rattle.slub_laws.specs.Poked.{HasPokedDamages, RunsPoked}
 use Rattle.slub_ways.specs.declared.way.Way.TheVariants.{Serial}
-use Rattle.slub_ways.specs.Runs.{Does, IsLawful, MachineState, RunsItems, machine_of}
+use Rattle.slub_ways.specs.Runs.{Does, IsLawful, MachineState, RunsItems, heap_of, machine_of}
+use Rattle.slub_ways.proofs.Asking.{IsAsked}
 use Rattle.slub_ways.proofs.Dry.{match_some}
-use Rattle.slub_ways.proofs.Made.{ClientEffect, MadeFor, MakesRounds, client_effect, made_caches, made_rounds, objects_asked}
+use Rattle.slub_ways.proofs.Made.{ClientEffect, IsSoundLine, MadeFor, MakesRounds, client_effect, made_caches, made_rounds, objects_asked}
 use Rattle.slub_ways.proofs.Numbers.{IsBrief, front, items-brief}
 use Rattle.slub_ways.proofs.Ready.{stands-first}
 use Rattle.slub_ways.proofs.Rests.{Rests, creates-rest, destroys-rest, rests-same, shrinks-rest, tunes-rest}
-use Rattle.slub_ways.proofs.Standing.{Stands, fits, made-numbers, next-numbers, stands-next, stands-round}
-use Rattle.slub_ways.proofs.WithoutIds.{none-stays, on-lists, opens-without}
+use Rattle.slub_ways.proofs.Standing.{Stands, StandsBefore, line-sound, made-numbers, next-numbers, stands-fit, stands-next, stands-round}
+use Rattle.slub_ways.proofs.WithoutIds.{none-stays, opens-without, text-without}
 use Rattle.slub_laws.proofs.Moved.{rounds_done}
 
 module _ (told : List Answered) where
@@ -333,15 +335,17 @@ module _ (told : List Answered) where
 
   -- ---- the caches of classes
 
-  classes-told : (s : State) (classes : List ℕ) (answers : List (Result Created CreateRefusal)) (after : State) → ((object : ℕ) → gone_under s object ≡ None) → CreatesClasses s classes answers after → IsTold told s → IsTold told after
-  classes-told s [] [] after unknown creates is_told = subst (IsTold told) (sym creates) is_told
-  classes-told s [] (answer ∷ answers) after unknown creates is_told = absurd creates
-  classes-told s (class ∷ classes) [] after unknown creates is_told = absurd creates
-  classes-told s (class ∷ classes) (answer ∷ answers) after unknown creates is_told =
+  classes-told : (h : HeapState) (trace : Trace) (classes : List ℕ) (answers : List (Result Created CreateRefusal)) (after : HeapState) → ((object : ℕ) → gone_under h.lists object ≡ None) → CreatesClasses h trace classes answers after → IsTold told h.lists
+      → IsTold told after.lists
+  classes-told h trace [] [] after unknown creates is_told = subst (λ (now : HeapState). IsTold told now.lists) (sym creates) is_told
+  classes-told h trace [] (answer ∷ answers) after unknown creates is_told = absurd creates
+  classes-told h trace (class ∷ classes) [] after unknown creates is_told = absurd creates
+  classes-told h trace (class ∷ classes) (answer ∷ answers) after unknown creates is_told =
       let mid = creates.0 in
-      let rests = creates-rest s _ _ answer mid creates.1 in
-      let first = told-fewer s mid rests unknown (creates-fewer s _ _ answer mid creates.2 creates.1 is_told) is_told in
-      classes-told mid classes answers after (λ object. ap (λ (b : List (Option Held)). get_or b object None) rests.gone ∙ unknown object) creates.3 first
+      let made = creates.1 in
+      let rests = creates-rest h.lists _ _ answer mid.lists made.creates in
+      let first = told-fewer h.lists mid.lists rests unknown (creates-fewer h.lists _ _ answer mid.lists made.coherent made.creates is_told) is_told in
+      classes-told mid trace classes answers after (λ object. ap (λ (b : List (Option Held)). get_or b object None) rests.gone ∙ unknown object) creates.2 first
 
 -- ---- rounds
 
@@ -349,15 +353,19 @@ module _ (told : List Answered) where
 abbrev GoesOn : List Answered → List ClientRound → State → Type 0
 GoesOn told rounds after = RunsPoked told rounds × IsTold (told ++ flat_map answered_by rounds) after
 
-rounds-told : (told : List Answered) (s : State) (trace : Trace) (rounds : List ClientRound) (coming : List ℕ) (after : State) → Stands s trace (flat_map objects_asked rounds ++ coming) → MakesRounds s rounds after → IsTold told s → GoesOn told rounds after
-rounds-told told s trace [] coming after stands same is_told = (tt, subst (λ (l : List Answered). IsTold l after) (sym (append-nil told)) (subst (IsTold told) (sym same) is_told))
-rounds-told told s trace (round ∷ rounds) coming after stands makes is_told =
+rounds-told : (told : List Answered) (sound : Type 0) (h : HeapState) (trace : Trace) (rounds : List ClientRound) (coming : List ℕ) (after : HeapState) → sound → h.ids ≡ None → Stands h.lists trace (flat_map objects_asked rounds ++ coming)
+    → MakesRounds trace sound h rounds after → IsTold told h.lists → GoesOn told rounds after.lists
+rounds-told told sound h trace [] coming after whole none stands same is_told =
+    (tt, subst (λ (l : List Answered). IsTold l after.lists) (sym (append-nil told)) (subst (λ (now : HeapState). IsTold told now.lists) (sym same) is_told))
+rounds-told told sound h trace (round ∷ rounds) coming after whole none stands makes is_told =
     let mid = makes.0 in
     let later = flat_map objects_asked rounds ++ coming in
-    let now = next-numbers s trace round rounds coming stands in
-    let tells = round-told told s round.asked round.result mid now.coherent now.rest (fits s trace round.asked later round.result mid now makes.1.does) makes.1.does is_told in
-    let rest = rounds-told (told ++ answered_by round) mid trace rounds coming after (stands-round s trace round.asked later round.result mid now makes.1.does) makes.2 tells.then in
-    ((record { reports = tells.damages; frees = tells.frees_told }, rest.0), subst (λ (l : List Answered). IsTold l after) (append_assoc told (answered_by round) (flat_map answered_by rounds)) rest.1)
+    let now = next-numbers h.lists trace round rounds coming stands in
+    let listed = text-without h.lists h.ids round.asked round.result mid.lists mid.ids none makes.1.does in
+    let tells = round-told told h.lists round.asked round.result mid.lists now.coherent now.rest (stands-fit h.lists trace round.asked later now) listed.0 is_told in
+    let next = stands-round h trace round.asked later round.result mid now (makes.1.asks whole) makes.1.does in
+    let rest = rounds-told (told ++ answered_by round) sound mid trace rounds coming after whole listed.1 next makes.2 tells.then in
+    ((record { reports = tells.damages; frees = tells.frees_told }, rest.0), subst (λ (l : List Answered). IsTold l after.lists) (append_assoc told (answered_by round) (flat_map answered_by rounds)) rest.1)
 
 -- more rounds, after these
 poked-more : (told : List Answered) (rounds others : List ClientRound) → RunsPoked told rounds → RunsPoked (told ++ flat_map answered_by rounds) others → RunsPoked told (rounds ++ others)
@@ -374,14 +382,16 @@ quiet-told told rounds after none is_told = subst (λ (rounds : List ClientRound
 quiet : (told : List Answered) (s : State) (trace : Trace) (coming : List ℕ) (after : State) → Stands s trace coming → Rests s after → Fewer told s after → IsTold told s → GoesOn told [] after
 quiet told s trace coming after stands rests fewer is_told = quiet-told told [] after refl (told-fewer told s after rests stands.rest.forgotten fewer is_told)
 
-made-told : (told : List Answered) (s : State) (trace : Trace) (rounds : List ClientRound) (numbers coming : List ℕ) (after : State) → Stands s trace (numbers ++ coming) → MadeFor s rounds numbers after → IsTold told s → GoesOn told rounds after
-made-told told s trace rounds numbers coming after stands made is_told = rounds-told told s trace rounds coming after (made-numbers s trace rounds numbers coming made.objects stands) made.runs is_told
+made-told : (told : List Answered) (sound : Type 0) (h : HeapState) (trace : Trace) (rounds : List ClientRound) (numbers coming : List ℕ) (after : HeapState) → sound → h.ids ≡ None → Stands h.lists trace (numbers ++ coming)
+    → MadeFor trace sound h rounds numbers after → IsTold told h.lists → GoesOn told rounds after.lists
+made-told told sound h trace rounds numbers coming after whole none stands made is_told =
+    rounds-told told sound h trace rounds coming after whole none (made-numbers h.lists trace rounds numbers coming made.objects stands) made.runs is_told
 
 -- a round is one that was made, each event of it by one of its workers
-round-made : (s : State) (trace : Trace) (round : Round) (result : RoundResult) (after : State) → IsSoundItem trace (item.Round round) → IsCoherent after → DoesRound s round result after
-    → MadeFor s (record { asked = round; result = result } ∷ []) (objects_of round.events) after
-round-made s trace round result after sound coherent does = record {
-  runs = (after, record { does = does; coherent = coherent; workers = λ k d within. (sound.events k d within).worker }, refl);
+round-made : (h : HeapState) (trace : Trace) (round : Round) (result : RoundResult) (after : HeapState) → IsSoundItem trace (item.Round round) → IsCoherent after.lists → DoesRoundOf h round result after
+    → MadeFor trace (IsAsked trace round) h (record { asked = round; result = result } ∷ []) (objects_of round.events) after
+round-made h trace round result after sound coherent does = record {
+  runs = (after, record { does = does; coherent = coherent; workers = λ k d within. (sound.events k d within).worker; asks = λ asked. asked }, refl);
   objects = inl (append-nil (objects_of round.events));
 }
 
@@ -399,28 +409,31 @@ plain-told told s trace (item.Tune place setting) (done.Tuned answer) coming aft
     quiet told s trace coming after stands (tunes-rest s _ setting answer after does) (tunes-fewer told s _ setting answer after does is_told) is_told
 plain-told told s trace _ _ coming after stands coherent does is_told = absurd does
 
-client-told : (told : List Answered) (s : State) (trace : Trace) (client : Asked) (outcome : ClientDone) (coming : List ℕ) (after : State) → Stands s trace (asked_objects client ++ coming) → ClientEffect s client outcome after → IsTold told s → GoesOn told outcome.rounds after
-client-told told s trace client outcome coming after stands (made_rounds rounds) is_told = made-told told s trace outcome.rounds (asked_objects client) coming after stands rounds is_told
-client-told told s trace client outcome coming after stands (made_caches answers none creates) is_told =
-    quiet-told told outcome.rounds after none (classes-told told s (range_with_len 0 13) answers after stands.rest.forgotten creates is_told)
+client-told : (told : List Answered) (sound : Type 0) (h : HeapState) (trace : Trace) (client : Asked) (outcome : ClientDone) (coming : List ℕ) (after : HeapState) → sound → h.ids ≡ None → Stands h.lists trace (asked_objects client ++ coming)
+    → ClientEffect trace sound h client outcome after → IsTold told h.lists → GoesOn told outcome.rounds after.lists
+client-told told sound h trace client outcome coming after whole bare stands (made_rounds rounds) is_told = made-told told sound h trace outcome.rounds (asked_objects client) coming after whole bare stands rounds is_told
+client-told told sound h trace client outcome coming after whole bare stands (made_caches answers none creates) is_told =
+    quiet-told told outcome.rounds after.lists none (classes-told told h trace (range_with_len 0 13) answers after stands.rest.forgotten creates is_told)
 
-item-told : (told : List Answered) (m : MachineState) (trace : Trace) (it : Item) (dn : Done) (coming : List ℕ) (after : MachineState) → m.ids ≡ None → Stands m.lists trace (objects_in it ++ coming) → IsSoundItem trace it → IsCoherent after.lists → Does Serial m trace it dn after
-    → IsTold told m.lists → GoesOn told (rounds_of it dn) after.lists
+item-told : (told : List Answered) (m : MachineState) (trace : Trace) (it : Item) (dn : Done) (coming : List ℕ) (after : MachineState) → m.ids ≡ None → StandsBefore m trace (objects_in it ++ coming) → IsSoundItem trace it → IsBrief it → IsCoherent after.lists
+    → Does Serial m trace it dn after → IsTold told m.lists → GoesOn told (rounds_of it dn) after.lists
 unfolding Does
-item-told told m trace (item.Round round) (done.Round result) coming after none stands sound coherent does is_told =
-    let listed = on-lists m trace round result after none does in
-    made-told told m.lists trace (record { asked = round; result = result } ∷ []) (objects_of round.events) coming after.lists stands (round-made m.lists trace round result after.lists sound coherent listed) is_told
-item-told told m trace (item.Client client) (done.Client outcome) coming after none stands sound coherent does is_told = client-told told m.lists trace client outcome coming after.lists stands (client_effect m trace client outcome after does.0) is_told
-item-told told m trace it dn coming after none stands sound coherent does is_told = plain-told told m.lists trace it dn coming after.lists stands coherent does.0 is_told
+item-told told m trace (item.Round round) (done.Round result) coming after none stands sound brief coherent does is_told =
+    made-told told (IsAsked trace round) (heap_of m) trace (record { asked = round; result = result } ∷ []) (objects_of round.events) coming (heap_of after) (record { sound = sound; few = brief }) none stands.lists
+    (round-made (heap_of m) trace round result (heap_of after) sound coherent does.0) is_told
+item-told told m trace (item.Client client) (done.Client outcome) coming after none stands sound brief coherent does is_told =
+    client-told told (IsSoundLine trace m.reserves client) (heap_of m) trace client outcome coming (heap_of after) (line-sound m trace client (asked_objects client ++ coming) stands sound) none stands.lists
+    (client_effect m trace client outcome after does.0) is_told
+item-told told m trace it dn coming after none stands sound brief coherent does is_told = plain-told told m.lists trace it dn coming after.lists stands.lists coherent does.0 is_told
 
-all-told : (told : List Answered) (m : MachineState) (trace : Trace) (items : List Item) (dones : List Done) (after : MachineState) → m.ids ≡ None → Stands m.lists trace (flat_map objects_in items) → All (IsSoundItem trace) items → All IsBrief items → RunsItems Serial m trace items dones after
+all-told : (told : List Answered) (m : MachineState) (trace : Trace) (items : List Item) (dones : List Done) (after : MachineState) → m.ids ≡ None → StandsBefore m trace (flat_map objects_in items) → All (IsSoundItem trace) items → All IsBrief items → RunsItems Serial m trace items dones after
     → IsTold told m.lists → RunsPoked told (rounds_among items dones)
 all-told told m trace [] [] after none stands sound brief run is_told = tt
 all-told told m trace [] (dn ∷ dones) after none stands sound brief run is_told = absurd run
 all-told told m trace (it ∷ items) [] after none stands sound brief run is_told = absurd run
 all-told told m trace (it ∷ items) (dn ∷ dones) after none stands sound brief run is_told =
     let here = All-head (IsSoundItem trace) it items sound in
-    let goes = item-told told m trace it dn (flat_map objects_in items) run.0 none stands here run.2 run.1 is_told in
+    let goes = item-told told m trace it dn (flat_map objects_in items) run.0 none stands here (All-head IsBrief it items brief) run.2 run.1 is_told in
     let next = stands-next Serial m trace it dn (flat_map objects_in items) run.0 stands here (All-head IsBrief it items brief) run.2 run.1 in
     poked-more told (rounds_of it dn) (rounds_among items dones) goes.0 (all-told (told ++ flat_map answered_by (rounds_of it dn)) run.0 trace items dones after (none-stays Serial m trace it dn run.0 none run.1) next (All-tail (IsSoundItem trace) it items sound) (All-tail IsBrief it items brief) run.3 goes.1)
 

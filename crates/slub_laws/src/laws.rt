@@ -10,7 +10,7 @@ ghost use Rattle.slub_events.specs.declared.event.Round.{Round as Events};
 ghost use Rattle.slub_journal.specs.declared.journal.RoundResult.{RoundResult as Outcome};
 ghost use Rattle.slub_slabinfo_text.specs.Counts.{counts_of};
 ghost use Rattle.slub_trace_reader.specs.Sound.{IsSound};
-ghost use Rattle.slub_journal.specs.Lawful.{IsBuilt, opening_of};
+ghost use Rattle.slub_journal.specs.Lawful.{opening_of};
 ghost use Rattle.slub_ways.specs.Runs.{IsByText, IsLawful, IsReadyMachine, machine_of};
 ghost use Rattle.slub_laws.specs.Freed.{freed_times, given_times};
 ghost use Rattle.slub_laws.specs.Trimmed.{EndsTrimmed};
@@ -58,10 +58,9 @@ pub fn given_is_freed_or_live(way: Way, trace: &Trace, journal: &Journal)
     ensures { IfSome journal.now.total (λ total. total.given ≡ total.freed + total.live) }
 {}
 
-/// The machine that is opened for a sound trace which is replayed today stands before its first item.
+/// The machine that is opened for a sound trace stands before its first item.
 pub fn opening_is_ready(trace: &Trace)
     requires sound { IsSound trace.now }
-    requires built { IsBuilt trace.now }
     requires coherent { IsCoherent (opening_of trace.now) }
     ensures { IsReadyMachine (machine_of trace.now) trace.now 0 }
 {}

@@ -1,8 +1,8 @@
 pub mod Fitting
 pub mod Runs
-pub mod WithoutIds
+pub mod Asking
 pub mod Made
-pub mod Wanted
+pub mod WithoutIds
 pub mod Numbers
 pub mod Dry
 pub mod Rests

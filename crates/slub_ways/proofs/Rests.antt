@@ -24,8 +24,10 @@ use Rattle.slub_lists.specs.Destroy.{Destroys, without}
 use Rattle.slub_lists.specs.Shrink.{ShrinksCache, Shrinks, flushed, flushed_below, min_partial_of}
 use Rattle.slub_lists.specs.Tune.{Tunes, tuned, with_setting}
 use Rattle.slub_lists.proofs.Flushing.{rest-flushed}
-use Rattle.slub_journal.specs.Kmalloc.{CreatesClasses}
+use Rattle.slub_trace_reader.specs.declared.trace.Trace.{Trace}
 use Rattle.slub_journal.specs.Lawful.{CreatesName}
+use Rattle.slub_by_text.specs.Heap.{HeapState}
+use Rattle.slub_clients.specs.Kmalloc.{CreatesClasses}
 use Rattle.slub_ways.proofs.Dry.{by_kind-dry, flushed_below-dry, match_some}
 
 -- the board, what was freed, the CPUs, the trace's names and the counts of wanted frames are as before
@@ -73,12 +75,12 @@ creates-rest s name spec (Ok (Merged cache title)) after creates = created-rests
 creates-rest s name spec (Err why) after creates = rests-same s after creates.1
 
 -- the caches of classes are created
-pub classes-rest : (s : State) (classes : List ℕ) (answers : List (Result Created CreateRefusal)) (after : State) → CreatesClasses s classes answers after → Rests s after
-classes-rest s [] [] after creates = rests-same s after creates
-classes-rest s [] (answer ∷ answers) after creates = absurd creates
-classes-rest s (class ∷ classes) [] after creates = absurd creates
-classes-rest s (class ∷ classes) (answer ∷ answers) after creates =
-    rests-both s creates.0 after (creates-rest s _ _ answer creates.0 creates.1) (classes-rest creates.0 classes answers after creates.3)
+pub classes-rest : (h : HeapState) (trace : Trace) (classes : List ℕ) (answers : List (Result Created CreateRefusal)) (after : HeapState) → CreatesClasses h trace classes answers after → Rests h.lists after.lists
+classes-rest h trace [] [] after creates = rests-same h.lists after.lists (ap (λ (now : HeapState). now.lists) creates)
+classes-rest h trace [] (answer ∷ answers) after creates = absurd creates
+classes-rest h trace (class ∷ classes) [] after creates = absurd creates
+classes-rest h trace (class ∷ classes) (answer ∷ answers) after creates =
+    rests-both h.lists creates.0.lists after.lists (creates-rest h.lists _ _ answer creates.0.lists creates.1.creates) (classes-rest creates.0 trace classes answers after creates.2)
 
 -- ---- shrinking and destroying
 

@@ -20,7 +20,7 @@ use Rattle.slub_ids.specs.Growth.{ids_after}
 use Rattle.slub_ways.specs.declared.way.Way.{Way}
 use Rattle.slub_ways.specs.declared.way.Way.TheVariants.{Serial, Schedule, Threads}
 use Rattle.slub_ways.specs.Ways.{DoesRoundBy}
-use Rattle.slub_ways.specs.Runs.{AreByText, Does, DoesAt, IsAlone, IsLawful, KeepsIds, KeepsReserves, KeepsRounds, MachineState, RunsItems, Serves, machine_of}
+use Rattle.slub_ways.specs.Runs.{AreByText, Does, DoesAt, IsAlone, IsLawful, KeepsReserves, KeepsRounds, MachineState, RunsItems, Serves, machine_of}
 use Rattle.slub_ways.proofs.Numbers.{front}
 
 -- ---- items done one after the other
@@ -60,10 +60,10 @@ does_round_at way m trace number it round result after within at is does kept mo
 
 -- a client's line
 pub does_client_at : (way : Way) (m : MachineState) (trace : Trace) (number : ℕ) (it : Item) (client : Asked) (outcome : ClientDone) (after : MachineState) → number < length trace.items → it ≡ get_or trace.items number it → it ≡ item.Client client
-    → Serves m trace client outcome after → m.ids ≡ None → KeepsIds m after → KeepsRounds m after → DoesAt way m trace number (done.Client outcome) after
+    → Serves m trace client outcome after → KeepsRounds m after → DoesAt way m trace number (done.Client outcome) after
 unfolding Does
-does_client_at way m trace number it client outcome after within at is serves none still kept =
-    does_found way m trace number it (done.Client outcome) after within at (subst (λ (it : Item). Does way m trace it (done.Client outcome) after) (sym is) (serves, none, still, kept))
+does_client_at way m trace number it client outcome after within at is serves kept =
+    does_found way m trace number it (done.Client outcome) after within at (subst (λ (it : Item). Does way m trace it (done.Client outcome) after) (sym is) (serves, kept))
 
 -- ---- an item that is neither
 

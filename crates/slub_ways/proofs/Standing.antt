@@ -15,25 +15,28 @@ use Rattle.slub_trace_reader.specs.declared.trace.Item.{Item}
 use Rattle.slub_trace_reader.specs.declared.trace.Item.TheVariants as item
 use Rattle.slub_trace_reader.specs.declared.trace.Trace.{Trace}
 use Rattle.slub_trace_reader.specs.declared.trace.Client.{Client as Asked}
-use Rattle.slub_trace_reader.specs.Sound.{IsSoundItem, IsSoundRound, asked_objects, objects_in, objects_of}
+use Rattle.slub_trace_reader.specs.Sound.{IsSoundClient, IsSoundItem, IsSoundRound, asked_objects, objects_in, objects_of}
 use Rattle.slub_calls.specs.Laws.{MayDo}
 use Rattle.slub_journal.specs.declared.journal.Done.{Done}
 use Rattle.slub_journal.specs.declared.journal.Done.TheVariants as done
 use Rattle.slub_journal.specs.declared.journal.RoundResult.{RoundResult}
 use Rattle.slub_journal.specs.declared.client.ClientDone.{ClientDone}
 use Rattle.slub_journal.specs.declared.client.ClientRound.{ClientRound}
-use Rattle.slub_journal.specs.Lawful.{DoesPlain, DoesRound, IsAtRest}
+use Rattle.slub_journal.specs.Lawful.{DoesPlain, IsAtRest}
 use Rattle.slub_round_law.specs.Answered.{times_given}
 use Rattle.slub_round_law.specs.Round.{Fits, IsRound}
 use Rattle.slub_round_law.proofs.Times.{events_given}
-use Rattle.slub_round_law.proofs.Whole.{lawful}
+use Rattle.slub_by_text.specs.Heap.{DoesRoundOf, HeapState}
+use Rattle.slub_by_text.proofs.Lawful.{text-lawful}
+use Rattle.slub_clients.specs.Reserves.{AreSoundReserves}
+use Rattle.slub_clients.proofs.Wanted.{round-room}
 use Rattle.slub_ways.specs.declared.way.Way.{Way}
-use Rattle.slub_ways.specs.Runs.{Does, MachineState}
+use Rattle.slub_ways.specs.Runs.{Does, MachineState, Serves, heap_of}
+use Rattle.slub_ways.proofs.Asking.{IsAsked}
 use Rattle.slub_ways.proofs.Fitting.{lawful-by}
-use Rattle.slub_ways.proofs.Made.{ClientEffect, MakesRounds, client_effect, made_caches, made_rounds, objects_asked}
+use Rattle.slub_ways.proofs.Made.{ClientEffect, IsSoundLine, MakesRounds, client_effect, made_caches, made_rounds, objects_asked}
 use Rattle.slub_ways.proofs.Numbers.{IsBrief}
 use Rattle.slub_ways.proofs.Rests.{Rests, classes-rest, creates-rest, destroys-rest, rests-same, shrinks-rest, tunes-rest}
-use Rattle.slub_ways.proofs.Wanted.{round-room}
 
 -- ---- different numbers
 
@@ -102,7 +105,7 @@ stands-rest s trace numbers coming after stands coherent rests = record {
 
 -- ---- before a round
 
-own-default : (xs : List ℕ) (k d : ℕ) → k < length xs → get_or xs k (get_or xs k d) ≡ get_or xs k d
+pub own-default : (xs : List ℕ) (k d : ℕ) → k < length xs → get_or xs k (get_or xs k d) ≡ get_or xs k d
 own-default [] k d within = absurd (omega (arith, within))
 own-default (x ∷ xs) zero d within = refl
 own-default (x ∷ xs) (suc k) d within = own-default xs k d (omega (arith, within))
@@ -175,20 +178,17 @@ module _ (s : State) (trace : Trace) (round : Round) (coming : List ℕ) (result
     unheld = λ object some. still object some (held_under after object) refl;
     once = λ object. omega (arith, stands.once object, parts object);
     within = λ object some. stands.within object (omega (arith, some, parts object));
-    dry = λ order. round-room s round result after coming order is (stands.dry order);
+    dry = λ order. round-room s round result after (length coming) order is (omega (arith, stands.dry order, length-append (objects_of round.events) coming));
   }
 
 -- ---- a round in the order of the text
 
-module _ (s : State) (trace : Trace) (round : Round) (coming : List ℕ) (result : RoundResult) (after : State) (stands : Stands s trace (objects_of round.events ++ coming)) (does : DoesRound s round result after) where
-  pub fits : Fits s round
-  fits = stands-fit s trace round coming stands
+module _ (h : HeapState) (trace : Trace) (round : Round) (coming : List ℕ) (result : RoundResult) (after : HeapState) (stands : Stands h.lists trace (objects_of round.events ++ coming)) (asked : IsAsked trace round) (does : DoesRoundOf h round result after) where
+  pub is-round : IsRound h.lists round result after.lists
+  is-round = text-lawful h.lists h.ids trace round result after.lists after.ids stands.coherent stands.rest (stands-may h.lists trace round coming stands asked.sound asked.few) does
 
-  pub is-round : IsRound s round result after
-  is-round = lawful s round result after stands.coherent stands.rest fits does
-
-  pub stands-round : Stands after trace coming
-  stands-round = stands-after s trace round coming result after stands is-round
+  pub stands-round : Stands after.lists trace coming
+  stands-round = stands-after h.lists trace round coming result after.lists stands is-round
 
 -- ---- rounds
 
@@ -197,12 +197,12 @@ pub next-numbers : (s : State) (trace : Trace) (round : ClientRound) (rounds : L
 next-numbers s trace round rounds coming stands =
     subst (Stands s trace) (append_assoc (objects_asked round) (flat_map objects_asked rounds) coming) stands
 
--- rounds that are made one after the other in the order of the text
-rounds-stand : (s : State) (trace : Trace) (rounds : List ClientRound) (coming : List ℕ) (after : State) → Stands s trace (flat_map objects_asked rounds ++ coming) → MakesRounds s rounds after → Stands after trace coming
-rounds-stand s trace [] coming after stands same = subst (λ (now : State). Stands now trace coming) (sym same) stands
-rounds-stand s trace (round ∷ rounds) coming after stands makes =
-    let now = next-numbers s trace round rounds coming stands in
-    rounds-stand makes.0 trace rounds coming after (stands-round s trace round.asked (flat_map objects_asked rounds ++ coming) round.result makes.0 now makes.1.does) makes.2
+-- rounds of a sound line that are made one after the other
+rounds-stand : (sound : Type 0) (h : HeapState) (trace : Trace) (rounds : List ClientRound) (coming : List ℕ) (after : HeapState) → sound → Stands h.lists trace (flat_map objects_asked rounds ++ coming) → MakesRounds trace sound h rounds after → Stands after.lists trace coming
+rounds-stand sound h trace [] coming after whole stands same = subst (λ (now : HeapState). Stands now.lists trace coming) (sym same) stands
+rounds-stand sound h trace (round ∷ rounds) coming after whole stands makes =
+    let now = next-numbers h.lists trace round rounds coming stands in
+    rounds-stand sound makes.0 trace rounds coming after whole (stands-round h trace round.asked (flat_map objects_asked rounds ++ coming) round.result makes.0 now (makes.1.asks whole) makes.1.does) makes.2
 
 -- rounds that allocate these numbers or none
 pub made-numbers : (s : State) (trace : Trace) (rounds : List ClientRound) (numbers coming : List ℕ) → (flat_map objects_asked rounds ≡ numbers) ⊎ (flat_map objects_asked rounds ≡ []) → Stands s trace (numbers ++ coming) → Stands s trace (flat_map objects_asked rounds ++ coming)
@@ -210,6 +210,29 @@ made-numbers s trace rounds numbers coming (inl all) stands = subst (λ (xs : Li
 made-numbers s trace rounds numbers coming (inr none) stands =
     subst (λ (xs : List ℕ). Stands s trace (xs ++ coming)) (sym none)
     (stands-fewer s trace (numbers ++ coming) coming (λ object. omega (arith, times-append object numbers coming)) (omega (arith, length-append numbers coming)) stands)
+
+-- ---- the machine, with the reserves of its clients
+
+-- its lists stand so, and its reserves are sound
+pub record StandsBefore (m : MachineState) (trace : Trace) (coming : List ℕ) : Type 0 where
+  pub lists : Stands m.lists trace coming
+  pub reserves : AreSoundReserves trace m.reserves
+
+-- a line of the trace is a sound one then
+pub line-sound : (m : MachineState) (trace : Trace) (client : Asked) (coming : List ℕ) → StandsBefore m trace coming → IsSoundClient trace client → IsSoundLine trace m.reserves client
+line-sound m trace client coming stands sound = record { line = sound; cpus = omega (arith, stands.lists.coherent.shaped.cpus.0, stands.lists.cpus); reserves = stands.reserves }
+
+-- reserves stay sound
+serves-reserves : (m : MachineState) (trace : Trace) (client : Asked) (outcome : ClientDone) (after : MachineState) → AreSoundReserves trace m.reserves → Serves m trace client outcome after → AreSoundReserves trace after.reserves
+serves-reserves m trace client outcome after sound (inl serves) = subst (AreSoundReserves trace) (sym serves.1) sound
+serves-reserves m trace client outcome after sound (inr (inl serves)) = subst (AreSoundReserves trace) (sym serves.1) sound
+serves-reserves m trace client outcome after sound (inr (inr serves)) = serves.1.sound
+
+reserves-next : (way : Way) (m : MachineState) (trace : Trace) (it : Item) (dn : Done) (after : MachineState) → AreSoundReserves trace m.reserves → Does way m trace it dn after → AreSoundReserves trace after.reserves
+unfolding Does
+reserves-next way m trace (item.Round round) (done.Round result) after sound does = subst (AreSoundReserves trace) (sym does.1) sound
+reserves-next way m trace (item.Client client) (done.Client outcome) after sound does = serves-reserves m trace client outcome after sound does.0
+reserves-next way m trace it dn after sound does = subst (AreSoundReserves trace) (sym does.2) sound
 
 -- ---- all items
 
@@ -224,18 +247,28 @@ plain-stands s trace (item.Tune place setting) (done.Tuned answer) coming after 
 plain-stands s trace _ _ coming after stands coherent does = absurd does
 
 -- a client's line
-client-stands : (s : State) (trace : Trace) (client : Asked) (outcome : ClientDone) (coming : List ℕ) (after : State) → Stands s trace (asked_objects client ++ coming) → IsCoherent after → ClientEffect s client outcome after → Stands after trace coming
-client-stands s trace client outcome coming after stands coherent (made_rounds made) =
-    rounds-stand s trace outcome.rounds coming after (made-numbers s trace outcome.rounds (asked_objects client) coming made.objects stands) made.runs
-client-stands s trace client outcome coming after stands coherent (made_caches answers none creates) =
-    stands-rest s trace (asked_objects client) coming after stands coherent (classes-rest s (range_with_len 0 13) answers after creates)
+client-stands : (sound : Type 0) (h : HeapState) (trace : Trace) (client : Asked) (outcome : ClientDone) (coming : List ℕ) (after : HeapState) → sound → Stands h.lists trace (asked_objects client ++ coming) → IsCoherent after.lists
+    → ClientEffect trace sound h client outcome after → Stands after.lists trace coming
+client-stands sound h trace client outcome coming after whole stands coherent (made_rounds made) =
+    rounds-stand sound h trace outcome.rounds coming after whole (made-numbers h.lists trace outcome.rounds (asked_objects client) coming made.objects stands) made.runs
+client-stands sound h trace client outcome coming after whole stands coherent (made_caches answers none creates) =
+    stands-rest h.lists trace (asked_objects client) coming after.lists stands coherent (classes-rest h trace (range_with_len 0 13) answers after creates)
 
--- any item, by any way
-pub stands-next : (way : Way) (m : MachineState) (trace : Trace) (it : Item) (dn : Done) (coming : List ℕ) (after : MachineState) → Stands m.lists trace (objects_in it ++ coming) → IsSoundItem trace it → IsBrief it → IsCoherent after.lists → Does way m trace it dn after
+lists-next : (way : Way) (m : MachineState) (trace : Trace) (it : Item) (dn : Done) (coming : List ℕ) (after : MachineState) → StandsBefore m trace (objects_in it ++ coming) → IsSoundItem trace it → IsBrief it → IsCoherent after.lists → Does way m trace it dn after
     → Stands after.lists trace coming
 unfolding Does
-stands-next way m trace (item.Round round) (done.Round result) coming after stands sound brief coherent does =
-    stands-after m.lists trace round coming result after.lists stands
-    (lawful-by way m.rounds m.lists m.ids trace round result after.lists after.ids stands.coherent stands.rest (stands-may m.lists trace round coming stands sound brief) does.0)
-stands-next way m trace (item.Client client) (done.Client outcome) coming after stands sound brief coherent does = client-stands m.lists trace client outcome coming after.lists stands coherent (client_effect m trace client outcome after does.0)
-stands-next way m trace it dn coming after stands sound brief coherent does = plain-stands m.lists trace it dn coming after.lists stands coherent does.0
+lists-next way m trace (item.Round round) (done.Round result) coming after stands sound brief coherent does =
+    stands-after m.lists trace round coming result after.lists stands.lists
+    (lawful-by way m.rounds m.lists m.ids trace round result after.lists after.ids stands.lists.coherent stands.lists.rest (stands-may m.lists trace round coming stands.lists sound brief) does.0)
+lists-next way m trace (item.Client client) (done.Client outcome) coming after stands sound brief coherent does =
+    client-stands (IsSoundLine trace m.reserves client) (heap_of m) trace client outcome coming (heap_of after) (line-sound m trace client (asked_objects client ++ coming) stands sound) stands.lists coherent
+    (client_effect m trace client outcome after does.0)
+lists-next way m trace it dn coming after stands sound brief coherent does = plain-stands m.lists trace it dn coming after.lists stands.lists coherent does.0
+
+-- any item, by any way
+pub stands-next : (way : Way) (m : MachineState) (trace : Trace) (it : Item) (dn : Done) (coming : List ℕ) (after : MachineState) → StandsBefore m trace (objects_in it ++ coming) → IsSoundItem trace it → IsBrief it → IsCoherent after.lists → Does way m trace it dn after
+    → StandsBefore after trace coming
+stands-next way m trace it dn coming after stands sound brief coherent does = record {
+  lists = lists-next way m trace it dn coming after stands sound brief coherent does;
+  reserves = reserves-next way m trace it dn after stands.reserves does;
+}

@@ -1,22 +1,34 @@
--- Where the first transaction id of a trace is 0 the machine has no ids, rounds in the order of the text are done on its lists alone, and no turns of them are spent.
-use Rattle.std.proofs.Common.{◌≡◌, ℕ, ◌==◌, if◌then◌else◌, List, [], ◌∷◌, length, take, ◌∙◌, ap, subst, Option, Some, None, MatchOption, slice_get, inl, inr}
+-- A client's line leaves ids where they stood. Where the first transaction id of a trace is 0 the machine has no ids, rounds in the order of the text are done on its lists alone, and no turns of them are spent.
+use Rattle.std.proofs.Common.{◌≡◌, ℕ, ◌==◌, if◌then◌else◌, true, false, is_some, List, [], ◌∷◌, length, take, refl, ◌∙◌, ap, subst, Option, Some, None, MatchOption, Result, slice_get, inl, inr}
+use Rattle.std.specs.List.{range_with_len}
 use Rattle.std.specs.Option.{option_map}
 use Rattle.slub_events.specs.declared.event.Round.{Round}
+use Rattle.slub_answers.specs.declared.create.Created.{Created}
+use Rattle.slub_answers.specs.declared.create.CreateRefusal.{CreateRefusal}
 use Rattle.slub_lists.specs.State.{State}
+use Rattle.slub_trace_reader.specs.declared.trace.Client.{Client as Asked}
 use Rattle.slub_trace_reader.specs.declared.trace.Item.{Item}
 use Rattle.slub_trace_reader.specs.declared.trace.Item.TheVariants as item
 use Rattle.slub_trace_reader.specs.declared.trace.Trace.{Trace}
 use Rattle.slub_into_words.specs.Ids.{first_ids}
+use Rattle.slub_journal.specs.declared.client.ClientDone.{ClientDone}
+use Rattle.slub_journal.specs.declared.client.ClientRound.{ClientRound}
 use Rattle.slub_journal.specs.declared.journal.Done.{Done}
 use Rattle.slub_journal.specs.declared.journal.Done.TheVariants as done
 use Rattle.slub_journal.specs.declared.journal.Journal.{Journal}
 use Rattle.slub_journal.specs.declared.journal.RoundResult.{RoundResult}
+use Rattle.slub_journal.specs.Asked.{round_of}
 use Rattle.slub_journal.specs.Lawful.{DoesRound}
 use Rattle.slub_ids.specs.Growth.{ids_after}
+use Rattle.slub_by_text.specs.ByText.{DoesByText, SpendsByText}
+use Rattle.slub_by_text.specs.Heap.{HeapState}
+use Rattle.slub_clients.specs.Asked.{SpendsLine, SpendsOne}
+use Rattle.slub_clients.specs.Kmalloc.{CreatesClasses, ids_made}
 use Rattle.slub_ways.specs.declared.way.Way.{Way}
 use Rattle.slub_ways.specs.declared.way.Way.TheVariants.{Serial, Schedule, Threads}
-use Rattle.slub_ways.specs.Ways.{AreLeft, DoesByText, DoesRoundBy, SpendsTurnsBy}
-use Rattle.slub_ways.specs.Runs.{Does, EndsSpent, IsLawful, ItemSpendsTurns, MachineState, RunsItems, machine_of, opening_ids}
+use Rattle.slub_ways.specs.Ways.{AreLeft, DoesRoundBy, SpendsTurnsBy}
+use Rattle.slub_ways.specs.Runs.{Does, EndsSpent, IsLawful, ItemSpendsTurns, MachineState, RunsItems, Serves, heap_of, machine_of, opening_ids}
+use Rattle.slub_ways.proofs.Made.{ClientEffect, IsSoundLine, MakesRounds, client_effect, made_caches, made_rounds}
 
 -- ---- before the first item
 
@@ -25,7 +37,7 @@ opens-without trace bare = ap (λ (first : ℕ). if first == 0 then None else So
 
 -- ---- a round
 
-text-without : (s : State) (ids : Option (List ℕ)) (round : Round) (result : RoundResult) (after : State) (left : Option (List ℕ)) → ids ≡ None → DoesByText s ids round result after left → DoesRound s round result after × (left ≡ None)
+pub text-without : (s : State) (ids : Option (List ℕ)) (round : Round) (result : RoundResult) (after : State) (left : Option (List ℕ)) → ids ≡ None → DoesByText s ids round result after left → DoesRound s round result after × (left ≡ None)
 text-without s None round result after left none does = does
 text-without s (Some ids) round result after left none does = absurd (let never : ⊥ = cc in never)
 
@@ -40,10 +52,39 @@ round-without (Schedule seed) rounds s ids round result after left none (inr (se
 round-without Threads rounds s ids round result after left none (inl (few, does)) = (text-without s ids round result after left none does).1
 round-without Threads rounds s ids round result after left none (inr (several, does)) = left-without ids does.0 left none does.2
 
--- in the order of the text it is done on the lists
-pub on-lists : (m : MachineState) (trace : Trace) (round : Round) (result : RoundResult) (after : MachineState) → m.ids ≡ None → Does Serial m trace (item.Round round) (done.Round result) after → DoesRound m.lists round result after.lists
-unfolding Does
-on-lists m trace round result after none does = (text-without m.lists m.ids round result after.lists after.ids none does.0).0
+-- ---- a client's line
+
+none-of : (ids : Option (List ℕ)) → is_some ids ≡ false → ids ≡ None
+none-of None none = refl
+none-of (Some ids) none = absurd (let never : true ≡ false = none in cc)
+
+mapped : (f : List ℕ → List ℕ) (ids : Option (List ℕ)) → is_some (option_map f ids) ≡ is_some ids
+mapped f None = refl
+mapped f (Some ids) = refl
+
+text-leaves : (s : State) (ids : Option (List ℕ)) (round : Round) (result : RoundResult) (after : State) (left : Option (List ℕ)) → DoesByText s ids round result after left → is_some left ≡ is_some ids
+text-leaves s None round result after left does = ap (λ (x : Option (List ℕ)). is_some x) does.1
+text-leaves s (Some ids) round result after left does = ap (λ (x : Option (List ℕ)). is_some x) does.2
+
+rounds-leave : (trace : Trace) (sound : Type 0) (h : HeapState) (rounds : List ClientRound) (after : HeapState) → MakesRounds trace sound h rounds after → is_some after.ids ≡ is_some h.ids
+rounds-leave trace sound h [] after same = ap (λ (now : HeapState). is_some now.ids) same
+rounds-leave trace sound h (round ∷ rounds) after makes =
+    rounds-leave trace sound makes.0 rounds after makes.2 ∙ text-leaves h.lists h.ids round.asked round.result makes.0.lists makes.0.ids makes.1.does
+
+classes-leave : (trace : Trace) (h : HeapState) (classes : List ℕ) (answers : List (Result Created CreateRefusal)) (after : HeapState) → CreatesClasses h trace classes answers after → is_some after.ids ≡ is_some h.ids
+classes-leave trace h [] [] after creates = ap (λ (now : HeapState). is_some now.ids) creates
+classes-leave trace h [] (answer ∷ answers) after creates = absurd creates
+classes-leave trace h (class ∷ classes) [] after creates = absurd creates
+classes-leave trace h (class ∷ classes) (answer ∷ answers) after creates =
+    classes-leave trace creates.0 classes answers after creates.2 ∙ ap (λ (x : Option (List ℕ)). is_some x) creates.1.ids ∙ mapped (ids_made trace h.lists answer) h.ids
+
+effect-leaves : (trace : Trace) (sound : Type 0) (h : HeapState) (client : Asked) (outcome : ClientDone) (after : HeapState) → ClientEffect trace sound h client outcome after → is_some after.ids ≡ is_some h.ids
+effect-leaves trace sound h client outcome after (made_rounds made) = rounds-leave trace sound h outcome.rounds after made.runs
+effect-leaves trace sound h client outcome after (made_caches answers none creates) = classes-leave trace h (range_with_len 0 13) answers after creates
+
+-- ids stand beside the lists after it where they stood before it
+pub line-leaves : (m : MachineState) (trace : Trace) (client : Asked) (outcome : ClientDone) (after : MachineState) → Serves m trace client outcome after → is_some after.ids ≡ is_some m.ids
+line-leaves m trace client outcome after serves = effect-leaves trace (IsSoundLine trace m.reserves client) (heap_of m) client outcome (heap_of after) (client_effect m trace client outcome after serves)
 
 -- ---- items
 
@@ -51,7 +92,7 @@ on-lists m trace round result after none does = (text-without m.lists m.ids roun
 pub none-stays : (way : Way) (m : MachineState) (trace : Trace) (it : Item) (dn : Done) (after : MachineState) → m.ids ≡ None → Does way m trace it dn after → after.ids ≡ None
 unfolding Does
 none-stays way m trace (item.Round round) (done.Round result) after none does = round-without way m.rounds m.lists m.ids round result after.lists after.ids none does.0
-none-stays way m trace (item.Client client) (done.Client outcome) after none does = does.2 ∙ none
+none-stays way m trace (item.Client client) (done.Client outcome) after none does = none-of after.ids (line-leaves m trace client outcome after does.0 ∙ ap (λ (ids : Option (List ℕ)). is_some ids) none)
 none-stays way m trace it dn after none does = does.1 ∙ ap (λ (ids : Option (List ℕ)). option_map (ids_after trace m.lists it dn) ids) none
 
 pub none-after : (way : Way) (m : MachineState) (trace : Trace) (items : List Item) (dones : List Done) (after : MachineState) → m.ids ≡ None → RunsItems way m trace items dones after → after.ids ≡ None
@@ -77,8 +118,16 @@ serial-without rounds s round spent = spent
 pub threads-without : HasNoTurns Threads
 threads-without rounds s round spent = spent.1
 
+one-unspent : (h : HeapState) → h.ids ≡ None → SpendsOne h → ⊥
+one-unspent h none spent = subst (λ (ids : Option (List ℕ)). SpendsByText h.lists ids (round_of spent.0 spent.1)) none spent.2
+
+line-unspent : (h : HeapState) → h.ids ≡ None → SpendsLine h → ⊥
+line-unspent h none (inl spent) = one-unspent h none spent
+line-unspent h none (inr (round, result, mid, does, spent)) = one-unspent mid (text-without h.lists h.ids round result mid.lists mid.ids none does).1 spent
+
 item-unspent : (way : Way) (m : MachineState) (it : Item) → HasNoTurns way → m.ids ≡ None → ItemSpendsTurns way m it → ⊥
 item-unspent way m (item.Round round) turns none spent = turns m.rounds m.lists round (subst (λ (ids : Option (List ℕ)). SpendsTurnsBy way m.rounds m.lists ids round) none spent)
+item-unspent way m (item.Client client) turns none spent = line-unspent (heap_of m) none spent
 item-unspent way m _ turns none spent = spent
 
 found-unspent : (way : Way) (m : MachineState) (found : Option Item) → HasNoTurns way → m.ids ≡ None → MatchOption found ⊥ (λ it. ItemSpendsTurns way m it) → ⊥

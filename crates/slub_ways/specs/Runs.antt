@@ -11,10 +11,12 @@ use Rattle.slub_journal.specs.declared.client.ClientDone.{ClientDone}
 use Rattle.slub_journal.specs.declared.journal.Done.{Done}
 use Rattle.slub_journal.specs.declared.journal.Done.TheVariants as done
 use Rattle.slub_journal.specs.declared.journal.Journal.{Journal}
-use Rattle.slub_journal.specs.BulkLines.{ServesBulkLines}
-use Rattle.slub_journal.specs.Kmalloc.{ServesClasses}
-use Rattle.slub_journal.specs.Lawful.{DoesPlain, IsOwn, IsReady, IsTotal, coming, opening_of}
-use Rattle.slub_journal.specs.Reserves.{AreReserves, AreSoundReserves, Reserve, ServesReserves}
+use Rattle.slub_journal.specs.Lawful.{DoesPlain, IsReady, IsTotal, coming, opening_of}
+use Rattle.slub_by_text.specs.Heap.{HeapState}
+use Rattle.slub_clients.specs.Asked.{SpendsLine}
+use Rattle.slub_clients.specs.BulkLines.{ServesBulkLines}
+use Rattle.slub_clients.specs.Kmalloc.{ServesClasses}
+use Rattle.slub_clients.specs.Reserves.{AreReserves, AreSoundReserves, Reserve, ServesReserves}
 use Rattle.slub_ways.specs.declared.way.Way.{Way}
 use Rattle.slub_ways.specs.declared.way.Way.TheVariants.{Serial, Schedule, Threads}
 use Rattle.slub_into_words.specs.Ids.{AreIds, first_ids}
@@ -32,13 +34,13 @@ pub record MachineState : Type 0 where
   pub reserves : List Reserve
   pub rounds : ℕ
 
+-- what its clients allocate from
+abbrev pub heap_of : MachineState → HeapState
+heap_of m = record { lists = m.lists; ids = m.ids }
+
 -- the reserves are as they were
 abbrev pub KeepsReserves : MachineState → MachineState → Type 0
 KeepsReserves m after = after.reserves ≡ m.reserves
-
--- the ids are as they were
-abbrev pub KeepsIds : MachineState → MachineState → Type 0
-KeepsIds m after = after.ids ≡ m.ids
 
 -- no `round` line was done
 abbrev pub KeepsRounds : MachineState → MachineState → Type 0
@@ -53,11 +55,10 @@ abbrev pub machine_of : Trace → MachineState
 machine_of trace =
     record { lists = opening_of trace; ids = opening_ids trace; reserves = []; rounds = 0 }
 
--- ids stand beside the lists of a trace whose first one isn't 0, and fit them; it has no client's
--- line
+-- ids stand beside the lists of a trace whose first one isn't 0, and fit them
 abbrev pub AreIdsFor : Trace → State → Option (List ℕ) → Type 0
 AreIdsFor trace s None = trace.tid ≡ 0
-AreIdsFor trace s (Some ids) = (trace.tid ≢ 0) × All IsOwn trace.items × AreIds s ids
+AreIdsFor trace s (Some ids) = (trace.tid ≢ 0) × AreIds s ids
 
 -- the machine stands before the item of this number
 pub record IsReadyMachine (m : MachineState) (trace : Trace) (number : ℕ) : Type 0 where
@@ -76,22 +77,21 @@ pub record IsReadyMachine (m : MachineState) (trace : Trace) (number : ℕ) : Ty
 -- reserves. Only the last of them change reserves, and then each number in one is on the board
 abbrev pub Serves : MachineState → Trace → Asked → ClientDone → MachineState → Type 0
 Serves m trace client done after =
-    (ServesClasses m.lists trace client done after.lists × KeepsReserves m after)
-    ⊎ (ServesBulkLines m.lists client done after.lists × KeepsReserves m after)
-    ⊎ (ServesReserves m.lists m.reserves client done after.lists after.reserves
+    (ServesClasses (heap_of m) trace client done (heap_of after) × KeepsReserves m after)
+    ⊎ (ServesBulkLines (heap_of m) client done (heap_of after) × KeepsReserves m after)
+    ⊎ (ServesReserves (heap_of m) m.reserves client done (heap_of after) after.reserves
     × AreReserves after.lists trace after.reserves)
 
 -- ---- items
 
 -- an item is done, by an answer of its kind: a `round` line by the way, every other one as in
--- every way. A client's line is served on lists beside which no ids stand
+-- every way
 unfoldable pub Does : Way → MachineState → Trace → Item → Done → MachineState → Type 0
 Does way m trace (item.Round round) (done.Round result) after =
     DoesRoundBy way m.rounds m.lists m.ids round result after.lists after.ids
     × KeepsReserves m after × (after.rounds ≡ m.rounds + 1)
 Does way m trace (item.Client client) (done.Client outcome) after =
-    Serves m trace client outcome after × (m.ids ≡ None) × KeepsIds m after
-    × KeepsRounds m after
+    Serves m trace client outcome after × KeepsRounds m after
 Does way m trace item done after =
     DoesPlain m.lists trace item done after.lists
     × (after.ids ≡ option_map (ids_after trace m.lists item done) m.ids)
@@ -129,9 +129,11 @@ IsByText way trace = (trace.tid ≡ 0) × AreByText way trace.items
 
 -- ---- turns that are spent
 
--- the item is a round whose turns are all made, and a worker of it is unfinished
+-- the item is a round whose turns are all made, and a worker of it is unfinished; or a client's
+-- line that makes such a round
 abbrev pub ItemSpendsTurns : Way → MachineState → Item → Type 0
 ItemSpendsTurns way m (item.Round round) = SpendsTurnsBy way m.rounds m.lists m.ids round
+ItemSpendsTurns way m (item.Client client) = SpendsLine (heap_of m)
 ItemSpendsTurns way m _ = ⊥
 
 -- so is the item of this number
@@ -157,8 +159,8 @@ pub record IsLawful (way : Way) (trace : Trace) (journal : Journal) : Type 0 whe
       (λ total. IsTotal machine.lists journal.items total
       × (length journal.items ≡ length trace.items))
 
--- the item after the journal's last is a round whose turns are spent, on a machine that the
--- journal's items leave
+-- the item after the journal's last is one whose turns are spent, on a machine that the journal's
+-- items leave
 abbrev pub EndsSpent : Way → Trace → Journal → Type 0
 EndsSpent way trace journal =
     (lawful : IsLawful way trace journal)

@@ -3,9 +3,9 @@ use Rattle.std.specs.Prelude.{◌≡◌, ℕ, ◌+◌, ◌^◌, ◌%◌, ◌<◌
 use Rattle.slub_events.specs.declared.event.Round.{Round}
 use Rattle.slub_lists.specs.State.{State}
 use Rattle.slub_into_words.specs.Ids.{first_ids}
-use Rattle.slub_journal.specs.Lawful.{DoesRound}
 use Rattle.slub_journal.specs.declared.journal.RoundResult.{RoundResult}
-use Rattle.slub_rounds.specs.Rounds.{DoesRoundBySeed, DoesRoundByThreads, DoesRoundInOrder, SpendsTurns, SpendsTurnsInOrder}
+use Rattle.slub_rounds.specs.Rounds.{DoesRoundBySeed, DoesRoundByThreads, SpendsTurns}
+use Rattle.slub_by_text.specs.ByText.{DoesByText, SpendsByText}
 use Rattle.slub_ways.specs.declared.way.Way.{Way}
 use Rattle.slub_ways.specs.declared.way.Way.TheVariants.{Serial, Schedule, Threads}
 
@@ -33,15 +33,6 @@ AreLeft None ids_after left = left ≡ None
 AreLeft (Some ids) ids_after left = left ≡ Some ids_after
 
 -- ---- rounds
-
--- in the order of the text a round is done on the lists; where ids stand beside them, by steps,
--- each event to its end
-abbrev pub DoesByText
-    : State → Option (List ℕ) → Round → RoundResult → State → Option (List ℕ) → Type 0
-DoesByText s None round result after left = DoesRound s round result after × (left ≡ None)
-DoesByText s (Some ids) round result after left =
-    (ids_after : List ℕ) × DoesRoundInOrder s ids round result after ids_after
-    × (left ≡ Some ids_after)
 
 -- in turns that a seed draws, with the machine coherent at every step
 abbrev pub DoesBySeed : ℕ → State → Option (List ℕ) → Round → RoundResult → State
@@ -78,12 +69,7 @@ DoesRoundBy Threads rounds s ids round result after left =
 
 -- ---- turns that are spent
 
--- all turns of the round are made, and a worker is unfinished: in the order of the text only where
--- ids stand beside the lists
-abbrev pub SpendsByText : State → Option (List ℕ) → Round → Type 0
-SpendsByText s None round = ⊥
-SpendsByText s (Some ids) round = SpendsTurnsInOrder s ids round
-
+-- all turns of the round are made, and a worker is unfinished
 abbrev pub SpendsAlone : State → Option (List ℕ) → Round → Type 0
 SpendsAlone s ids round = (round.workers ≤ 1) × SpendsByText s ids round
 

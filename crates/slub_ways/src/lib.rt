@@ -8,16 +8,17 @@
 //! are lawful: the items answer the trace's first items, one each, from the opening machine on, and the machine is
 //! coherent between any two steps, those of a round by schedule or by threads among them.
 //!
-//! Ids stand beside the lists of a trace whose first one isn't 0. Then every round is done by steps that begin at
-//! them, one in the order of the text too, each event to its end, and leaves the ids that the next item finds. Any
-//! other trace has none between its items: a round by `Serial` is done on the lists, and one of several workers by the
-//! other ways begins with first ids anew.
+//! Ids stand beside the lists of a trace whose first one isn't 0. Then every round begins at them, those of clients'
+//! lines too, and leaves the ids that the next item finds: one in the order of the text is done on the lists, where
+//! every id is far enough from its end, and else by steps, each event to its end. Any other trace has none between its
+//! items: a round in the order of the text is done on the lists, and one of several workers by the other ways begins
+//! with first ids anew.
 //!
 //! # What it promises
 //!
 //! `laws`: a round that is done by any way is lawful in the words of the text (`IsRound` of `slub_round_law`), so
 //! that what follows from that record alone holds of every way. A machine that stands before a round of a sound trace
-//! can do it, and no item brings a count of wanted frames to its end.
+//! can do it, and before a client's line can serve it; no item brings a count of wanted frames to its end.
 #![tactic(auto)]
 
 pub mod laws;

@@ -26,7 +26,6 @@ use Rattle.slub_ways.specs.declared.way.Way.TheVariants.{Serial, Schedule}
 use Rattle.slub_ways.specs.Runs.{IsLawful}
 use Rattle.slub_ways.proofs.Runs.{lawful-serially}
 use Rattle.slub_ways.proofs.WithoutIds.{HasNoTurns, never-spent, serial-without, threads-without}
-use Rattle.slub_journal.specs.Lawful.{IsBuilt}
 use Rattle.slub_journal.specs.declared.journal.Journal.{Journal}
 use Rattle.slub_cli.specs.declared.stop.Stop.{Stop}
 use Rattle.slub_cli.specs.declared.stop.Stop.TheVariants as stop
@@ -121,7 +120,6 @@ only_write_fault : (e : Stop) → stop_status e ≡ WriteFault → e ≡ stop.Wr
 only_write_fault stop.WriteFault h = refl
 only_write_fault stop.BadWords h = cc
 only_write_fault (stop.BadLine text) h = cc
-only_write_fault stop.NotBuilt h = cc
 only_write_fault stop.TooLong h = cc
 only_write_fault stop.ReadFault h = cc
 only_write_fault stop.NoMemory h = cc
@@ -175,8 +173,7 @@ module _ (words : List (List ℕ)) (told left old mid new : Option (List ℕ)) (
   stop_has_line None stop.NoMemory apart h = inl (h.0.1, refl)
   stop_has_line None _ apart h = absurd h.0
   stop_has_line (Some (Replay how seed replies)) (stop.BadLine text) apart h = inl (h.0.1, h.0.2, h.0.3, h.0.4)
-  stop_has_line (Some (Replay how seed replies)) stop.NotBuilt apart h = inr (inr (refl, h.0.1))
-  stop_has_line (Some (Replay how seed replies)) stop.TooLong apart h = inr (inl (refl, h.0.1))
+  stop_has_line (Some (Replay how seed replies)) stop.TooLong apart h = inr (refl, h.0.1)
   stop_has_line (Some (Replay how seed replies)) stop.ReadFault apart h = refl
   stop_has_line (Some (Replay how seed replies)) stop.NoMemory apart h = inl (h.0, refl)
   stop_has_line (Some (Replay how seed replies)) stop.TurnsSpent apart h = refl
@@ -206,8 +203,7 @@ module _ (words : List (List ℕ)) (told left old mid new : Option (List ℕ)) (
   stop_cause None stop.NoMemory apart h = (tt, h.0.0)
   stop_cause None _ apart h = absurd h.0
   stop_cause (Some (Replay how seed replies)) (stop.BadLine text) apart h = (inl (h.0.1, h.0.2, h.0.4), h.0.0)
-  stop_cause (Some (Replay how seed replies)) stop.NotBuilt apart h = (inr (inr h.0.1), h.0.0)
-  stop_cause (Some (Replay how seed replies)) stop.TooLong apart h = (inr (inl h.0.1), h.0.0)
+  stop_cause (Some (Replay how seed replies)) stop.TooLong apart h = (inr h.0.1, h.0.0)
   stop_cause (Some (Replay how seed replies)) stop.ReadFault apart h = (h.0.1, h.0.0)
   stop_cause (Some (Replay how seed replies)) stop.NoMemory apart h = inl h.0
   stop_cause (Some (Replay how seed replies)) stop.TurnsSpent apart h = h.0
@@ -226,7 +222,6 @@ module _ (words : List (List ℕ)) (told left old mid new : Option (List ℕ)) (
   stop_reads (Some (Load m events workers)) stop.ReadFault h reads = absurd h.0
   stop_reads asked stop.BadWords h reads = reads
   stop_reads asked (stop.BadLine text) h reads = reads
-  stop_reads asked stop.NotBuilt h reads = reads
   stop_reads asked stop.TooLong h reads = reads
   stop_reads asked stop.WriteFault h reads = reads
   stop_reads asked stop.NoMemory h reads = reads
@@ -274,7 +269,6 @@ module _ (words : List (List ℕ)) (told left old mid new : Option (List ℕ)) (
   cut_text asked stop.WriteFault is works reads wrote = inl (record { taken = cut_front asked works wrote; reads = reads })
   cut_text asked stop.BadWords is works reads wrote = absurd (let never : ⊥ = cc in never)
   cut_text asked (stop.BadLine text) is works reads wrote = absurd (let never : ⊥ = cc in never)
-  cut_text asked stop.NotBuilt is works reads wrote = absurd (let never : ⊥ = cc in never)
   cut_text asked stop.TooLong is works reads wrote = absurd (let never : ⊥ = cc in never)
   cut_text asked stop.ReadFault is works reads wrote = absurd (let never : ⊥ = cc in never)
   cut_text asked stop.NoMemory is works reads wrote = absurd (let never : ⊥ = cc in never)
@@ -285,7 +279,6 @@ module _ (words : List (List ℕ)) (told left old mid new : Option (List ℕ)) (
   cut asked stop.WriteFault works reads wrote = absurd (AppendsFront-none mid new 0 wrote)
   cut asked stop.BadWords works reads wrote = cut_line asked stop.BadWords (λ h. cc) works reads wrote
   cut asked (stop.BadLine text) works reads wrote = cut_line asked (stop.BadLine text) (λ h. cc) works reads wrote
-  cut asked stop.NotBuilt works reads wrote = cut_line asked stop.NotBuilt (λ h. cc) works reads wrote
   cut asked stop.TooLong works reads wrote = cut_line asked stop.TooLong (λ h. cc) works reads wrote
   cut asked stop.ReadFault works reads wrote = cut_line asked stop.ReadFault (λ h. cc) works reads wrote
   cut asked stop.NoMemory works reads wrote = cut_line asked stop.NoMemory (λ h. cc) works reads wrote
@@ -336,8 +329,6 @@ module _ (words : List (List ℕ)) (told left old mid new : Option (List ℕ)) (
       rw same (whole ran asked trace j BadWords (λ h. cc) (stop_told asked stop.BadWords BadWords refl (λ h. cc) works reads (still ∙ writes) wrote))
   line_wrote asked (stop.BadLine text) status same works reads writes still wrote =
       rw same (whole ran asked trace j BadTrace (λ h. cc) (stop_told asked (stop.BadLine text) BadTrace refl (λ h. cc) works reads (still ∙ writes) wrote))
-  line_wrote asked stop.NotBuilt status same works reads writes still wrote =
-      rw same (whole ran asked trace j BadTrace (λ h. cc) (stop_told asked stop.NotBuilt BadTrace refl (λ h. cc) works reads (still ∙ writes) wrote))
   line_wrote asked stop.TooLong status same works reads writes still wrote =
       rw same (whole ran asked trace j BadTrace (λ h. cc) (stop_told asked stop.TooLong BadTrace refl (λ h. cc) works reads (still ∙ writes) wrote))
   line_wrote asked stop.ReadFault status same works reads writes still wrote =
@@ -356,7 +347,6 @@ module _ (words : List (List ℕ)) (told left old mid new : Option (List ℕ)) (
   write_cause (Some (Load m events workers)) stop.WriteFault counts more h = rose_then write.0 write.1 after.1 counts more h.0.1
   write_cause asked stop.BadWords counts more h = stop_cause asked stop.BadWords (λ h. cc) h
   write_cause asked (stop.BadLine text) counts more h = stop_cause asked (stop.BadLine text) (λ h. cc) h
-  write_cause asked stop.NotBuilt counts more h = stop_cause asked stop.NotBuilt (λ h. cc) h
   write_cause asked stop.TooLong counts more h = stop_cause asked stop.TooLong (λ h. cc) h
   write_cause asked stop.ReadFault counts more h = stop_cause asked stop.ReadFault (λ h. cc) h
   write_cause asked stop.NoMemory counts more h = stop_cause asked stop.NoMemory (λ h. cc) h
@@ -415,18 +405,11 @@ module _ (words : List (List ℕ)) (told left old mid new : Option (List ℕ)) (
 bad_in_apart : (bytes : List ℕ) (line : ℕ) (why : Why) → IsSomeTrace bytes → IsBadIn (Some bytes) line why → ⊥
 bad_in_apart bytes line why good bad = (rw (sym bad.all_told) at bad.bad.none.1) good.0 good.1
 
--- bytes that are a trace that is replayed spell no other
-unbuilt_apart : (bytes : List ℕ) (trace : Trace) → IsSomeTrace bytes → Spells (Some bytes) trace → ¬ IsBuilt trace → ⊥
-unbuilt_apart bytes trace good spells unbuilt =
-    let mine : IsTrace spells.bytes good.0 = subst (λ all. IsTrace all good.0) spells.all_told good.1 in
-    unbuilt (subst IsBuilt (spells.only good.0 mine) good.2)
-
--- bytes that are a trace that is replayed are no bad input
+-- bytes that are a trace are no bad input
 good_told : (c : Call) (told : Option (List ℕ)) → c.told ≡ told → IsSomeAnd told IsSomeTrace → IsBadInput c → ⊥
 good_told c None is good bad = absurd good
 good_told c (Some bytes) is good (inl (line, why, bad)) = bad_in_apart bytes line why good (rw is at bad.1)
-good_told c (Some bytes) is good (inr (inl long)) = (let far : 16777216 < length bytes = rw is at long in absurd (omega (arith, good.1.short, far)))
-good_told c (Some bytes) is good (inr (inr unbuilt)) = unbuilt_apart bytes unbuilt.1 good (rw is at unbuilt.2) unbuilt.3
+good_told c (Some bytes) is good (inr long) = (let far : 16777216 < length bytes = rw is at long in absurd (omega (arith, good.1.short, far)))
 
 good_input : (c : Call) → IsSomeAnd c.told IsSomeTrace → IsBadInput c → ⊥
 good_input c good bad = good_told c c.told refl good bad
@@ -436,27 +419,24 @@ none_some : {A : Type 0} (o : Option A) → o ≡ None → IsSome o → ⊥
 none_some None is some = false≢true some
 none_some (Some x) is some = absurd (let e : Some x ≡ None = is in cc)
 
--- bad bytes spell no trace that is replayed
-bad_apart : (bytes : List ℕ) → IsBadBytes bytes → (trace : Trace) → Spells (Some bytes) trace → IsBuilt trace → ⊥
-bad_apart bytes (inl none) trace spells built = none.1 trace (subst (λ all. IsTrace all trace) (sym spells.all_told) spells.spells)
-bad_apart bytes (inr (inl long)) trace spells built =
+-- bad bytes spell no trace
+bad_apart : (bytes : List ℕ) → IsBadBytes bytes → (trace : Trace) → Spells (Some bytes) trace → ⊥
+bad_apart bytes (inl none) trace spells = none.1 trace (subst (λ all. IsTrace all trace) (sym spells.all_told) spells.spells)
+bad_apart bytes (inr long) trace spells =
     let short : length bytes ≤ 16777216 = subst (λ all. length all ≤ 16777216) (sym spells.all_told) spells.spells.short in
     absurd (omega (arith, short, long))
-bad_apart bytes (inr (inr unbuilt)) trace spells built =
-    let other : IsTrace spells.bytes unbuilt.0 = subst (λ all. IsTrace all unbuilt.0) spells.all_told unbuilt.1 in
-    unbuilt.2 (subst IsBuilt (sym (spells.only unbuilt.0 other)) built)
 
 -- and no trace was read where they are told
-told_apart : (told : Option (List ℕ)) (trace : Trace) → IsSomeAnd told IsBadBytes → Spells told trace → IsBuilt trace → ⊥
-told_apart None trace bad spells built = absurd bad
-told_apart (Some bytes) trace bad spells built = bad_apart bytes bad trace spells built
+told_apart : (told : Option (List ℕ)) (trace : Trace) → IsSomeAnd told IsBadBytes → Spells told trace → ⊥
+told_apart None trace bad spells = absurd bad
+told_apart (Some bytes) trace bad spells = bad_apart bytes bad trace spells
 
 -- where a trace was read, the bytes are no bad ones
 read_bad : (c : Call) (way : Way) (trace : Option Trace) (j : Journal) → IsReplayJournal c way trace j → IsSome trace → IsSomeAnd c.told IsBadBytes → ⊥
 read_bad c way None j law some bad = false≢true some
-read_bad c way (Some trace) j law some bad = told_apart c.told trace bad law.spelled law.built
+read_bad c way (Some trace) j law some bad = told_apart c.told trace bad law.spelled
 
--- where a round's turns are spent there is a trace
+-- where an item's turns are spent there is a trace
 spent_some : (way : Way) (trace : Option Trace) (j : Journal) → SpendsNextRound way trace j → IsSome trace
 spent_some way None j spent = absurd spent.0
 spent_some way (Some trace) j spent = refl

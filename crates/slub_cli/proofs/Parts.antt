@@ -1,8 +1,7 @@
 -- What the parts of the work promise, from what their calls do.
-use Rattle.std.proofs.Common.{◌≡◌, ℕ, List, Bool, Some, None, Ok, Err, Result, refl, sym, ◌∙◌, inl, inr, false, subst}
-use Rattle.std.specs.Prelude.{Option, IfOk, IsOk, IsErrOf, IsTrue}
+use Rattle.std.proofs.Common.{◌≡◌, ℕ, List, Bool, Some, None, Ok, Err, Result, refl, sym, inl, inr, subst}
+use Rattle.std.specs.Prelude.{Option, IfOk, IsOk, IsErrOf}
 use Rattle.std.proofs.KnownBytes.{Appends-nil}
-use Rattle.std.proofs.lemmas.Bool.{false≢true}
 use Rattle.slub_object_layout.specs.declared.layout.Layout.{Layout as SlabLayout}
 use Rattle.slub_object_layout.specs.declared.layout.LayoutRefusal.{LayoutRefusal}
 use Rattle.slub_object_layout.specs.declared.layout.LayoutRefusal.TheVariants as refusal
@@ -18,11 +17,10 @@ use Rattle.slub_trace_reader.specs.Reads.{Reads}
 use Rattle.slub_journal.specs.declared.journal.Journal.{Journal}
 use Rattle.slub_journal.specs.Journal.{IsEmpty}
 use Rattle.slub_cli.specs.declared.stop.Stop.{Stop}
-use Rattle.slub_cli.specs.declared.stop.Stop.TheVariants.{BadWords, BadLine, NotBuilt, TooLong, ReadFault, WriteFault, NoMemory, TurnsSpent}
+use Rattle.slub_cli.specs.declared.stop.Stop.TheVariants.{BadWords, BadLine, TooLong, ReadFault, WriteFault, NoMemory, TurnsSpent}
 use Rattle.slub_cli.specs.declared.status.Status.{Status}
 use Rattle.slub_trace_reader.specs.Sound.{IsSound}
 use Rattle.slub_load.specs.Load.{load_of}
-use Rattle.slub_journal.specs.Lawful.{IsBuilt}
 use Rattle.slub_ways.specs.declared.way.Way.{Way}
 use Rattle.slub_ways.specs.declared.way.Way.TheVariants.{Schedule}
 use Rattle.slub_ways.specs.Runs.{IsLawful, MachineState}
@@ -53,7 +51,6 @@ read_stop_faults told left old new fault.NoMemory e reads is = rw is reads
 unread_end : (c : Call) (way : Way) (trace : Option Trace) (j : Journal) (e : Stop) → IsReadStop c.told c.left c.read e → trace ≡ None → j.total ≡ None → Replays c way trace j (Err e)
 unread_end c way trace j BadWords h unread none = absurd h
 unread_end c way trace j (BadLine text) h unread none = (unread, h.0, h.1, h.2, (h.3, h.4))
-unread_end c way trace j NotBuilt h unread none = (unread, h)
 unread_end c way trace j TooLong h unread none = (unread, h)
 unread_end c way trace j ReadFault h unread none = (unread, h)
 unread_end c way trace j WriteFault h unread none = absurd h
@@ -65,7 +62,6 @@ unread_told : (replies : Bool) (old : Option (List ℕ)) (trace : Option Trace) 
 unread_told replies old trace j told left read WriteFault h unread = absurd h
 unread_told replies old trace j told left read BadWords h unread = rw unread (Appends-nil old)
 unread_told replies old trace j told left read (BadLine text) h unread = rw unread (Appends-nil old)
-unread_told replies old trace j told left read NotBuilt h unread = rw unread (Appends-nil old)
 unread_told replies old trace j told left read TooLong h unread = rw unread (Appends-nil old)
 unread_told replies old trace j told left read ReadFault h unread = rw unread (Appends-nil old)
 unread_told replies old trace j told left read NoMemory h unread = rw unread (Appends-nil old)
@@ -111,20 +107,11 @@ replay_worked c way how seed replies trace j r is asks whole = record {
   lawful = subst (λ (w : Way). IsReplayJournal c w trace j) is whole.lawful;
 }
 
--- a load is one that is replayed today
-load_built : (seed events workers : ℕ) → IsBuilt (load_of seed events workers)
-unfolding load_of
-load_built seed events workers = inl refl
-
-pub made_built : (seed events workers : ℕ) (trace : Trace) → trace ≡ load_of seed events workers → IsBuilt trace
-made_built seed events workers trace is = subst IsBuilt (sym is) (load_built seed events workers)
-
 -- what was made is the load, and the journal is lawful for it
 pub made_load : (seed events workers : ℕ) (trace : Trace) (j : Journal) → trace ≡ load_of seed events workers → IsSound trace → IsLawful (Schedule seed) trace j → IsLoadOf seed events workers trace j
 made_load seed events workers trace j is sound lawful = record {
   made = is;
   sound = sound;
-  built = made_built seed events workers trace is;
   lawful = lawful;
 }
 
@@ -154,7 +141,3 @@ not_stopped faults j stopped.TurnsSpent none = none
 pub not_faulted : (faults : ℕ) (e : Stopped) → StopsAtWriteFault {A = MachineState} faults faults (Err (item_stop e))
 not_faulted faults (stopped.NoMemory machine) = refl
 not_faulted faults stopped.TurnsSpent = refl
-
--- it is not both
-pub not_both : (b : Bool) → IsTrue b → b ≡ false → ⊥
-not_both b holds fails = false≢true (sym fails ∙ holds)

@@ -15,16 +15,16 @@ use Rattle.slub_trace_reader.specs.Reads.{IsBadIn, IsTooLong, Spells}
 use Rattle.slub_journal.specs.declared.journal.Done.{Done}
 use Rattle.slub_journal.specs.declared.journal.Total.{Total}
 use Rattle.slub_journal.specs.declared.journal.Journal.{Journal}
-use Rattle.slub_journal.specs.Lawful.{IsBuilt, IsTotal}
+use Rattle.slub_journal.specs.Lawful.{IsTotal}
 use Rattle.slub_journal.specs.Text.{text_of}
 use Rattle.slub_ways.specs.declared.way.Way.{Way}
 use Rattle.slub_ways.specs.declared.way.Way.TheVariants.{Schedule}
 use Rattle.slub_ways.specs.Runs.{DoesAt, EndsSpent, IsReadyMachine, MachineState, RunsItems, SpendsAt, machine_of}
 use Rattle.slub_cli.specs.declared.stop.Stop.{Stop}
-use Rattle.slub_cli.specs.declared.stop.Stop.TheVariants.{BadWords, BadLine, NotBuilt, TooLong, ReadFault, WriteFault, NoMemory, TurnsSpent}
+use Rattle.slub_cli.specs.declared.stop.Stop.TheVariants.{BadWords, BadLine, TooLong, ReadFault, WriteFault, NoMemory, TurnsSpent}
 use Rattle.slub_cli.specs.declared.status.Status.{Status}
 use Rattle.slub_cli.specs.declared.status.Status.TheVariants as ends
-use Rattle.slub_cli.specs.Run.{AreBadWords, Call, IsAsked, IsBadLine, IsDone, IsJournalOf, IsLayoutAnswer, IsLoadJournal, IsReplayJournal, SpendsNextRound, IsUnbuilt, answer_status, bad_line, done_status, fault_line, last_begins, last_in, text_in, way_of}
+use Rattle.slub_cli.specs.Run.{AreBadWords, Call, IsAsked, IsBadLine, IsDone, IsJournalOf, IsLayoutAnswer, IsLoadJournal, IsReplayJournal, SpendsNextRound, answer_status, bad_line, done_status, fault_line, last_begins, last_in, text_in, way_of}
 
 -- ---- what the sink tells
 
@@ -148,29 +148,25 @@ IsItemStop old new journal NoMemory = journal.total ≡ None
 IsItemStop old new journal TurnsSpent = journal.total ≡ None
 IsItemStop old new journal _ = ⊥
 
--- a round whose turns are spent stopped it, the one after the journal's last item; or else another
--- cause
+-- an item whose turns are spent stopped it, the one after the journal's last; or else another cause
 abbrev pub StopsSpent : {A : Type 0} → Way → Trace → Journal → Result A Stop → Type 0
 StopsSpent way trace journal (Err TurnsSpent) = EndsSpent way trace journal
 StopsSpent way trace journal _ = ⊤
 
--- why no trace was read that is replayed today: what the source told before, what it tells after,
--- and its counts of faults
+-- why no trace was read: what the source told before, what it tells after, and its counts of faults
 abbrev pub IsReadStop : Option (List ℕ) → Option (List ℕ) → ℕ × ℕ → Stop → Type 0
 IsReadStop told left read (BadLine text) =
     (line : ℕ) × (why : Why) × (text.items ≡ bad_line line why)
     × IsAtEnd left × IsBadIn told line why
-IsReadStop told left read NotBuilt =
-    IsAtEnd left × (trace : Trace) × Spells told trace × ¬ IsBuilt trace
 IsReadStop told left read TooLong = IfSome told IsTooLong
 IsReadStop told left read ReadFault = Rose read.0 read.1
 IsReadStop told left read NoMemory = ⊤
 IsReadStop told left read _ = ⊥
 
--- a trace was read that is replayed today, and no other is spelt; or why none was
-abbrev pub ReadsBuilt : Option (List ℕ) → Option (List ℕ) → ℕ × ℕ → Result Trace Stop → Type 0
-ReadsBuilt told left read (Ok trace) = IsAtEnd left × Spells told trace × IsBuilt trace
-ReadsBuilt told left read (Err stop) = IsReadStop told left read stop
+-- a trace was read, and no other is spelt; or why none was
+abbrev pub ReadsInput : Option (List ℕ) → Option (List ℕ) → ℕ × ℕ → Result Trace Stop → Type 0
+ReadsInput told left read (Ok trace) = IsAtEnd left × Spells told trace
+ReadsInput told left read (Err stop) = IsReadStop told left read stop
 
 -- a layout was printed, or its refusal; at a write fault a front of it was, and not the whole
 abbrev pub PrintsLayout : Option (List ℕ) → Option (List ℕ) → ℕ × ℕ → Spec → ℕ
@@ -199,7 +195,6 @@ abbrev pub Replays : Call → Way → Option Trace → Journal → Result Status
 Replays c way trace journal (Err (BadLine text)) =
     (trace ≡ None) × (line : ℕ) × (why : Why) × (text.items ≡ bad_line line why)
     × IsBadLine c line why
-Replays c way trace journal (Err NotBuilt) = (trace ≡ None) × IsUnbuilt c
 Replays c way trace journal (Err TooLong) = (trace ≡ None) × IfSome c.told IsTooLong
 Replays c way trace journal (Err ReadFault) = (trace ≡ None) × Rose c.read.0 c.read.1
 Replays c way trace journal result = Loads c.write way trace journal result
@@ -248,7 +243,6 @@ pub record Worked (c : Call) (trace : Option Trace) (journal : Journal)
 abbrev pub stop_line : Stop → List ℕ
 stop_line BadWords = fault_line (codes "bad command")
 stop_line (BadLine line) = line.items
-stop_line NotBuilt = fault_line (codes "bad trace")
 stop_line TooLong = fault_line (codes "input too long")
 stop_line ReadFault = fault_line (codes "read fault")
 stop_line WriteFault = []
@@ -259,7 +253,6 @@ stop_line TurnsSpent = fault_line (codes "turns spent")
 abbrev pub stop_status : Stop → Status
 stop_status BadWords = ends.BadWords
 stop_status (BadLine line) = ends.BadTrace
-stop_status NotBuilt = ends.BadTrace
 stop_status TooLong = ends.BadTrace
 stop_status ReadFault = ends.ReadFault
 stop_status WriteFault = ends.WriteFault

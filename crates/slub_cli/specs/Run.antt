@@ -36,7 +36,6 @@ use Rattle.slub_journal.specs.declared.journal.Total.{Total}
 use Rattle.slub_journal.specs.declared.journal.Journal.{Journal}
 use Rattle.slub_journal.specs.Journal.{IsEmpty}
 use Rattle.slub_journal.specs.ClientText.{is_ok_client}
-use Rattle.slub_journal.specs.Lawful.{IsBuilt}
 use Rattle.slub_journal.specs.Text.{text_of, items_text}
 use Rattle.slub_laws.specs.Freed.{freed_times, given_times}
 use Rattle.slub_laws.specs.Poked.{HasPokedDamages}
@@ -208,21 +207,19 @@ answer_status (Err why) = Refused
 -- ---- the law
 
 -- a source that told these bytes was read to its end, its bytes spell this trace and no other, the
--- trace is sound and one that is replayed today, and the journal is lawful for it and the way
+-- trace is sound, and the journal is lawful for it and the way
 pub record IsReplayOf (told left : Option (List ℕ)) (way : Way) (trace : Trace)
     (journal : Journal) : Type 0 where
   pub at_end : IsAtEnd left
   pub spelled : Spells told trace
   pub sound : IsSound trace
-  pub built : IsBuilt trace
   pub lawful : IsLawful way trace journal
 
--- this trace is the load of the three numbers, it is sound and one that is replayed today, and the
--- journal is lawful for it by schedule, with turns that are drawn from the same seed
+-- this trace is the load of the three numbers, it is sound, and the journal is lawful for it by
+-- schedule, with turns that are drawn from the same seed
 pub record IsLoadOf (seed events workers : ℕ) (trace : Trace) (journal : Journal) : Type 0 where
   pub made : trace ≡ load_of seed events workers
   pub sound : IsSound trace
-  pub built : IsBuilt trace
   pub lawful : IsLawful (Schedule seed) trace journal
 
 -- the journal is that of the trace that was read; where none was read, it is empty
@@ -272,21 +269,16 @@ IsDone trace journal = IsSome trace × IsSome journal.total
 abbrev pub IsBadLine : Call → ℕ → Why → Type 0
 IsBadLine c line why = IsAtEnd c.left × IsBadIn c.told line why
 
--- the bytes were read to their end, and spell a trace that is not replayed today
-abbrev pub IsUnbuilt : Call → Type 0
-IsUnbuilt c = IsAtEnd c.left × (trace : Trace) × Spells c.told trace × ¬ IsBuilt trace
-
--- the bytes read are no trace, there are too many, or they spell one that is not replayed today
+-- the bytes read are no trace, or there are too many
 abbrev pub IsBadInput : Call → Type 0
-IsBadInput c =
-    ((line : ℕ) × (why : Why) × IsBadLine c line why) ⊎ IfSome c.told IsTooLong ⊎ IsUnbuilt c
+IsBadInput c = ((line : ℕ) × (why : Why) × IsBadLine c line why) ⊎ IfSome c.told IsTooLong
 
 -- want of memory ended the run, or is one of its replies
 abbrev pub IsWant : Option Trace → Journal → Type 0
 IsWant trace journal =
     (journal.total ≡ None) ⊎ (IsDone trace journal × (done_status trace journal ≡ NoMemory))
 
--- the round after the journal's last item has made all its turns, and a worker is unfinished
+-- the item after the journal's last has made all turns of a round, and a worker is unfinished
 abbrev pub SpendsNextRound : Way → Option Trace → Journal → Type 0
 SpendsNextRound way trace journal =
     IsSomeAnd trace (λ trace. EndsSpent way trace journal) × (journal.total ≡ None)
@@ -352,7 +344,6 @@ abbrev pub IsBadInputLine : Call → List ℕ → Type 0
 IsBadInputLine c line =
     ((number : ℕ) × (why : Why) × (line ≡ bad_line number why) × IsBadLine c number why)
     ⊎ ((line ≡ fault_line (codes "input too long")) × IfSome c.told IsTooLong)
-    ⊎ ((line ≡ fault_line (codes "bad trace")) × IsUnbuilt c)
 
 -- the line after the text, where a run ended early with this status; a run that did everything has
 -- none
@@ -460,14 +451,13 @@ pub record Ends (c : Call) (trace : Option Trace) (journal : Journal)
 
 -- ---- input
 
--- the bytes are a trace that is replayed today
+-- the bytes are a trace
 abbrev pub IsSomeTrace : List ℕ → Type 0
-IsSomeTrace bytes = (trace : Trace) × IsTrace bytes trace × IsBuilt trace
+IsSomeTrace bytes = (trace : Trace) × IsTrace bytes trace
 
--- the bytes are no trace, or too many, or a trace that is not replayed today
+-- the bytes are no trace, or too many
 abbrev pub IsBadBytes : List ℕ → Type 0
-IsBadBytes bytes =
-    IsNoTrace bytes ⊎ IsTooLong bytes ⊎ ((trace : Trace) × IsTrace bytes trace × ¬ IsBuilt trace)
+IsBadBytes bytes = IsNoTrace bytes ⊎ IsTooLong bytes
 
 -- ---- the promise
 

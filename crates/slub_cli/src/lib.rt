@@ -5,8 +5,8 @@
 //! the order of the text, by schedule, in turns that a number draws, or by threads, one for each worker. Where
 //! the trace gives a first transaction id, the ids of the CPU words grow from round to round. A load does so,
 //! by schedule, with a trace that it makes from a number. A layout is printed. Of these a replay alone reads
-//! the source. The contract of `run` is the whole promise of the program for what is run today:
-//! `specs/Run.antt` has the table of statuses, the text and the law that its clauses cite.
+//! the source. The contract of `run` is the whole promise of the program: `specs/Run.antt` has the table of
+//! statuses, the text and the law that its clauses cite.
 //!
 //! # What it promises
 //!
@@ -18,9 +18,9 @@
 //!   - *wrote*: what was written: the text of the trace and the journal and the one fault line of the
 //!     status, or after a failed write a front of that and not the whole; which faults were counted;
 //!   - *lawful*: the trace is the one that the source's bytes spell, or the load of the numbers that the words
-//!     give; it is sound and replayed today, and the journal is lawful for it and for the way that was
-//!     asked: the machine is coherent after each item, after each event in the order of the text, and at
-//!     every turn by schedule and by threads;
+//!     give; it is sound, and the journal is lawful for it and for the way that was asked: the machine is
+//!     coherent after each item, after each event in the order of the text, and at every turn by schedule and by
+//!     threads;
 //!   - *over*: over the whole run no number is given or freed twice, given less freed is live, and rounds
 //!     are lawful; where every item is done in the order of the text, and the trace gives no first transaction id,
 //!     damage was poked;

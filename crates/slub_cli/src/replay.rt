@@ -8,7 +8,7 @@ ghost use Rattle.std.specs.Prelude.{Bool, ◌≡◌, ◌<◌, ◌≤◌, [], Non
 ghost use Rattle.slub_lists.specs.Coherent.{IsCoherent};
 ghost use Rattle.slub_journal.specs.Journal.{IsEmpty};
 ghost use Rattle.slub_trace_reader.specs.Sound.{IsSound};
-ghost use Rattle.slub_journal.specs.Lawful.{IsBuilt, opening_of};
+ghost use Rattle.slub_journal.specs.Lawful.{opening_of};
 ghost use Rattle.slub_ways.specs.Runs.{IsLawful, IsReadyMachine, RunsItems, machine_of};
 ghost use Rattle.slub_cli.specs.Inner.{DoesItem, IsItemStop, IsMachineOf, LeavesMachine, PutsItem, StopsAtWriteFault, StopsSpent, Tells, TookText, Totals};
 
@@ -99,7 +99,6 @@ fn do_items<R: Threads + Wait + Sync, K: Sink, G: Gate + Sync>(
     journal: &mut Journal,
 ) -> Result<Machine, Stop>
     requires sound { IsSound trace.now }
-    requires built { IsBuilt trace.now }
     requires opened { opened ≡ machine_of trace.now }
     requires coherent { IsCoherent (opening_of trace.now) }
     requires begun { IsMachineOf trace.now journal.old }
@@ -177,7 +176,6 @@ pub fn do_trace<R: Threads + Wait + Sync, K: Sink, G: Gate + Sync>(
     journal: &mut Journal,
 ) -> Result<(), Stop>
     requires sound { IsSound trace.now }
-    requires built { IsBuilt trace.now }
     requires empty { IsEmpty journal.old }
     ensures lawful { IsLawful way trace.now journal.new }
     ensures spent { StopsSpent way trace.now journal.new result }

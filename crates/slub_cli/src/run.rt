@@ -4,7 +4,7 @@ ghost use Rattle.std.specs.Prelude.{◌≡◌, ◌≤◌, ℕ, List, None, map, 
 ghost use Rattle.slub_trace_reader.specs.Sound.{IsSound};
 ghost use Rattle.slub_journal.specs.Journal.{IsEmpty};
 ghost use Rattle.slub_cli.specs.Run.{AsksReplay, IsRunOf, way_of};
-ghost use Rattle.slub_cli.specs.Inner.{Finishes, Loaded, ReadsBuilt, Replayed, StopsAtReadFault, StopsAtWriteFault, Worked, stop_line, stop_status};
+ghost use Rattle.slub_cli.specs.Inner.{Finishes, Loaded, ReadsInput, Replayed, StopsAtReadFault, StopsAtWriteFault, Worked, stop_line, stop_status};
 
 use crate::layout::print_layout;
 use crate::replay::do_trace;
@@ -14,7 +14,6 @@ use slub_command::command::{Command, CommandFault, How, read};
 use slub_edges::edges::{Sink, Source};
 use slub_edges::gate::Gate;
 use slub_edges::pieces::write_lines;
-use slub_journal::built::is_built;
 use slub_journal::journal::Journal;
 use slub_load::load::load_trace;
 use slub_trace_reader::reading::read_trace;
@@ -24,21 +23,17 @@ use std::alloc::Global;
 use std::sync::Wait;
 use std::thread::Threads;
 
-/// Reads a trace that is replayed today.
-fn read_built<S: Source>(alloc: Global, source: &mut S) -> Result<Trace, Stop>
-    ensures reads { ReadsBuilt (S.rest source.old) (S.rest source.new)
+/// Reads the trace that the source has.
+fn read_input<S: Source>(alloc: Global, source: &mut S) -> Result<Trace, Stop>
+    ensures reads { ReadsInput (S.rest source.old) (S.rest source.new)
         (S.faults source.old, S.faults source.new) result }
     ensures read_faults { StopsAtReadFault (S.faults source.old) (S.faults source.new) result }
     ensures sound { IfOk result IsSound }
 {
-    let trace = match read_trace(alloc, source) {
-        Ok(trace) => trace,
-        Err(fault) => return Err(Stop::of(alloc, fault)),
-    };
-    if !is_built(&trace) {
-        return Err(Stop::NotBuilt);
+    match read_trace(alloc, source) {
+        Ok(trace) => Ok(trace),
+        Err(fault) => Err(Stop::of(alloc, fault)),
     }
-    Ok(trace)
 }
 
 /// Replays the trace that the source has, and keeps it.
@@ -68,7 +63,7 @@ fn replay<R: Threads + Wait + Sync, S: Source, K: Sink, G: Gate + Sync>(
     ensures write_faults { StopsAtWriteFault (K.faults sink.old) (K.faults sink.new) result }
     ensures counts { K.faults sink.old ≤ K.faults sink.new }
 {
-    let read = match read_built(alloc, source) {
+    let read = match read_input(alloc, source) {
         Ok(read) => read,
         Err(stop) => return Err(stop),
     };
@@ -192,7 +187,6 @@ fn line_of(stop: &Stop) -> &[u8]
     match stop {
         Stop::BadWords => b"slub: bad command\n",
         Stop::BadLine(text) => text.as_slice(),
-        Stop::NotBuilt => b"slub: bad trace\n",
         Stop::TooLong => b"slub: input too long\n",
         Stop::ReadFault => b"slub: read fault\n",
         Stop::WriteFault => b"",
@@ -206,7 +200,7 @@ fn status_of(stop: &Stop) -> Status
 {
     match stop {
         Stop::BadWords => Status::BadWords,
-        Stop::BadLine(_) | Stop::NotBuilt | Stop::TooLong => Status::BadTrace,
+        Stop::BadLine(_) | Stop::TooLong => Status::BadTrace,
         Stop::ReadFault => Status::ReadFault,
         Stop::WriteFault => Status::WriteFault,
         Stop::NoMemory => Status::NoMemory,
@@ -222,9 +216,7 @@ fn status_of(stop: &Stop) -> Status
 /// byte of the source. Where a run ends early, one fault line says why.
 ///
 /// A replay does its rounds in the order of the text, by schedule or by threads: then `rt` starts a thread for each
-/// worker of a round, and the workers pass `gate` before each of their events. Replayed today are the traces that give
-/// no first transaction id, or have no client's line (`is_built` of `slub_journal`): another one ends the run as bytes
-/// that are no trace do.
+/// worker of a round, and the workers pass `gate` before each of their events.
 pub fn run<R: Threads + Wait + Sync, S: Source, K: Sink, G: Gate + Sync>(
     rt: &R,
     alloc: Global,

@@ -23,7 +23,7 @@ pub enum Status {
     Refused,
     /// The words are no command.
     BadWords,
-    /// The bytes are no trace, or too many, or a trace that is not replayed today.
+    /// The bytes are no trace, or too many.
     BadTrace,
     /// A read failed.
     ReadFault,
@@ -31,7 +31,8 @@ pub enum Status {
     WriteFault,
     /// Memory ran out, for the run or for one of its replies.
     NoMemory,
-    /// All turns of a round were made, and a worker of it was unfinished. The round isn't in the journal.
+    /// All turns of a round were made, and a worker of it was unfinished. The round, or the client's line that made it,
+    /// isn't in the journal.
     TurnsSpent,
 }
 
@@ -59,7 +60,7 @@ impl Status {
 #[derive(Debug, Drop)]
 pub struct Outcome {
     pub status: Status,
-    /// None where no trace was read or made, or one was read that is not replayed today.
+    /// None where no trace was read or made.
     pub trace: Option<Trace>,
     /// Empty where no trace was read or made.
     pub journal: Journal,

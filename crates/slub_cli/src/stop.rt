@@ -17,13 +17,11 @@ pub enum Stop {
     BadWords,
     /// A line of the trace is bad: the line that tells of it.
     BadLine(Vec<u8>),
-    /// The trace is one that is not replayed today.
-    NotBuilt,
     TooLong,
     ReadFault,
     WriteFault,
     NoMemory,
-    /// All turns of a round are made, and a worker of it is unfinished.
+    /// All turns of a round are made, of a client's line too, and a worker of it is unfinished.
     TurnsSpent,
 }
 

@@ -181,15 +181,6 @@ fn what_is_no_command_and_no_trace(rt: HostRuntime) -> Result<(), Fail> {
             "slubtrace 1\nmachine 16 2\ncache dentry 192 8 -\nround 1\nalloc 0 0 dentry 1\ndone\nslabinfo\n",
             "slub: line 8: no end\n",
         ),
-        // traces that are not replayed yet
-        (
-            "slubtrace 3\nmachine 16 2 tid 4294967290\nkmalloc\nend\n",
-            "slub: bad trace\n",
-        ),
-        (
-            "slubtrace 3\nmachine 16 2 tid 4294967290\ncache dentry 192 8 -\nbulk 0 dentry 1 2\nend\n",
-            "slub: bad trace\n",
-        ),
     ] {
         expect(&rt, &REPLAY, input, &SOUND, Status::BadTrace, line)?;
     }

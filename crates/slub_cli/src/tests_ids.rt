@@ -19,6 +19,19 @@ fn the_ids_of_a_word_are_spent(rt: HostRuntime) -> Result<(), Fail> {
     )
 }
 
+// So it is to a client: what its line asks for is not given, and what it frees it frees.
+#[test]
+fn the_ids_of_a_word_are_spent_by_clients(rt: HostRuntime) -> Result<(), Fail> {
+    expect(
+        &rt,
+        &REPLAY,
+        "slubtrace 3\nmachine 16 2 tid 4294967290\ncache dentry 192 8 -\nbulk 0 dentry 1 1\nbulk 0 dentry 2 1\nbulkfree 0 1 1\nend\n",
+        &SOUND,
+        Status::Refused,
+        "cache dentry: new\nbulk 1 1: all\nbulk 2 1: none ids spent 4294967292\nbulkfree 1 1: freed 1\ntotal given 1 freed 1 live 0 free 21 aside 0 frozen 1 slabs 1 frames 14\n",
+    )
+}
+
 /// Two workers, each on a CPU of its own.
 const TWO: &str =
     "slubtrace 1\nmachine 16 2 tid 4294967290\ncache dentry 192 8 -\nround 2\nalloc 0 0 dentry 1\nalloc 0 0 dentry 2\nalloc 1 1 dentry 3\nalloc 1 1 dentry 4\ndone\nend\n";

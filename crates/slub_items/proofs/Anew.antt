@@ -4,12 +4,9 @@ use Rattle.slub_events.specs.declared.event.Round.{Round}
 use Rattle.slub_lists.specs.State.{State}
 use Rattle.slub_into_words.specs.Ids.{first_ids}
 use Rattle.slub_journal.specs.declared.journal.RoundResult.{RoundResult}
-use Rattle.slub_rounds.specs.declared.scheduled.Stopped.{Stopped}
-use Rattle.slub_rounds.specs.declared.scheduled.Stopped.TheVariants.{NoMemory, TurnsSpent}
 use Rattle.slub_ways.specs.declared.way.Way.{Way}
 use Rattle.slub_ways.specs.declared.way.Way.TheVariants.{Serial, Schedule, Threads}
-use Rattle.slub_ways.specs.Ways.{DoesRoundBy, IsOfSeveral}
-use Rattle.slub_items.specs.Stopped.{IsRoundStopped}
+use Rattle.slub_ways.specs.Ways.{DoesRoundBy, IsOfSeveral, SpendsTurnsBy}
 
 -- it is done
 pub anew : (way : Way) (rounds : ℕ) (s : State) (round : Round) (result : RoundResult) (after : State) (kept : List ℕ) → IsOfSeveral round → (way ≡ Serial → ⊥) → DoesRoundBy way rounds s (Some (first_ids 0 s.cpus)) round result after (Some kept)
@@ -20,10 +17,9 @@ anew (Schedule seed) rounds s round result after kept several steps (inr (more, 
 anew Threads rounds s round result after kept several steps (inl (few, does)) = absurd (let never : ⊥ = omega (arith, several, few) in never)
 anew Threads rounds s round result after kept several steps (inr (more, does)) = inr (several, (does.0, does.1, refl))
 
--- it isn't
-pub anew_stopped : (way : Way) (rounds : ℕ) (s : State) (round : Round) (why : Stopped) → IsOfSeveral round → (way ≡ Serial → ⊥) → IsRoundStopped way rounds s (Some (first_ids 0 s.cpus)) round why → IsRoundStopped way rounds s None round why
-anew_stopped way rounds s round (NoMemory lists) several steps is = is
-anew_stopped Serial rounds s round TurnsSpent several steps spent = absurd (steps refl)
-anew_stopped (Schedule seed) rounds s round TurnsSpent several steps (inl (few, spent)) = absurd (let never : ⊥ = omega (arith, several, few) in never)
-anew_stopped (Schedule seed) rounds s round TurnsSpent several steps (inr (more, spent)) = inr (several, spent)
-anew_stopped Threads rounds s round TurnsSpent several steps (few, spent) = absurd (let never : ⊥ = omega (arith, several, few) in never)
+-- its turns are spent
+pub anew_spent : (way : Way) (rounds : ℕ) (s : State) (round : Round) → IsOfSeveral round → (way ≡ Serial → ⊥) → SpendsTurnsBy way rounds s (Some (first_ids 0 s.cpus)) round → SpendsTurnsBy way rounds s None round
+anew_spent Serial rounds s round several steps spent = absurd (steps refl)
+anew_spent (Schedule seed) rounds s round several steps (inl (few, spent)) = absurd (let never : ⊥ = omega (arith, several, few) in never)
+anew_spent (Schedule seed) rounds s round several steps (inr (more, spent)) = inr (several, spent)
+anew_spent Threads rounds s round several steps (few, spent) = absurd (let never : ⊥ = omega (arith, several, few) in never)

@@ -1,30 +1,31 @@
 -- Where the machine stands before and after an item: a round, a client's line or another.
-use Rattle.std.proofs.Common.{◌≡◌, ℕ, ◌+◌, ◌^◌, ◌<◌, ◌≤◌, List, length, get_or, refl, sym, ap, subst, arith, All, Option, Some, None, MatchOption, slice_get, slice_index}
+use Rattle.std.proofs.Common.{◌≡◌, ℕ, ◌+◌, ◌^◌, ◌<◌, ◌≤◌, List, length, get_or, refl, sym, ◌∙◌, ap, subst, arith, Option, Some, None, MatchOption, slice_get, slice_index}
 use Rattle.std.proofs.lemmas.Option.{slice_get_read}
 use Rattle.slub_events.specs.declared.event.Round.{Round}
+use Rattle.slub_cache_create.specs.Table.{Table}
 use Rattle.slub_lists.specs.State.{State}
-use Rattle.slub_lists.specs.Coherent.{IsCoherent}
 use Rattle.slub_trace_reader.specs.declared.trace.Client.{Client as Asked}
 use Rattle.slub_trace_reader.specs.declared.trace.Item.{Item}
 use Rattle.slub_trace_reader.specs.declared.trace.Item.TheVariants as item
 use Rattle.slub_trace_reader.specs.declared.trace.Trace.{Trace}
-use Rattle.slub_trace_reader.specs.Sound.{IsSound, IsSoundItem, asked_objects, objects_in}
+use Rattle.slub_trace_reader.specs.Sound.{IsSound, asked_objects, objects_in}
 use Rattle.slub_journal.specs.declared.journal.RoundResult.{RoundResult}
-use Rattle.slub_journal.specs.Asked.{IsServable}
-use Rattle.slub_journal.specs.Lawful.{IsAtRest, IsPlain, IsPlainAt, IsReady, IsUnheld, TakesMemory, coming}
-use Rattle.slub_journal.specs.Reserves.{AreSoundReserves}
-use Rattle.slub_journal.proofs.Items.{sound_at, takes_at}
+use Rattle.slub_journal.specs.Lawful.{IsPlain, IsPlainAt, IsReady, TakesMemory, coming}
+use Rattle.slub_journal.proofs.Items.{takes_at}
 use Rattle.slub_round_law.specs.Round.{IsRound}
 use Rattle.slub_engine.specs.Steps.{KeepsSizes, KeepsUnheld}
-use Rattle.slub_engine.proofs.Ready.{item_unheld, ready_next}
+use Rattle.slub_engine.proofs.Ready.{ready_next}
+use Rattle.slub_by_text.specs.Heap.{HeapState, IsSoundHeap}
+use Rattle.slub_clients.specs.Asked.{IsOpenTo, IsServable, SpendsLine}
+use Rattle.slub_clients.specs.Reserves.{AreSoundReserves}
+use Rattle.slub_clients.proofs.Staying.{round-unheld}
 use Rattle.slub_ways.specs.declared.way.Way.{Way}
-use Rattle.slub_ways.specs.Runs.{AreIdsFor, IsReadyMachine, ItemSpendsTurns, KeepsIds, KeepsReserves, KeepsRounds, MachineState}
+use Rattle.slub_ways.specs.Runs.{AreIdsFor, IsReadyMachine, ItemSpendsTurns, KeepsReserves, KeepsRounds, MachineState, heap_of}
+use Rattle.slub_ways.specs.Ways.{DoesRoundBy}
 use Rattle.slub_items.specs.declared.machine.Stopped.{Stopped}
 use Rattle.slub_items.specs.declared.machine.Stopped.TheVariants.{NoMemory, TurnsSpent}
-use Rattle.slub_items.specs.Ids.{StandAfter}
 use Rattle.slub_items.specs.Stopped.{IsClient, IsClientAt, IsMachineStopped, IsStopped}
-use Rattle.slub_items.proofs.Rounds.{keeps_sizes, keeps_unheld}
-use Rattle.slub_items.proofs.Standing.{client_stands, round_stands}
+use Rattle.slub_items.proofs.Standing.{fit_beside, line_stands, round_stands}
 
 -- ---- the item of a number
 
@@ -54,17 +55,13 @@ client_at trace number it client within at is = found_at trace number it IsClien
 pub round_at : (trace : Trace) (number : ℕ) (it : Item) (round : Round) → number < length trace.items → it ≡ get_or trace.items number it → it ≡ item.Round round → slice_get trace.items number ≡ Some (item.Round round)
 round_at trace number it round within at is = subst (λ (it : Item). slice_get trace.items number ≡ Some it) is (read_at trace number it within at)
 
--- the line at a number can be served
-pub servable : (s : State) (trace : Trace) (number : ℕ) (it : Item) (client : Asked) → IsSound trace → IsReady s trace number → number < length trace.items → it ≡ get_or trace.items number it → it ≡ item.Client client → IsServable s trace client
-servable s trace number it client sound ready within at is = record {
-  coherent = ready.coherent;
-  cpus = ready.cpus;
-  objects = ready.objects;
-  names = ready.names;
-  few = sound.few;
-  sound = subst (IsSoundItem trace) is (sound_at trace number it sound within at);
-  unheld = subst (λ (it : Item). All (IsUnheld s) (objects_in it)) is (item_unheld s trace number it ready within at);
-}
+-- so was the line
+pub line_at : (trace : Trace) (number : ℕ) (it : Item) (client : Asked) → number < length trace.items → it ≡ get_or trace.items number it → it ≡ item.Client client → slice_get trace.items number ≡ Some (item.Client client)
+line_at trace number it client within at is = subst (λ (it : Item). slice_get trace.items number ≡ Some it) is (read_at trace number it within at)
+
+-- the heap is sound
+pub sound_heap : (m : MachineState) (trace : Trace) (number : ℕ) → IsReadyMachine m trace number → IsSoundHeap (heap_of m)
+sound_heap m trace number ready = record { coherent = ready.lists.coherent; ids = fit_beside trace m.lists m.ids ready.ids }
 
 -- ---- after an item
 
@@ -72,26 +69,40 @@ servable s trace number it client sound ready within at is = record {
 abbrev pub HasRoom : MachineState → Trace → ℕ → Type 0
 HasRoom m trace number = (order : ℕ) → slice_index m.lists.pool.dry order + length (coming trace number) ≤ 2 ^ 62
 
--- a client's line leaves the machine before the next item
-pub ready_client : (m after : MachineState) (trace : Trace) (number : ℕ) (it : Item) (client : Asked) → IsSound trace → IsReadyMachine m trace number → number < length trace.items → it ≡ get_or trace.items number it → it ≡ item.Client client
-    → IsCoherent after.lists → KeepsSizes m.lists after.lists → IsAtRest after.lists → KeepsUnheld m.lists (asked_objects client) after.lists → AreSoundReserves trace after.reserves → m.ids ≡ None → KeepsIds m after → KeepsRounds m after
-    → HasRoom after trace (number + 1) → IsReadyMachine after trace (number + 1)
-ready_client m after trace number it client sound ready within at is coherent sizes rest keeps reserves none still same room = record {
-  ids = client_stands trace m.lists after.lists m.ids after.ids none ready.ids still;
-  lists = ready_next m.lists after.lists trace number it sound ready.lists within at coherent sizes rest (subst (λ (it : Item). KeepsUnheld m.lists (objects_in it) after.lists) (sym is) keeps);
-  reserves = reserves;
-  rounds = omega (arith, same, ready.rounds);
-  dry = room;
+-- two heaps of a trace have the same sizes
+sizes_after : (h after : HeapState) (trace : Trace) (one other : ℕ) → IsOpenTo h trace one → IsOpenTo after trace other → KeepsSizes h.lists after.lists
+sizes_after h after trace one other before is_open = record {
+  frames = is_open.frames ∙ sym before.frames;
+  cpus = is_open.cpus ∙ sym before.cpus;
+  kept = is_open.names ∙ sym before.names;
+  board = is_open.objects ∙ sym before.objects;
 }
 
--- so does a round
-pub ready_round : (m after : MachineState) (trace : Trace) (number : ℕ) (it : Item) (round : Round) (result : RoundResult) → IsSound trace → IsReadyMachine m trace number → number < length trace.items → it ≡ get_or trace.items number it
-    → it ≡ item.Round round → IsRound m.lists round result after.lists → StandAfter m.ids after.lists after.ids → KeepsReserves m after → after.rounds ≡ m.rounds + 1 → HasRoom after trace (number + 1) → IsReadyMachine after trace (number + 1)
-ready_round m after trace number it round result sound ready within at is law stand kept more room = record {
-  ids = round_stands trace m.lists after.lists m.ids after.ids ready.ids stand;
+-- and the machine before the next item
+pub ready_client : (m after : MachineState) (trace : Trace) (number : ℕ) (it : Item) (client : Asked) → IsSound trace → IsReadyMachine m trace number → number < length trace.items → it ≡ get_or trace.items number it → it ≡ item.Client client
+    → IsServable (heap_of m) trace client → IsOpenTo (heap_of after) trace (length (coming trace (number + 1))) → KeepsUnheld m.lists (asked_objects client) after.lists → AreSoundReserves trace after.reserves → KeepsRounds m after → IsReadyMachine after trace (number + 1)
+ready_client m after trace number it client sound ready within at is servable is_open keeps reserves same = record {
+  ids = line_stands trace after.lists after.ids is_open.given is_open.sound.ids;
+  lists =
+      ready_next m.lists after.lists trace number it sound ready.lists within at is_open.sound.coherent (sizes_after (heap_of m) (heap_of after) trace (length (asked_objects client)) (length (coming trace (number + 1))) servable.heap is_open) is_open.rest
+      (subst (λ (it : Item). KeepsUnheld m.lists (objects_in it) after.lists) (sym is) keeps);
+  reserves = reserves;
+  rounds = omega (arith, same, ready.rounds);
+  dry = is_open.dry;
+}
+
+-- so does a round, which keeps the sizes
+keeps_sizes : (s : State) (round : Round) (result : RoundResult) (after : State) → IsRound s round result after → KeepsSizes s after
+keeps_sizes s round result after is = record { frames = is.frames; cpus = is.cpus; kept = ap (λ (table : Table). table.kept) is.table; board = is.objects }
+
+pub ready_round : (way : Way) (m after : MachineState) (trace : Trace) (number : ℕ) (it : Item) (round : Round) (result : RoundResult) → IsSound trace → IsReadyMachine m trace number → number < length trace.items → it ≡ get_or trace.items number it
+    → it ≡ item.Round round → DoesRoundBy way m.rounds m.lists m.ids round result after.lists after.ids → IsRound m.lists round result after.lists → IsSoundHeap (heap_of after) → KeepsReserves m after → after.rounds ≡ m.rounds + 1
+    → HasRoom after trace (number + 1) → IsReadyMachine after trace (number + 1)
+ready_round way m after trace number it round result sound ready within at is does law heap kept more room = record {
+  ids = round_stands way m.rounds trace m.lists after.lists m.ids after.ids round result ready.ids does heap.ids;
   lists =
       ready_next m.lists after.lists trace number it sound ready.lists within at law.coherent (keeps_sizes m.lists round result after.lists law) law.rest
-      (subst (λ (objects : List ℕ). KeepsUnheld m.lists objects after.lists) (sym (ap objects_in is)) (keeps_unheld m.lists round result after.lists law));
+      (subst (λ (objects : List ℕ). KeepsUnheld m.lists objects after.lists) (sym (ap objects_in is)) (round-unheld m.lists round result after.lists law));
   reserves = subst (AreSoundReserves trace) (sym kept) ready.reserves;
   rounds = omega (arith, more, ready.rounds);
   dry = room;
@@ -112,8 +123,14 @@ ready_plain m after trace number ready lists ids kept same room = record {
 
 pub stopped_round : (way : Way) (m : MachineState) (trace : Trace) (number : ℕ) (it : Item) (round : Round) (why : Stopped) → number < length trace.items → it ≡ get_or trace.items number it → it ≡ item.Round round
     → IsMachineStopped way m round why → IsStopped way m trace number why
-stopped_round way m trace number it round (NoMemory after) within at is same = (takes_at trace number it within at (subst TakesMemory (sym is) tt), λ other. same)
+stopped_round way m trace number it round (NoMemory (Some after)) within at is same = (takes_at trace number it within at (subst TakesMemory (sym is) tt), let back : after ≡ m = cc in back)
+stopped_round way m trace number it round (NoMemory None) within at is same = absurd (let never : ⊥ = cc in never)
 stopped_round way m trace number it round TurnsSpent within at is spends = found_at trace number it (ItemSpendsTurns way m) within at (subst (ItemSpendsTurns way m) (sym is) spends)
 
-pub stopped_client : (way : Way) (m after : MachineState) (trace : Trace) (number : ℕ) (it : Item) (client : Asked) → number < length trace.items → it ≡ get_or trace.items number it → it ≡ item.Client client → IsStopped way m trace number (NoMemory after)
-stopped_client way m after trace number it client within at is = (takes_at trace number it within at (subst TakesMemory (sym is) tt), λ other. absurd (other (client_at trace number it client within at is)))
+-- no memory was there for a client's line
+pub wanting_client : (way : Way) (m : MachineState) (trace : Trace) (number : ℕ) (it : Item) (client : Asked) → number < length trace.items → it ≡ get_or trace.items number it → it ≡ item.Client client → IsStopped way m trace number (NoMemory None)
+wanting_client way m trace number it client within at is = (takes_at trace number it within at (subst TakesMemory (sym is) tt), client_at trace number it client within at is)
+
+-- or the turns of a round of it are spent
+pub spent_client : (way : Way) (m : MachineState) (trace : Trace) (number : ℕ) (it : Item) (client : Asked) → number < length trace.items → it ≡ get_or trace.items number it → it ≡ item.Client client → SpendsLine (heap_of m) → IsStopped way m trace number TurnsSpent
+spent_client way m trace number it client within at is spends = found_at trace number it (ItemSpendsTurns way m) within at (subst (ItemSpendsTurns way m) (sym is) spends)

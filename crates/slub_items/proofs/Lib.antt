@@ -1,5 +1,5 @@
 pub mod Anew
 pub mod Classes
 pub mod Items
-pub mod Rounds
+pub mod Ones
 pub mod Standing

@@ -1,9 +1,10 @@
 -- The transaction ids beside the lists, after a round, a client's line or another item.
-use Rattle.std.proofs.Common.{◌≡◌, ℕ, ◌+◌, ◌^◌, ◌<◌, ◌≤◌, List, length, get_or, eqb, ap, ◌∙◌, refl, sym, subst, Option, Some, None, MatchOption, slice_get, arith}
+use Rattle.std.proofs.Common.{◌≡◌, ℕ, ◌+◌, ◌^◌, ◌≤◌, List, [], eqb, inl, inr, ap, ◌∙◌, sym, subst, Option, Some, None, MatchOption, slice_get, arith}
 use Rattle.std.specs.Prelude.{IfSome}
 use Rattle.std.proofs.lemmas.Bool.{cond-false, ne_eqb}
 use Rattle.std.specs.Option.{option_map}
 use native.Mathlib.Nat.{zero-mod}
+use Rattle.slub_events.specs.declared.event.Round.{Round}
 use Rattle.slub_lists.specs.State.{State}
 use Rattle.slub_lists.specs.Coherent.{IsCoherent}
 use Rattle.slub_into_words.specs.Ids.{AreIds, IsStepOf, first_ids}
@@ -11,21 +12,25 @@ use Rattle.slub_into_words.proofs.Firsts.{first-ids-fit, step-below}
 use Rattle.slub_ids.specs.Growth.{ids_after}
 use Rattle.slub_ids.proofs.Items.{items-keep}
 use Rattle.slub_ids.proofs.Steps.{is-step}
-use Rattle.slub_trace_reader.specs.declared.trace.Client.{Client as Asked}
 use Rattle.slub_trace_reader.specs.declared.trace.Item.{Item}
-use Rattle.slub_trace_reader.specs.declared.trace.Item.TheVariants as item
 use Rattle.slub_trace_reader.specs.declared.trace.Trace.{Trace}
 use Rattle.slub_trace_reader.specs.Grammar.{step_of}
 use Rattle.slub_trace_reader.specs.Sound.{IsSound}
 use Rattle.slub_journal.specs.declared.journal.Done.{Done}
-use Rattle.slub_journal.specs.Lawful.{DoesPlain, DoesPlainAt, IsOwn, IsReady}
+use Rattle.slub_journal.specs.declared.journal.RoundResult.{RoundResult}
+use Rattle.slub_journal.specs.Lawful.{DoesPlain, DoesPlainAt, IsReady}
+use Rattle.slub_by_text.specs.ByText.{DoesByText}
+use Rattle.slub_clients.specs.Asked.{AreGiven}
+use Rattle.slub_ways.specs.declared.way.Way.{Way}
+use Rattle.slub_ways.specs.declared.way.Way.TheVariants.{Serial, Schedule, Threads}
 use Rattle.slub_ways.specs.Runs.{AreIdsFor, opening_ids}
-use Rattle.slub_items.specs.Ids.{LeavesIdsAt, StandAfter}
+use Rattle.slub_ways.specs.Ways.{AreLeft, DoesRoundBy}
+use Rattle.slub_items.specs.Ids.{LeavesIdsAt}
 
 -- they fit where they stand
 pub fit_beside : (trace : Trace) (s : State) (ids : Option (List ℕ)) → AreIdsFor trace s ids → IfSome ids (AreIds s)
 fit_beside trace s None are = tt
-fit_beside trace s (Some ids) are = are.2
+fit_beside trace s (Some ids) are = are.1
 
 -- new ones fit, too
 pub new_fit : (s : State) → IsCoherent s → AreIds s (first_ids 0 s.cpus)
@@ -47,28 +52,39 @@ opening_given trace ids given is = ap (λ (l : List ℕ). Some l) is ∙ sym (co
 
 -- ---- after a round
 
-pub round_stands : (trace : Trace) (s after : State) (ids left : Option (List ℕ)) → AreIdsFor trace s ids → StandAfter ids after left → AreIdsFor trace after left
-round_stands trace s after None left are none = rw none are
-round_stands trace s after (Some ids) None are stand = absurd stand
-round_stands trace s after (Some ids) (Some left) are stand = (are.0, are.1, stand)
+-- a round leaves none where none stood, and else its own
+text_left : (s after : State) (ids left : Option (List ℕ)) (round : Round) (result : RoundResult) → DoesByText s ids round result after left → (kept : List ℕ) × AreLeft ids kept left
+text_left s after None left round result does = ([], does.1)
+text_left s after (Some ids) left round result does = (does.0, does.2)
+
+round_left : (way : Way) (rounds : ℕ) (s after : State) (ids left : Option (List ℕ)) (round : Round) (result : RoundResult) → DoesRoundBy way rounds s ids round result after left → (kept : List ℕ) × AreLeft ids kept left
+round_left Serial rounds s after ids left round result does = text_left s after ids left round result does
+round_left (Schedule seed) rounds s after ids left round result (inl (few, does)) = text_left s after ids left round result does
+round_left (Schedule seed) rounds s after ids left round result (inr (several, does)) = (does.0, does.2)
+round_left Threads rounds s after ids left round result (inl (few, does)) = text_left s after ids left round result does
+round_left Threads rounds s after ids left round result (inr (several, does)) = (does.0, does.2)
+
+left_stand : (trace : Trace) (s after : State) (ids left : Option (List ℕ)) (kept : List ℕ) → AreIdsFor trace s ids → AreLeft ids kept left → IfSome left (AreIds after) → AreIdsFor trace after left
+left_stand trace s after None left kept are is fit = rw is are
+left_stand trace s after (Some ids) left kept are is fit = let here : AreIds after kept = subst (λ (l : Option (List ℕ)). IfSome l (AreIds after)) is fit in rw is (are.0, here)
+
+-- so they stand there after it where they stood before
+pub round_stands : (way : Way) (rounds : ℕ) (trace : Trace) (s after : State) (ids left : Option (List ℕ)) (round : Round) (result : RoundResult) → AreIdsFor trace s ids → DoesRoundBy way rounds s ids round result after left → IfSome left (AreIds after)
+    → AreIdsFor trace after left
+round_stands way rounds trace s after ids left round result are does fit = let mine = round_left way rounds s after ids left round result does in left_stand trace s after ids left mine.0 are mine.1 fit
 
 -- ---- after a client's line
 
--- no ids stand before one
-pub none_stand : (trace : Trace) (number : ℕ) (it : Item) (client : Asked) (s : State) (ids : Option (List ℕ)) → number < length trace.items → it ≡ get_or trace.items number it → it ≡ item.Client client → AreIdsFor trace s ids → ids ≡ None
-none_stand trace number it client s None within at is are = refl
-none_stand trace number it client s (Some ids) within at is are = absurd (let here : IsOwn it = subst IsOwn (sym at) (are.1 number it within) in subst IsOwn is here)
-
-pub client_stands : (trace : Trace) (s after : State) (ids left : Option (List ℕ)) → ids ≡ None → AreIdsFor trace s ids → left ≡ ids → AreIdsFor trace after left
-client_stands trace s after None left none are same = rw same are
-client_stands trace s after (Some ids) left none are same = absurd (let never : ⊥ = cc in never)
+pub line_stands : (trace : Trace) (after : State) (left : Option (List ℕ)) → AreGiven trace left → IfSome left (AreIds after) → AreIdsFor trace after left
+line_stands trace after None given fit = given
+line_stands trace after (Some left) given fit = (given, fit)
 
 -- ---- after another item
 
 plain_stands : (trace : Trace) (it : Item) (done : Done) (s after : State) (ids left : Option (List ℕ)) → IsSound trace → s.cpus ≡ trace.cpus → IsCoherent s → IsCoherent after
     → DoesPlain s trace it done after → AreIdsFor trace s ids → left ≡ option_map (ids_after trace s it done) ids → AreIdsFor trace after left
 plain_stands trace it done s after None left sound cpus before coherent does are is = rw is are
-plain_stands trace it done s after (Some ids) left sound cpus before coherent does are is = rw is (are.0, are.1, items-keep s trace it done after ids sound cpus before coherent are.2 does)
+plain_stands trace it done s after (Some ids) left sound cpus before coherent does are is = rw is (are.0, items-keep s trace it done after ids sound cpus before coherent are.1 does)
 
 -- the same of the item of a number
 pub leaves_at : (trace : Trace) (s : State) (number : ℕ) (done : Done) (ids left : Option (List ℕ)) → LeavesIdsAt trace s number done ids left → (it : Item) → slice_get trace.items number ≡ Some it → left ≡ option_map (ids_after trace s it done) ids

@@ -1,16 +1,10 @@
 -- What an item leaves of the transaction ids beside the lists.
-use Rattle.std.specs.Prelude.{◌≡◌, ℕ, List, Option, Some, None, MatchOption, IsSomeAnd, slice_get}
+use Rattle.std.specs.Prelude.{◌≡◌, ℕ, List, Option, MatchOption, slice_get}
 use Rattle.std.specs.Option.{option_map}
 use Rattle.slub_lists.specs.State.{State}
-use Rattle.slub_into_words.specs.Ids.{AreIds}
 use Rattle.slub_ids.specs.Growth.{ids_after}
 use Rattle.slub_trace_reader.specs.declared.trace.Trace.{Trace}
 use Rattle.slub_journal.specs.declared.journal.Done.{Done}
-
--- ids stand beside the lists where they stood before, and fit them
-abbrev pub StandAfter : Option (List ℕ) → State → Option (List ℕ) → Type 0
-StandAfter None after left = left ≡ None
-StandAfter (Some ids) after left = IsSomeAnd left (AreIds after)
 
 -- the ids, where there are some, are those that the item of this number leaves
 abbrev pub LeavesIdsAt

@@ -1,3 +1,4 @@
 pub mod Ids
 pub mod Leaves
+pub mod Parts
 pub mod Stopped

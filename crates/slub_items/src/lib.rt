@@ -1,25 +1,25 @@
 //! Doing the items of a trace on the machine, rounds and clients' lines among them.
 //!
-//! `Machine` is the machine between two items: the plain lists, beside them the transaction ids of the CPU words, where
-//! the trace gives the first one, the reserves of clients, and how many `round` lines were done. Its definitions are
-//! `specs/Runs.antt` of `slub_ways`, and contracts see it as a `MachineState` of that file. A round is done by the way
-//! that the caller names (`Way` of `slub_ways`): in the order of the text by `slub_engine`, and two or more workers by a
-//! seed or in threads by `slub_rounds`. The seed of a round is that of the way plus how many `round` lines were before,
-//! modulo 2^64. A client's line is done by the crate of its request: `slub_kmalloc`, `slub_bulk` or `slub_mempool`;
-//! every other item by `slub_engine`.
+//! `Machine` is the machine between two items: a heap, that is, the plain lists and beside them the transaction ids of
+//! the CPU words, where the trace gives the first one; the reserves of clients; and how many `round` lines were done.
+//! Its definitions are `specs/Runs.antt` of `slub_ways`, and contracts see it as a `MachineState` of that file. A round
+//! is done by the way that the caller names (`Way` of `slub_ways`): in the order of the text by `slub_by_text`, and two
+//! or more workers by a seed or in threads by `slub_rounds`. The seed of a round is that of the way plus how many
+//! `round` lines were before, modulo 2^64. A client's line is done by the crate of its request: `slub_kmalloc`,
+//! `slub_bulk` or `slub_mempool`; every other item by `slub_engine`.
 //!
-//! Where ids stand beside the lists, every round is done by `slub_rounds`, one in the order of the text too, and what
-//! other items leave of the ids is worked out by `slub_ids`. No client's line stands in such a trace.
+//! Where ids stand beside the lists, rounds go on from them and leave others, clients' lines' too, and what other items
+//! leave of the ids is worked out by `slub_ids`.
 //!
 //! # What it promises
 //!
 //! `Machine::open` opens the machine of a trace. `Machine::item` takes the machine and does an item lawfully by the way
 //! (`Does`), and gives the machine back where it stands before the next item. Or it says why it didn't (`Stopped`,
 //! `specs/Stopped.antt`): there was no memory, only where the item takes some, and but for a client's line the machine
-//! is given back as it was, its ids too; or all turns of the round are made, and a worker is unfinished.
-//! `Machine::total` has the sums of the ledgers and of the machine.
-//! `laws`: after a refusal of a `kmalloc` line the board is as it was, and after a move it differs by the two
-//! numbers of its line alone.
+//! is given back as it was, its ids too; or all turns of the round, or of one that the client's line made, are made,
+//! and a worker is unfinished. `Machine::total` has the sums of the ledgers and of the machine.
+//! `laws`: after a refusal of a `kmalloc` line the board is as it was, and after a move, where no ids stand beside the
+//! lists, it differs by the two numbers of its line alone.
 #![tactic(auto)]
 
 pub mod laws;

@@ -1,23 +1,28 @@
 //! The machine, and what an item does to it.
 
-ghost use Rattle.std.specs.Prelude.{◌≡◌, ◌+◌, ◌-◌, ◌^◌, ◌<◌, ◌≤◌, length, IfErr, IfOk, IfSome, OnErr, OnOk};
+ghost use Rattle.std.specs.Prelude.{◌≡◌, ℕ, ◌+◌, ◌-◌, ◌^◌, ◌<◌, ◌≤◌, length, IfErr, IfOk, IfSome, OnErr, OnOk};
 ghost use Rattle.slub_lists.specs.Coherent.{IsCoherent};
 ghost use Rattle.slub_trace_reader.specs.declared.trace.Trace.{Trace as Read};
 ghost use Rattle.slub_trace_reader.specs.Sound.{IsSound, asked_objects};
 ghost use Rattle.slub_calls.specs.Laws.{MayDo};
-ghost use Rattle.slub_journal.specs.Asked.{IsServable};
 ghost use Rattle.slub_ids.specs.Due.{AreAfter};
 ghost use Rattle.slub_into_words.specs.Ids.{AreIds};
 ghost use Rattle.slub_journal.specs.Lawful.{DoesPlainAt, IsAtRest, IsPlainAt, IsReady, IsTotal, TakesMemoryAt, all_freed, all_given, opening_of};
-ghost use Rattle.slub_journal.specs.Reserves.{AreSoundReserves};
 ghost use Rattle.slub_round_law.specs.Round.{IsRound};
-ghost use Rattle.slub_engine.specs.Steps.{KeepsSizes, KeepsUnheld};
+ghost use Rattle.slub_engine.specs.Steps.{KeepsUnheld};
+ghost use Rattle.slub_by_text.specs.Heap.{IsSoundHeap};
+ghost use Rattle.slub_clients.specs.Asked.{IsServable, StaysOpen};
+ghost use Rattle.slub_clients.specs.Reserves.{AreSoundReserves};
+ghost use Rattle.slub_clients.specs.Stopped.{IsLineStopped};
 ghost use Rattle.slub_ways.specs.Ways.{DoesRoundBy};
-ghost use Rattle.slub_ways.specs.Runs.{DoesAt, IsReadyMachine, KeepsIds, KeepsReserves, KeepsRounds, Serves, machine_of, opening_ids};
-ghost use Rattle.slub_items.specs.Ids.{LeavesIdsAt, StandAfter};
+ghost use Rattle.slub_ways.specs.Runs.{DoesAt, IsReadyMachine, KeepsReserves, KeepsRounds, Serves, heap_of, machine_of, opening_ids};
+ghost use Rattle.slub_items.specs.Ids.{LeavesIdsAt};
+ghost use Rattle.slub_items.specs.Parts.{machine_on};
 ghost use Rattle.slub_items.specs.Stopped.{IsMachineStopped, IsStopped};
 
-use crate::round::{Rounded, by_way};
+use crate::round::by_way;
+use slub_by_text::heap::{Heap, Stopped as RoundStopped};
+use slub_clients::client::Stopped as LineStopped;
 use slub_common::no_memory::NoMemory;
 use slub_edges::gate::Gate;
 use slub_engine::item;
@@ -28,9 +33,8 @@ use slub_journal::client::ClientDone;
 use slub_journal::journal::{Done, RoundResult, Total};
 use slub_list_machine::lists::Lists;
 use slub_mempool::reserves::Reserves;
-use slub_rounds::scheduled::Stopped as RoundStopped;
 use slub_trace_reader::trace::{Client, Item, Trace};
-use slub_ways::laws::{items_leave_room, ready_rounds_may_be_done};
+use slub_ways::laws::{items_leave_room, ready_lines_may_be_served, ready_rounds_may_be_done};
 use slub_ways::way::Way;
 use std::alloc::Global;
 use std::marker::Model;
@@ -41,27 +45,26 @@ use std::thread::Threads;
 /// the first one, the reserves of its clients, and how many `round` lines were done.
 #[derive(Drop)]
 pub struct Machine {
-    lists: Lists,
-    ids: Option<Ids>,
+    heap: Heap,
     reserves: Reserves,
     rounds: u64,
 }
 
 impl Model for Machine {
     ghost use Rattle.slub_ways.specs.Runs.{MachineState};
+    ghost use Rattle.slub_items.specs.Parts.{machine_on};
 
     ghost Value = { MachineState };
 
-    ghost view = { λ m. record { lists = m.lists; ids = m.ids; reserves = m.reserves; rounds = m.rounds } };
+    ghost view = { λ m. machine_on m.heap m.reserves m.rounds };
 }
 
 /// Why an item wasn't done.
 #[derive(Drop)]
 pub enum Stopped {
-    /// There was no memory for it. The machine is as it was given, but after a client's line as the line left it so
-    /// far.
-    NoMemory(Machine),
-    /// All turns of the round are made, and a worker is unfinished.
+    /// There was no memory for it. The machine is as it was given; with a client's line it may be gone.
+    NoMemory(Option<Machine>),
+    /// All turns of the round, or of one that the client's line made, are made, and a worker is unfinished.
     TurnsSpent,
 }
 
@@ -77,8 +80,7 @@ impl Machine {
         let ids = open_ids(alloc, trace)?;
         let reserves = Reserves::open(alloc)?;
         Ok(Machine {
-            lists,
-            ids,
+            heap: Heap { lists, ids },
             reserves,
             rounds: 0,
         })
@@ -88,8 +90,8 @@ impl Machine {
     /// of a round by threads pass the gate before each of their events.
     ///
     /// The errors: `NoMemory` where none was found, only for an item that takes some, which a shrink, a destroy and a
-    /// setting don't; `TurnsSpent` only for a round of two or more workers by `Way::Schedule`, or of a trace that gives
-    /// the first transaction id.
+    /// setting don't; `TurnsSpent` only for a round of two or more workers by `Way::Schedule`, or where a transaction
+    /// id beside the lists may be spent.
     pub fn item<R: Threads + Wait + Sync, G: Gate + Sync>(
         mut self,
         rt: &R,
@@ -107,6 +109,7 @@ impl Machine {
         ensures stopped { IfErr result (IsStopped way self trace.now number) }
     {
         ready_rounds_may_be_done();
+        ready_lines_may_be_served();
         items_leave_room();
         match &trace.items.as_slice()[number] {
             Item::Round(round) => {
@@ -114,12 +117,13 @@ impl Machine {
                 Ok((after, Done::Round(result)))
             }
             Item::Client(client) => match self.serve(alloc, trace, client) {
-                Ok(served) => Ok((self, Done::Client(served))),
-                Err(NoMemory) => Err(Stopped::NoMemory(self)),
+                Ok((after, served)) => Ok((after, Done::Client(served))),
+                Err(LineStopped::NoMemory) => Err(Stopped::NoMemory(None)),
+                Err(LineStopped::TurnsSpent) => Err(Stopped::TurnsSpent),
             },
             _ => match self.plain_item(alloc, trace, number) {
                 Ok(done) => Ok((self, done)),
-                Err(NoMemory) => Err(Stopped::NoMemory(self)),
+                Err(NoMemory) => Err(Stopped::NoMemory(Some(self))),
             },
         }
     }
@@ -133,42 +137,38 @@ impl Machine {
         round: &Round,
         way: Way,
     ) -> Result<(Machine, RoundResult), Stopped>
-        requires coherent { IsCoherent self.lists }
+        requires sound { IsSoundHeap (heap_of self) }
         requires rest { IsAtRest self.lists }
         requires objects { length self.lists.board ≤ 1048577 }
         requires may_do { (trace : Read) × MayDo self.lists trace round.now }
-        requires ids { IfSome self.ids (AreIds self.lists) }
         requires few { self.rounds < 2 ^ 64 - 1 }
         ensures does { IfOk result (λ done. DoesRoundBy way self.rounds self.lists self.ids
             round.now done.1 done.0.lists done.0.ids) }
         ensures lawful { IfOk result (λ done. IsRound self.lists round.now done.1 done.0.lists) }
-        ensures ids { IfOk result (λ done. StandAfter self.ids done.0.lists done.0.ids) }
+        ensures sound { IfOk result (λ done. IsSoundHeap (heap_of done.0)) }
         ensures reserves { IfOk result (λ done. KeepsReserves self done.0) }
         ensures counted { IfOk result (λ done. done.0.rounds ≡ self.rounds + 1) }
         ensures stopped { IfErr result (IsMachineStopped way self round.now) }
     {
         let Machine {
-            lists,
-            ids,
+            heap,
             reserves,
             rounds,
         } = self;
-        match by_way(rt, gate, alloc, lists, &ids, round, rounds, way) {
-            Ok(Rounded { lists, ids, result }) => Ok((
+        match by_way(rt, gate, alloc, heap, round, rounds, way) {
+            Ok((heap, result)) => Ok((
                 Machine {
-                    lists,
-                    ids,
+                    heap,
                     reserves,
                     rounds: rounds + 1,
                 },
                 result,
             )),
-            Err(RoundStopped::NoMemory(lists)) => Err(Stopped::NoMemory(Machine {
-                lists,
-                ids,
+            Err(RoundStopped::NoMemory(heap)) => Err(Stopped::NoMemory(Some(Machine {
+                heap,
                 reserves,
                 rounds,
-            })),
+            }))),
             Err(RoundStopped::TurnsSpent) => Err(Stopped::TurnsSpent),
         }
     }
@@ -191,42 +191,45 @@ impl Machine {
         ensures err { OnErr result (self.new ≡ self.old) }
         ensures memory { OnErr result (TakesMemoryAt trace.now number) }
     {
-        match &mut self.ids {
-            Some(ids) => item_beside(alloc, &mut self.lists, ids, trace, number),
-            None => item::item(alloc, &mut self.lists, trace, number),
+        let heap = &mut self.heap;
+        match &mut heap.ids {
+            Some(ids) => item_beside(alloc, &mut heap.lists, ids, trace, number),
+            None => item::item(alloc, &mut heap.lists, trace, number),
         }
     }
 
-    /// Serves a client's line. Where no memory is found, the machine is as it was left so far.
+    /// Serves a client's line. Where it isn't served, the machine is gone.
     fn serve(
-        &mut self,
+        self,
         alloc: Global,
         trace: &Trace,
         client: &Client,
-    ) -> Result<ClientDone, NoMemory>
-        requires servable { IsServable self.old.lists trace.now client.now }
-        requires rest { IsAtRest self.old.lists }
-        requires reserves { AreSoundReserves trace.now self.old.reserves }
-        ensures served { IfOk result (λ done. Serves self.old trace.now client.now done self.new) }
-        ensures coherent { IsCoherent self.new.lists }
-        ensures sizes { KeepsSizes self.old.lists self.new.lists }
-        ensures unheld { KeepsUnheld self.old.lists (asked_objects client.now) self.new.lists }
-        ensures rest { IsAtRest self.new.lists }
-        ensures reserves { AreSoundReserves trace.now self.new.reserves }
-        ensures ids { KeepsIds self.old self.new }
-        ensures rounds { KeepsRounds self.old self.new }
+    ) -> Result<(Machine, ClientDone), LineStopped>
+        requires servable { IsServable (heap_of self) trace.now client.now }
+        requires reserves { AreSoundReserves trace.now self.reserves }
+        ensures served { IfOk result (λ done. Serves self trace.now client.now done.1 done.0) }
+        ensures stays { IfOk result (λ done. StaysOpen (heap_of self) trace.now
+            (length (asked_objects client.now)) (heap_of done.0)) }
+        ensures unheld { IfOk result (λ done.
+            KeepsUnheld self.lists (asked_objects client.now) done.0.lists) }
+        ensures reserves { IfOk result (λ done. AreSoundReserves trace.now done.0.reserves) }
+        ensures rounds { IfOk result (λ done. KeepsRounds self done.0) }
+        ensures stopped { IfErr result (IsLineStopped (heap_of self)) }
     {
-        match client {
-            Client::Kmalloc | Client::Kget { .. } | Client::Krealloc { .. } => {
-                slub_kmalloc::serve::serve(alloc, &mut self.lists, trace, client)
-            }
-            Client::Bulk { .. } | Client::Bulkfree { .. } => {
-                slub_bulk::serve::serve(alloc, &mut self.lists, trace, client)
-            }
-            Client::Mempool { .. } | Client::Mget { .. } | Client::Mput { .. } => {
-                self.reserves.serve(alloc, &mut self.lists, trace, client)
-            }
-        }
+        let Machine {
+            heap,
+            mut reserves,
+            rounds,
+        } = self;
+        let (heap, done) = serve_on(alloc, heap, &mut reserves, trace, client)?;
+        Ok((
+            Machine {
+                heap,
+                reserves,
+                rounds,
+            },
+            done,
+        ))
     }
 
     /// The sums over all that was done, and over the machine.
@@ -236,7 +239,40 @@ impl Machine {
         requires freed { all_freed items.now < 2 ^ 64 }
         ensures { IsTotal self.now.lists items.now result }
     {
-        item::total(&self.lists, items)
+        item::total(&self.heap.lists, items)
+    }
+}
+
+/// Serves a client's line on a heap, by the crate of its request. Only the last of them changes reserves.
+fn serve_on(
+    alloc: Global,
+    heap: Heap,
+    reserves: &mut Reserves,
+    trace: &Trace,
+    client: &Client,
+) -> Result<(Heap, ClientDone), LineStopped>
+    requires servable { IsServable heap trace.now client.now }
+    requires reserves { AreSoundReserves trace.now reserves.old }
+    ensures served { IfOk result (λ done. (rounds : ℕ) →
+        Serves (machine_on heap reserves.old rounds) trace.now client.now done.1
+        (machine_on done.0 reserves.new rounds)) }
+    ensures stays { IfOk result (λ done.
+        StaysOpen heap trace.now (length (asked_objects client.now)) done.0) }
+    ensures unheld { IfOk result (λ done.
+        KeepsUnheld heap.lists (asked_objects client.now) done.0.lists) }
+    ensures reserves { OnOk result (AreSoundReserves trace.now reserves.new) }
+    ensures stopped { IfErr result (IsLineStopped heap) }
+{
+    match client {
+        Client::Kmalloc | Client::Kget { .. } | Client::Krealloc { .. } => {
+            slub_kmalloc::serve::serve(alloc, heap, trace, client)
+        }
+        Client::Bulk { .. } | Client::Bulkfree { .. } => {
+            slub_bulk::serve::serve(alloc, heap, trace, client)
+        }
+        Client::Mempool { .. } | Client::Mget { .. } | Client::Mput { .. } => {
+            reserves.serve(alloc, heap, trace, client)
+        }
     }
 }
 

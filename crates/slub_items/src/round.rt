@@ -1,86 +1,141 @@
 //! A round, by the way of the replay.
 
-ghost use Rattle.std.specs.Prelude.{◌≡◌, ◌<◌, ◌≤◌, None, Some, IfErr, IfOk, IfSome, length};
+ghost use Rattle.std.specs.Prelude.{◌≡◌, ◌<◌, ◌≤◌, None, Some, IfErr, IfOk, length};
 ghost use Rattle.slub_trace_reader.specs.declared.trace.Trace.{Trace};
 ghost use Rattle.slub_lists.specs.Coherent.{IsCoherent};
 ghost use Rattle.slub_calls.specs.Laws.{MayDo};
 ghost use Rattle.slub_into_words.specs.Ids.{AreIds};
-ghost use Rattle.slub_journal.specs.Lawful.{DoesRound, IsAtRest};
+ghost use Rattle.slub_journal.specs.Lawful.{IsAtRest};
 ghost use Rattle.slub_round_law.specs.Round.{IsRound};
 ghost use Rattle.slub_rounds.specs.Rounds.{DoesRoundByThreads};
+ghost use Rattle.slub_by_text.specs.Heap.{IsSoundHeap};
 ghost use Rattle.slub_ways.specs.Ways.{DoesRoundBy};
-ghost use Rattle.slub_items.specs.Ids.{StandAfter};
-ghost use Rattle.slub_items.specs.Stopped.{IsRoundStopped};
+ghost use Rattle.slub_items.specs.Stopped.{AreStepsStopped, IsRoundStopped};
 
+use slub_by_text::heap::{Heap, Stopped};
 use slub_common::no_memory::NoMemory;
 use slub_edges::gate::Gate;
-use slub_engine::item::serial;
 use slub_events::event::Round;
 use slub_into_words::ids::Ids;
 use slub_journal::journal::RoundResult;
 use slub_list_machine::lists::Lists;
 use slub_rounds::ended::Ended;
-use slub_rounds::in_order::in_order;
-use slub_rounds::scheduled::{Stopped, scheduled};
+use slub_rounds::scheduled::{Stopped as StepsStopped, scheduled};
 use slub_rounds::threaded::threaded;
-use slub_ways::laws::rounds_of_any_way_are_lawful;
 use slub_ways::way::Way;
 use std::alloc::Global;
 use std::sync::Wait;
 use std::thread::Threads;
 
-/// What a round leaves, and what came of it.
-#[derive(Debug, Drop)]
-pub struct Rounded {
-    pub lists: Lists,
-    /// There where ids stood beside the lists before it.
-    pub ids: Option<Ids>,
-    pub result: RoundResult,
-}
-
 /// Does a round by a way, after so many `round` lines. A round of one worker is done in the order of the text, each
 /// event to its end, and so is every round by `Serial`; by `Schedule` the workers make the turns that the seed draws,
 /// and by `Threads` each works in a thread of its own.
 ///
-/// Where transaction ids stand beside the lists, every round is done by steps and goes on from them. Where none do,
-/// only a round of several workers by `Schedule` or `Threads` is: it begins with new ones, which aren't kept.
+/// Where transaction ids stand beside the lists, a round of several workers by `Schedule` or `Threads` goes on from
+/// them. Where none do, it begins with new ones, which aren't kept.
 pub fn by_way<R: Threads + Wait + Sync, G: Gate + Sync>(
     rt: &R,
     gate: &G,
     alloc: Global,
-    lists: Lists,
-    ids: &Option<Ids>,
+    heap: Heap,
     round: &Round,
     rounds: u64,
     way: Way,
-) -> Result<Rounded, Stopped>
-    requires coherent { IsCoherent lists }
-    requires rest { IsAtRest lists }
-    requires objects { length lists.board ≤ 1048577 }
-    requires may_do { (trace : Trace) × MayDo lists trace round.now }
-    requires ids { IfSome ids.now (AreIds lists) }
+) -> Result<(Heap, RoundResult), Stopped>
+    requires sound { IsSoundHeap heap }
+    requires rest { IsAtRest heap.lists }
+    requires objects { length heap.lists.board ≤ 1048577 }
+    requires may_do { (trace : Trace) × MayDo heap.lists trace round.now }
     ensures does { IfOk result (λ done.
-        DoesRoundBy way rounds lists ids.now round.now done.result done.lists done.ids) }
-    ensures lawful { IfOk result (λ done. IsRound lists round.now done.result done.lists) }
-    ensures ids { IfOk result (λ done. StandAfter ids.now done.lists done.ids) }
-    ensures stopped { IfErr result (IsRoundStopped way rounds lists ids.now round.now) }
+        DoesRoundBy way rounds heap.lists heap.ids round.now done.1 done.0.lists done.0.ids) }
+    ensures lawful { IfOk result (λ done. IsRound heap.lists round.now done.1 done.0.lists) }
+    ensures sound { IfOk result (λ done. IsSoundHeap done.0) }
+    ensures stopped { IfErr result (IsRoundStopped way rounds heap round.now) }
 {
+    if round.workers <= 1 {
+        return heap.round_by_text(alloc, round);
+    }
+    match way {
+        Way::Serial => heap.round_by_text(alloc, round),
+        Way::Schedule { .. } | Way::Threads => {
+            of_several(rt, gate, alloc, heap, round, rounds, way)
+        }
+    }
+}
+
+/// Does a round of two or more workers by steps.
+fn of_several<R: Threads + Wait + Sync, G: Gate + Sync>(
+    rt: &R,
+    gate: &G,
+    alloc: Global,
+    heap: Heap,
+    round: &Round,
+    rounds: u64,
+    way: Way,
+) -> Result<(Heap, RoundResult), Stopped>
+    requires sound { IsSoundHeap heap }
+    requires rest { IsAtRest heap.lists }
+    requires objects { length heap.lists.board ≤ 1048577 }
+    requires may_do { (trace : Trace) × MayDo heap.lists trace round.now }
+    requires several { 1 < round.now.workers }
+    requires steps { way ≡ Way.Serial → ⊥ }
+    ensures does { IfOk result (λ done.
+        DoesRoundBy way rounds heap.lists heap.ids round.now done.1 done.0.lists done.0.ids) }
+    ensures lawful { IfOk result (λ done. IsRound heap.lists round.now done.1 done.0.lists) }
+    ensures sound { IfOk result (λ done. IsSoundHeap done.0) }
+    ensures stopped { IfErr result (IsRoundStopped way rounds heap round.now) }
+{
+    let Heap { lists, ids } = heap;
     match ids {
-        Some(ids) => match by_steps(rt, gate, alloc, lists, ids, round, rounds, way) {
-            Ok(ended) => Ok(Rounded {
-                lists: ended.lists,
-                ids: Some(ended.ids),
-                result: ended.result,
-            }),
-            Err(stopped) => Err(stopped),
-        },
-        None => without_ids(rt, gate, alloc, lists, round, rounds, way),
+        Some(ids) => beside(rt, gate, alloc, lists, ids, round, rounds, way),
+        None => anew(rt, gate, alloc, lists, round, rounds, way),
     }
 }
 
 // ---- where ids stand beside the lists
 
 /// Does a round by steps, from the ids that stand beside the lists.
+fn beside<R: Threads + Wait + Sync, G: Gate + Sync>(
+    rt: &R,
+    gate: &G,
+    alloc: Global,
+    lists: Lists,
+    ids: Ids,
+    round: &Round,
+    rounds: u64,
+    way: Way,
+) -> Result<(Heap, RoundResult), Stopped>
+    requires coherent { IsCoherent lists }
+    requires rest { IsAtRest lists }
+    requires objects { length lists.board ≤ 1048577 }
+    requires may_do { (trace : Trace) × MayDo lists trace round.now }
+    requires ids { AreIds lists ids }
+    requires several { 1 < round.now.workers }
+    requires steps { way ≡ Way.Serial → ⊥ }
+    ensures does { IfOk result (λ done.
+        DoesRoundBy way rounds lists (Some ids) round.now done.1 done.0.lists done.0.ids) }
+    ensures lawful { IfOk result (λ done. IsRound lists round.now done.1 done.0.lists) }
+    ensures sound { IfOk result (λ done. IsSoundHeap done.0) }
+    ensures stopped { IfErr result
+        (IsRoundStopped way rounds (record { lists = lists; ids = Some ids }) round.now) }
+{
+    match by_steps(rt, gate, alloc, lists, &ids, round, rounds, way) {
+        Ok(ended) => Ok((
+            Heap {
+                lists: ended.lists,
+                ids: Some(ended.ids),
+            },
+            ended.result,
+        )),
+        Err(StepsStopped::NoMemory(lists)) => Err(Stopped::NoMemory(Heap {
+            lists,
+            ids: Some(ids),
+        })),
+        Err(StepsStopped::TurnsSpent) => Err(Stopped::TurnsSpent),
+    }
+}
+
+/// Does a round of two or more workers by steps, from these ids.
 fn by_steps<R: Threads + Wait + Sync, G: Gate + Sync>(
     rt: &R,
     gate: &G,
@@ -90,23 +145,23 @@ fn by_steps<R: Threads + Wait + Sync, G: Gate + Sync>(
     round: &Round,
     rounds: u64,
     way: Way,
-) -> Result<Ended, Stopped>
+) -> Result<Ended, StepsStopped>
     requires coherent { IsCoherent lists }
     requires rest { IsAtRest lists }
     requires objects { length lists.board ≤ 1048577 }
     requires may_do { (trace : Trace) × MayDo lists trace round.now }
     requires ids { AreIds lists ids.now }
+    requires several { 1 < round.now.workers }
+    requires steps { way ≡ Way.Serial → ⊥ }
     ensures does { IfOk result (λ done.
         DoesRoundBy way rounds lists (Some ids.now) round.now done.result done.lists (Some done.ids)) }
     ensures lawful { IfOk result (λ done. IsRound lists round.now done.result done.lists) }
+    ensures coherent { IfOk result (λ done. IsCoherent done.lists) }
     ensures ids { IfOk result (λ done. AreIds done.lists done.ids) }
-    ensures stopped { IfErr result (IsRoundStopped way rounds lists (Some ids.now) round.now) }
+    ensures stopped { IfErr result (AreStepsStopped way rounds lists (Some ids.now) round.now) }
 {
-    if round.workers <= 1 {
-        return in_order(alloc, lists, ids, round);
-    }
     match way {
-        Way::Serial => in_order(alloc, lists, ids, round),
+        Way::Serial => unreachable!(),
         Way::Schedule { seed } => scheduled(alloc, lists, ids, round, seed.wrapping_add(rounds)),
         Way::Threads => in_threads(rt, gate, alloc, lists, ids, round),
     }
@@ -120,7 +175,7 @@ fn in_threads<R: Threads + Wait + Sync, G: Gate + Sync>(
     lists: Lists,
     ids: &Ids,
     round: &Round,
-) -> Result<Ended, Stopped>
+) -> Result<Ended, StepsStopped>
     requires coherent { IsCoherent lists }
     requires rest { IsAtRest lists }
     requires objects { length lists.board ≤ 1048577 }
@@ -129,66 +184,17 @@ fn in_threads<R: Threads + Wait + Sync, G: Gate + Sync>(
     ensures does { IfOk result (λ done.
         DoesRoundByThreads lists ids.now round.now done.result done.lists done.ids) }
     ensures lawful { IfOk result (λ done. IsRound lists round.now done.result done.lists) }
+    ensures coherent { IfOk result (λ done. IsCoherent done.lists) }
     ensures ids { IfOk result (λ done. AreIds done.lists done.ids) }
-    ensures stopped { IfErr result (λ why. why ≡ Stopped.NoMemory lists) }
+    ensures stopped { IfErr result (λ why. why ≡ StepsStopped.NoMemory lists) }
 {
     match threaded(rt, gate, alloc, lists, ids, round) {
         Ok(ended) => Ok(ended),
-        Err(lists) => Err(Stopped::NoMemory(lists)),
+        Err(lists) => Err(StepsStopped::NoMemory(lists)),
     }
 }
 
 // ---- where none do
-
-/// Does a round beside whose lists no ids stand.
-fn without_ids<R: Threads + Wait + Sync, G: Gate + Sync>(
-    rt: &R,
-    gate: &G,
-    alloc: Global,
-    lists: Lists,
-    round: &Round,
-    rounds: u64,
-    way: Way,
-) -> Result<Rounded, Stopped>
-    requires coherent { IsCoherent lists }
-    requires rest { IsAtRest lists }
-    requires objects { length lists.board ≤ 1048577 }
-    requires may_do { (trace : Trace) × MayDo lists trace round.now }
-    ensures does { IfOk result (λ done.
-        DoesRoundBy way rounds lists None round.now done.result done.lists done.ids) }
-    ensures lawful { IfOk result (λ done. IsRound lists round.now done.result done.lists) }
-    ensures none { IfOk result (λ done. done.ids ≡ None) }
-    ensures stopped { IfErr result (IsRoundStopped way rounds lists None round.now) }
-{
-    if round.workers <= 1 {
-        return on_lists(alloc, lists, round);
-    }
-    match way {
-        Way::Serial => on_lists(alloc, lists, round),
-        Way::Schedule { .. } | Way::Threads => anew(rt, gate, alloc, lists, round, rounds, way),
-    }
-}
-
-/// Does a round in the order of the text, on the lists alone.
-fn on_lists(alloc: Global, mut lists: Lists, round: &Round) -> Result<Rounded, Stopped>
-    requires coherent { IsCoherent lists }
-    requires rest { IsAtRest lists }
-    requires may_do { (trace : Trace) × MayDo lists trace round.now }
-    ensures does { IfOk result (λ done. DoesRound lists round.now done.result done.lists) }
-    ensures lawful { IfOk result (λ done. IsRound lists round.now done.result done.lists) }
-    ensures none { IfOk result (λ done. done.ids ≡ None) }
-    ensures stopped { IfErr result (λ why. why ≡ Stopped.NoMemory lists) }
-{
-    rounds_of_any_way_are_lawful();
-    match serial(alloc, &mut lists, round) {
-        Ok(result) => Ok(Rounded {
-            lists,
-            ids: None,
-            result,
-        }),
-        Err(NoMemory) => Err(Stopped::NoMemory(lists)),
-    }
-}
 
 /// Does a round of two or more workers by steps, with new ids (`init_tid`).
 fn anew<R: Threads + Wait + Sync, G: Gate + Sync>(
@@ -199,7 +205,7 @@ fn anew<R: Threads + Wait + Sync, G: Gate + Sync>(
     round: &Round,
     rounds: u64,
     way: Way,
-) -> Result<Rounded, Stopped>
+) -> Result<(Heap, RoundResult), Stopped>
     requires coherent { IsCoherent lists }
     requires rest { IsAtRest lists }
     requires objects { length lists.board ≤ 1048577 }
@@ -207,21 +213,25 @@ fn anew<R: Threads + Wait + Sync, G: Gate + Sync>(
     requires several { 1 < round.now.workers }
     requires steps { way ≡ Way.Serial → ⊥ }
     ensures does { IfOk result (λ done.
-        DoesRoundBy way rounds lists None round.now done.result done.lists done.ids) }
-    ensures lawful { IfOk result (λ done. IsRound lists round.now done.result done.lists) }
-    ensures none { IfOk result (λ done. done.ids ≡ None) }
-    ensures stopped { IfErr result (IsRoundStopped way rounds lists None round.now) }
+        DoesRoundBy way rounds lists None round.now done.1 done.0.lists done.0.ids) }
+    ensures lawful { IfOk result (λ done. IsRound lists round.now done.1 done.0.lists) }
+    ensures sound { IfOk result (λ done. IsSoundHeap done.0) }
+    ensures stopped { IfErr result
+        (IsRoundStopped way rounds (record { lists = lists; ids = None }) round.now) }
 {
     let first = match Ids::first(alloc, 0, lists.cpus()) {
         Ok(first) => first,
-        Err(NoMemory) => return Err(Stopped::NoMemory(lists)),
+        Err(NoMemory) => return Err(Stopped::NoMemory(Heap { lists, ids: None })),
     };
     match by_steps(rt, gate, alloc, lists, &first, round, rounds, way) {
-        Ok(ended) => Ok(Rounded {
-            lists: ended.lists,
-            ids: None,
-            result: ended.result,
-        }),
-        Err(stopped) => Err(stopped),
+        Ok(ended) => Ok((
+            Heap {
+                lists: ended.lists,
+                ids: None,
+            },
+            ended.result,
+        )),
+        Err(StepsStopped::NoMemory(lists)) => Err(Stopped::NoMemory(Heap { lists, ids: None })),
+        Err(StepsStopped::TurnsSpent) => Err(Stopped::TurnsSpent),
     }
 }

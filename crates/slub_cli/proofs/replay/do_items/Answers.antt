@@ -8,7 +8,7 @@ use Rattle.slub_cli.proofs.replay.do_items.Goals as goal
 
 pub loop-number-init : goal.loop-number-init
 loop-number-init g c = record {
-  reached = Reached-begins c.args.way c.args.trace.now c.args.opened c.args.journal.now (opened_machine_ready c.args.trace.now c.requires.sound c.requires.built c.requires.coherent) c.requires.opened c.requires.begun c.requires.no_items c.requires.no_total;
+  reached = Reached-begins c.args.way c.args.trace.now c.args.opened c.args.journal.now (opened_machine_ready c.args.trace.now c.requires.sound c.requires.coherent) c.requires.opened c.requires.begun c.requires.no_items c.requires.no_total;
   told = λ start h. h;
   still = refl;
   counts = le_refl _;

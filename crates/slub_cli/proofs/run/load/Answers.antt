@@ -1,12 +1,9 @@
 use Rattle.std.proofs.Common.{Some, false, refl}
 use Rattle.slub_ways.specs.declared.way.Way.TheVariants.{Schedule}
 use Rattle.slub_cli.specs.declared.status.Status.{Status}
-use Rattle.slub_cli.proofs.Parts.{made_built, made_load, trace_stop}
+use Rattle.slub_cli.proofs.Parts.{made_load, trace_stop}
 use Rattle.slub_cli.proofs.Texts.{took_as}
 use Rattle.slub_cli.proofs.run.load.Goals as goal
-
-pub do_trace-end-requires-clause-built : goal.do_trace-end-requires-clause-built
-do_trace-end-requires-clause-built g c = λ κs lives. made_built c.args.seed c.args.events c.args.workers c.in_ok-made.made c.in_ok-made.ensures.made
 
 pub returns-in-Ok-clause-loaded : goal.returns-in-Ok-clause-loaded
 returns-in-Ok-clause-loaded g c =

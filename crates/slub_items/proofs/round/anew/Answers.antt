@@ -1,8 +1,8 @@
 use Rattle.std.proofs.Common.{◌≡◌, ℕ, List, Some, ap, sym, subst, ◌∙◌}
 use Rattle.slub_into_words.specs.Ids.{AreIds, first_ids}
-use Rattle.slub_ways.specs.Ways.{DoesRoundBy}
-use Rattle.slub_items.specs.Stopped.{IsRoundStopped}
-use Rattle.slub_items.proofs.Anew.{anew, anew_stopped}
+use Rattle.slub_ways.specs.Ways.{DoesRoundBy, SpendsTurnsBy}
+use Rattle.slub_items.specs.Stopped.{AreStepsStopped}
+use Rattle.slub_items.proofs.Anew.{anew, anew_spent}
 use Rattle.slub_items.proofs.Standing.{new_fit}
 use Rattle.slub_items.proofs.round.anew.Goals as goal
 
@@ -21,6 +21,6 @@ returns-in-Ok-by_steps-clause-does g c =
 pub returns-clause-stopped : goal.returns-clause-stopped
 returns-clause-stopped g c =
     let is : c.in-Ok.first ≡ first_ids 0 c.args.lists.cpus = c.in-Ok.ensures ∙ ap (λ (cpus : ℕ). first_ids 0 cpus) c.cpus.ensures in
-    let why = c.in-Err-by_steps.stopped in
-    anew_stopped c.args.way c.args.rounds c.args.lists c.args.round.now why c.requires.several c.requires.steps
-    (subst (λ (ids : List ℕ). IsRoundStopped c.args.way c.args.rounds c.args.lists (Some ids) c.args.round.now why) is c.in-Err-by_steps.ensures.stopped)
+    anew_spent c.args.way c.args.rounds c.args.lists c.args.round.now c.requires.several c.requires.steps
+    (subst (λ (ids : List ℕ). SpendsTurnsBy c.args.way c.args.rounds c.args.lists (Some ids) c.args.round.now) is
+    (subst (AreStepsStopped c.args.way c.args.rounds c.args.lists (Some c.in-Ok.first) c.args.round.now) c.in-Err-TurnsSpent.field-0-is c.in-Err-TurnsSpent.ensures.stopped))

@@ -1,9 +1,12 @@
-use Rattle.std.proofs.Common.{◌≡◌, get_or}
+use Rattle.std.proofs.Common.{◌≡◌, ◌+◌, get_or, length, subst}
 use Rattle.std.proofs.lemmas.Result.{err_from_is_err_and}
 use Rattle.slub_journal.specs.declared.journal.Done.TheVariants as done
+use Rattle.slub_journal.specs.Lawful.{coming}
+use Rattle.slub_clients.specs.Stopped.{IsLineStopped}
+use Rattle.slub_ways.specs.Runs.{heap_of}
 use Rattle.slub_ways.proofs.Runs.{does_client_at, does_plain_at, does_round_at}
-use Rattle.slub_items.proofs.Items.{plain_at, ready_client, ready_plain, ready_round, round_at, servable, stopped_client, stopped_round}
-use Rattle.slub_items.proofs.Standing.{fit_beside, leaves_at, none_stand, plain_stands_at}
+use Rattle.slub_items.proofs.Items.{line_at, plain_at, ready_client, ready_plain, ready_round, round_at, sound_heap, spent_client, stopped_round, wanting_client}
+use Rattle.slub_items.proofs.Standing.{fit_beside, leaves_at, plain_stands_at}
 use Rattle.slub_items.proofs.machine.Machine.item.Goals as goal
 
 -- ---- a round
@@ -15,8 +18,8 @@ round-requires-clause-may_do g c = λ κs lives.
       c.ready_rounds_may_be_done.ensures c.args.self c.args.trace.now c.args.number c.in-Round.round c.requires.sound c.requires.ready (round_at c.args.trace.now c.args.number _ c.in-Round.round c.requires.within at c.in-Round.is),
     )
 
-pub round-requires-clause-ids : goal.round-requires-clause-ids
-round-requires-clause-ids g c = λ κs lives. fit_beside c.args.trace.now c.args.self.lists c.args.self.ids c.requires.ready.ids
+pub round-requires-clause-sound : goal.round-requires-clause-sound
+round-requires-clause-sound g c = λ κs lives. sound_heap c.args.self c.args.trace.now c.args.number c.requires.ready
 
 pub returns-in_err-after-in-Round-clause-stopped : goal.returns-in_err-after-in-Round-clause-stopped
 returns-in_err-after-in-Round-clause-stopped g c =
@@ -35,7 +38,7 @@ returns-in_ok-after-in-Round-clause-ready g c =
     let at : c.index-as_slice-number.result ≡ get_or c.args.trace.now.items c.args.number c.index-as_slice-number.result = rw (← c.as_slice.ensures) c.index-as_slice-number.is in
     let made = c.in_ok-after-in-Round.ensures in
     let after = c.in_ok-after-in-Round.after in
-    ready_round c.args.self after c.args.trace.now c.args.number _ c.in-Round.round c.in_ok-after-in-Round.result c.requires.sound c.requires.ready c.requires.within at c.in-Round.is made.lawful made.ids made.reserves made.counted
+    ready_round c.args.way c.args.self after c.args.trace.now c.args.number _ c.in-Round.round c.in_ok-after-in-Round.result c.requires.sound c.requires.ready c.requires.within at c.in-Round.is made.does made.lawful made.sound made.reserves made.counted
     (c.items_leave_room.ensures c.args.way c.args.self c.args.trace.now c.args.number (done.Round c.in_ok-after-in-Round.result) after c.requires.sound c.requires.ready (returns-in_ok-after-in-Round-clause-done g c) made.lawful.coherent)
 
 -- ---- a client's line
@@ -43,27 +46,32 @@ returns-in_ok-after-in-Round-clause-ready g c =
 pub serve-requires-clause-servable : goal.serve-requires-clause-servable
 serve-requires-clause-servable g c =
     let at : c.index-as_slice-number.result ≡ get_or c.args.trace.now.items c.args.number c.index-as_slice-number.result = rw (← c.as_slice.ensures) c.index-as_slice-number.is in
-    servable c.args.self.lists c.args.trace.now c.args.number _ c.in-Client.client c.requires.sound c.requires.ready.lists c.requires.within at c.in-Client.is
+    (c.ready_lines_may_be_served.ensures c.args.self c.args.trace.now c.args.number c.in-Client.client c.requires.sound c.requires.ready (line_at c.args.trace.now c.args.number _ c.in-Client.client c.requires.within at c.in-Client.is)).0
 
 pub returns-in-Ok-clause-done : goal.returns-in-Ok-clause-done
 returns-in-Ok-clause-done g c =
     let at : c.index-as_slice-number.result ≡ get_or c.args.trace.now.items c.args.number c.index-as_slice-number.result = rw (← c.as_slice.ensures) c.index-as_slice-number.is in
-    let none = none_stand c.args.trace.now c.args.number _ c.in-Client.client c.args.self.lists c.args.self.ids c.requires.within at c.in-Client.is c.requires.ready.ids in
-    does_client_at c.args.way c.args.self c.args.trace.now c.args.number _ c.in-Client.client c.in-Ok.served c.serve.new.self c.requires.within at c.in-Client.is c.in-Ok.ensures.served none c.serve.ensures.ids c.serve.ensures.rounds
+    let made = c.in-Ok.ensures in
+    does_client_at c.args.way c.args.self c.args.trace.now c.args.number _ c.in-Client.client c.in-Ok.served c.in-Ok.after c.requires.within at c.in-Client.is made.served made.rounds
 
 pub returns-in-Ok-clause-ready : goal.returns-in-Ok-clause-ready
 returns-in-Ok-clause-ready g c =
     let at : c.index-as_slice-number.result ≡ get_or c.args.trace.now.items c.args.number c.index-as_slice-number.result = rw (← c.as_slice.ensures) c.index-as_slice-number.is in
-    let after = c.serve.new.self in
-    let none = none_stand c.args.trace.now c.args.number _ c.in-Client.client c.args.self.lists c.args.self.ids c.requires.within at c.in-Client.is c.requires.ready.ids in
-    ready_client c.args.self after c.args.trace.now c.args.number _ c.in-Client.client c.requires.sound c.requires.ready c.requires.within at c.in-Client.is
-    c.serve.ensures.coherent c.serve.ensures.sizes c.serve.ensures.rest c.serve.ensures.unheld c.serve.ensures.reserves none c.serve.ensures.ids c.serve.ensures.rounds
-    (c.items_leave_room.ensures c.args.way c.args.self c.args.trace.now c.args.number (done.Client c.in-Ok.served) after c.requires.sound c.requires.ready (returns-in-Ok-clause-done g c) c.serve.ensures.coherent)
+    let made = c.in-Ok.ensures in
+    let may = c.ready_lines_may_be_served.ensures c.args.self c.args.trace.now c.args.number c.in-Client.client c.requires.sound c.requires.ready (line_at c.args.trace.now c.args.number _ c.in-Client.client c.requires.within at c.in-Client.is) in
+    ready_client c.args.self c.in-Ok.after c.args.trace.now c.args.number _ c.in-Client.client c.requires.sound c.requires.ready c.requires.within at c.in-Client.is may.0
+    (made.stays (length (coming c.args.trace.now (c.args.number + 1))) may.1) made.unheld made.reserves made.rounds
 
-pub returns-in-Err-clause-stopped : goal.returns-in-Err-clause-stopped
-returns-in-Err-clause-stopped g c =
+pub returns-in-Err-NoMemory-clause-stopped : goal.returns-in-Err-NoMemory-clause-stopped
+returns-in-Err-NoMemory-clause-stopped g c =
     let at : c.index-as_slice-number.result ≡ get_or c.args.trace.now.items c.args.number c.index-as_slice-number.result = rw (← c.as_slice.ensures) c.index-as_slice-number.is in
-    stopped_client c.args.way c.args.self c.serve.new.self c.args.trace.now c.args.number _ c.in-Client.client c.requires.within at c.in-Client.is
+    wanting_client c.args.way c.args.self c.args.trace.now c.args.number _ c.in-Client.client c.requires.within at c.in-Client.is
+
+pub returns-in-Err-TurnsSpent-clause-stopped : goal.returns-in-Err-TurnsSpent-clause-stopped
+returns-in-Err-TurnsSpent-clause-stopped g c =
+    let at : c.index-as_slice-number.result ≡ get_or c.args.trace.now.items c.args.number c.index-as_slice-number.result = rw (← c.as_slice.ensures) c.index-as_slice-number.is in
+    spent_client c.args.way c.args.self c.args.trace.now c.args.number _ c.in-Client.client c.requires.within at c.in-Client.is
+    (subst (IsLineStopped (heap_of c.args.self)) c.in-Err-TurnsSpent.field-0-is c.in-Err-TurnsSpent.ensures.stopped)
 
 -- ---- another item
 

@@ -6,7 +6,8 @@
 //! words; `serial` replays traces of 10,000, 100,000 and 500,000 events, and prints what an event costs
 //! in each, and what of it is reading, replay, text and writing; `schedule` replays rounds of eight workers by schedule
 //! and in the order of the text, a load, and a trace of small rounds; `threads` replays rounds by threads, of one
-//! worker, of four on CPUs of their own and of four on one CPU.
+//! worker, of four on CPUs of their own and of four on one CPU, with and without opening and closing, and how often the
+//! workers lost an exchange or slept.
 #![tactic(auto)]
 
 mod pool;
@@ -15,6 +16,7 @@ mod runs;
 mod schedule;
 mod serial;
 mod threads;
+mod waits;
 
 use std::rt::{Clock, Env};
 use std::time::Instant;

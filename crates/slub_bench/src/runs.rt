@@ -4,7 +4,7 @@ use crate::nanos_since;
 use slub_cli::run::run;
 use slub_edges::edges::Sink;
 use slub_edges::faultless::{FaultlessSink, FaultlessSource};
-use slub_edges::gate::OpenGate;
+use slub_edges::gate::{Gate, OpenGate};
 use slub_trace_reader::reading::read_trace;
 use std::alloc::{AllocError, Global};
 use std::io;
@@ -74,6 +74,22 @@ pub(crate) fn run_nanos<R: Clock + AllocGlobal + Threads + Wait + Sync, K: Sink>
     words: &[&str],
     sink: &mut K,
 ) -> io::Result<u64> {
+    gated_nanos(rt, text, words, sink, &OpenGate)
+}
+
+/// The nanoseconds that a whole run of these words takes to a sink, whose workers pass this gate.
+pub(crate) fn gated_nanos<R, K, G>(
+    rt: &R,
+    text: &[u8],
+    words: &[&str],
+    sink: &mut K,
+    gate: &G,
+) -> io::Result<u64>
+where
+    R: Clock + AllocGlobal + Threads + Wait + Sync,
+    K: Sink,
+    G: Gate + Sync,
+{
     let Ok(mut source) = FaultlessSource::of(rt.alloc(), text) else {
         return Err(out_of_memory());
     };
@@ -82,7 +98,7 @@ pub(crate) fn run_nanos<R: Clock + AllocGlobal + Threads + Wait + Sync, K: Sink>
         asked.push(String::from_str(rt.alloc(), word)?)?;
     }
     let start = Instant::now(rt)?;
-    let _outcome = run(rt, rt.alloc(), &asked, &mut source, sink, &OpenGate);
+    let _outcome = run(rt, rt.alloc(), &asked, &mut source, sink, gate);
     nanos_since(rt, &start)
 }
 

@@ -1,6 +1,9 @@
-//! Rounds of several workers by threads, against one worker and against a schedule.
+//! Rounds of several workers by threads, against one worker and against a schedule: with opening and closing, and without
+//! them, by the difference of two rounds. The rate that several workers are to have is one of events alone.
 
-use crate::runs::{HEAD, best_read, best_run};
+use crate::runs::{HEAD, best_read, gated_nanos};
+use crate::waits::{CountingGate, Waits};
+use slub_edges::faultless::FaultlessSink;
 use std::alloc::{AllocError, Global};
 use std::io;
 use std::rt::Clock;
@@ -10,7 +13,7 @@ use std::thread::Threads;
 /// The workers of a round.
 const WORKERS: u32 = 4;
 
-/// The events of a worker.
+/// The events of a worker. A round is measured with half as many, too; with more its text would be too long.
 const EACH: u32 = 200_000;
 
 /// How many objects a worker holds at most.
@@ -73,45 +76,125 @@ fn push_worker(
     Ok(())
 }
 
-/// A round of several workers, of which so many have events; the others have one.
-fn round_of(alloc: Global, busy: u32, cpus: Cpus) -> Result<Vec<u8>, AllocError> {
+/// A round of several workers, of which some have so many events; the others have two.
+fn round_of(alloc: Global, busy: u32, events: u32, cpus: Cpus) -> Result<Vec<u8>, AllocError> {
     let mut text = Vec::from_slice(alloc, HEAD)?;
     text.extend_from_slice(format!(in alloc; "round {WORKERS}\n")?.as_bytes())?;
     for worker in 0..WORKERS {
-        let events = if worker < busy { EACH } else { 2 };
+        let events = if worker < busy { events } else { 2 };
         push_worker(alloc, &mut text, worker, events, cpus)?;
     }
     text.extend_from_slice(b"done\nend\n")?;
     Ok(text)
 }
 
-/// The nanoseconds an event that a round takes, reading left out.
-fn event_nanos(
+/// A run of a round: its nanoseconds, reading left out, and how often its workers had to wait.
+#[derive(Clone, Copy)]
+struct Run {
+    nanos: u64,
+    waits: Waits,
+}
+
+/// A run of this text.
+fn run_of(
+    rt: &(impl Clock + AllocGlobal + Threads + Wait + Sync),
+    text: &[u8],
+    words: &[&str],
+) -> io::Result<Run> {
+    let gate = CountingGate::new();
+    let nanos = gated_nanos(rt, text, words, &mut FaultlessSink::new(), &gate)?;
+    let waits = gate.waits();
+    Ok(Run { nanos, waits })
+}
+
+/// The shortest of three runs of a round.
+fn best_of(
+    rt: &(impl Clock + AllocGlobal + Threads + Wait + Sync),
+    busy: u32,
+    events: u32,
+    cpus: Cpus,
+    words: &[&str],
+) -> io::Result<Run> {
+    let text = round_of(rt.alloc(), busy, events, cpus)?;
+    let reading = best_read(rt, &text)?;
+    let mut best = run_of(rt, &text, words)?;
+    for _ in 0..2 {
+        let run = run_of(rt, &text, words)?;
+        if run.nanos < best.nanos {
+            best = run;
+        }
+    }
+    best.nanos = best.nanos.saturating_sub(reading);
+    Ok(best)
+}
+
+/// What a round costs.
+#[derive(Clone, Copy)]
+struct Cost {
+    /// The picoseconds an event, with the opening of the machine into words and its closing.
+    whole: u64,
+    /// The same without them: of what a round takes longer that has twice as many events.
+    net: u64,
+    waits: Waits,
+}
+
+/// What a round costs of so many busy workers, by one of half as many events and one of them all.
+fn cost_of(
     rt: &(impl Clock + AllocGlobal + Threads + Wait + Sync),
     busy: u32,
     cpus: Cpus,
     words: &[&str],
-) -> io::Result<u64> {
-    let text = round_of(rt.alloc(), busy, cpus)?;
-    let reading = best_read(rt, &text)?;
-    let spent = best_run(rt, &text, words)?.saturating_sub(reading);
-    Ok(spent / (u64::from(busy) * u64::from(EACH)).max(1))
+) -> io::Result<Cost> {
+    let half = best_of(rt, busy, EACH / 2, cpus, words)?;
+    let all = best_of(rt, busy, EACH, cpus, words)?;
+    let events = u64::from(busy) * u64::from(EACH);
+    let more = all.nanos.saturating_sub(half.nanos);
+    Ok(Cost {
+        whole: all.nanos.saturating_mul(1000) / events.max(1),
+        net: more.saturating_mul(2000) / events.max(1),
+        waits: all.waits,
+    })
+}
+
+/// How many per cent of the rate of one worker a rate is, by what an event costs in each.
+fn percent(one: u64, each: u64) -> u64 {
+    one.saturating_mul(100) / each.max(1)
+}
+
+/// Prints what an event of several workers costs against one worker's, and how often they had to wait.
+fn print_against(rt: &impl Print, which: &str, one: Cost, several: Cost) -> io::Result<()> {
+    let whole = several.whole / 1000;
+    let net = several.net / 1000;
+    let whole_rate = percent(one.whole, several.whole);
+    let net_rate = percent(one.net, several.net);
+    let lost = several.waits.lost;
+    let parked = several.waits.parked;
+    println!(rt; "{WORKERS} workers on {which}:")?;
+    println!(rt;
+        "  with opening and closing {whole} ns an event, {whole_rate} % of one worker's rate"
+    )?;
+    println!(rt; "  without {net} ns an event, {net_rate} % of one worker's rate")?;
+    println!(rt; "  {lost} exchanges lost, {parked} times slept on a lock")
 }
 
 /// Measures one worker, several on CPUs of their own and several on one CPU, by threads and by schedule.
 pub(crate) fn measure(
     rt: &(impl Clock + AllocGlobal + Print + Threads + Wait + Sync),
 ) -> io::Result<()> {
-    let one = event_nanos(rt, 1, Cpus::Own, THREADS)?;
-    let drawn = event_nanos(rt, 1, Cpus::Own, SCHEDULE)?;
-    let own = event_nanos(rt, WORKERS, Cpus::Own, THREADS)?;
-    let same = event_nanos(rt, WORKERS, Cpus::One, THREADS)?;
-    let turn = one.saturating_mul(100) / drawn.max(1);
-    println!(rt; "one worker: by threads {one} ns an event, by schedule {drawn} ns: {turn} %")?;
-    let rate = one.saturating_mul(100) / own.max(1);
+    let one = cost_of(rt, 1, Cpus::Own, THREADS)?;
+    let drawn = cost_of(rt, 1, Cpus::Own, SCHEDULE)?;
+    let whole = one.whole / 1000;
+    let net = one.net / 1000;
+    let drawn_whole = drawn.whole / 1000;
+    let drawn_net = drawn.net / 1000;
+    let turn = percent(one.net, drawn.net);
+    println!(rt; "one worker:")?;
     println!(rt;
-        "{WORKERS} workers on CPUs of their own: {own} ns an event, {rate} % of one worker's rate"
+        "  with opening and closing {whole} ns an event by threads, {drawn_whole} ns by schedule"
     )?;
-    let rate = one.saturating_mul(100) / same.max(1);
-    println!(rt; "{WORKERS} workers on one CPU: {same} ns an event, {rate} % of one worker's rate")
+    println!(rt; "  without {net} ns by threads, {drawn_net} ns by schedule: {turn} %")?;
+    let own = cost_of(rt, WORKERS, Cpus::Own, THREADS)?;
+    print_against(rt, "CPUs of their own", one, own)?;
+    let same = cost_of(rt, WORKERS, Cpus::One, THREADS)?;
+    print_against(rt, "one CPU", one, same)
 }

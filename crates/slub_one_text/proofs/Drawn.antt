@@ -1,5 +1,5 @@
 -- Turns that a seed draws, and after which no reply is that memory was lacking, might as well be refused none.
-use Rattle.std.proofs.Common.{◌≡◌, ℕ, suc, ◌≤◌, false, Bool, List, [], ◌∷◌, length, All, refl, sym, ap, ◌∙◌, subst}
+use Rattle.std.proofs.Common.{◌≡◌, ℕ, suc, ◌≤◌, false, Bool, List, [], ◌∷◌, length, refl, sym, ap, ◌∙◌, subst}
 use Rattle.std.proofs.lemmas.List.Elements.{All-cons, All-head, All-nil, All-tail}
 use Rattle.slub_core.specs.Setup.{Setup}
 use Rattle.slub_core.specs.Run.{System, Pick, run, turn, after_step}
@@ -11,7 +11,8 @@ use Rattle.slub_schedule.specs.Turns.{turns_of}
 use Rattle.slub_schedule.proofs.Picks.{rounds_unique}
 use Rattle.slub_alone.specs.Alone.{own_pick}
 use Rattle.slub_rounds.specs.Doing.{local_at}
-use Rattle.slub_in_text.proofs.Refused.{AllHad, HasHad, RefuseNothing, run-back, turn-same}
+use Rattle.slub_in_order.proofs.Refused.{AllHad, HasHad, run-back, turn-same}
+use Rattle.slub_in_order.specs.InOrder.{RefuseNothing}
 
 -- turns that the seed draws from a number on, as many as these, of which none is refused memory, lead to the same machine
 record DrawsNone (m : Setup) (s last : System) (x many : ℕ) : Type 0 where

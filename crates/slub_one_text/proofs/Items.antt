@@ -1,5 +1,5 @@
 -- Lines and items have one outcome, and so have journals and their texts.
-use Rattle.std.proofs.Common.{◌≡◌, ℕ, zero, suc, ◌+◌, ◌⊎◌, Bool, List, [], ◌∷◌, length, take, Option, Some, None, is_some, All, refl, sym, ap, ◌∙◌, subst, inl, inr}
+use Rattle.std.proofs.Common.{◌≡◌, ℕ, zero, suc, ◌+◌, List, [], ◌∷◌, length, take, Option, Some, None, is_some, All, refl, sym, ap, ◌∙◌, subst, inl, inr}
 use Rattle.std.specs.Prelude.{MatchOption, ⊤}
 use Rattle.std.specs.Option.{option_map}
 use Rattle.std.proofs.lemmas.Bool.{false≢true}
@@ -26,11 +26,10 @@ use Rattle.slub_clients.specs.BulkLines.{ServesBulkLines}
 use Rattle.slub_clients.specs.Kmalloc.{ServesClasses}
 use Rattle.slub_clients.specs.Reserves.{Reserve, ServesReserves}
 use Rattle.slub_ways.specs.declared.way.Way.{Way}
-use Rattle.slub_ways.specs.declared.way.Way.TheVariants.{Serial, Schedule, Threads}
-use Rattle.slub_ways.specs.Runs.{Does, IsLawful, KeepsReserves, KeepsRounds, MachineState, RunsItems, Serves, heap_of, machine_of}
+use Rattle.slub_ways.specs.Runs.{Does, KeepsReserves, KeepsRounds, MachineState, RunsItems, Serves, heap_of, machine_of}
 use Rattle.slub_ways.specs.Ways.{DoesRoundBy}
-use Rattle.slub_one_text.specs.Journals.{IsToldWhole, JournalsAreOne, TellAsMuch, TextsAreOne}
-use Rattle.slub_one_text.specs.Lines.{AreCounted, AreOneLine, LinesHaveOneOutcome}
+use Rattle.slub_one_text.specs.Journals.{IsToldWhole, JournalsAreOne, TextsAreOne}
+use Rattle.slub_one_text.specs.Lines.{LinesHaveOneOutcome}
 use Rattle.slub_one_text.specs.Rounds.{IsFixed}
 use Rattle.slub_one_text.proofs.BulkLines.{bulk-lines-one}
 use Rattle.slub_one_text.proofs.Kmalloc.{classes-one}

@@ -19,7 +19,7 @@ use Rattle.slub_journal.specs.declared.client.ClientDone.{ClientDone}
 use Rattle.slub_journal.specs.declared.client.ClientRound.{ClientRound}
 use Rattle.slub_journal.specs.Asked.{Tells}
 use Rattle.slub_by_text.specs.Heap.{HeapState}
-use Rattle.slub_clients.specs.Asked.{AnswersAtOnce, DoesAsked}
+use Rattle.slub_clients.specs.Asked.{AnswersAtOnce}
 use Rattle.slub_clients.specs.Reserves.{AnswersLeaving, Asks, Fills, Gets, Lends, Makes, Pops, Puts, PutsBack, Refills, Reserve, ServesKept, ServesMempool, ServesMget, ServesMput, ServesReserves, TakesOne, TellsFree, fresh_reserve, has_number, is_of_cache, kept_in, place_of, reserve_at, reserves_max, with_numbers}
 use Rattle.slub_one_text.specs.Lines.{AreCounted}
 use Rattle.slub_one_text.proofs.Asked.{ServesOne, asked-one, at-once-one, bool-one, first-counted, one-reply, option-one, same-done, tells-one}

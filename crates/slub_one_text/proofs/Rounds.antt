@@ -1,6 +1,5 @@
 -- A round has one outcome, by every way but threads.
-use Rattle.std.proofs.Common.{◌≡◌, ℕ, ◌<◌, ◌≤◌, ◌⊎◌, List, [], ◌∷◌, length, get_or, Option, Some, None, All, refl, sym, ap, ◌∙◌, subst, arith, inl, inr}
-use Rattle.std.specs.List.{zip}
+use Rattle.std.proofs.Common.{◌≡◌, ℕ, ◌≤◌, ◌⊎◌, List, [], ◌∷◌, get_or, Option, Some, None, refl, sym, ap, ◌∙◌, subst, arith, inl, inr}
 use Rattle.std.proofs.lemmas.List.{ext_get_or, same_lists}
 use Rattle.slub_events.specs.declared.event.Event.{Event}
 use Rattle.slub_events.specs.declared.event.Round.{Round}
@@ -8,29 +7,28 @@ use Rattle.slub_answers.specs.declared.ledger.Ledger.{Ledger}
 use Rattle.slub_answers.specs.declared.reply.Reply.{Reply}
 use Rattle.slub_trace_reader.specs.declared.trace.Item.TheVariants as item
 use Rattle.slub_lists.specs.State.{State}
-use Rattle.slub_core.specs.Law.{replies_of}
 use Rattle.slub_core.specs.Run.{System, Pick, run}
 use Rattle.slub_core.specs.Setup.{Setup}
 use Rattle.slub_schedule.specs.Rounds.{Ends, IsFinishedSystem}
 use Rattle.slub_opening.specs.Opening.{Beside, setup_of}
 use Rattle.slub_journal.specs.declared.journal.RoundResult.{RoundResult}
 use Rattle.slub_journal.specs.Lawful.{DoesRound}
-use Rattle.slub_outcomes.specs.Rounds.{HasMemory, HasOrders}
+use Rattle.slub_outcomes.specs.Rounds.{HasOrders}
 use Rattle.slub_outcomes.proofs.Events.{answers_one, same_wants}
 use Rattle.slub_outcomes.proofs.Rounds.{rounds_one}
-use Rattle.slub_serial.specs.Serial.{RunsWithIds, beside_after}
+use Rattle.slub_changes.specs.Events.{RunsWithIds}
 use Rattle.slub_rounds.specs.InOrder.{EndsInOrder}
 use Rattle.slub_rounds.specs.Laws.{AreOneRound, CountAlike}
-use Rattle.slub_rounds.specs.Rounds.{DoesRoundBySeed, DoesRoundInOrder, DoesRoundBySteps, system_begun}
+use Rattle.slub_rounds.specs.Rounds.{system_begun}
 use Rattle.slub_rounds.proofs.One.{beside-one, one-round, same-beside}
-use Rattle.slub_in_text.proofs.Refused.{AllHad, all-had, none-refused}
-use Rattle.slub_in_text.proofs.SameEnd.{same_end}
-use Rattle.slub_by_text.specs.ByText.{DoesByText, DoesRoundBeside, DoesRoundOnLists}
-use Rattle.slub_ways.specs.declared.way.Way.{Way}
+use Rattle.slub_in_order.proofs.Refused.{AllHad, all-had, none-refused}
+use Rattle.slub_in_order.proofs.SameEnd.{same_end}
+use Rattle.slub_by_text.specs.ByText.{DoesRoundBeside, DoesRoundOnLists}
 use Rattle.slub_ways.specs.declared.way.Way.TheVariants.{Serial, Schedule, Threads}
-use Rattle.slub_ways.specs.Ways.{AreLeft, DoesAlone, DoesBySeed, DoesByThreads, DoesRoundBy, IsOfSeveral, ids_before, seed_after}
-use Rattle.slub_one_text.specs.Rounds.{AreOne, IsFixed, IsWhole, RoundsBySeedHaveOneOutcome, RoundsByTextHaveOneOutcome, RoundsInOrderHaveOneOutcome, RoundsOfAWayHaveOneOutcome}
+use Rattle.slub_ways.specs.Ways.{AreLeft, DoesAlone, DoesBySeed, DoesByThreads, IsOfSeveral, ids_before, seed_after}
+use Rattle.slub_one_text.specs.Rounds.{AreOne, IsWhole, RoundsBySeedHaveOneOutcome, RoundsByTextHaveOneOutcome, RoundsInOrderHaveOneOutcome, RoundsOfAWayHaveOneOutcome}
 use Rattle.slub_one_text.proofs.Drawn.{drawn-end}
+use Rattle.slub_changes.specs.Changes.{beside_after}
 
 -- ---- results
 

@@ -1,0 +1,3 @@
+pub mod ChangesFew
+pub mod Numbers
+pub mod Grown

@@ -19,11 +19,11 @@ use Rattle.slub_core.specs.World.{World, one_if}
 use Rattle.slub_core.specs.Run.{System}
 use Rattle.slub_opening.specs.Opening.{Beside, setup_of, tid_of}
 use Rattle.slub_opening.proofs.Cpus.{cpu-bare}
-use Rattle.slub_alone.specs.Alone.{IsAtRest, IsNext, HasIds, grown}
-use Rattle.slub_alone.specs.Allocs.{AllocatesSome, changes_of_alloc, AllocationsAreThoseOfLists}
+use Rattle.slub_alone.specs.Alone.{IsAtRest, IsNext, HasIds}
+use Rattle.slub_alone.specs.Allocs.{AllocatesSome, AllocationsAreThoseOfLists}
 use Rattle.slub_alone.specs.Laws.{IsAlloc, AllocatesAlone, HasNoSlab}
 use Rattle.slub_alone.specs.Spent.{TakesOff}
-use Rattle.slub_alone.proofs.CpuWords.{cpu_here}
+use Rattle.slub_changes.specs.Changes.{grown, changes_before_giving, changes_of_alloc}
 use Rattle.slub_alone.proofs.FastAlloc as fast
 use Rattle.slub_alone.proofs.FromNode as nodes
 use Rattle.slub_alone.proofs.FromPartial as listed
@@ -33,6 +33,7 @@ use Rattle.slub_alone.proofs.OwnTaken as own
 use Rattle.slub_alone.proofs.SpentLists.{grown_twice}
 use Rattle.slub_alone.proofs.SpentSlab.{taken_off}
 use Rattle.slub_alone.proofs.Start.{IsStart, starts}
+use Rattle.slub_changes.proofs.Numbers.{cpu_here}
 
 -- ---- a run of frames for a new slab
 
@@ -81,12 +82,16 @@ gave_one opening s b system x call place all d z gives = record { allocates = z;
 pub gave_none : (opening : World) (s : State) (b : Beside) (system : System) (x : ℕ) (call : Call) (place all : ℕ) (d : Beside) (z : AllocatesAlone opening s b system x call place all d) → z.reply ≡ NoFrames → Gave opening s b system x call place all d false
 gave_none opening s b system x call place all d z lacks = record { allocates = z; gives = ap is_given lacks; lacks = λ e. lacks }
 
--- how often it changed the CPU word
+-- how often it changed the CPU word before it was given an object
+before_are : (s : State) (k cpu : ℕ) → (free : List ℕ) → (lists_of s k cpu).free ≡ free → (current : Option ℕ) → (lists_of s k cpu).current ≡ current → changes_before_giving s k cpu ≡ one_if (eqb (length free) 0 && is_some current)
+before_are s k cpu free first current there = ap (λ free. one_if (eqb (length free) 0 && is_some (lists_of s k cpu).current)) first ∙ ap (λ o. one_if (eqb (length free) 0 && is_some o)) there
+
+-- and in all
 changes_are : (s : State) (k cpu : ℕ) (given : Bool) → checked_of s k ≡ None → (free : List ℕ) → (lists_of s k cpu).free ≡ free → (current : Option ℕ) → (lists_of s k cpu).current ≡ current
     → changes_of_alloc s k cpu given ≡ one_if (eqb (length free) 0 && is_some current) + one_if given
 changes_are s k cpu given plain free first current there =
     ap (λ o. cond {A = ℕ} (is_some o) 0 (one_if (eqb (length (lists_of s k cpu).free) 0 && is_some (lists_of s k cpu).current) + one_if given)) plain
-    ∙ ap (λ free. one_if (eqb (length free) 0 && is_some (lists_of s k cpu).current) + one_if given) first ∙ ap (λ o. one_if (eqb (length free) 0 && is_some o) + one_if given) there
+    ∙ ap (λ n. n + one_if given) (before_are s k cpu free first current there)
 
 -- where no current slab has to go
 just_given : (given : Bool) → 0 + one_if given ≡ one_if given
@@ -155,12 +160,16 @@ module _ (opening : World) (s : State) (b : Beside) (system : System) (x : ℕ) 
 
 -- ---- any CPU
 
-module _ (opening : World) (s : State) (b : Beside) (system : System) (x : ℕ) (call : Call) (place k : ℕ) (rest : IsAtRest opening s b system) (next : IsNext system x call) (is : IsAlloc s call place k) (ids : HasIds b (cpu_number k call.cpu) 2) where
+module _ (opening : World) (s : State) (b : Beside) (system : System) (x : ℕ) (call : Call) (place k : ℕ) (rest : IsAtRest opening s b system) (next : IsNext system x call) (is : IsAlloc s call place k) (ids : HasIds b (cpu_number k call.cpu) (1 + changes_before_giving s k call.cpu)) where
   abbrev word : ℕ
   word = cpu_number k call.cpu
 
   abbrev has : CpuLists
   has = lists_of s k call.cpu
+
+  -- what the ids are enough for
+  enough : (free : List ℕ) (current : Option ℕ) → has.free ≡ free → has.current ≡ current → HasIds b word (1 + one_if (eqb (length free) 0 && is_some current))
+  enough free current first there = subst (λ n. HasIds b word (1 + n)) (before_are s k call.cpu free first current there) ids
 
   by_turns : (turns all changes : ℕ) → all ≡ 1 + turns → changes ≡ changes_of_alloc s k call.cpu true → (z : AllocatesAlone opening s b system x call place all (grown b word changes)) → is_given z.reply ≡ true → AllocatesSome opening s b system x call place k
   by_turns turns all changes sum same z gives = gave_some opening s b system x call place k turns all (grown b word changes) true sum (ap (grown b word) same) (gave_one opening s b system x call place all (grown b word changes) z gives)
@@ -198,21 +207,21 @@ module _ (opening : World) (s : State) (b : Beside) (system : System) (x : ℕ) 
         (record { allocates = goes.0; gives = ap is_given goes.1 ∙ z.gives; lacks = λ e. goes.1 ∙ z.lacks e })
 
   from_current : (f : ℕ) (free : List ℕ) → own_free s f ≡ free → has.current ≡ Some f → has.free ≡ [] → AllocatesSome opening s b system x call place k
-  from_current f [] none current empty = after_off f (taken_off opening s b system x call place k f rest next is ids empty current none) current empty
+  from_current f [] none current empty = after_off f (taken_off opening s b system x call place k f rest next is (enough [] (Some f) empty current) empty current none) current empty
   from_current f (i ∷ free) filled current empty =
       let some : 0 < length (own_free s f) = (let e = ap (length {A = ℕ}) filled in omega (arith, e)) in
-      by_turns 6 7 2 refl (sym (changes_are s k call.cpu true is.unchecked [] empty (Some f) current)) (own.takes opening s b system x call place k f rest next is ids empty current some) (own.takes_gives opening s b system x call place k f rest next is ids empty current some)
+      by_turns 6 7 2 refl (sym (changes_are s k call.cpu true is.unchecked [] empty (Some f) current)) (own.takes opening s b system x call place k f rest next is (enough [] (Some f) empty current) empty current some) (own.takes_gives opening s b system x call place k f rest next is (enough [] (Some f) empty current) empty current some)
 
   from_slabs : (o : Option ℕ) → has.current ≡ o → has.free ≡ [] → AllocatesSome opening s b system x call place k
-  from_slabs None current empty = bare_allocated opening s b system x call place k rest next is (omega (arith, ids)) current
+  from_slabs None current empty = bare_allocated opening s b system x call place k rest next is (enough [] None empty current) current
   from_slabs (Some f) current empty = from_current f (own_free s f) refl current empty
 
   from_free : (free : List ℕ) → has.free ≡ free → AllocatesSome opening s b system x call place k
   from_free [] empty = from_slabs has.current refl empty
   from_free (i ∷ free) first =
-      let once : HasIds b word 1 = omega (arith, ids) in
       let some : 0 < length has.free = (let e = ap (length {A = ℕ}) first in omega (arith, e)) in
       let filled : eqb (length (i ∷ free)) 0 ≡ false = ne_eqb (length (i ∷ free)) 0 (λ e. absurd (omega (arith, e))) in
+      let once : HasIds b word 1 = subst (λ z. HasIds b word (1 + one_if (z && is_some has.current))) filled (enough (i ∷ free) has.current first refl) in
       by_turns 2 3 1 refl (sym (changes_are s k call.cpu true is.unchecked (i ∷ free) first has.current refl ∙ ap (λ z. one_if (z && is_some has.current) + 1) filled)) (fast.pops opening s b system x call place k rest next is once some) (fast.pops_gives opening s b system x call place k rest next is once some)
 
   whole : AllocatesSome opening s b system x call place k

@@ -19,11 +19,11 @@ use Rattle.slub_core.specs.Run.{System}
 use Rattle.slub_core.specs.World.{World, one_if}
 use Rattle.slub_opening.specs.Opening.{Beside}
 use Rattle.slub_opening.proofs.Names.{as_held}
-use Rattle.slub_alone.specs.Alone.{worker_at, known_at, grown, IsAtRest, IsNext, HasIds}
+use Rattle.slub_alone.specs.Alone.{worker_at, known_at, IsAtRest, IsNext, HasIds}
 use Rattle.slub_alone.specs.Allocs.{AllocatesSome}
 use Rattle.slub_alone.specs.Calls.{HasIdsFor, IsAllocOf, AllAllocationsAreThoseOfLists, AllFreesAreThoseOfLists, turns_of_use, WritesAreThoseOfLists, ReadsAreThoseOfLists}
 use Rattle.slub_alone.specs.CheckedAll.{FreesLocked}
-use Rattle.slub_alone.specs.Frees.{HasOwnNumber, FreesSome, changes_of_free, changes_of_held, word_of_free}
+use Rattle.slub_alone.specs.Frees.{HasOwnNumber, FreesSome}
 use Rattle.slub_alone.specs.Laws.{FreesAlone, WritesAlone, ReadsAlone}
 use Rattle.slub_alone.proofs.AnyAlloc.{grown_none, any_allocated}
 use Rattle.slub_alone.proofs.AnyChecked.{checked_allocated, checked_freed, checked_board_freed}
@@ -34,10 +34,11 @@ use Rattle.slub_alone.proofs.Ready.{rests_ready}
 use Rattle.slub_alone.proofs.Start.{has_object}
 use Rattle.slub_alone.proofs.Unheld.{finds_nothing}
 use Rattle.slub_alone.proofs.Uses.{stores, loads}
+use Rattle.slub_changes.specs.Changes.{grown, changes_before_giving, changes_of_free, changes_of_held, word_of_free}
 
 -- ---- allocations
 
-module _ (opening : World) (s : State) (b : Beside) (system : System) (x : ℕ) (call : Call) (place k : ℕ) (rest : IsAtRest opening s b system) (next : IsNext system x call) (is : IsAllocOf s call place k) (ids : HasIdsFor s b k call.cpu 2) where
+module _ (opening : World) (s : State) (b : Beside) (system : System) (x : ℕ) (call : Call) (place k : ℕ) (rest : IsAtRest opening s b system) (next : IsNext system x call) (is : IsAllocOf s call place k) (ids : HasIdsFor s b k call.cpu (1 + changes_before_giving s k call.cpu)) where
   by_cache : (slabs : Option CheckedState) → checked_of s k ≡ slabs → AllocatesSome opening s b system x call place k
   by_cache None plain = any_allocated opening s b system x call place k rest next (record { kind = is.kind; named = is.named; asks = is.asks; unchecked = plain }) (ids plain)
   by_cache (Some slabs) checked = checked_allocated opening s b system x call place k slabs rest next (record { kind = is.kind; named = is.named; asks = is.asks; checked = checked })

@@ -21,8 +21,8 @@ use Rattle.slub_core.specs.Setup.{cpu_number}
 use Rattle.slub_core.specs.Run.{System}
 use Rattle.slub_core.specs.World.{World, one_if}
 use Rattle.slub_opening.specs.Opening.{Beside}
-use Rattle.slub_alone.specs.Alone.{worker_at, known_at, grown, IsAtRest, IsNext}
-use Rattle.slub_alone.specs.Allocs.{AllocatesSome, changes_of_alloc}
+use Rattle.slub_alone.specs.Alone.{worker_at, known_at, IsAtRest, IsNext}
+use Rattle.slub_alone.specs.Allocs.{AllocatesSome}
 use Rattle.slub_alone.specs.Boards.{TakesFromBoard}
 use Rattle.slub_alone.specs.CheckedAll.{CheckedAllocationsAreThoseOfLists, FreesLocked, CheckedFreesAreThoseOfLists, CheckedBoardFreesAreThoseOfLists}
 use Rattle.slub_alone.specs.CheckedAlone.{IsCheckedAlloc, IsCheckedFree, BecomesSpare, slot_known}
@@ -36,6 +36,7 @@ use Rattle.slub_alone.proofs.CheckedMade.{checked_made}
 use Rattle.slub_alone.proofs.CheckedSpare.{spare_goes}
 use Rattle.slub_alone.proofs.FromBoard.{objects_taken, board_frees}
 use Rattle.slub_alone.proofs.Ready.{rests_ready}
+use Rattle.slub_changes.specs.Changes.{grown, changes_of_alloc}
 
 -- ---- allocations
 

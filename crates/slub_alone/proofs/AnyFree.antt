@@ -27,9 +27,9 @@ use Rattle.slub_core.specs.Run.{System}
 use Rattle.slub_core.specs.World.{World, one_if}
 use Rattle.slub_opening.specs.Opening.{Beside}
 use Rattle.slub_opening.proofs.Names.{as_held}
-use Rattle.slub_alone.specs.Alone.{worker_at, known_at, IsAtRest, IsNext, HasIds, grown}
+use Rattle.slub_alone.specs.Alone.{worker_at, known_at, IsAtRest, IsNext, HasIds}
 use Rattle.slub_alone.specs.Boards.{TakesFromBoard}
-use Rattle.slub_alone.specs.Frees.{HasOwnNumber, FreesSome, changes_of_free, changes_of_held, word_of_free, FreesAreThoseOfLists}
+use Rattle.slub_alone.specs.Frees.{HasOwnNumber, FreesSome, FreesAreThoseOfLists}
 use Rattle.slub_alone.specs.Laws.{IsFree, FreesAlone, frozen, partial}
 use Rattle.slub_alone.specs.Ready.{IsReady}
 use Rattle.slub_alone.proofs.AnyAlloc.{grown_none}
@@ -43,6 +43,7 @@ use Rattle.slub_alone.proofs.Moved.{lists_moved}
 use Rattle.slub_alone.proofs.Ready.{IsReadyStart, ready_starts, ready_object, rests_ready}
 use Rattle.slub_alone.proofs.Start.{HasObject, has_object as has_object_at}
 use Rattle.slub_alone.proofs.Unheld.{finds_nothing}
+use Rattle.slub_changes.specs.Changes.{grown, changes_of_free, changes_of_held, word_of_free}
 
 -- by some turns and one, with a change of this CPU word where the object's slab is current
 record FreesBy (opening : World) (s : State) (b : Beside) (system : System) (x : ℕ) (call : Call) (n frame : ℕ) (current : Option ℕ) : Type 0 where

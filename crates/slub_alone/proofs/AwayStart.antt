@@ -45,7 +45,7 @@ use Rattle.slub_alone.specs.Away.{RestsBut}
 use Rattle.slub_alone.proofs.Apart.{plain_word}
 use Rattle.slub_alone.proofs.AwayTurns.{with_slab, unfreezes, turn_locks, turn_loads, turn_loads_bare, turn_links}
 use Rattle.slub_alone.proofs.Bits.{bits_in, object_once, whole_cpu, whole_lock, whole_memory}
-use Rattle.slub_alone.proofs.CpuWords.{cpu_here}
+use Rattle.slub_changes.proofs.Numbers.{cpu_here}
 use Rattle.slub_alone.proofs.FreePointer as pointed
 use Rattle.slub_alone.proofs.MoveLoop.{none_of}
 use Rattle.slub_alone.proofs.Sweeping as sweeping

@@ -1,7 +1,7 @@
 -- What CPUs have, where one of them changes.
 use Rattle.std.proofs.Common.{◌≡◌, ℕ, ◌+◌, ◌*◌, ◌/◌, ◌%◌, ◌<◌, ◌≤◌, cond, length, set, inl, inr, ap, sym, ◌∙◌, subst, arith}
 use Rattle.std.specs.Prelude.{nat_lt}
-use Rattle.std.proofs.lemmas.Bool.{cases_eq, cases_lt, lt-ltb, le-ltb, cond-true, cond-false}
+use Rattle.std.proofs.lemmas.Bool.{cases_eq, cases_lt, le-ltb, cond-false}
 use Rattle.std.proofs.lemmas.List.{get_or-set_same, get_or-set_other}
 use Rattle.slub_words.specs.declared.cpu.CpuWord.{CpuWord}
 use Rattle.slub_words.specs.declared.slab.SlabWord.{SlabWord}
@@ -15,17 +15,7 @@ use Rattle.slub_core.proofs.Update.{update_same, update_other}
 use Rattle.slub_opening.specs.Opening.{Beside, cpu_at}
 use Rattle.slub_opening.specs.Rests.{IsCpuOf, current_in}
 use Rattle.slub_opening.proofs.Sums.{product_apart}
-
--- ---- numbers of CPU words
-
-number-of : (k c : ℕ) → c < 16 → (cpu_number k c / 16 ≡ k) × (cpu_number k c % 16 ≡ c)
-number-of k c below = (omega arith, omega arith)
-
-pub cpu_here : (s : State) (k c : ℕ) → c < s.cpus → s.cpus ≤ 16 → cpu_at s (cpu_number k c) ≡ lists_of s k c
-cpu_here s k c below few =
-    let n = number-of k c (omega arith) in
-    ap (λ r. cond (nat_lt r s.cpus) (lists_of s (cpu_number k c / 16) r) no_lists) n.1
-    ∙ cond-true (nat_lt c s.cpus) (lists_of s (cpu_number k c / 16) c) no_lists (lt-ltb c s.cpus below) ∙ ap (λ q. lists_of s q c) n.0
+use Rattle.slub_changes.proofs.Numbers.{cpu_here, number-of}
 
 abbrev with_cpu : State → ℕ → ℕ → CpuLists → State
 with_cpu s k c x = record s { cpu_lists = set s.cpu_lists (cpu_place s k c) x }

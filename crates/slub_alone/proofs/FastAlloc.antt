@@ -58,16 +58,18 @@ use Rattle.slub_opening.specs.Rests.{IsBetween, IsCpuOf, Rests, named as named_i
 use Rattle.slub_opening.specs.Closing.{HasLengths}
 use Rattle.slub_opening.proofs.Cpus.{current-at, cpu-alone, cpu-object}
 use Rattle.slub_opening.proofs.Words.{chain-some}
-use Rattle.slub_alone.specs.Alone.{own_pick, alone, worker_at, IsAtRest, IsNext, HasIds, grown}
+use Rattle.slub_alone.specs.Alone.{own_pick, alone, worker_at, IsAtRest, IsNext, HasIds}
 use Rattle.slub_alone.specs.Laws.{IsAlloc, AllocatesAlone, FastAllocationsArePops}
 use Rattle.slub_alone.proofs.Bits.{bits_in, keeps_small, object_once, memory_of, copied, copied_length, whole_cpu}
 use Rattle.slub_alone.proofs.Changed.{rests_changed, setup_same, same_word}
-use Rattle.slub_alone.proofs.CpuWords.{cpu_here, cpus_changed}
+use Rattle.slub_alone.proofs.CpuWords.{cpus_changed}
 use Rattle.slub_alone.proofs.Ended.{alone_keeps, ends_at_rest, replies_of}
 use Rattle.slub_alone.proofs.Knows.{known_ends, knows_given}
 use Rattle.slub_alone.proofs.Names.{named_other, named_held, named_new}
 use Rattle.slub_alone.proofs.Turns.{machine, turn_goes, settle_goes, settle_tells, then_turn}
 use Rattle.slub_alone.proofs.Workers.{AtFront, at_front, may_call, once_named, IsWithCalls, rested_calls}
+use Rattle.slub_changes.specs.Changes.{grown}
+use Rattle.slub_changes.proofs.Numbers.{cpu_here}
 
 -- the worker begins the call
 pub begin_alloc : (m : Setup) (l : Local) (call : Call) (calls : List Call) (k : ℕ) → l.spot ≡ Between → l.todo ≡ call ∷ calls → call.kind ≡ Alloc → call.cache ≡ Some k → m.checks k ≡ false

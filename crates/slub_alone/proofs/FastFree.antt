@@ -53,13 +53,13 @@ use Rattle.slub_opening.specs.Rests.{IsBetween, IsCpuOf, KeepsWord, Rests, named
 use Rattle.slub_opening.specs.Closing.{HasLengths}
 use Rattle.slub_opening.proofs.Names.{as_held}
 use Rattle.slub_opening.proofs.Rows.{comes-back}
-use Rattle.slub_alone.specs.Alone.{own_pick, alone, worker_at, known_at, IsNext, HasIds, grown}
+use Rattle.slub_alone.specs.Alone.{own_pick, alone, worker_at, known_at, IsNext, HasIds}
 use Rattle.slub_alone.specs.Ready.{IsReady}
 use Rattle.slub_alone.specs.Laws.{IsFree, FreesAlone, FastFreesArePushes}
 use Rattle.slub_alone.proofs.Apart.{pointer_own, cpu_stands, own_stands, word_apart}
 use Rattle.slub_alone.proofs.Bits.{bits_in, current_frame, whole_cpu, whole_memory}
 use Rattle.slub_alone.proofs.Changed.{rests_changed, setup_same, same_word}
-use Rattle.slub_alone.proofs.CpuWords.{cpu_here, cpus_changed}
+use Rattle.slub_alone.proofs.CpuWords.{cpus_changed}
 use Rattle.slub_alone.proofs.Ended.{replies_of}
 use Rattle.slub_alone.proofs.Knows.{known_ends, knows_freed}
 use Rattle.slub_alone.proofs.Names.{named_other, named_lost}
@@ -67,6 +67,8 @@ use Rattle.slub_alone.proofs.Ready.{IsReadyStart, ready_starts, ready_object, al
 use Rattle.slub_alone.proofs.Start.{HasObject, begin_held}
 use Rattle.slub_alone.proofs.Turns.{machine, turn_goes, settle_goes, settle_tells, then_turn}
 use Rattle.slub_alone.proofs.Workers.{at_front, once_named, IsWithCalls, rested_calls}
+use Rattle.slub_changes.specs.Changes.{grown}
+use Rattle.slub_changes.proofs.Numbers.{cpu_here}
 
 -- the free of an object that the worker holds is that of the lists
 pub frees_held : (s : State) (cpu worker object : ℕ) (k : Known) (after : State) → held_under s object ≡ Some (as_held worker k) → is_some (cache_of s k.cache) ≡ true → checked_of s k.cache ≡ None

@@ -1,14 +1,12 @@
 -- The first of a worker's turns after which it is in no call; turns of a worker with nothing to do change nothing.
-use Rattle.std.proofs.Common.{◌≡◌, ◌≢◌, ℕ, zero, suc, ◌+◌, ◌<◌, ◌≤◌, false, List, [], ◌∷◌, length, get_or, set, refl, sym, ap, ◌∙◌, subst, arith, inl, inr}
+use Rattle.std.proofs.Common.{◌≡◌, ◌≢◌, ℕ, zero, suc, ◌+◌, ◌<◌, ◌≤◌, false, [], length, get_or, refl, sym, ap, ◌∙◌, arith, inl, inr}
 use Rattle.std.proofs.lemmas.List.{set-get_or}
-use Rattle.slub_core.specs.declared.step.Op.TheVariants.{Load}
 use Rattle.slub_core.specs.declared.step.Answer.TheVariants.{Word}
 use Rattle.slub_core.specs.declared.spot.Spot.TheVariants.{Between}
 use Rattle.slub_core.specs.Setup.{Setup}
 use Rattle.slub_core.specs.Words.{number_of}
 use Rattle.slub_core.specs.Ops.{no_step}
 use Rattle.slub_core.specs.Steps.{step_at, advance_at, rested_at, rested_with, begun_at, begun_with}
-use Rattle.slub_core.specs.Local.{Local}
 use Rattle.slub_core.specs.Run.{System, idle, turn}
 use Rattle.slub_alone.specs.Alone.{own_pick, alone, worker_at}
 use Rattle.slub_alone.specs.Busy.{IsBetweenCalls, EndsCall}

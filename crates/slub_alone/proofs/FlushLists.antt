@@ -26,9 +26,9 @@ use Rattle.slub_core.specs.World.{one_if}
 use Rattle.slub_opening.specs.Opening.{Beside, cpu_at, plain_caches, tid_of}
 use Rattle.slub_opening.proofs.Cpus.{cpu-below, current-at}
 use Rattle.slub_opening.proofs.Sums.{product_apart}
-use Rattle.slub_alone.specs.Alone.{grown}
-use Rattle.slub_alone.specs.Away.{AreChangedOnce, detached, has_slab_on}
-use Rattle.slub_alone.proofs.CpuWords.{cpu_here}
+use Rattle.slub_changes.specs.Changes.{grown, has_slab_on}
+use Rattle.slub_alone.specs.Away.{AreChangedOnce, detached}
+use Rattle.slub_changes.proofs.Numbers.{cpu_here}
 use Rattle.slub_alone.proofs.Movable.{moved_keeps}
 
 -- ---- what CPUs have

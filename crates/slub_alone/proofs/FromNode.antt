@@ -58,11 +58,11 @@ use Rattle.slub_opening.specs.Rests.{IsBetween, IsCpuOf, IsFreelistOf, Rests, na
 use Rattle.slub_opening.specs.Closing.{HasLengths}
 use Rattle.slub_opening.proofs.Cpus.{cpu-bare}
 use Rattle.slub_opening.proofs.Words.{chain-empty, chain-some}
-use Rattle.slub_alone.specs.Alone.{own_pick, alone, worker_at, IsAtRest, IsNext, HasIds, grown}
+use Rattle.slub_alone.specs.Alone.{own_pick, alone, worker_at, IsAtRest, IsNext, HasIds}
 use Rattle.slub_alone.specs.Laws.{IsAlloc, AllocatesAlone}
 use Rattle.slub_alone.proofs.Bits.{bits_in, keeps_small, object_once, memory_of, copied, copied_length, whole_cpu, whole_slab, whole_lock, current_none}
 use Rattle.slub_alone.proofs.Changed.{setup_same, slab_frozen}
-use Rattle.slub_alone.proofs.CpuWords.{cpu_here, cpus_relisted}
+use Rattle.slub_alone.proofs.CpuWords.{cpus_relisted}
 use Rattle.slub_alone.proofs.FastAlloc.{begin_alloc}
 use Rattle.slub_alone.proofs.Install.{install_turns}
 use Rattle.slub_alone.proofs.FastFree.{layout_of}
@@ -82,6 +82,8 @@ use Rattle.slub_alone.proofs.Pushed.{unlisted_all, linked_all, pushed_all, pushe
 use Rattle.slub_alone.proofs.Turns.{machine, turn_goes, settle_goes, then_turn}
 use Rattle.slub_alone.proofs.Workers.{at_front, once_named, IsWithCalls, rested_calls}
 use Rattle.slub_alone.proofs.Start.{IsStart, starts}
+use Rattle.slub_changes.specs.Changes.{grown}
+use Rattle.slub_changes.proofs.Numbers.{cpu_here}
 
 module _ (opening : World) (s : State) (b : Beside) (system : System) (x : ℕ) (call : Call) (place k f : ℕ) (others : List ℕ) (rest : IsAtRest opening s b system) (next : IsNext system x call) (is : IsAlloc s call place k)
     (ids : HasIds b (cpu_number k call.cpu) 1) (current : (lists_of s k call.cpu).current ≡ None) (none : (lists_of s k call.cpu).partial ≡ []) (nodes : node_of s k ≡ f ∷ others) where

@@ -59,11 +59,11 @@ use Rattle.slub_opening.specs.Opening.{Beside, setup_of, tid_of, cpu_at}
 use Rattle.slub_opening.specs.Rests.{IsBetween, IsCpuOf, IsFreelistOf, Rests, named as named_in, times_named, slab_at}
 use Rattle.slub_opening.specs.Closing.{HasLengths}
 use Rattle.slub_opening.proofs.Words.{chain-empty, chain-some}
-use Rattle.slub_alone.specs.Alone.{own_pick, alone, worker_at, IsAtRest, IsNext, HasIds, grown, AreWhole}
+use Rattle.slub_alone.specs.Alone.{own_pick, alone, worker_at, IsAtRest, IsNext, HasIds, AreWhole}
 use Rattle.slub_alone.specs.Laws.{IsAlloc, AllocatesAlone, OnlyPartialSlabsAreTaken, FirstPartialSlabsAreTaken}
 use Rattle.slub_alone.proofs.Bits.{bits_in, keeps_small, object_once, memory_of, copied, copied_length, whole_cpu, whole_slab, whole_list, current_none, whole_list_word}
 use Rattle.slub_alone.proofs.Changed.{setup_same, rests_relisted, slab_frozen, slab_as_it_was}
-use Rattle.slub_alone.proofs.CpuWords.{cpu_here, cpus_relisted}
+use Rattle.slub_alone.proofs.CpuWords.{cpus_relisted}
 use Rattle.slub_alone.proofs.FastAlloc.{begin_alloc}
 use Rattle.slub_alone.proofs.Install.{install_turns}
 use Rattle.slub_alone.proofs.Apart.{IsSlabAt, slab_word, plain_word}
@@ -74,6 +74,8 @@ use Rattle.slub_alone.proofs.Names.{named_other, named_held, named_new}
 use Rattle.slub_alone.proofs.Turns.{machine, turn_goes, settle_goes, then_turn}
 use Rattle.slub_alone.proofs.Workers.{at_front, once_named, IsWithCalls, rested_calls}
 use Rattle.slub_alone.proofs.Start.{IsStart, starts}
+use Rattle.slub_changes.specs.Changes.{grown}
+use Rattle.slub_changes.proofs.Numbers.{cpu_here}
 
 module _ (opening : World) (s : State) (b : Beside) (system : System) (x : ℕ) (call : Call) (place k f : ℕ) (fs : List ℕ) (rest : IsAtRest opening s b system) (next : IsNext system x call) (is : IsAlloc s call place k)
     (ids : HasIds b (cpu_number k call.cpu) 1) (empty : (lists_of s k call.cpu).free ≡ []) (current : (lists_of s k call.cpu).current ≡ None) (only : (lists_of s k call.cpu).partial ≡ f ∷ fs) where

@@ -71,7 +71,7 @@ use Rattle.slub_alone.specs.Laws.{IsFree, FreesAlone, HasRoom, FullSlabsAreListe
 use Rattle.slub_alone.proofs.Apart.{IsSlabAt, slab_word, plain_word, pointer_own, cpu_stands, own_stands, word_apart}
 use Rattle.slub_alone.proofs.Bits.{whole_memory, whole_slab, whole_list_word, whole_link}
 use Rattle.slub_alone.proofs.Changed.{SameSlab, setup_same, same_word, rests_relisted, slab_kept}
-use Rattle.slub_alone.proofs.CpuWords.{cpu_here, cpu_changed, cpu_other}
+use Rattle.slub_alone.proofs.CpuWords.{cpu_changed, cpu_other}
 use Rattle.slub_alone.proofs.Ended.{replies_of}
 use Rattle.slub_alone.proofs.Knows.{known_ends, knows_freed}
 use Rattle.slub_alone.proofs.FastFree.{frees_held, layout_of}
@@ -81,6 +81,7 @@ use Rattle.slub_alone.proofs.Ready.{IsReadyStart, ready_starts, ready_object, al
 use Rattle.slub_alone.proofs.Start.{HasObject, begin_held}
 use Rattle.slub_alone.proofs.Turns.{machine, turn_goes, settle_goes, settle_rests, settle_tells_once, then_turn}
 use Rattle.slub_alone.proofs.Workers.{AtFront, at_front, once_named, IsWithCalls, rested_calls}
+use Rattle.slub_changes.proofs.Numbers.{cpu_here}
 
 -- ---- marks
 

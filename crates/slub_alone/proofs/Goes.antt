@@ -22,7 +22,7 @@ use Rattle.slub_core.specs.declared.local.PartialString.{PartialString}
 use Rattle.slub_core.specs.declared.step.Answer.{Answer}
 use Rattle.slub_core.specs.declared.step.Answer.TheVariants.{Word, Done, Won, Lost}
 use Rattle.slub_core.specs.declared.spot.Spot.{Spot}
-use Rattle.slub_core.specs.declared.spot.Spot.TheVariants.{Between, InAlloc, InPutAway, InDiscard, InPutOnList, InFree, InMoveSet, InOffline, InTrim, WriteWord, ReadWord, InChecked}
+use Rattle.slub_core.specs.declared.spot.Spot.TheVariants.{InAlloc, InPutAway, InDiscard, InPutOnList, InFree, InMoveSet, InOffline, InTrim, WriteWord, ReadWord, InChecked}
 use Rattle.slub_core.specs.declared.spot.Away.{Away}
 use Rattle.slub_core.specs.declared.spot.Away.TheVariants.{ForInstall, ForSpent, ForSweep}
 use Rattle.slub_core.specs.declared.spot.Discard.{Discard}
@@ -54,7 +54,7 @@ use Rattle.slub_core.specs.declared.spot.CheckedSpot.TheVariants.{LockChecked, L
 use Rattle.slub_core.specs.Setup.{Setup, pool_lock}
 use Rattle.slub_core.specs.Words.{board_in, cpu_in, slab_in, list_in}
 use Rattle.slub_core.specs.World.{LockValue, pool_in}
-use Rattle.slub_core.specs.Local.{Local, Turn, Change, nobody, here, hand_of, run_of, string_of, call_of, at, gets, loses}
+use Rattle.slub_core.specs.Local.{Local, nobody, here, hand_of, run_of, string_of, call_of, at, gets, loses}
 use Rattle.slub_core.specs.Alloc.{is_spent, reached, walked_on, found_at, way_of_word, told_of_word, way_of_lost, way_of_away, way_of_again, way_of_run, found_run, run_taken, alloc_advance, pop_node, node_of, asks_for_another}
 use Rattle.slub_words.specs.declared.cpu.CpuWord.{CpuWord}
 use Rattle.slub_core.specs.PutAway.{put_away_advance, has_enough, head_away, is_to_discard, way_of_put, unfrozen}
@@ -64,7 +64,7 @@ use Rattle.slub_core.specs.Free.{is_last_listed, was_full, free_advance, board_t
 use Rattle.slub_core.specs.MoveSet.{front_taken, move_set_advance, after_move}
 use Rattle.slub_core.specs.Offline.{offline_advance, trim_advance, scan_node, next_swept, list_swept}
 use Rattle.slub_core.specs.Checked.{checked_advance, do_checked, gave, took_back, is_spare, poked_reply, is_offset, move_run, way_of_found, slabs_of, slot_of}
-use Rattle.slub_core.specs.Spots.{doing, of_sweep, of_away, of_move, of_discard}
+use Rattle.slub_core.specs.Spots.{doing, of_sweep, of_away, of_discard}
 use Rattle.slub_core.specs.Steps.{advance_at, at_once}
 
 -- a reply that such a call has without a step

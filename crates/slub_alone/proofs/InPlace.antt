@@ -64,7 +64,7 @@ use Rattle.slub_alone.specs.Laws.{IsFree, FreesAlone, StaysThere, frozen, partia
 use Rattle.slub_alone.proofs.Apart.{IsSlabAt, slab_word, plain_word, pointer_own, cpu_stands, own_stands, word_apart}
 use Rattle.slub_alone.proofs.Bits.{whole_memory, whole_slab, whole_lock}
 use Rattle.slub_alone.proofs.Changed.{SameSlab, rests_changed, setup_same, same_word}
-use Rattle.slub_alone.proofs.CpuWords.{cpu_here}
+use Rattle.slub_changes.proofs.Numbers.{cpu_here}
 use Rattle.slub_alone.proofs.Ended.{replies_of}
 use Rattle.slub_alone.proofs.Knows.{known_ends, knows_freed}
 use Rattle.slub_alone.proofs.FastFree.{frees_held, layout_of}

@@ -15,6 +15,7 @@ pub mod FastFree
 pub mod Uses
 pub mod InPlace
 pub mod Install
+pub mod DetachFirst
 pub mod OwnTaken
 pub mod Begins
 pub mod FromPartial
@@ -91,4 +92,3 @@ pub mod Onward
 pub mod Unstepped
 pub mod StaysKnown
 pub mod TurnsOfOne
-pub mod ChangesFew

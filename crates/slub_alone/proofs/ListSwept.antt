@@ -44,7 +44,7 @@ use Rattle.slub_opening.specs.Closing.{HasLengths}
 use Rattle.slub_alone.specs.Alone.{alone, own_pick, AreWhole}
 use Rattle.slub_alone.specs.Away.{RestsBut, ComesTo, EndsAs, MovesList, PartialListsAreMoved, has_moved, spare_among, told_of_partial}
 use Rattle.slub_alone.proofs.Bits.{whole_list, whole_lock}
-use Rattle.slub_alone.proofs.CpuWords.{cpu_here}
+use Rattle.slub_changes.proofs.Numbers.{cpu_here}
 use Rattle.slub_alone.proofs.Movable.{AreMovable, KeepsRest, list_movable, movable_in, moved_keeps}
 use Rattle.slub_alone.proofs.MoveLoop.{LeadsTo, all_moved, told_of}
 use Rattle.slub_alone.proofs.MoveTurns.{before, turn_locks}

@@ -26,8 +26,9 @@ use Rattle.slub_core.proofs.Update.{update_same, update_other, update_at, each_u
 use Rattle.slub_opening.specs.Opening.{Beside, cpu_at, value_of, node_value}
 use Rattle.slub_opening.specs.Rests.{IsCpuOf, Rests, slab_at}
 use Rattle.slub_alone.specs.Alone.{own_pick}
-use Rattle.slub_alone.proofs.CpuWords.{cpu_here, cpu_changed, cpu_other}
+use Rattle.slub_alone.proofs.CpuWords.{cpu_changed, cpu_other}
 use Rattle.slub_alone.proofs.Turns.{machine}
+use Rattle.slub_changes.proofs.Numbers.{cpu_here}
 
 -- ---- marks
 

@@ -44,7 +44,7 @@ use Rattle.slub_opening.specs.Closing.{HasLengths}
 use Rattle.slub_opening.proofs.Cpus.{cpu-bare}
 use Rattle.slub_alone.specs.Alone.{own_pick, alone, worker_at, IsAtRest, IsNext, HasIds}
 use Rattle.slub_alone.specs.Laws.{IsAlloc, HasNoSlab, AllocatesAlone, LackOfFramesIsTold}
-use Rattle.slub_alone.proofs.CpuWords.{cpu_here}
+use Rattle.slub_changes.proofs.Numbers.{cpu_here}
 use Rattle.slub_alone.proofs.Ended.{alone_keeps, ends_at_rest, replies_of}
 use Rattle.slub_alone.proofs.Knows.{known_ends}
 use Rattle.slub_alone.proofs.FastFree.{layout_of}

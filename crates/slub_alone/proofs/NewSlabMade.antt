@@ -65,12 +65,12 @@ use Rattle.slub_opening.specs.Opening.{Beside, setup_of, tid_of, cpu_at, value_o
 use Rattle.slub_opening.specs.Rests.{IsBetween, IsCpuOf, IsFreelistOf, Rests, slab_at, named as named_in, times_named}
 use Rattle.slub_opening.specs.Closing.{HasLengths}
 use Rattle.slub_opening.proofs.Cpus.{current-at, cpu-bare, cpu-object}
-use Rattle.slub_alone.specs.Alone.{own_pick, alone, worker_at, IsAtRest, IsNext, HasIds, grown}
+use Rattle.slub_alone.specs.Alone.{own_pick, alone, worker_at, IsAtRest, IsNext, HasIds}
 use Rattle.slub_alone.specs.Laws.{IsAlloc, HasNoSlab, AllocatesAlone, NewSlabsAreMade}
 use Rattle.slub_alone.proofs.Apart.{slab_word}
 use Rattle.slub_alone.proofs.Bits.{bits_in, keeps_small, memory_of, copied, copied_length, whole_cpu, whole_slab}
 use Rattle.slub_alone.proofs.Changed.{setup_same}
-use Rattle.slub_alone.proofs.CpuWords.{cpu_here, cpus_changed}
+use Rattle.slub_alone.proofs.CpuWords.{cpus_changed}
 use Rattle.slub_alone.proofs.Ended.{alone_keeps, ends_at_rest, replies_of}
 use Rattle.slub_alone.proofs.Knows.{known_ends, knows_given}
 use Rattle.slub_alone.proofs.FastFree.{layout_of}
@@ -82,6 +82,8 @@ use Rattle.slub_alone.proofs.NewSlabSearch.{turn_changes, settle_does, no_frame,
 use Rattle.slub_alone.proofs.Start.{IsStart, starts}
 use Rattle.slub_alone.proofs.Turns.{machine, turn_goes, settle_goes, then_turn}
 use Rattle.slub_alone.proofs.Workers.{AtFront, at_front, once_named, IsWithCalls, rested_calls}
+use Rattle.slub_changes.specs.Changes.{grown}
+use Rattle.slub_changes.proofs.Numbers.{cpu_here}
 
 -- ---- the run that is found
 

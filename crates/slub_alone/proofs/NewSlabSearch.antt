@@ -32,7 +32,7 @@ use Rattle.slub_opening.proofs.Cpus.{cpu-bare}
 use Rattle.slub_opening.proofs.Words.{chain-empty}
 use Rattle.slub_alone.specs.Alone.{own_pick, alone, worker_at, IsAtRest, IsNext, HasIds}
 use Rattle.slub_alone.specs.Laws.{IsAlloc, HasNoSlab}
-use Rattle.slub_alone.proofs.CpuWords.{cpu_here}
+use Rattle.slub_changes.proofs.Numbers.{cpu_here}
 use Rattle.slub_alone.proofs.FastAlloc.{begin_alloc}
 use Rattle.slub_alone.proofs.Start.{IsStart, starts}
 use Rattle.slub_alone.proofs.Turns.{machine, turn_goes, settle_goes, then_turn}

@@ -1,5 +1,5 @@
 -- A worker alone in a call that isn't a try: up to the end of the call it has one reply by a step, that to the call.
-use Rattle.std.proofs.Common.{◌≡◌, ◌≢◌, ◌⊎◌, ℕ, zero, suc, ◌<◌, ◌≤◌, Bool, true, false, Option, Some, None, List, [], ◌∷◌, length, get_or, set, drop, refl, sym, ap, ◌∙◌, subst, arith, inl, inr}
+use Rattle.std.proofs.Common.{◌≡◌, ◌≢◌, ◌⊎◌, ℕ, zero, suc, ◌<◌, Bool, true, false, Option, Some, None, List, ◌∷◌, length, get_or, drop, refl, sym, ap, ◌∙◌, subst, arith, inl, inr}
 use Rattle.std.proofs.lemmas.Bool.{false≢true}
 use Rattle.std.proofs.lemmas.Option.{none-some, same_Some}
 use Rattle.std.proofs.lemmas.List.{get_or-set_same, length-set}
@@ -7,7 +7,6 @@ use Rattle.slub_answers.specs.declared.reply.Reply.{Reply}
 use Rattle.slub_core.specs.declared.call.Call.{Call}
 use Rattle.slub_core.specs.declared.call.CallKind.{CallKind}
 use Rattle.slub_core.specs.declared.call.CallKind.TheVariants.{Alloc, Free, Write, Read, Poke, Trim, Flush}
-use Rattle.slub_core.specs.declared.local.Known.{Known}
 use Rattle.slub_core.specs.declared.local.Answered.{Answered}
 use Rattle.slub_core.specs.declared.step.Answer.{Answer}
 use Rattle.slub_core.specs.declared.spot.Spot.{Spot}
@@ -15,14 +14,14 @@ use Rattle.slub_core.specs.declared.spot.Spot.TheVariants.{Between}
 use Rattle.slub_core.specs.Setup.{Setup}
 use Rattle.slub_core.specs.Words.{number_of, answer_of}
 use Rattle.slub_core.specs.World.{LockValue}
-use Rattle.slub_core.specs.Local.{Local, Change, no_call, nobody, answered, noted}
-use Rattle.slub_core.specs.Steps.{step_of, advance_at, advance_of, at_once, changed, rested, rested_at, begun, begun_at, begun_with, begun_call, first_spot}
+use Rattle.slub_core.specs.Local.{Local, Change, no_call, noted}
+use Rattle.slub_core.specs.Steps.{step_of, advance_at, advance_of, at_once, changed, rested, rested_at, begun, begun_at, begun_with, first_spot}
 use Rattle.slub_core.specs.Spots.{doing}
 use Rattle.slub_core.specs.Run.{System, idle, turn}
 use Rattle.slub_core.proofs.Scripts.{Leaves, turn-says, change-leaves}
 use Rattle.slub_alone.specs.Alone.{own_pick, alone, worker_at, IsNext, HasReply}
 use Rattle.slub_alone.specs.Busy.{IsBetweenCalls, EndsCall}
-use Rattle.slub_alone.proofs.Goes.{Goes, Keeps, Tells, unstepped, turn-goes, change-goes}
+use Rattle.slub_alone.proofs.Goes.{Goes, Tells, unstepped, turn-goes, change-goes}
 use Rattle.slub_alone.proofs.Workers.{rested_calls}
 
 -- ---- in no call, or in one

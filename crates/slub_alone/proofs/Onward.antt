@@ -1,5 +1,5 @@
 -- A worker's turns alone add replies and take none back, and what it knows stays under the same numbers.
-use Rattle.std.proofs.Common.{◌≡◌, ◌≢◌, ℕ, zero, suc, ◌+◌, ◌<◌, ◌≤◌, ◌++◌, Bool, false, Option, Some, None, List, [], ◌∷◌, length, get_or, refl, sym, ap, ◌∙◌, subst, arith, inl, inr}
+use Rattle.std.proofs.Common.{◌≡◌, ℕ, zero, suc, ◌+◌, ◌<◌, ◌++◌, Bool, false, Option, Some, None, List, [], ◌∷◌, length, get_or, refl, sym, ap, ◌∙◌, subst}
 use Rattle.std.proofs.lemmas.List.{append_assoc}
 use Rattle.slub_answers.specs.declared.reply.Reply.{Reply}
 use Rattle.slub_core.specs.declared.call.Call.{Call}
@@ -9,7 +9,7 @@ use Rattle.slub_core.specs.declared.spot.Spot.{Spot}
 use Rattle.slub_core.specs.declared.spot.Spot.TheVariants.{Between}
 use Rattle.slub_core.specs.Setup.{Setup}
 use Rattle.slub_core.specs.Local.{Local, nobody, call_of, answered, noted}
-use Rattle.slub_core.specs.Steps.{told_at_once, or_step, rested, rested_with, rested_at, begun, begun_at, begun_with}
+use Rattle.slub_core.specs.Steps.{told_at_once, or_step, rested, rested_with, rested_at, begun_at, begun_with}
 use Rattle.slub_core.specs.Run.{System, turn}
 use Rattle.slub_core.proofs.Scripts.{Leaves}
 use Rattle.slub_alone.specs.Alone.{own_pick, alone, worker_at}

@@ -33,15 +33,15 @@ use Rattle.slub_core.specs.declared.spot.AllocSpot.TheVariants.{LoadCpu, Detach,
 use Rattle.slub_core.specs.declared.step.Answer.{Answer}
 use Rattle.slub_core.specs.declared.step.Answer.TheVariants.{Word, Won, Lost}
 use Rattle.slub_core.specs.declared.step.Op.TheVariants.{Load, Exchange}
-use Rattle.slub_core.specs.declared.step.Place.TheVariants.{CpuOf, SlabOf}
+use Rattle.slub_core.specs.declared.step.Place.TheVariants.{SlabOf}
 use Rattle.slub_core.specs.Setup.{Setup, cpu_number, pointer_at, hardened}
 use Rattle.slub_core.specs.Words.{cpu_in, slab_in, cpu_base, slab_base, memory_base}
 use Rattle.slub_core.specs.World.{World, update, set_cpu, set_slab, pointer, IsChain, world_from, world_of, one_if}
 use Rattle.slub_core.specs.Local.{Local, Turn, nobody, hand_from, answered, goes}
 use Rattle.slub_core.specs.Ops.{load_slab, change_slab}
-use Rattle.slub_core.specs.Alloc.{is_spent, way_of_word, told_of_word, way_of_taken}
+use Rattle.slub_core.specs.Alloc.{is_spent, way_of_taken}
 use Rattle.slub_core.specs.Replies.{names_object}
-use Rattle.slub_core.specs.Steps.{begun, rested, advance_at}
+use Rattle.slub_core.specs.Steps.{rested, advance_at}
 use Rattle.slub_core.specs.Run.{System, idle, turn}
 use Rattle.slub_core.specs.Law.{IsCoherentSystem}
 use Rattle.slub_core.specs.Fresh.{IsWorded}
@@ -49,27 +49,29 @@ use Rattle.slub_core.proofs.Chains.{IsChain-first, Leads-small}
 use Rattle.slub_core.proofs.Lists.{times-first}
 use Rattle.slub_core.proofs.Packed.{IsCpuFit, IsSlabFit, cpu_in-bits, slab_in-bits}
 use Rattle.slub_core.proofs.Update.{update_at, update_same, update_other, each_updated}
-use Rattle.slub_core.proofs.Words.{IsTable, world_of-cpu, world_of-slab, cpu-read, slab-read, memory-read}
+use Rattle.slub_core.proofs.Words.{IsTable, world_of-cpu, world_of-slab, slab-read, memory-read}
 use Rattle.slub_opening.specs.Opening.{Beside, setup_of, tid_of, cpu_at}
 use Rattle.slub_opening.specs.Rests.{IsBetween, IsCpuOf, IsFreelistOf, Rests, named as named_in, times_named}
 use Rattle.slub_opening.specs.Closing.{HasLengths}
 use Rattle.slub_opening.proofs.Cpus.{current-at}
 use Rattle.slub_opening.proofs.Words.{chain-empty, chain-some}
-use Rattle.slub_alone.specs.Alone.{own_pick, alone, worker_at, IsAtRest, IsNext, HasIds, grown}
+use Rattle.slub_alone.specs.Alone.{own_pick, alone, worker_at, IsAtRest, IsNext, HasIds}
 use Rattle.slub_alone.specs.Laws.{IsAlloc, AllocatesAlone, OwnFreelistsAreTaken}
-use Rattle.slub_alone.proofs.Bits.{bits_in, keeps_small, object_once, memory_of, copied, copied_length, current_frame, whole_cpu, whole_slab}
+use Rattle.slub_alone.proofs.Bits.{keeps_small, object_once, memory_of, copied, copied_length, current_frame, whole_cpu, whole_slab}
 use Rattle.slub_alone.proofs.Changed.{SameSlab, rests_changed, setup_same, same_word}
-use Rattle.slub_alone.proofs.CpuWords.{cpu_here, cpus_changed}
-use Rattle.slub_alone.proofs.FastAlloc.{begin_alloc}
+use Rattle.slub_alone.proofs.CpuWords.{cpus_changed}
 use Rattle.slub_alone.proofs.Install.{install_turns}
 use Rattle.slub_alone.proofs.Apart.{IsSlabAt, slab_word, plain_word}
 use Rattle.slub_alone.proofs.FastFree.{layout_of}
+use Rattle.slub_alone.proofs.DetachFirst.{loads_word, takes_slab}
 use Rattle.slub_alone.proofs.Ended.{alone_keeps, ends_at_rest, replies_of}
 use Rattle.slub_alone.proofs.Knows.{known_ends, knows_given}
 use Rattle.slub_alone.proofs.Names.{named_other, named_held, named_new}
 use Rattle.slub_alone.proofs.Turns.{machine, turn_goes, settle_goes, then_turn}
 use Rattle.slub_alone.proofs.Workers.{at_front, once_named, IsWithCalls, rested_calls}
 use Rattle.slub_alone.proofs.Start.{IsStart, starts}
+use Rattle.slub_changes.specs.Changes.{grown}
+use Rattle.slub_changes.proofs.Numbers.{cpu_here}
 
 -- a function changed twice at one number
 pub update_twice : {A : Type 0} (g : ℕ → A) (n : ℕ) (a b : A) → update (update g n a) n b ≡ update g n b
@@ -227,9 +229,6 @@ module _ (opening : World) (s : State) (b : Beside) (system : System) (x : ℕ) 
   abbrev e : SlabWord
   e = record z { head = 0; inuse = z.objects }
 
-  abbrev q : ℕ
-  q = get_or system.words (cpu_base + n) 0
-
   abbrev r : ℕ
   r = get_or system.words (slab_base + f) 0
 
@@ -239,14 +238,8 @@ module _ (opening : World) (s : State) (b : Beside) (system : System) (x : ℕ) 
   abbrev words2 : List ℕ
   words2 = set words1 (slab_base + f) (slab_bits e)
 
-  cpu_reads : c ≡ cpu_in q
-  cpu_reads = cpu-read m system.value system.words n small
-
   slab_reads : z ≡ slab_in r
   slab_reads = slab-read m system.value system.words f within.1
-
-  cpu_hit : eqb q (cpu_bits c) ≡ true
-  cpu_hit = eq-eqb q (cpu_bits c) (sym (bits_in q) ∙ ap cpu_bits (sym cpu_reads))
 
   slab_there : get_or words1 (slab_base + f) 0 ≡ r
   slab_there = get_or-set_other system.words (cpu_base + n) (slab_base + f) (cpu_bits d) 0 (λ e. absurd (omega (arith, e, small)))
@@ -254,34 +247,14 @@ module _ (opening : World) (s : State) (b : Beside) (system : System) (x : ℕ) 
   slab_hit : eqb (get_or words1 (slab_base + f) 0) (slab_bits z) ≡ true
   slab_hit = eq-eqb (get_or words1 (slab_base + f) 0) (slab_bits z) (slab_there ∙ sym (rest.whole.slab f within.1) ∙ ap slab_bits (sym slab_reads))
 
-  spent : is_spent m c ≡ false
-  spent = le-ltb (4294967295 - 2 * b.step) c.tid (omega (arith, ids, cpu_is.tid, rest.beside.step.1))
-
   spent_again : is_spent m d ≡ false
   spent_again = le-ltb (4294967295 - 2 * b.step) (c.tid + b.step) (omega (arith, ids, cpu_is.tid, rest.beside.step.1))
 
-  begins : begun m false l ≡ asked
-  begins = begin_alloc m l call next.calls k begin.between.between next.todo is.kind is.asks (ap is_some is.unchecked)
-
   turn1 : turn m (machine system.words system.value (set system.locals x l)) (own_pick x) ≡ machine system.words system.value (set system.locals x loaded)
-  turn1 = turn_goes m system.words system.words system.value system.locals x l asked loaded (record { place = CpuOf n; op = Load }) (Word q) next.there begins refl (set-get_or system.words (cpu_base + n) 0) refl
-      (settle_goes m system.value asked loaded (Word q) leads refl refl)
-    where
-      by_word : CpuWord → Turn
-      by_word z = record { local = record asked { cpu_word = z; spot = way_of_word m false z }; reply = told_of_word m false z }
-
-      way : way_of_word m false c ≡ InAlloc Detach
-      way = rw (spent, eq-eqb c.head 0 bare, ne_eqb c.frame 0 (λ none. absurd (omega (arith, none, frame, within.0)))) refl
-
-      says : told_of_word m false c ≡ None
-      says = rw spent refl
-
-      leads : advance_at m system.value asked (InAlloc LoadCpu) (Word q) ≡ goes loaded
-      leads = ap by_word (sym cpu_reads) ∙ (λ i. record { local = record asked { cpu_word = c; spot = way i }; reply = says i })
+  turn1 = loads_word opening s b system x call place k f rest next is (omega (arith, ids)) empty current
 
   turn2 : turn m (machine system.words system.value (set system.locals x loaded)) (own_pick x) ≡ machine words1 system.value (set system.locals x detached)
-  turn2 = turn_goes m system.words words1 system.value system.locals x loaded loaded detached (record { place = CpuOf n; op = Exchange (cpu_bits c) (cpu_bits d) }) Won next.there refl refl
-      (ap (λ h. set system.words (cpu_base + n) (cond {A = ℕ} h (cpu_bits d) q)) cpu_hit) (ap (λ h. cond {A = Answer} h Won (Lost q)) cpu_hit) (settle_goes m system.value loaded detached Won refl refl refl)
+  turn2 = takes_slab opening s b system x call place k f rest next is (omega (arith, ids)) empty current
 
   turn3 : turn m (machine words1 system.value (set system.locals x detached)) (own_pick x) ≡ machine words1 system.value (set system.locals x seen)
   turn3 = turn_goes m words1 words1 system.value system.locals x detached detached seen (record { place = SlabOf f; op = Load }) (Word (get_or words1 (slab_base + f) 0)) next.there refl (ap (λ f. load_slab f) frame) (set-get_or words1 (slab_base + f) 0) refl

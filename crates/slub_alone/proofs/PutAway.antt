@@ -35,7 +35,7 @@ use Rattle.slub_core.specs.Discard.{with_put}
 use Rattle.slub_core.specs.Fresh.{IsWorded}
 use Rattle.slub_core.specs.Local.{Local, at, bare_hand}
 use Rattle.slub_core.specs.Offline.{if_flushing, if_trimming}
-use Rattle.slub_core.specs.PutAway.{head_away, is_to_discard}
+use Rattle.slub_core.specs.PutAway.{is_to_discard}
 use Rattle.slub_core.specs.PutAway as words
 use Rattle.slub_core.specs.Run.{System}
 use Rattle.slub_core.specs.Law.{IsCoherentSystem}
@@ -46,7 +46,7 @@ use Rattle.slub_opening.specs.Opening.{Beside, tid_of}
 use Rattle.slub_opening.specs.Rests.{Rests}
 use Rattle.slub_opening.specs.Closing.{HasLengths}
 use Rattle.slub_opening.proofs.Words.{chain-none}
-use Rattle.slub_alone.specs.Alone.{alone, AreWhole, grown}
+use Rattle.slub_alone.specs.Alone.{alone, AreWhole}
 use Rattle.slub_alone.specs.Away.{RestsBut, ComesTo, PutsAway, CurrentSlabsArePutAway, told_of_slab}
 use Rattle.slub_alone.proofs.AwayStart as begun
 use Rattle.slub_alone.proofs.AwayTurns.{thawed, with_slab, run_of, pool_put, turn_full, turn_puts_on, turn_spares, turn_unmakes, turn_puts, turn_gives_pool, turn_gives}
@@ -61,6 +61,7 @@ use Rattle.slub_alone.proofs.TakenDown as down
 use Rattle.slub_alone.proofs.Turns.{machine, then_turn}
 use Rattle.slub_alone.proofs.UnderLock.{RestsUnder, given_back, given_says, table_set, then_turns}
 use Rattle.slub_alone.proofs.Workers.{at_front}
+use Rattle.slub_changes.specs.Changes.{grown}
 
 -- a function changed twice at one number
 pub update_twice : {A : Type 0} (g : ℕ → A) (n : ℕ) (a c : A) → update (update g n a) n c ≡ update g n c

@@ -15,7 +15,7 @@ use Rattle.slub_lists.specs.Coherent.{IsConsistent}
 use Rattle.slub_lists.proofs.Coherence.{lists-retired}
 use Rattle.slub_lists.proofs.Giving.{from-unchecked}
 use Rattle.slub_opening.specs.Opening.{Beside, tid_of}
-use Rattle.slub_alone.specs.Alone.{grown}
+use Rattle.slub_changes.specs.Changes.{grown}
 
 module _ (s : State) (k cpu f : ℕ) (consistent : IsConsistent s) (inside : k < 32) (cpu_inside : cpu < s.cpus) (empty : (lists_of s k cpu).free ≡ []) (current : (lists_of s k cpu).current ≡ Some f) (none : own_free s f ≡ []) where
   abbrev pub t : State

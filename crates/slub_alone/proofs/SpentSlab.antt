@@ -2,7 +2,7 @@
 use Rattle.std.proofs.Common.{◌≡◌, ℕ, ◌+◌, ◌-◌, ◌*◌, ◌/◌, ◌<◌, ◌≤◌, eqb, cond, Bool, true, false, List, [], ◌∷◌, length, get_or, set, Option, Some, None, inl, inr, refl, ap, sym, ◌∙◌, subst, arith}
 use Rattle.std.specs.Prelude.{if◌then◌else◌, nat_lt, drop, is_some, IfSome}
 use Rattle.std.specs.Option.{option_map}
-use Rattle.std.proofs.lemmas.Bool.{cases_eq, eq-eqb, ne_eqb, le-ltb}
+use Rattle.std.proofs.lemmas.Bool.{cases_eq, eq-eqb, le-ltb}
 use Rattle.std.proofs.lemmas.List.{get_or-set_same, get_or-set_other, set-get_or, set-set, length-set}
 use Rattle.std.proofs.lemmas.List.Elements.{All-set}
 use Rattle.slub_answers.specs.Kinds.{is_given}
@@ -34,26 +34,27 @@ use Rattle.slub_core.specs.World.{World, update, set_cpu, set_slab, pointer, IsC
 use Rattle.slub_core.specs.Local.{Local, Turn, nobody, hand_from, goes}
 use Rattle.slub_core.specs.Ops.{load_slab, change_slab}
 use Rattle.slub_core.specs.Alloc.{is_spent, way_of_word, told_of_word, way_of_taken}
-use Rattle.slub_core.specs.Steps.{begun, rested, advance_at, told_at_once, told_of_alloc}
+use Rattle.slub_core.specs.Steps.{rested, advance_at, told_at_once, told_of_alloc}
 use Rattle.slub_core.specs.Run.{System, idle, turn}
 use Rattle.slub_core.specs.Law.{IsCoherentSystem, IsRested, TakesStep}
 use Rattle.slub_core.specs.Fresh.{IsWorded}
 use Rattle.slub_core.specs.Spots.{notes_cpu}
 use Rattle.slub_core.proofs.Packed.{IsCpuFit, IsSlabFit, cpu_in-bits, slab_in-bits}
 use Rattle.slub_core.proofs.Update.{update_same, update_other, each_updated}
-use Rattle.slub_core.proofs.Words.{IsTable, world_of-cpu, world_of-slab, cpu-read, slab-read}
+use Rattle.slub_core.proofs.Words.{IsTable, world_of-cpu, world_of-slab, slab-read}
 use Rattle.slub_opening.specs.Opening.{Beside, setup_of, tid_of, cpu_at}
 use Rattle.slub_opening.specs.Rests.{IsBetween, IsCpuOf, IsFreelistOf, Rests, slab_at}
 use Rattle.slub_opening.specs.Closing.{HasLengths}
 use Rattle.slub_opening.proofs.Cpus.{current-at}
 use Rattle.slub_opening.proofs.Words.{chain-empty}
-use Rattle.slub_alone.specs.Alone.{own_pick, alone, worker_at, known_under, IsAtRest, IsNext, HasIds, grown}
+use Rattle.slub_alone.specs.Alone.{own_pick, alone, worker_at, known_under, IsAtRest, IsNext, HasIds}
 use Rattle.slub_alone.specs.Laws.{IsAlloc, AllocatesAlone}
 use Rattle.slub_alone.specs.Spent.{recalled, TakesOff, SpentSlabsAreTakenOff}
 use Rattle.slub_alone.proofs.Apart.{plain_word}
-use Rattle.slub_alone.proofs.Bits.{bits_in, current_frame, whole_cpu, whole_slab}
+use Rattle.slub_alone.proofs.Bits.{current_frame, whole_cpu, whole_slab}
 use Rattle.slub_alone.proofs.Changed.{slab_by, rests_relisted, slab_as_it_was}
-use Rattle.slub_alone.proofs.CpuWords.{cpu_here, cpus_changed}
+use Rattle.slub_alone.proofs.CpuWords.{cpus_changed}
+use Rattle.slub_alone.proofs.DetachFirst.{loads_word, takes_slab}
 use Rattle.slub_alone.proofs.Ended.{alone_keeps, ends_at_rest}
 use Rattle.slub_alone.proofs.FastAlloc.{begin_alloc}
 use Rattle.slub_alone.proofs.Recalled.{recalled_coherent}
@@ -64,6 +65,8 @@ use Rattle.slub_alone.proofs.SpentLists.{lists_off, allocated}
 use Rattle.slub_alone.proofs.Start.{IsStart, starts}
 use Rattle.slub_alone.proofs.Turns.{machine, turn_goes, settle_goes, then_turn}
 use Rattle.slub_alone.proofs.Workers.{at_front}
+use Rattle.slub_changes.specs.Changes.{grown}
+use Rattle.slub_changes.proofs.Numbers.{cpu_here}
 
 -- a slab that is frozen or unfrozen is the same slab, with that mark
 pub slab_marked : (z : Bool) (w u : World) (f : ℕ) → u.setup ≡ w.setup → u.value ≡ w.value → (u.slab f).objects ≡ (w.slab f).objects → (u.slab f).cache ≡ (w.slab f).cache → (u.slab f).frozen ≡ z → slab_at u f ≡ option_map (marked z) (slab_at w f)
@@ -135,9 +138,6 @@ module _ (opening : World) (s : State) (b : Beside) (system : System) (x : ℕ) 
   frame : c.frame ≡ f
   frame = current_frame c.frame f (sym cpu_is.current ∙ current)
 
-  bare : c.head ≡ 0
-  bare = chain-empty (pointer w (n / 16) c.frame) c.head lists.free cpu_is.free (ap (length {A = ℕ}) empty)
-
   -- ---- the slab
 
   at_cpu : IsCurrent s (n / 16) f
@@ -175,9 +175,6 @@ module _ (opening : World) (s : State) (b : Beside) (system : System) (x : ℕ) 
   abbrev e : SlabWord
   e = record z { frozen = false }
 
-  abbrev q : ℕ
-  q = get_or system.words (cpu_base + n) 0
-
   abbrev r : ℕ
   r = get_or system.words (slab_base + f) 0
 
@@ -187,14 +184,8 @@ module _ (opening : World) (s : State) (b : Beside) (system : System) (x : ℕ) 
   abbrev words2 : List ℕ
   words2 = set words1 (slab_base + f) (slab_bits e)
 
-  cpu_reads : c ≡ cpu_in q
-  cpu_reads = cpu-read m system.value system.words n small
-
   slab_reads : z ≡ slab_in r
   slab_reads = slab-read m system.value system.words f within.1
-
-  cpu_hit : eqb q (cpu_bits c) ≡ true
-  cpu_hit = eq-eqb q (cpu_bits c) (sym (bits_in q) ∙ ap cpu_bits (sym cpu_reads))
 
   slab_there : get_or words1 (slab_base + f) 0 ≡ r
   slab_there = get_or-set_other system.words (cpu_base + n) (slab_base + f) (cpu_bits d) 0 (λ e. absurd (omega (arith, e, small)))
@@ -202,34 +193,14 @@ module _ (opening : World) (s : State) (b : Beside) (system : System) (x : ℕ) 
   slab_hit : eqb (get_or words1 (slab_base + f) 0) (slab_bits z) ≡ true
   slab_hit = eq-eqb (get_or words1 (slab_base + f) 0) (slab_bits z) (slab_there ∙ sym (rest.whole.slab f within.1) ∙ ap slab_bits (sym slab_reads))
 
-  spent : is_spent m c ≡ false
-  spent = le-ltb (4294967295 - 2 * b.step) c.tid (omega (arith, ids, cpu_is.tid, rest.beside.step.1))
-
   spent_again : is_spent m d ≡ false
   spent_again = le-ltb (4294967295 - 2 * b.step) (c.tid + b.step) (omega (arith, ids, cpu_is.tid, rest.beside.step.1))
 
-  begins : begun m false l ≡ asked
-  begins = begin_alloc m l call next.calls k begin.between.between next.todo is.kind is.asks (ap is_some is.unchecked)
-
   turn1 : turn m (machine system.words system.value (set system.locals x l)) (own_pick x) ≡ machine system.words system.value (set system.locals x loaded)
-  turn1 = turn_goes m system.words system.words system.value system.locals x l asked loaded (record { place = CpuOf n; op = Load }) (Word q) next.there begins refl (set-get_or system.words (cpu_base + n) 0) refl
-      (settle_goes m system.value asked loaded (Word q) leads refl refl)
-    where
-      by_word : CpuWord → Turn
-      by_word z = record { local = record asked { cpu_word = z; spot = way_of_word m false z }; reply = told_of_word m false z }
-
-      way : way_of_word m false c ≡ InAlloc Detach
-      way = rw (spent, eq-eqb c.head 0 bare, ne_eqb c.frame 0 (λ none. absurd (omega (arith, none, frame, within.0)))) refl
-
-      says : told_of_word m false c ≡ None
-      says = rw spent refl
-
-      leads : advance_at m system.value asked (InAlloc LoadCpu) (Word q) ≡ goes loaded
-      leads = ap by_word (sym cpu_reads) ∙ (λ i. record { local = record asked { cpu_word = c; spot = way i }; reply = says i })
+  turn1 = loads_word opening s b system x call place k f rest next is (omega (arith, ids)) empty current
 
   turn2 : turn m (machine system.words system.value (set system.locals x loaded)) (own_pick x) ≡ machine words1 system.value (set system.locals x detached)
-  turn2 = turn_goes m system.words words1 system.value system.locals x loaded loaded detached (record { place = CpuOf n; op = Exchange (cpu_bits c) (cpu_bits d) }) Won next.there refl refl
-      (ap (λ h. set system.words (cpu_base + n) (cond {A = ℕ} h (cpu_bits d) q)) cpu_hit) (ap (λ h. cond {A = Answer} h Won (Lost q)) cpu_hit) (settle_goes m system.value loaded detached Won refl refl refl)
+  turn2 = takes_slab opening s b system x call place k f rest next is (omega (arith, ids)) empty current
 
   turn3 : turn m (machine words1 system.value (set system.locals x detached)) (own_pick x) ≡ machine words1 system.value (set system.locals x seen)
   turn3 = turn_goes m words1 words1 system.value system.locals x detached detached seen (record { place = SlabOf f; op = Load }) (Word (get_or words1 (slab_base + f) 0)) next.there refl (ap (λ f. load_slab f) frame) (set-get_or words1 (slab_base + f) 0) refl

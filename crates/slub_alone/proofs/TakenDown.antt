@@ -30,11 +30,12 @@ use Rattle.slub_opening.specs.Opening.{Beside, cpu_at, tid_of}
 use Rattle.slub_opening.specs.Rests.{IsFreelistOf, KeepsWord, Rests, slab_at}
 use Rattle.slub_opening.specs.Closing.{HasLengths}
 use Rattle.slub_opening.proofs.Cpus.{current-at}
-use Rattle.slub_alone.specs.Alone.{grown}
+use Rattle.slub_changes.specs.Changes.{grown}
 use Rattle.slub_alone.proofs.Apart.{IsSlabAt, slab_word}
 use Rattle.slub_alone.proofs.Changed.{rests_relisted, slab_as_it_was}
-use Rattle.slub_alone.proofs.CpuWords.{cpu_here, cpus_changed}
+use Rattle.slub_alone.proofs.CpuWords.{cpus_changed}
 use Rattle.slub_alone.proofs.SpentSlab.{slab_marked}
+use Rattle.slub_changes.proofs.Numbers.{cpu_here}
 
 module _ (s : State) (b : Beside) (w : World) (ls : List Local) (k c f : ℕ) (rests : Rests s b w ls) (consistent : IsConsistent s) (inside : k < 32) (below : c < s.cpus) (current : (lists_of s k c).current ≡ Some f) (plain : checked_of s k ≡ None)
     (long : HasLengths s) (tids : length b.tids ≡ 512) (some : 1 ≤ (w.slab f).objects) where

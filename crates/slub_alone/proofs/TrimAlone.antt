@@ -38,14 +38,15 @@ use Rattle.slub_core.specs.Run.{System, idle}
 use Rattle.slub_core.specs.Steps.{begun, begun_at, begun_with, cache_for, first_cpu, first_spot, rested, told_at_once, told_of_trim}
 use Rattle.slub_opening.specs.Opening.{Beside, cpu_at, setup_of, tid_of}
 use Rattle.slub_alone.specs.Alone.{alone, worker_at, IsAtRest, IsNext}
-use Rattle.slub_alone.specs.Away.{EndsAs, RestsBut, TrimsAlone, TrimsAreThoseOfLists, has_slab_of}
-use Rattle.slub_alone.proofs.CpuWords.{cpu_here}
+use Rattle.slub_alone.specs.Away.{EndsAs, RestsBut, TrimsAlone, TrimsAreThoseOfLists}
+use Rattle.slub_changes.specs.Changes.{has_slab_of}
 use Rattle.slub_alone.proofs.MoveLoop.{none_of}
 use Rattle.slub_alone.proofs.ScanAlone as scanned
 use Rattle.slub_alone.proofs.Start.{IsStart, starts}
 use Rattle.slub_alone.proofs.SweepBegins.{began, rests_began, same_turns, stood, then_ends}
 use Rattle.slub_alone.proofs.TrimCpus.{CpusEnd, cpus_emptied}
 use Rattle.slub_alone.proofs.Workers.{rested_calls}
+use Rattle.slub_changes.proofs.Numbers.{cpu_here}
 
 begin_trim : (m : Setup) (l : Local) (call : Call) (calls : List Call) (k : ℕ) → l.spot ≡ Between → l.todo ≡ call ∷ calls → call.kind ≡ Trim → call.cache ≡ Some k
     → begun m false l ≡ record l { spot = InOffline LoadCurrent Trimming; cache = k; cpu = 0; place = call.place; fast = false; turn = 0; count = 0 }

@@ -1,14 +1,10 @@
 -- Turns of a worker alone after which it has one reply by a step are those of one call.
-use Rattle.std.proofs.Common.{◌≡◌, ◌≢◌, ℕ, zero, suc, ◌+◌, ◌-◌, ◌<◌, ◌≤◌, ◌++◌, ◌==◌, false, Some, None, List, [], ◌∷◌, length, get_or, drop, set, refl, sym, ap, ◌∙◌, subst, arith, inl, inr}
-use Rattle.std.specs.Prelude.{All}
-use Rattle.std.proofs.lemmas.List.{length-set}
+use Rattle.std.proofs.Common.{◌≡◌, ℕ, zero, suc, ◌+◌, ◌-◌, ◌<◌, ◌≤◌, ◌++◌, ◌==◌, false, List, [], ◌∷◌, length, get_or, drop, set, refl, sym, ap, ◌∙◌, subst, arith}
 use Rattle.std.proofs.lemmas.List.Elements.{All-get_or}
 use Rattle.slub_answers.specs.declared.reply.Reply.{Reply}
 use Rattle.slub_lists.specs.State.{State}
 use Rattle.slub_core.specs.declared.call.Call.{Call}
-use Rattle.slub_core.specs.declared.call.CallKind.TheVariants.{Poke}
 use Rattle.slub_core.specs.declared.local.Known.{Known}
-use Rattle.slub_core.specs.declared.local.Answered.{Answered}
 use Rattle.slub_core.specs.declared.spot.Spot.TheVariants.{Between}
 use Rattle.slub_core.specs.Setup.{Setup}
 use Rattle.slub_core.specs.World.{World, world_of}
@@ -19,11 +15,11 @@ use Rattle.slub_core.specs.Run.{System, idle}
 use Rattle.slub_opening.specs.Opening.{Beside, setup_of}
 use Rattle.slub_opening.specs.Rests.{IsBetween}
 use Rattle.slub_alone.specs.Alone.{alone, worker_at, IsAtRest, IsNext, HasReply, Replies}
-use Rattle.slub_alone.specs.Busy.{IsBetweenCalls, EndsCall, AreOfOneCall}
+use Rattle.slub_alone.specs.Busy.{IsBetweenCalls, AreOfOneCall}
 use Rattle.slub_alone.proofs.Ended.{alone_keeps}
-use Rattle.slub_alone.proofs.OneCall.{Has, Ends, call-ends, rested-spot, rested-fast, rested-known}
-use Rattle.slub_alone.proofs.FirstEnd.{alone-split, alone-long, Least, least, idle-turns}
-use Rattle.slub_alone.proofs.Onward.{Grown, grown-then, rested-grown, Later, turns-later}
+use Rattle.slub_alone.proofs.OneCall.{Ends, call-ends, rested-spot, rested-fast, rested-known}
+use Rattle.slub_alone.proofs.FirstEnd.{alone-split, alone-long, least, idle-turns}
+use Rattle.slub_alone.proofs.Onward.{Grown, grown-then, rested-grown, turns-later}
 use Rattle.slub_alone.proofs.Unstepped.{answer, compared, no_reply_at_once}
 use Rattle.slub_alone.proofs.StaysKnown.{stays_known}
 

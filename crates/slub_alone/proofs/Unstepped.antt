@@ -1,6 +1,6 @@
 -- A reply by a step to a call that takes one is not a reply that takes no step.
-use Rattle.std.proofs.Common.{◌≡◌, ◌≢◌, ℕ, zero, suc, ◌+◌, ◌<◌, ◌≤◌, ◌++◌, ◌==◌, Bool, true, false, not, if◌then◌else◌, Option, Some, None, List, [], ◌∷◌, length, get_or, drop, refl, sym, ap, ◌∙◌, subst, arith, inl, inr}
-use Rattle.std.proofs.lemmas.Bool.{false≢true, cases_Bool}
+use Rattle.std.proofs.Common.{◌≡◌, ◌≢◌, suc, ◌+◌, ◌≤◌, ◌++◌, ◌==◌, Bool, true, false, not, if◌then◌else◌, Option, Some, None, List, [], ◌∷◌, length, get_or, drop, refl, sym, ap, ◌∙◌, subst, arith}
+use Rattle.std.proofs.lemmas.Bool.{false≢true}
 use Rattle.std.proofs.lemmas.Option.{none-some, same_Some}
 use Rattle.std.proofs.lemmas.List.{length-append}
 use Rattle.slub_answers.specs.declared.reply.Reply.{Reply}
@@ -11,7 +11,7 @@ use Rattle.slub_core.specs.declared.call.CallKind.TheVariants.{Alloc, Free, Writ
 use Rattle.slub_core.specs.declared.local.Known.{Known}
 use Rattle.slub_core.specs.declared.local.Answered.{Answered}
 use Rattle.slub_core.specs.Setup.{Setup}
-use Rattle.slub_core.specs.Local.{Local, nobody, no_call, call_of, answered}
+use Rattle.slub_core.specs.Local.{Local, nobody, call_of, answered}
 use Rattle.slub_core.specs.Steps.{told_at_once, is_outside, or_step, rested_with}
 use Rattle.slub_alone.proofs.Goes.{unstepped}
 use Rattle.slub_alone.proofs.Onward.{Grown, rested_with-grown}

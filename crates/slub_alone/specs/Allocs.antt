@@ -1,24 +1,16 @@
 -- Whichever way an allocation of an unchecked cache goes, a worker alone allocates as the lists do.
-use Rattle.std.specs.Prelude.{◌≡◌, ℕ, ◌+◌, ◌==◌, ◌&&◌, Bool, false, if◌then◌else◌, length, is_some}
+use Rattle.std.specs.Prelude.{◌≡◌, ℕ, ◌+◌, Bool, false}
 use Rattle.slub_answers.specs.declared.reply.Reply.TheVariants.{NoFrames}
 use Rattle.slub_answers.specs.Kinds.{is_given}
 use Rattle.slub_lists.specs.State.{State}
-use Rattle.slub_lists.specs.Alloc.{checked_of, lists_of}
 use Rattle.slub_core.specs.declared.call.Call.{Call}
 use Rattle.slub_core.specs.Setup.{cpu_number}
-use Rattle.slub_core.specs.World.{World, one_if}
+use Rattle.slub_core.specs.World.{World}
 use Rattle.slub_core.specs.Run.{System}
 use Rattle.slub_opening.specs.Opening.{Beside}
-use Rattle.slub_alone.specs.Alone.{IsAtRest, IsNext, HasIds, grown}
+use Rattle.slub_alone.specs.Alone.{IsAtRest, IsNext, HasIds}
 use Rattle.slub_alone.specs.Laws.{IsAlloc, AllocatesAlone}
-
--- so often an allocation changes the CPU's word of the cache: once where its freelist is empty and
--- a slab is current, whose own freelist is taken or which goes, and once for the object that is
--- given. The words of a checked cache never change
-abbrev pub changes_of_alloc : State → ℕ → ℕ → Bool → ℕ
-changes_of_alloc s cache cpu given = let lists = lists_of s cache cpu in
-    if is_some (checked_of s cache) then 0
-    else one_if ((length lists.free == 0) && is_some lists.current) + one_if given
+use Rattle.slub_changes.specs.Changes.{grown, changes_before_giving, changes_of_alloc}
 
 -- by some turns of the worker alone, one at least, its allocation is that of the lists, and no CPU
 -- word was changed but the call's
@@ -38,5 +30,6 @@ abbrev pub AllocationsAreThoseOfLists : Type 0
 AllocationsAreThoseOfLists =
     (opening : World) (s : State) (b : Beside) (system : System) (worker : ℕ) (call : Call)
     (place cache : ℕ) → IsAtRest opening s b system → IsNext system worker call
-    → IsAlloc s call place cache → HasIds b (cpu_number cache call.cpu) 2
+    → IsAlloc s call place cache
+    → HasIds b (cpu_number cache call.cpu) (1 + changes_before_giving s cache call.cpu)
     → AllocatesSome opening s b system worker call place cache

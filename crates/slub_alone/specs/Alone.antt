@@ -88,10 +88,6 @@ HasIds b n times = tid_of b n + (times + 1) * b.step < 2 ^ 32
 
 -- ---- where it ends
 
--- one CPU word was changed so many times, and its transaction id grew by a step each time
-abbrev pub grown : Beside → ℕ → ℕ → Beside
-grown b n times = record b { tids = slice_set b.tids n (tid_of b n + times * b.step) }
-
 -- the worker had this reply to its call, which is over, and then at once those to further calls
 -- that take no step
 pub record HasReply (m : Setup) (before : Local) (call : Call) (reply : Reply)

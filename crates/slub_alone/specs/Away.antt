@@ -1,5 +1,5 @@
 -- A worker alone that trims a cache or flushes a CPU: piece by piece, and the whole call.
-use Rattle.std.specs.Prelude.{◌≡◌, ℕ, suc, ◌+◌, ◌/◌, ◌%◌, ◌<◌, ◌==◌, ◌&&◌, Bool, List, [], ◌∷◌, length, slice_set, if◌then◌else◌, Some, is_some}
+use Rattle.std.specs.Prelude.{◌≡◌, ℕ, suc, ◌+◌, ◌<◌, Bool, List, [], ◌∷◌, length, slice_set, if◌then◌else◌, Some, is_some}
 use Rattle.std.specs.Option.{option_map_or}
 use Rattle.slub_answers.specs.declared.reply.Reply.{Reply}
 use Rattle.slub_words.specs.declared.cpu.CpuWord.{CpuWord}
@@ -22,9 +22,10 @@ use Rattle.slub_core.specs.Offline.{if_flushing, if_trimming, next_swept}
 use Rattle.slub_core.specs.Steps.{rested}
 use Rattle.slub_core.specs.Run.{System}
 use Rattle.slub_core.specs.Law.{IsCoherentSystem}
-use Rattle.slub_opening.specs.Opening.{Beside, cpu_at, setup_of, tid_of}
-use Rattle.slub_alone.specs.Alone.{alone, worker_at, known_after, IsAtRest, IsNext, Replies, grown}
+use Rattle.slub_opening.specs.Opening.{Beside, setup_of, tid_of}
+use Rattle.slub_alone.specs.Alone.{alone, worker_at, known_after, IsAtRest, IsNext, Replies}
 use Rattle.slub_alone.specs.Spent.{recalled}
+use Rattle.slub_changes.specs.Changes.{grown, has_slab_of, has_slab_on}
 
 -- ---- a worker in the midst of a call
 
@@ -150,10 +151,6 @@ pub record AreChangedOnce (changed : ℕ → Bool) (b d : Beside) : Type 0 where
   pub same : d ≡ record b { tids = d.tids }
   pub ids : (n : ℕ) → tid_of d n ≡ tid_of b n + (if changed n then b.step else 0)
 
--- the words of a CPU that has a current slab of their caches
-abbrev pub has_slab_on : State → ℕ → ℕ → Bool
-has_slab_on s cpu n = (n % 16 == cpu) && is_some (cpu_at s n).current
-
 -- by some turns of the worker alone, one at least, its flush is that of the lists
 pub record FlushesAlone (opening : World) (s : State) (b : Beside) (system : System)
     (worker : ℕ) (call : Call) : Type 0 where
@@ -177,10 +174,6 @@ FlushesAreThoseOfLists =
     → FlushesAlone opening s b system worker call
 
 -- ---- a trim
-
--- the words of a cache whose CPUs have a current slab of it
-abbrev pub has_slab_of : State → ℕ → ℕ → Bool
-has_slab_of s cache n = (n / 16 == cache) && is_some (cpu_at s n).current
 
 -- by some turns of the worker alone, one at least, its trim is that of the lists
 pub record TrimsAlone (opening : World) (s : State) (b : Beside) (system : System)

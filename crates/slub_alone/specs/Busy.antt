@@ -14,6 +14,11 @@ use Rattle.slub_alone.specs.Alone.{alone, worker_at, IsAtRest, IsNext, HasReply,
 abbrev pub IsBetweenCalls : System → ℕ → Type 0
 IsBetweenCalls system worker = (worker_at system worker).spot ≡ Between
 
+-- after each of so many turns of its own alone it is in a call
+abbrev pub IsInCall : Setup → System → ℕ → ℕ → Type 0
+IsInCall m system worker turns = (made : ℕ) → 1 ≤ made → made ≤ turns
+    → (worker_at (alone m worker made system) worker).spot ≢ Between
+
 -- after so many turns of its own alone the worker is in no call, and after each of those before it
 -- was in one
 pub record EndsCall (m : Setup) (system : System) (worker turns : ℕ) : Type 0 where

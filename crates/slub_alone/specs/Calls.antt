@@ -1,5 +1,5 @@
 -- Whichever way a call goes, be its cache checked or not, a worker alone does what the lists do.
-use Rattle.std.specs.Prelude.{if◌then◌else◌, ◌≡◌, ℕ, None, Some, IfSome, is_some}
+use Rattle.std.specs.Prelude.{if◌then◌else◌, ◌≡◌, ℕ, ◌+◌, None, Some, IfSome, is_some}
 use Rattle.slub_lists.specs.State.{State}
 use Rattle.slub_lists.specs.Alloc.{checked_of, named}
 use Rattle.slub_lists.specs.Coherent.{held_under}
@@ -13,6 +13,7 @@ use Rattle.slub_alone.specs.Alone.{worker_at, known_at, IsAtRest, IsNext, HasIds
 use Rattle.slub_alone.specs.Allocs.{AllocatesSome}
 use Rattle.slub_alone.specs.Frees.{HasOwnNumber, FreesSome}
 use Rattle.slub_alone.specs.Laws.{WritesAlone, ReadsAlone}
+use Rattle.slub_changes.specs.Changes.{changes_before_giving}
 
 -- so many changes are made before the transaction id of the cache's word on this CPU is spent. The
 -- words of a checked cache never change
@@ -33,7 +34,8 @@ abbrev pub AllAllocationsAreThoseOfLists : Type 0
 AllAllocationsAreThoseOfLists =
     (opening : World) (s : State) (b : Beside) (system : System) (worker : ℕ) (call : Call)
     (place cache : ℕ) → IsAtRest opening s b system → IsNext system worker call
-    → IsAllocOf s call place cache → HasIdsFor s b cache call.cpu 2
+    → IsAllocOf s call place cache
+    → HasIdsFor s b cache call.cpu (1 + changes_before_giving s cache call.cpu)
     → AllocatesSome opening s b system worker call place cache
 
 -- ---- frees

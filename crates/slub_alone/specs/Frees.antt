@@ -1,42 +1,24 @@
 -- Whichever way a free goes of a number that names an object of an unchecked cache, or nothing, a
 -- worker alone frees as the lists do.
-use Rattle.std.specs.Prelude.{◌≡◌, ℕ, ◌+◌, ◌<◌, ◌&&◌, if◌then◌else◌, length, None, IfSome, is_some}
-use Rattle.std.specs.Option.{option_map_or}
-use Rattle.slub_lists.specs.declared.lists.Held.{Held}
+use Rattle.std.specs.Prelude.{◌≡◌, ℕ, ◌+◌, ◌<◌, length, None, IfSome}
 use Rattle.slub_lists.specs.State.{State}
-use Rattle.slub_lists.specs.Alloc.{checked_of, lists_of}
-use Rattle.slub_lists.specs.Free.{is_current, is_freeable}
+use Rattle.slub_lists.specs.Alloc.{checked_of}
 use Rattle.slub_lists.specs.Coherent.{held_under}
 use Rattle.slub_core.specs.declared.call.Call.{Call}
 use Rattle.slub_core.specs.declared.call.CallKind.TheVariants.{Free}
 use Rattle.slub_core.specs.Setup.{cpu_number}
-use Rattle.slub_core.specs.World.{World, one_if}
+use Rattle.slub_core.specs.World.{World}
 use Rattle.slub_core.specs.Run.{System}
 use Rattle.slub_opening.specs.Opening.{Beside}
-use Rattle.slub_alone.specs.Alone.{worker_at, IsAtRest, IsNext, HasIds, grown}
+use Rattle.slub_alone.specs.Alone.{worker_at, IsAtRest, IsNext, HasIds}
 use Rattle.slub_alone.specs.Laws.{FreesAlone}
+use Rattle.slub_changes.specs.Changes.{grown, changes_of_free, word_of_free}
 
 -- no other worker has its number: what the lists say that a worker of this number holds, it holds
 abbrev pub HasOwnNumber : System → ℕ → Type 0
 HasOwnNumber system worker =
     (other : ℕ) → other < length system.locals
     → (worker_at system other).worker ≡ (worker_at system worker).worker → other ≡ worker
-
--- so often a free by this worker changes a CPU word: once where it may free the object, whose slab
--- is current on the CPU. The words of a checked cache never change
-abbrev pub changes_of_held : State → ℕ → ℕ → Held → ℕ
-changes_of_held s cpu worker held = if is_some (checked_of s held.cache) then 0
-    else one_if (is_freeable worker held.worker
-    && is_current held.frame (lists_of s held.cache cpu).current)
-
-abbrev pub changes_of_free : State → ℕ → ℕ → ℕ → ℕ
-changes_of_free s cpu worker object =
-    option_map_or (changes_of_held s cpu worker) (held_under s object) 0
-
--- the word is the CPU's of the object's cache; where the number names nothing, none is changed
-abbrev pub word_of_free : State → ℕ → ℕ → ℕ
-word_of_free s cpu object =
-    option_map_or (λ (held : Held). cpu_number held.cache cpu) (held_under s object) 0
 
 -- by some turns of the worker alone, one at least, its free is that of the lists, and no CPU word
 -- was changed but this one

@@ -25,8 +25,9 @@ use Rattle.slub_core.specs.Run.{System}
 use Rattle.slub_opening.specs.Opening.{Beside, setup_of}
 use Rattle.slub_opening.specs.Table.{system_of}
 use Rattle.slub_opening.specs.Laws.{MayOpen, MayBegin}
-use Rattle.slub_alone.specs.Alone.{worker_at, known_at, known_after, known_under, IsAtRest, IsNext, HasIds, grown, Replies, IsGiven}
+use Rattle.slub_alone.specs.Alone.{worker_at, known_at, known_after, known_under, IsAtRest, IsNext, HasIds, Replies, IsGiven}
 use Rattle.slub_alone.specs.Ready.{IsReady}
+use Rattle.slub_changes.specs.Changes.{grown}
 
 -- ---- the begin of a round
 

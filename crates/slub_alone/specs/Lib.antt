@@ -13,3 +13,4 @@ pub mod CheckedAll
 pub mod Frees
 pub mod Calls
 pub mod Busy
+pub mod Detached

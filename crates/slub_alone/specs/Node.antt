@@ -8,8 +8,9 @@ use Rattle.slub_core.specs.Setup.{cpu_number}
 use Rattle.slub_core.specs.World.{World}
 use Rattle.slub_core.specs.Run.{System}
 use Rattle.slub_opening.specs.Opening.{Beside}
-use Rattle.slub_alone.specs.Alone.{IsAtRest, IsNext, HasIds, grown}
+use Rattle.slub_alone.specs.Alone.{IsAtRest, IsNext, HasIds}
 use Rattle.slub_alone.specs.Laws.{IsAlloc, AllocatesAlone}
+use Rattle.slub_changes.specs.Changes.{grown}
 
 -- an allocation of a CPU without a slab of the cache, where the node list has slabs: it takes the
 -- empty partial list, and takes the first slab off the node list under its lock and freezes it with

@@ -9,8 +9,9 @@ use Rattle.slub_core.specs.World.{World}
 use Rattle.slub_core.specs.Local.{Local}
 use Rattle.slub_core.specs.Run.{System}
 use Rattle.slub_opening.specs.Opening.{Beside, setup_of}
-use Rattle.slub_alone.specs.Alone.{alone, worker_at, IsAtRest, IsNext, HasIds, grown}
+use Rattle.slub_alone.specs.Alone.{alone, worker_at, IsAtRest, IsNext, HasIds}
 use Rattle.slub_alone.specs.Laws.{IsAlloc, AllocatesAlone}
+use Rattle.slub_changes.specs.Changes.{grown}
 
 -- the machine, were the worker between two calls
 abbrev pub recalled : ℕ → System → System

@@ -2,8 +2,8 @@
 
 ghost use Rattle.slub_alone.specs.Allocs.{AllocationsAreThoseOfLists};
 
-/// Every allocation of an unchecked cache, where the transaction id of its CPU's word isn't near its end, is that
-/// of the lists.
+/// Every allocation of an unchecked cache is that of the lists, where the transaction id of its CPU's word isn't spent
+/// before the last change that it makes.
 pub fn allocations_are_those_of_lists()
     ensures { AllocationsAreThoseOfLists }
 {}

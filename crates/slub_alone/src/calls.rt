@@ -13,7 +13,8 @@
 
 ghost use Rattle.slub_alone.specs.Calls.{AllAllocationsAreThoseOfLists, AllFreesAreThoseOfLists, ReadsAreThoseOfLists, WritesAreThoseOfLists};
 
-/// Every allocation is that of the lists, where the transaction id of its CPU's word isn't near its end.
+/// Every allocation is that of the lists, where the transaction id of its CPU's word isn't spent before the last change
+/// that it makes.
 pub fn all_allocations_are_those_of_lists()
     ensures { AllAllocationsAreThoseOfLists }
 {}

@@ -4,10 +4,11 @@
 //! `slub_core` has the steps of a worker on the one table of words, `slub_lists` the operations on plain lists,
 //! and `slub_opening` says when a table of words rests in lists. `specs/Alone.antt` says where a worker begins
 //! that is between two calls (`IsAtRest`, `IsNext`), and what it has come to after so many turns (`Replies`);
-//! `specs/Laws.antt`, `specs/Node.antt`, `specs/Spent.antt`, `specs/Boards.antt`, `specs/Discards.antt`,
-//! `specs/Sets.antt` and `specs/CheckedAlone.antt` say act by act which lists these are, `specs/Allocs.antt`,
-//! `specs/Frees.antt` and `specs/CheckedAll.antt` so of all allocations and frees of unchecked and of checked caches,
-//! `specs/Calls.antt` of all calls together; `specs/Away.antt` is of trims and flushes. No machine is here.
+//! `specs/Laws.antt`, `specs/Node.antt`, `specs/Spent.antt`, `specs/Detached.antt`, `specs/Boards.antt`,
+//! `specs/Discards.antt`, `specs/Sets.antt` and `specs/CheckedAlone.antt` say act by act which lists these are,
+//! `specs/Allocs.antt`, `specs/Frees.antt` and `specs/CheckedAll.antt` so of all allocations and frees of unchecked and
+//! of checked caches, `specs/Calls.antt` of all calls together; `specs/Away.antt` is of trims and flushes. No machine is
+//! here.
 //!
 //! # What it promises
 //!
@@ -55,7 +56,9 @@
 //! is every free of a number that names an object of such a cache, or nothing, by a worker whose number no other
 //! worker has (`frees_are_those_of_lists`). The same holds of checked caches (`checked_all.rt`), and so of every
 //! allocation, free, write and read that takes a step (`calls.rt`). How often the CPU's word changes by it is a function
-//! of the lists: `changes_of_alloc` of `specs/Allocs.antt` and `changes_of_free` of `specs/Frees.antt`.
+//! of the lists: `changes_of_alloc` and `changes_of_free` of `slub_changes`. The id may be spent by the last of these
+//! changes, and by none before it. Where an allocation would spend it before, it takes the current slab off its CPU
+//! first, which spends it (`current_slabs_are_detached`).
 //!
 //! An allocation gives an object, or there is no run of frames: the turns are picks that refuse no memory (`own_pick`).
 //!
@@ -67,8 +70,8 @@
 //!
 //! # Not yet
 //!
-//! Allocations that find spent ids, or spend one on the way; turns that are refused memory. Replies that take no step,
-//! and whole rounds, are for the crates above.
+//! What an allocation that finds spent ids, or spends one on the way, is answered; turns that are refused memory.
+//! Replies that take no step, and whole rounds, are for the crates above.
 #![tactic(auto)]
 
 pub mod allocs;
@@ -78,6 +81,7 @@ pub mod busy;
 pub mod calls;
 pub mod checked;
 pub mod checked_all;
+pub mod detached;
 pub mod discards;
 pub mod frees;
 pub mod laws;

@@ -23,14 +23,12 @@ use Rattle.slub_calls.specs.Laws.{MayDo}
 use Rattle.slub_journal.specs.Lawful.{Answers, DoesRound, IsUnheld, RunsEvents, found_in}
 use Rattle.slub_journal.specs.declared.journal.RoundResult.{RoundResult}
 use Rattle.slub_into_words.specs.Ids.{AreIds, id_at}
-use Rattle.slub_alone.specs.Alone.{grown}
-use Rattle.slub_alone.specs.Allocs.{changes_of_alloc}
-use Rattle.slub_alone.specs.Away.{has_slab_of}
+use Rattle.slub_changes.specs.Changes.{grown, changes_of_alloc, has_slab_of, beside_after, grown_where}
+use Rattle.slub_changes.specs.Events.{IsGrown, RunsWithIds}
 use Rattle.slub_engine.specs.Running.{HasRun, MayAnswer, replies_in}
 use Rattle.slub_engine.specs.Steps.{IsKnown, IsKnownAct}
 use Rattle.slub_engine.specs.declared.running.Running.{Running}
 use Rattle.slub_engine.proofs.UnderWay.{has_run_all, has_run_next, may_answer}
-use Rattle.slub_serial.specs.Serial.{IsGrown, RunsWithIds, beside_after, grown_where}
 use Rattle.slub_by_text.specs.ByText.{DoesRoundOnLists, IdsLast}
 use Rattle.slub_by_text.specs.Raising.{HasRoom, HaveRoom, ids_beside, ids_left, ids_raised, with_given, word_given, word_in}
 use Rattle.slub_by_text.proofs.Growing.{act-grows, not-grown, runs-grow, runs-more}

@@ -15,13 +15,10 @@ use Rattle.slub_lists.specs.Coherent.{IsCoherent}
 use Rattle.slub_core.specs.Setup.{cpu_number}
 use Rattle.slub_opening.specs.Opening.{Beside, tid_of}
 use Rattle.slub_journal.specs.Lawful.{Answers}
-use Rattle.slub_alone.specs.Alone.{grown}
-use Rattle.slub_alone.specs.Allocs.{changes_of_alloc}
-use Rattle.slub_alone.specs.Away.{has_slab_of, has_slab_on}
-use Rattle.slub_alone.specs.Frees.{changes_of_free, word_of_free}
-use Rattle.slub_alone.proofs.ChangesFew.{alloc_few, free_few}
-use Rattle.slub_serial.specs.Serial.{IsGrown, RunsWithIds, beside_after, grown_where}
-use Rattle.slub_serial.proofs.Ids.{grows-by}
+use Rattle.slub_changes.specs.Changes.{grown, changes_of_alloc, has_slab_of, has_slab_on, changes_of_free, word_of_free, beside_after, grown_where}
+use Rattle.slub_changes.proofs.ChangesFew.{alloc_few, free_few}
+use Rattle.slub_changes.specs.Events.{IsGrown, RunsWithIds}
+use Rattle.slub_changes.proofs.Grown.{grows-by}
 
 -- ---- how often at most
 

@@ -31,12 +31,10 @@ use Rattle.slub_round_causes.proofs.Whole.{rounds-lawful}
 use Rattle.slub_rounds.specs.Laws.{RoundsInOrderAreLawful}
 use Rattle.slub_rounds.specs.Rounds.{DoesRoundInOrder}
 use Rattle.slub_rounds.proofs.Lawful.{orders-lawful}
-use Rattle.slub_serial.proofs.Rounds.{all_rounds}
-use Rattle.slub_in_text.proofs.Rounds.{in_order}
 use Rattle.slub_by_text.specs.ByText.{DoesRoundBeside, DoesRoundOnLists, IdsLast}
-use Rattle.slub_by_text.specs.Laws.{RoundsByTextAreLawful, RoundsByTextKeepIds, RoundsInOrderAreOnLists, RoundsOnListsAreRuns}
+use Rattle.slub_by_text.specs.Laws.{RoundsByTextAreLawful, RoundsByTextKeepIds}
 use Rattle.slub_by_text.proofs.Growing.{not-grown, runs-grow, runs-long}
-use Rattle.slub_by_text.proofs.Standing.{lasting, simple}
+use Rattle.slub_by_text.proofs.Standing.{lasting}
 
 -- ---- they are lawful
 
@@ -76,18 +74,6 @@ beside-lawful s ids trace round result after ids_after coherent rest may (inr (s
 pub text-lawful : RoundsByTextAreLawful
 text-lawful s None trace round result after left coherent rest may does = lawful s round result after coherent rest (fits s trace round may) does.0
 text-lawful s (Some ids) trace round result after left coherent rest may does = beside-lawful s ids trace round result after does.0 coherent rest may does.1
-
--- ---- on the lists and by steps
-
-pub lists-run : RoundsOnListsAreRuns
-lists-run s ids trace round result after ids_after coherent rest may are last does memory =
-    let b = does.beside in
-    let opens : MayOpen s b = record { coherent = coherent; laid_down = rest.laid_down; beside = does.stands.fits } in
-    all_rounds s b trace round result.replies does.does.last opens may (simple s ids b round coherent rest are last does.stands) does.does.runs memory
-
-pub steps-on-lists : RoundsInOrderAreOnLists
-steps-on-lists s ids trace round result after ids_after coherent rest may are last does memory =
-    in_order s ids trace round result after ids_after coherent rest.laid_down may does memory (simple s ids does.beside round coherent rest are last does.stands)
 
 -- ---- the ids after them
 

@@ -25,12 +25,8 @@ use Rattle.slub_core.specs.Setup.{cpu_number}
 use Rattle.slub_core.specs.World.{one_if}
 use Rattle.slub_opening.specs.Opening.{cpu_at}
 use Rattle.slub_opening.proofs.Cpus.{cpu-at}
-use Rattle.slub_alone.specs.Alone.{grown}
-use Rattle.slub_alone.specs.Allocs.{changes_of_alloc}
-use Rattle.slub_alone.specs.Frees.{changes_of_held}
-use Rattle.slub_alone.specs.Away.{has_slab_of, has_slab_on}
-use Rattle.slub_alone.proofs.CpuWords.{cpu_here}
-use Rattle.slub_serial.specs.Serial.{grown_where}
+use Rattle.slub_changes.specs.Changes.{grown, changes_of_alloc, changes_of_held, has_slab_of, has_slab_on, grown_where}
+use Rattle.slub_changes.proofs.Numbers.{cpu_here}
 use Rattle.slub_by_text.specs.Raising.{ids_beside, ids_left, ids_raised, with_given, with_step, word_given, word_in}
 
 -- ---- one word

@@ -7,13 +7,13 @@ use Rattle.slub_trace_reader.specs.Grammar.{step_of}
 use Rattle.slub_turns.specs.Means.{the_means}
 use Rattle.slub_journal.specs.Lawful.{DoesRound}
 use Rattle.slub_journal.specs.declared.journal.RoundResult.{RoundResult}
-use Rattle.slub_serial.specs.Serial.{RunsWithIds}
+use Rattle.slub_changes.specs.Events.{RunsWithIds}
 use Rattle.slub_rounds.specs.Rounds.{DoesRoundInOrder, SpendsTurnsInOrder, StandsBeside}
 
 -- ---- on the lists, ids beside them
 
--- after a round in which each event changed each CPU word twice, each transaction id would have room
--- for one change more
+-- after a round in which each event changed each CPU word twice, each transaction id would have
+-- room for one change more
 abbrev pub IdsLast : State → List ℕ → Round → Type 0
 IdsLast s ids round =
     All (λ id. id + (2 * length round.events + 1) * step_of s.cpus < 2 ^ 32) ids

@@ -13,7 +13,7 @@ use Rattle.slub_core.specs.Setup.{cpu_number}
 use Rattle.slub_core.specs.World.{one_if}
 use Rattle.slub_opening.specs.Opening.{Beside}
 use Rattle.slub_into_words.specs.Ids.{id_at}
-use Rattle.slub_serial.specs.Serial.{beside_after}
+use Rattle.slub_changes.specs.Changes.{beside_after}
 use Rattle.slub_turns.specs.Means.{the_means}
 
 -- ---- an event

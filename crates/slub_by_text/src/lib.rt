@@ -2,14 +2,14 @@
 //!
 //! `heap` has the lists of a machine between two rounds and the ids beside them. Without ids a round is done on the
 //! lists, by `slub_engine`. With ids it is done on the lists, too, where every id is far enough from its end (`IdsLast`),
-//! and each event raises the ids of the words that its steps would change (`RunsWithIds` of `slub_serial`); else it is
+//! and each event raises the ids of the words that its steps would change (`RunsWithIds` of `slub_changes`); else it is
 //! done by steps (`slub_rounds`), each event to its end. `specs/ByText.antt` says all three.
 //!
 //! # What it promises
 //!
-//! `Heap::round_by_text` does a round so. `laws`: it is lawful in the words of the text; on the lists beside ids it is a
-//! run of atomic steps that begins at these ids, and what is done by steps where the ids last is what the lists do but
-//! for words that nobody wrote, memory being there for each reply; ids that fit the machine fit it after, too.
+//! `Heap::round_by_text` does a round so. `laws`: it is lawful in the words of the text, and ids that fit the machine fit
+//! it after, too. That what is done on the lists is a run of atomic steps from the same ids, and what is done by steps is
+//! what the lists do, is for `slub_in_text`.
 //!
 //! # How it is proved
 //!

@@ -8,9 +8,7 @@ ghost use Rattle.slub_lists.specs.Coherent.{IsCoherent};
 ghost use Rattle.slub_lists.specs.Free.{is_current, is_freeable};
 ghost use Rattle.slub_core.specs.Setup.{cpu_number};
 ghost use Rattle.slub_core.specs.World.{one_if};
-ghost use Rattle.slub_alone.specs.Away.{has_slab_of, has_slab_on};
-ghost use Rattle.slub_alone.specs.Frees.{changes_of_held};
-ghost use Rattle.slub_serial.specs.Serial.{grown_where};
+ghost use Rattle.slub_changes.specs.Changes.{has_slab_of, has_slab_on, changes_of_held, grown_where};
 ghost use Rattle.slub_engine.specs.Steps.{IsKnownAct};
 ghost use Rattle.slub_by_text.specs.Raising.{HasRoom, HaveRoom, ids_beside, ids_raised, with_given, with_step, word_given};
 

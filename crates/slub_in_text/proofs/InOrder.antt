@@ -17,15 +17,16 @@ use Rattle.slub_core.proofs.Turns.{run_both}
 use Rattle.slub_schedule.specs.Schedule.{is_between}
 use Rattle.slub_calls.specs.Calls.{events_by}
 use Rattle.slub_alone.specs.Alone.{own_pick, alone, worker_at, HasReply}
-use Rattle.slub_alone.specs.Busy.{EndsCall, AreOfOneCall}
+use Rattle.slub_alone.specs.Busy.{AreOfOneCall}
 use Rattle.slub_alone.proofs.Onward.{Grown, rested-grown}
 use Rattle.slub_alone.proofs.Unstepped.{grown-long}
 use Rattle.slub_alone.proofs.TurnsOfOne.{one_call}
+use Rattle.slub_serial.specs.OnTheWay.{ComesInText, IsUnderWay}
 use Rattle.slub_serial.specs.Serial.{IsMade, RunsInText}
 use Rattle.slub_rounds.specs.Doing.{AreUnder, AwaitsEvents, is_through, local_at}
 use Rattle.slub_rounds.specs.InOrder.{AreInOrder, answered}
 use Rattle.slub_rounds.proofs.Doing.{Leads, calls-stay, count, leads, more-other, more-own, order-more, run-more}
-use Rattle.slub_in_text.proofs.Refused.{RefuseNothing}
+use Rattle.slub_in_order.specs.InOrder.{RefuseNothing}
 
 -- ---- the events from one on
 
@@ -67,13 +68,14 @@ busy-false : (b c : Bool) → b ≡ false → (b && c) ≡ false
 busy-false true c is = absurd (false≢true (sym is))
 busy-false false c is = refl
 
-under-one : (m : Setup) (w k : ℕ) (s : System) → EndsCall m s w k → AreUnder m w (answered s w) s (replicate k (own_pick w))
-under-one m w k s one = under-alone m w (answered s w) k s by
+-- it has no reply more before the last of them
+under-busy : (m : Setup) (w k : ℕ) (s : System) → ((j : ℕ) → 1 ≤ j → j < k → (local_at (alone m w j s) w).spot ≢ Between) → AreUnder m w (answered s w) s (replicate k (own_pick w))
+under-busy m w k s busy = under-alone m w (answered s w) k s by
   where
     by : (j : ℕ) → j < k → is_through (answered s w) (local_at (alone m w j s) w) ≡ false
     by zero below = and-false (is_between (local_at s w).spot) (nat_lt (answered s w) (answered s w)) (le-ltb (answered s w) (answered s w) (omega arith))
     by (suc j) below = busy-false (is_between (local_at (alone m w (suc j) s) w).spot) (nat_lt (answered s w) (length (local_at (alone m w (suc j) s) w).done))
-        (in_call (local_at (alone m w (suc j) s) w).spot (one.busy (suc j) (omega arith) below))
+        (in_call (local_at (alone m w (suc j) s) w).spot (busy (suc j) (omega arith) below))
 
 more-replies : (m : Setup) (before after : Local) (call : Call) (reply : Reply) → HasReply m before call reply after → suc (length before.done) ≤ length after.done
 more-replies m before after call reply has =
@@ -159,7 +161,7 @@ module _ (m : Setup) (opening : World) (es : List Event) (calls : Event → Call
       led : Leads m es w s (run m s picks) picks
       unfolding picks
       led = leads m es (k + 1) w (answered s w) s picks there (λ v other. is.between v)
-          (λ v other. omega (arith, other-more v other, is.replies v)) (omega (arith, left-is, more)) (under-one m w (suc last) s one.one)
+          (λ v other. omega (arith, other-more v other, is.replies v)) (omega (arith, left-is, more)) (under-busy m w (suc last) s one.one.busy)
 
       ended : run m s picks ≡ alone m w turns s
       unfolding picks
@@ -199,6 +201,36 @@ module _ (m : Setup) (opening : World) (es : List Event) (calls : Event → Call
     unfolding w
     event-made turns (inl (none, few)) = subst (λ n. Made (k + 1) (alone m event.worker n s)) (sym none) (none-more few)
     event-made turns (inr (more, (reply, has))) = by-turns turns (calls event) reply more has
+
+  -- such turns come to this machine
+  pub record ComesInOrder (here : System) : Type 0 where
+    pub picks : List Pick
+    pub in_order : AreInOrder m es first picks
+    pub kept : RefuseNothing picks
+    pub run_is : here ≡ run m first picks
+
+  -- and turns more of the worker of the next event
+  goes-on : (k : ℕ) (s : System) (event : Event) (events : List Event) (turns : ℕ) → Made k s → drop k es ≡ event ∷ events → event.worker < workers → IsUnderWay m s event.worker (count event.worker events) turns → ComesInOrder (alone m event.worker turns s)
+  unfolding w
+  goes-on k s event events turns is here inside under =
+      let v = event.worker in
+      let picks = replicate turns (own_pick v) in
+      let led : Leads m es v s (run m s picks) picks = leads m es (k + 1) v (answered s v) s picks (there k s event events is here inside) (λ v other. is.between v)
+      (λ u other. omega (arith, other-more k s event events is here inside u other, is.replies u)) (omega (arith, left-is k s event events is here inside, under.more)) (under-busy m v turns s (λ j some few. under.busy j some (omega (arith, few)))) in
+      record {
+        picks = is.picks ++ picks;
+        in_order = order-more m es first is.picks picks is.in_order (subst (λ (t : System). AreInOrder m es t picks) is.run_is led.in_order);
+        kept = All-append (λ (p : Pick). p.refused ≡ false) is.picks picks is.kept (nothing turns v);
+        run_is = ap (λ (t : System). run m t picks) is.run_is ∙ sym (run-more m first is.picks picks);
+      }
+
+  pub comes-in-order : (events : List Event) (k : ℕ) (s here : System) → drop k es ≡ events → All (λ (e : Event). e.worker < workers) events → ComesInText m calls events s here → Made k s → ComesInOrder here
+  comes-in-order [] k s here left inside comes is = absurd comes
+  comes-in-order (event ∷ events) k s here left inside (inl (turns, under, at)) is =
+      subst ComesInOrder (sym at) (goes-on k s event events turns is left (All-head (λ (e : Event). e.worker < workers) event events inside) under)
+  comes-in-order (event ∷ events) k s here left inside (inr (turns, made, rest)) is =
+      comes-in-order events (k + 1) (alone m event.worker turns s) here (drop-next es k event event events left).2 (All-tail (λ (e : Event). e.worker < workers) event events inside) rest
+      (event-made k s event events is left (All-head (λ (e : Event). e.worker < workers) event events inside) turns made)
 
   pub all-made : (events : List Event) (k : ℕ) (s last : System) → drop k es ≡ events → All (λ (e : Event). e.worker < workers) events → RunsInText m calls events s last → Made k s → (n : ℕ) × Made n last
   all-made [] k s last here inside runs is = (k, subst (Made k) (sym runs) is)

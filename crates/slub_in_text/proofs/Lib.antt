@@ -1,5 +1,6 @@
-pub mod Refused
-pub mod SameEnd
 pub mod InOrder
+pub mod NeverFall
 pub mod Whole
 pub mod Rounds
+pub mod Simple
+pub mod OnLists

@@ -1,20 +1,25 @@
 -- A round by steps in the order of the text gives what its events give on plain lists.
-use Rattle.std.specs.Prelude.{◌≡◌, ◌≢◌, ℕ, true, false, List, reverse, Some, All}
+use Rattle.std.specs.Prelude.{◌≡◌, ◌≢◌, ℕ, ◌+◌, ◌*◌, ◌^◌, ◌<◌, true, false, List, reverse, Some, None, IsSome, All}
 use Rattle.slub_events.specs.declared.event.Round.{Round}
 use Rattle.slub_answers.specs.Kinds.{is_no_memory}
 use Rattle.slub_trace_reader.specs.declared.trace.Trace.{Trace}
+use Rattle.slub_trace_reader.specs.Grammar.{step_of}
 use Rattle.slub_trace_reader.specs.Sound.{allocated, is_written}
 use Rattle.slub_lists.specs.declared.lists.Held.{Held}
 use Rattle.slub_lists.specs.State.{State}
+use Rattle.slub_lists.specs.Alloc.{cache_of, checked_of}
 use Rattle.slub_lists.specs.Coherent.{IsCoherent, held_under}
-use Rattle.slub_opening.specs.Opening.{Beside, IsLaidDown}
+use Rattle.slub_core.specs.Setup.{cpu_number}
+use Rattle.slub_opening.specs.Opening.{Beside}
 use Rattle.slub_calls.specs.Laws.{MayDo}
-use Rattle.slub_journal.specs.Lawful.{DoesRound}
+use Rattle.slub_journal.specs.Lawful.{DoesRound, IsAtRest}
 use Rattle.slub_journal.specs.declared.journal.RoundResult.{RoundResult}
 use Rattle.slub_alone.specs.Alone.{HasWord}
-use Rattle.slub_serial.specs.Serial.{RunsWithIds}
-use Rattle.slub_serial.specs.Laws.{IsSimple}
+use Rattle.slub_changes.specs.Events.{RunsWithIds}
 use Rattle.slub_rounds.specs.Rounds.{DoesRoundInOrder}
+use Rattle.slub_into_words.specs.Ids.{AreIds, id_at}
+use Rattle.slub_serial.specs.Only.{RunsAs}
+use Rattle.slub_by_text.specs.ByText.{IdsLast, DoesRoundOnLists}
 
 -- the round is one on plain lists, with the same replies, damages and ledgers, and leaves the same
 -- lists but for words of frames. The words of an object that it didn't allocate are the same too,
@@ -36,17 +41,31 @@ pub record IsRoundOnLists (s : State) (b : Beside) (round : Round) (result : Rou
   pub ids : RunsWithIds s b round.events result.replies does.last beside
   pub ids_are : ids_after ≡ beside.tids
 
+-- no transaction id of an unchecked cache's word on one of the CPUs is spent
+abbrev pub SpendsNone : State → List ℕ → Type 0
+SpendsNone s ids =
+    (cache cpu : ℕ) → cpu < s.cpus → IsSome (cache_of s cache) → checked_of s cache ≡ None
+    → id_at ids (cpu_number cache cpu) + 2 * step_of s.cpus < 2 ^ 32
+
 -- what a round in the order of the text does by steps, each event to its end before the next one
--- begins, it does on plain lists, where memory was there for each. The rounds are those by which no
--- transaction id would be spent, were each allocation to change its CPU word twice, each free and
--- each flush every word of its CPU once, and each trim every word of its cache once; and nothing is
--- noted as freed in an earlier round
+-- begins, it does on plain lists, where memory was there for each reply, and no id is spent after
 abbrev pub RoundsInOrderAreThoseOfLists : Type 0
 RoundsInOrderAreThoseOfLists =
     (s : State) (ids : List ℕ) (trace : Trace) (round : Round) (result : RoundResult)
-    (after : State) (ids_after : List ℕ)
-    → IsCoherent s → IsLaidDown s → MayDo s trace round
+    (after : State) (ids_after : List ℕ) → IsCoherent s → IsAtRest s → MayDo s trace round
     → (does : DoesRoundInOrder s ids round result after ids_after)
-    → All (λ reply. is_no_memory reply ≡ false) result.replies
-    → IsSimple s does.beside round.events
+    → All (λ reply. is_no_memory reply ≡ false) result.replies → SpendsNone s ids_after
     → IsRoundOnLists s does.beside round result after ids_after
+
+-- what is done on the lists, ids beside them, the workers do by steps that begin at these ids, each
+-- event to its end: they are answered the same, and come to rest in the same lists, but for words
+-- that nobody wrote, and in the same ids. Memory is there for each reply
+abbrev pub RoundsOnListsAreRuns : Type 0
+RoundsOnListsAreRuns =
+    (s : State) (ids : List ℕ) (trace : Trace) (round : Round) (result : RoundResult)
+    (after : State) (ids_after : List ℕ)
+    → IsCoherent s → IsAtRest s → MayDo s trace round → AreIds s ids → IdsLast s ids round
+    → (does : DoesRoundOnLists s ids round result after ids_after)
+    → All (λ reply. is_no_memory reply ≡ false) result.replies
+    → (left : Beside) × RunsAs s does.beside round result.replies does.does.last left
+    × (ids_after ≡ left.tids)

@@ -8,16 +8,19 @@
 //!
 //! # What it promises
 //!
-//! `rounds_in_order_are_those_of_lists`: of rounds in which no transaction id comes to its end, and where no reply is
-//! that memory was lacking.
+//! `laws::rounds_in_order_are_those_of_lists`: of rounds where no reply is that memory was lacking, and after which no
+//! transaction id of an unchecked cache is spent. `laws::rounds_on_lists_are_runs`: what is done on the lists, ids
+//! beside them, where they last and memory is there for each reply, is such a run of steps, ids included.
 //!
 //! # How it is proved
 //!
 //! A turn that is refused memory is the same as one that isn't, or its call has the reply that memory was lacking
-//! (`proofs/Refused.antt`). The turns by which the events are made one after the other are in the order of the text
+//! (`slub_in_order`). The turns by which the events are made one after the other are in the order of the text
 //! (`proofs/InOrder.antt`): between its first turn and its last one a worker is in its call. Two runs in this order that
-//! end with every worker finished lead to one machine (`proofs/SameEnd.antt`), which rests in the lists of the events;
-//! and what it rests in is the same lists but for words of frames (`proofs/Whole.antt`).
+//! end with every worker finished lead to one machine (`slub_in_order`), which rests in the lists of the events; and what
+//! it rests in is the same lists but for words of frames (`proofs/Whole.antt`). Where an id were spent before the last
+//! event has its reply, the run would go by that machine (`slub_in_order` again), and the id would be spent after the
+//! round, since no turn makes one fall (`proofs/NeverFall.antt`).
 #![tactic(auto)]
 
 pub mod laws;

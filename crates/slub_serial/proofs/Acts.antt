@@ -1,6 +1,6 @@
 -- Each act in the middle of a round: its turns, its answer on the lists, and what it leaves.
-use Rattle.std.proofs.Common.{◌≡◌, ◌≢◌, ℕ, ◌+◌, ◌*◌, ◌/◌, ◌%◌, ◌^◌, ◌<◌, ◌≤◌, ◌&&◌, ◌==◌, Bool, true, false, List, ◌∷◌, length, get_or, set, Option, Some, None, All, MatchOption, refl, ap, sym, ◌∙◌, subst, arith, inl, inr}
-use Rattle.std.specs.Prelude.{IfSome, IsSome, cond, if◌then◌else◌, is_some}
+use Rattle.std.proofs.Common.{◌≡◌, ◌≢◌, ℕ, ◌+◌, ◌/◌, ◌%◌, ◌<◌, ◌≤◌, ◌&&◌, ◌==◌, Bool, true, false, List, ◌∷◌, length, get_or, set, Option, Some, None, All, MatchOption, refl, ap, sym, ◌∙◌, subst, arith, inl, inr}
+use Rattle.std.specs.Prelude.{IfSome, cond, if◌then◌else◌, is_some}
 use Rattle.std.specs.Option.{option_and_then, option_map_or}
 use Rattle.std.proofs.lemmas.Bool.{cases_eq, eq-eqb, false≢true}
 use Rattle.std.proofs.lemmas.List.Elements.{All-head, All-tail}
@@ -29,17 +29,17 @@ use Rattle.slub_core.specs.Run.{System}
 use Rattle.slub_core.specs.Setup.{Setup, cpu_number}
 use Rattle.slub_core.specs.Steps.{told_of_alloc, told_of_use}
 use Rattle.slub_core.specs.World.{World, one_if}
-use Rattle.slub_opening.specs.Opening.{Beside, setup_of, tid_of}
+use Rattle.slub_opening.specs.Opening.{Beside, setup_of}
 use Rattle.slub_calls.specs.Calls.{cache_named}
-use Rattle.slub_alone.specs.Allocs.{AllocatesSome, changes_of_alloc}
-use Rattle.slub_alone.specs.Alone.{worker_at, known_after, known_at, known_under, grown, HasWord, IsNext}
+use Rattle.slub_alone.specs.Allocs.{AllocatesSome}
+use Rattle.slub_alone.specs.Alone.{worker_at, known_after, known_at, known_under, HasWord, IsNext}
 use Rattle.slub_alone.specs.Laws.{AllocatesAlone, FreesAlone, WritesAlone, may_free}
-use Rattle.slub_alone.specs.Calls.{AllAllocationsAreThoseOfLists, AllFreesAreThoseOfLists, HasIdsFor, turns_of_use}
-use Rattle.slub_alone.specs.Frees.{FreesSome, HasOwnNumber, changes_of_free, changes_of_held, word_of_free}
+use Rattle.slub_alone.specs.Calls.{AllAllocationsAreThoseOfLists, AllFreesAreThoseOfLists, HasIdsFor, IsAllocOf, turns_of_use}
+use Rattle.slub_alone.specs.Frees.{FreesSome, HasOwnNumber}
 use Rattle.slub_alone.proofs.Start.{starts}
 use Rattle.slub_alone.proofs.AnyCall.{all_read, all_written}
-use Rattle.slub_serial.specs.Serial.{beside_after, call_of, changes_of, is_of_cache, most_changes, IsSameWritten}
-use Rattle.slub_serial.proofs.Ids.{grows-by, has-ids, of-cache, of-cpu}
+use Rattle.slub_serial.specs.Serial.{call_of, IsSameWritten}
+use Rattle.slub_serial.proofs.Ids.{of-cache, of-cpu}
 use Rattle.slub_serial.proofs.Gone.{alloc-noted, free-noted}
 use Rattle.slub_serial.proofs.Knowing.{alloc-known, free-known}
 use Rattle.slub_serial.proofs.Memory.{IsFreed, IsMoved, alloc-over, free-over, over}
@@ -49,13 +49,16 @@ use Rattle.slub_serial.proofs.Stores.{WritesBoth, held-own, reads-over, writes-o
 use Rattle.slub_serial.proofs.Uses.{IsUse, known, reads-outside, reads-unheld, use_of, writes-outside, writes-unheld}
 use Rattle.slub_serial.proofs.Uses.IsUse.{unheld, outside, steps}
 use Rattle.slub_serial.proofs.Written.{both-set, carried, layout-same, relaid, written-alloc, written-more}
+use Rattle.slub_changes.specs.Changes.{changes_before_giving, changes_of_alloc, grown, changes_of_free, changes_of_held, word_of_free, beside_after}
+use Rattle.slub_changes.specs.Events.{changes_of, is_of_cache, most_changes}
+use Rattle.slub_changes.proofs.Grown.{grows-by}
 
 -- an event of its parts
 abbrev pub event_of : ℕ → ℕ → ℕ → Act → Event
 event_of line worker cpu a = record { line = line; worker = worker; cpu = cpu; act = a }
 
 -- an allocation changes a CPU word twice at most, and a free once
-one-most : (b : Bool) → one_if b ≤ 1
+pub one-most : (b : Bool) → one_if b ≤ 1
 one-most true = omega arith
 one-most false = omega arith
 
@@ -80,10 +83,6 @@ one-held s o p h k e is that = same (sym is ∙ ap (held_under s) e ∙ that)
     same : {x y : Held} → Some x ≡ Some y → x ≡ y
     same e = cc
 
--- the ids of the unchecked caches' words are enough for so many changes of each
-abbrev pub AreEnough : State → Beside → (ℕ → ℕ) → Type 0
-AreEnough s b most = (cache cpu : ℕ) → cpu < s.cpus → IsSome (cache_of s cache) → checked_of s cache ≡ None → tid_of b (cpu_number cache cpu) + (most (cpu_number cache cpu) + 1) * b.step < 2 ^ 32
-
 -- an event that doesn't allocate the object is no allocation under its number
 not-allocated : (object o : ℕ) → Some object ≢ Some o → o ≢ object
 not-allocated object o apart e = apart (ap Some (sym e))
@@ -102,10 +101,10 @@ module _ (s0 : State) (b0 : Beside) (round : Round) (opening : World) (line work
   number : (worker_at system worker).worker ≡ worker
   number = numbered s0 b0 round opening event events past told s t d system is below worker (there s0 b0 round opening event events past told s t d system is below)
 
-  plain-first : (cache : ℕ) → checked_of t cache ≡ None → checked_of s0 cache ≡ None
+  pub plain-first : (cache : ℕ) → checked_of t cache ≡ None → checked_of s0 cache ≡ None
   plain-first cache plain = none-there (checked_of s0 cache) (ap (λ (m : Setup). m.checks cache) (sym is.setup) ∙ ap is_some plain)
 
-  lives-first : (cache : ℕ) → is_some (cache_of t cache) ≡ true → is_some (cache_of s0 cache) ≡ true
+  pub lives-first : (cache : ℕ) → is_some (cache_of t cache) ≡ true → is_some (cache_of s0 cache) ≡ true
   lives-first cache lives = ap (λ (m : Setup). m.lives cache) (sym is.setup) ∙ lives
 
   -- its CPU is one of the machine's
@@ -121,8 +120,8 @@ module _ (s0 : State) (b0 : Beside) (round : Round) (opening : World) (line work
 
 -- ---- an allocation
 
-module _ (alloc : AllAllocationsAreThoseOfLists) (s0 : State) (b0 : Beside) (round : Round) (opening : World) (line worker cpu place object : ℕ) (events past : List Event) (told : ℕ → List Reply) (s t : State) (d : Beside) (system : System)
-    (is : IsInText s0 b0 round opening (event_of line worker cpu (act.Alloc place object) ∷ events) past told s t d system) (below : worker < round.workers) (most : ℕ → ℕ) (few : (n : ℕ) → changes_of s0.table past n + most_changes s0.table n cpu (act.Alloc place object) ≤ most n) (ids : AreEnough s0 b0 most) where
+module _ (s0 : State) (b0 : Beside) (round : Round) (opening : World) (line worker cpu place object : ℕ) (events past : List Event) (told : ℕ → List Reply) (s t : State) (d : Beside) (system : System)
+    (is : IsInText s0 b0 round opening (event_of line worker cpu (act.Alloc place object) ∷ events) past told s t d system) (below : worker < round.workers) where
   abbrev allocs : Event
   allocs = event_of line worker cpu (act.Alloc place object)
 
@@ -138,35 +137,42 @@ module _ (alloc : AllAllocationsAreThoseOfLists) (s0 : State) (b0 : Beside) (rou
           (sym (ap (λ (table : Table). cache_named table place) (table-same s0 b0 round opening allocs events past told s t d system is below) ∙ none)) (refl, refl)
 
   module _ (cache : ℕ) (live : cache_named s0.table place ≡ Some cache) where
-    next : IsNext system worker (call_of s0.table round allocs)
-    next = comes-next s0 b0 round opening allocs events past told s t d system is below (ap told_of_alloc live)
+    pub next-alloc : IsNext system worker (call_of s0.table round allocs)
+    next-alloc = comes-next s0 b0 round opening allocs events past told s t d system is below (ap told_of_alloc live)
 
+    pub cpus-alloc : (cpu < s0.cpus) × (cpu < 16)
+    cpus-alloc = cpu-below s0 b0 round opening line worker cpu (act.Alloc place object) events past told s t d system is below next-alloc refl
+
+    pub lives-alloc : is_some (cache_of s0 cache) ≡ true
+    lives-alloc = lives-first s0 b0 round opening line worker cpu (act.Alloc place object) events past told s t d system is below cache (subst (λ o. IfSome o (λ k. is_some (cache_of t k) ≡ true)) live (starts opening t d system worker (call_of s0.table round allocs) is.rest next-alloc).may.cache)
+
+    pub twice : most_changes s0.table (cpu_number cache cpu) cpu (act.Alloc place object) ≡ 2
+    twice =
+        let word = cpu_number cache cpu in
+        ap (λ b. if b && is_of_cache word (cache_named s0.table place) then 2 else 0) (eq-eqb (word % 16) cpu (of-cpu cache cpu cpus-alloc.1))
+        ∙ ap (λ o. if is_of_cache word o then 2 else 0) live
+        ∙ ap (λ b. if b then 2 else 0) (eq-eqb (word / 16) cache (of-cache cache cpu cpus-alloc.1))
+
+    pub is-alloc : IsAllocOf t (call_of s0.table round allocs) place cache
+    is-alloc = record { kind = refl; named = names s0 b0 round opening line worker cpu (act.Alloc place object) events past told s t d system is below place ∙ live; asks = live }
+
+module _ (alloc : AllAllocationsAreThoseOfLists) (s0 : State) (b0 : Beside) (round : Round) (opening : World) (line worker cpu place object : ℕ) (events past : List Event) (told : ℕ → List Reply) (s t : State) (d : Beside) (system : System)
+    (is : IsInText s0 b0 round opening (event_of line worker cpu (act.Alloc place object) ∷ events) past told s t d system) (below : worker < round.workers) (enough : (cache : ℕ) → cache_named s0.table place ≡ Some cache → HasIdsFor t d cache cpu (1 + changes_before_giving t cache cpu)) where
+  module _ (cache : ℕ) (live : cache_named s0.table place ≡ Some cache) where
     abbrev word : ℕ
     word = cpu_number cache cpu
 
-    cpus : (cpu < s0.cpus) × (cpu < 16)
-    cpus = cpu-below s0 b0 round opening line worker cpu (act.Alloc place object) events past told s t d system is below next refl
+    abbrev makes : Event
+    makes = event_of line worker cpu (act.Alloc place object)
 
-    lives : is_some (cache_of s0 cache) ≡ true
-    lives = lives-first s0 b0 round opening line worker cpu (act.Alloc place object) events past told s t d system is below cache (subst (λ o. IfSome o (λ k. is_some (cache_of t k) ≡ true)) live (starts opening t d system worker (call_of s0.table round allocs) is.rest next).may.cache)
+    next : IsNext system worker (call_of s0.table round makes)
+    next = next-alloc s0 b0 round opening line worker cpu place object events past told s t d system is below cache live
 
-    twice : most_changes s0.table word cpu (act.Alloc place object) ≡ 2
-    twice =
-        ap (λ b. if b && is_of_cache word (cache_named s0.table place) then 2 else 0) (eq-eqb (word % 16) cpu (of-cpu cache cpu cpus.1))
-        ∙ ap (λ o. if is_of_cache word o then 2 else 0) live
-        ∙ ap (λ b. if b then 2 else 0) (eq-eqb (word / 16) cache (of-cache cache cpu cpus.1))
+    taken : AllocatesSome opening t d system worker (call_of s0.table round makes) place cache
+    taken = alloc opening t d system worker (call_of s0.table round makes) place cache is.rest next
+        (is-alloc s0 b0 round opening line worker cpu place object events past told s t d system is below cache live) (enough cache live)
 
-    enough : HasIdsFor t d cache cpu 2
-    enough unchecked =
-        has-ids (changes_of s0.table past) most 2 word (2 ^ 32) b0 d is.grown (let fits = few word in omega (arith, fits, twice))
-        (ids cache cpu cpus.0 lives (plain-first s0 b0 round opening line worker cpu (act.Alloc place object) events past told s t d system is below cache unchecked))
-
-    taken : AllocatesSome opening t d system worker (call_of s0.table round allocs) place cache
-    taken = alloc opening t d system worker (call_of s0.table round allocs) place cache is.rest next
-        (record { kind = refl; named = names s0 b0 round opening line worker cpu (act.Alloc place object) events past told s t d system is below place ∙ live; asks = live })
-        enough
-
-    abbrev got : AllocatesAlone opening t d system worker (call_of s0.table round allocs) place (1 + taken.turns) (grown d word (changes_of_alloc t cache cpu taken.given))
+    abbrev got : AllocatesAlone opening t d system worker (call_of s0.table round makes) place (1 + taken.turns) (grown d word (changes_of_alloc t cache cpu taken.given))
     got = taken.allocates
 
     moved : AllocatesNamed s place cpu worker object got.reply (over s.memory got.after) × IsMoved s t.memory object got.after
@@ -183,12 +189,12 @@ module _ (alloc : AllAllocationsAreThoseOfLists) (s0 : State) (b0 : Beside) (rou
         carried s t (over s.memory got.after) got.given held at (layout-same s got.after moved.1.table held.cache) (plain-before held.cache)
         (λ unchecked inside old. got.words.words o at held apart under unchecked inside ∙ ap (λ memory. get_or memory (word_at (layout_at got.after held.cache) held at) 0) moved.1.memory_is ∙ old)
 
-    given-old : (o at : ℕ) (held : Held) → held_under got.after o ≡ Some held → All (λ (event : Event). allocated event.act ≢ Some o) (allocs ∷ past) → HasWord (over s.memory got.after) got.given held at
+    given-old : (o at : ℕ) (held : Held) → held_under got.after o ≡ Some held → All (λ (event : Event). allocated event.act ≢ Some o) (makes ∷ past) → HasWord (over s.memory got.after) got.given held at
     given-old o at held under none =
-        let apart = not-allocated object o (All-head (λ (event : Event). allocated event.act ≢ Some o) allocs past none) in
-        given-word o at held apart under (is.same.old o at held (sym (moved.1.others o apart) ∙ under) (All-tail (λ (event : Event). allocated event.act ≢ Some o) allocs past none))
+        let apart = not-allocated object o (All-head (λ (event : Event). allocated event.act ≢ Some o) makes past none) in
+        given-word o at held apart under (is.same.old o at held (sym (moved.1.others o apart) ∙ under) (All-tail (λ (event : Event). allocated event.act ≢ Some o) makes past none))
 
-    given-words : (w o at : ℕ) (held : Held) → held_under got.after o ≡ Some held → held.worker ≡ Some w → is_written (allocs ∷ past) w o at ≡ true → HasWord (over s.memory got.after) got.given held at
+    given-words : (w o at : ℕ) (held : Held) → held_under got.after o ≡ Some held → held.worker ≡ Some w → is_written (makes ∷ past) w o at ≡ true → HasWord (over s.memory got.after) got.given held at
     given-words w o at held under its written =
         let u = written-alloc object o (is_written past w o at) written in
         given-word o at held u.0 under (is.same.words w o at held (sym (moved.1.others o u.0) ∙ under) its u.1)
@@ -197,10 +203,10 @@ module _ (alloc : AllAllocationsAreThoseOfLists) (s0 : State) (b0 : Beside) (rou
     exact-alloc =
         ap (λ (t : State). grown d word (changes_of_alloc t cache cpu taken.given)) is.same.lists
         ∙ ap (λ given. grown d word (changes_of_alloc s cache cpu given)) (sym taken.gives)
-        ∙ sym (ap (λ o. option_map_or (λ cache. grown d (cpu_number cache cpu) (changes_of_alloc s cache cpu (is_given got.reply))) o d) (ap (λ (table : Table). cache_named table place) (table-same s0 b0 round opening allocs events past told s t d system is below) ∙ live))
+        ∙ sym (ap (λ o. option_map_or (λ cache. grown d (cpu_number cache cpu) (changes_of_alloc s cache cpu (is_given got.reply))) o d) (ap (λ (table : Table). cache_named table place) (table-same s0 b0 round opening makes events past told s t d system is below) ∙ live))
 
-    answered-alloc : Stepped s0 b0 round opening allocs events past told s d system
-    answered-alloc = by_turns s0 b0 round opening allocs events past told s t d system is below (ap told_of_alloc live) (1 + taken.turns) got.reply got.given (grown d word (changes_of_alloc t cache cpu taken.given)) got.replies
+    answered-alloc : Stepped s0 b0 round opening makes events past told s d system
+    answered-alloc = by_turns s0 b0 round opening makes events past told s t d system is below (ap told_of_alloc live) (1 + taken.turns) got.reply got.given (grown d word (changes_of_alloc t cache cpu taken.given)) got.replies
         (over s.memory got.after) moved.0 (alloc-memory got.reply taken.given taken.gives taken.lacks)
         (record {
           lists = got.words.lists;
@@ -208,54 +214,56 @@ module _ (alloc : AllAllocationsAreThoseOfLists) (s0 : State) (b0 : Beside) (rou
           old = given-old;
           words = given-words;
         })
-        (ap (λ (t : State). t.table) got.words.lists ∙ moved.1.table ∙ table-same s0 b0 round opening allocs events past told s t d system is below)
-        (grows-by (changes_of s0.table past) (changes_of s0.table (allocs ∷ past)) (changes_of_alloc t cache cpu taken.given) word b0 d (λ n. let more = more-grown s0 b0 round opening allocs events past told s t d system is below n in omega (arith, more))
-        (let most = few-given t cache cpu taken.given in let more = more-grown s0 b0 round opening allocs events past told s t d system is below word in omega (arith, most, more, twice)) is.grown)
+        (ap (λ (t : State). t.table) got.words.lists ∙ moved.1.table ∙ table-same s0 b0 round opening makes events past told s t d system is below)
+        (grows-by (changes_of s0.table past) (changes_of s0.table (makes ∷ past)) (changes_of_alloc t cache cpu taken.given) word b0 d (λ n. let more = more-grown s0 b0 round opening makes events past told s t d system is below n in omega (arith, more))
+        (let most = few-given t cache cpu taken.given in let more = more-grown s0 b0 round opening makes events past told s t d system is below word in let two = twice s0 b0 round opening line worker cpu place object events past told s t d system is below cache live in omega (arith, most, more, two)) is.grown)
         exact-alloc
-        (cond (is_given got.reply) (set (worker_at system worker).known (call_of s0.table round allocs).place (known_under got.after object)) (worker_at system worker).known) got.known
-        (λ last others rooms known. alloc-known round.workers allocs events s (over s.memory got.after) system last worker below is.known others (call_of s0.table round allocs).place object
-        ((starts opening t d system worker (call_of s0.table round allocs) is.rest next).may.place refl) (own-place s0 b0 round opening allocs events past told s t d system is below object) rooms refl
+        (cond (is_given got.reply) (set (worker_at system worker).known (call_of s0.table round makes).place (known_under got.after object)) (worker_at system worker).known) got.known
+        (λ last others rooms known. alloc-known round.workers makes events s (over s.memory got.after) system last worker below is.known others (call_of s0.table round makes).place object
+        ((starts opening t d system worker (call_of s0.table round makes) is.rest next).may.place refl) (own-place s0 b0 round opening makes events past told s t d system is below object) rooms refl
         (alloc-noted s place cpu worker object got.reply (over s.memory got.after) moved.0) moved.1.others (is_given got.reply) known)
 
-  pub alloc_steps : Stepped s0 b0 round opening allocs events past told s d system
+  pub alloc_steps : Stepped s0 b0 round opening (event_of line worker cpu (act.Alloc place object)) events past told s d system
   alloc_steps = by (cache_named s0.table place) refl
     where
-      by : (o : Option ℕ) → cache_named s0.table place ≡ o → Stepped s0 b0 round opening allocs events past told s d system
-      by None e = no-cache e
+      by : (o : Option ℕ) → cache_named s0.table place ≡ o → Stepped s0 b0 round opening (event_of line worker cpu (act.Alloc place object)) events past told s d system
+      by None e = no-cache s0 b0 round opening line worker cpu place object events past told s t d system is below e
       by (Some cache) e = answered-alloc cache e
 
 -- ---- a free
 
+module _ (s0 : State) (b0 : Beside) (round : Round) (opening : World) (line worker cpu object : ℕ) (events past : List Event) (told : ℕ → List Reply) (s t : State) (d : Beside) (system : System)
+    (is : IsInText s0 b0 round opening (event_of line worker cpu (act.Free object) ∷ events) past told s t d system) (below : worker < round.workers) where
+  pub next-free : IsNext system worker (call_of s0.table round (event_of line worker cpu (act.Free object)))
+  next-free = comes-next s0 b0 round opening (event_of line worker cpu (act.Free object)) events past told s t d system is below refl
+
+  pub cpus-free : (cpu < s0.cpus) × (cpu < 16)
+  cpus-free = cpu-below s0 b0 round opening line worker cpu (act.Free object) events past told s t d system is below next-free refl
+
+  pub lives-free : (held : Held) → held_under t object ≡ Some held → is_some (cache_of s0 held.cache) ≡ true
+  lives-free held found = lives-first s0 b0 round opening line worker cpu (act.Free object) events past told s t d system is below held.cache (held-cache t held (record { object = object; here = found }) is.rest.lists)
+
+  pub once : (cache : ℕ) → most_changes s0.table (cpu_number cache cpu) cpu (act.Free object) ≡ 1
+  once cache = ap (λ b. if b then 1 else 0) (eq-eqb (cpu_number cache cpu % 16) cpu (of-cpu cache cpu cpus-free.1))
+
 module _ (free : AllFreesAreThoseOfLists) (s0 : State) (b0 : Beside) (round : Round) (opening : World) (line worker cpu object : ℕ) (events past : List Event) (told : ℕ → List Reply) (s t : State) (d : Beside) (system : System)
-    (is : IsInText s0 b0 round opening (event_of line worker cpu (act.Free object) ∷ events) past told s t d system) (below : worker < round.workers) (most : ℕ → ℕ) (few : (n : ℕ) → changes_of s0.table past n + most_changes s0.table n cpu (act.Free object) ≤ most n) (ids : AreEnough s0 b0 most) where
+    (is : IsInText s0 b0 round opening (event_of line worker cpu (act.Free object) ∷ events) past told s t d system) (below : worker < round.workers) (enough : (held : Held) → held_under t object ≡ Some held → HasIdsFor t d held.cache cpu 1) where
   abbrev frees : Event
   frees = event_of line worker cpu (act.Free object)
 
-  next-free : IsNext system worker (call_of s0.table round frees)
-  next-free = comes-next s0 b0 round opening frees events past told s t d system is below refl
-
-  cpus-free : (cpu < s0.cpus) × (cpu < 16)
-  cpus-free = cpu-below s0 b0 round opening line worker cpu (act.Free object) events past told s t d system is below next-free refl
-
-  once : (cache : ℕ) → most_changes s0.table (cpu_number cache cpu) cpu (act.Free object) ≡ 1
-  once cache = ap (λ b. if b then 1 else 0) (eq-eqb (cpu_number cache cpu % 16) cpu (of-cpu cache cpu cpus-free.1))
+  its-next : IsNext system worker (call_of s0.table round frees)
+  its-next = next-free s0 b0 round opening line worker cpu object events past told s t d system is below
 
   some-of : (o : Option Held) → (P : Held → Type 0) → ((held : Held) → o ≡ Some held → P held) → IfSome o P
   some-of None P each = tt
   some-of (Some held) P each = each held refl
-
-  enough-free : (held : Held) → held_under t object ≡ Some held → HasIdsFor t d held.cache cpu 1
-  enough-free held found unchecked =
-      let word = cpu_number held.cache cpu in
-      has-ids (changes_of s0.table past) most 1 word (2 ^ 32) b0 d is.grown (let fits = few word in let one = once held.cache in omega (arith, fits, one))
-      (ids held.cache cpu cpus-free.0 (lives-first s0 b0 round opening line worker cpu (act.Free object) events past told s t d system is below held.cache (held-cache t held (record { object = object; here = found }) is.rest.lists)) (plain-first s0 b0 round opening line worker cpu (act.Free object) events past told s t d system is below held.cache unchecked))
 
   -- each worker has its own number
   own-number : HasOwnNumber system worker
   own-number other inside same = sym (numbered s0 b0 round opening frees events past told s t d system is below other inside) ∙ same ∙ number s0 b0 round opening line worker cpu (act.Free object) events past told s t d system is below
 
   let-go : FreesSome opening t d system worker (call_of s0.table round frees)
-  let-go = free opening t d system worker (call_of s0.table round frees) is.rest next-free own-number refl (some-of (held_under t object) (λ held. HasIdsFor t d held.cache cpu 1) enough-free)
+  let-go = free opening t d system worker (call_of s0.table round frees) is.rest its-next own-number refl (some-of (held_under t object) (λ held. HasIdsFor t d held.cache cpu 1) enough)
 
   abbrev word-free : ℕ
   word-free = word_of_free t cpu object
@@ -269,7 +277,7 @@ module _ (free : AllFreesAreThoseOfLists) (s0 : State) (b0 : Beside) (round : Ro
     where
       by : (o : Option Held) → option_map_or (changes_of_held t cpu (worker_at system worker).worker) o 0 ≤ most_changes s0.table (option_map_or (λ (held : Held). cpu_number held.cache cpu) o 0) cpu (act.Free object)
       by None = omega arith
-      by (Some held) = let one = once held.cache in let few_of = few-freed t cpu (worker_at system worker).worker held in omega (arith, one, few_of)
+      by (Some held) = let one = once s0 b0 round opening line worker cpu object events past told s t d system is below held.cache in let few_of = few-freed t cpu (worker_at system worker).worker held in omega (arith, one, few_of)
 
   abbrev gone : FreesAlone opening t d system worker (call_of s0.table round frees) (1 + let-go.turns) (grown d word-free changes-free)
   gone = let-go.frees
@@ -317,7 +325,7 @@ module _ (free : AllFreesAreThoseOfLists) (s0 : State) (b0 : Beside) (round : Ro
       exact-free
       (cond (may_free s worker object) (set (worker_at system worker).known (call_of s0.table round frees).place (record (known_under s object) { held = is_some (held_under gone.after object) })) (worker_at system worker).known) known-free
       (λ last others rooms known. free-known round.workers frees events s (over s.memory gone.after) system last worker below is.known others (call_of s0.table round frees).place object
-      ((starts opening t d system worker (call_of s0.table round frees) is.rest next-free).may.place refl) (own-place s0 b0 round opening frees events past told s t d system is below object) rooms
+      ((starts opening t d system worker (call_of s0.table round frees) is.rest its-next).may.place refl) (own-place s0 b0 round opening frees events past told s t d system is below object) rooms
       (consistent-of s (same-coherent past s t is.same is.rest.lists)) known (free-noted s cpu worker object gone.reply (over s.memory gone.after) freed.0))
 
 -- ---- a read

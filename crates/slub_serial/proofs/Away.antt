@@ -32,11 +32,11 @@ use Rattle.slub_core.specs.World.{World}
 use Rattle.slub_opening.specs.Opening.{Beside, cpu_at, plain_caches, setup_of}
 use Rattle.slub_calls.specs.Calls.{cache_named}
 use Rattle.slub_alone.specs.Alone.{worker_at, HasWord}
-use Rattle.slub_alone.specs.Away.{AreChangedOnce, FlushesAlone, TrimsAlone, has_slab_of, has_slab_on}
+use Rattle.slub_alone.specs.Away.{AreChangedOnce, FlushesAlone, TrimsAlone}
 use Rattle.slub_alone.proofs.FlushAlone.{flush_alone}
 use Rattle.slub_alone.proofs.FlushLists.{flushed_at, flushed_plain, ids_from, ids_once, slabs_all, slabs_from}
 use Rattle.slub_alone.proofs.TrimAlone.{trim_alone}
-use Rattle.slub_serial.specs.Serial.{call_of, changes_of, grown_where, is_of_cache, most_changes, IsSameWritten}
+use Rattle.slub_serial.specs.Serial.{call_of, IsSameWritten}
 use Rattle.slub_serial.proofs.Acts.{event_of, names, still}
 use Rattle.slub_serial.proofs.Emptying.{flush-over, trim-over}
 use Rattle.slub_serial.proofs.Gone.{flush-noted, trim-noted}
@@ -44,6 +44,8 @@ use Rattle.slub_serial.proofs.Ids.{grows-where, where-grown}
 use Rattle.slub_serial.proofs.Memory.{IsFreed, over}
 use Rattle.slub_serial.proofs.Middle.{IsInText, Stepped, at_once, by_turns, comes-next, knows-the-same, m, more-grown, same-coherent, table-same}
 use Rattle.slub_serial.proofs.Written.{carried, layout-same}
+use Rattle.slub_changes.specs.Changes.{has_slab_of, has_slab_on, grown_where}
+use Rattle.slub_changes.specs.Events.{changes_of, is_of_cache, most_changes}
 
 -- ---- words that none has changed
 

@@ -13,6 +13,9 @@ pub mod Middle
 pub mod Uses
 pub mod Replies
 pub mod Acts
+pub mod Needs
+pub mod Spends
 pub mod Away
 pub mod Pokes
+pub mod OneIds
 pub mod Rounds

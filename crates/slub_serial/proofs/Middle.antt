@@ -24,13 +24,15 @@ use Rattle.slub_core.specs.World.{World}
 use Rattle.slub_opening.specs.Opening.{Beside, setup_of}
 use Rattle.slub_calls.specs.Calls.{call_for, calls_for, events_by, rooms_for}
 use Rattle.slub_alone.specs.Alone.{alone, known_after, worker_at, HasReply, IsAtRest, IsNext, Replies}
-use Rattle.slub_serial.specs.Serial.{beside_after, call_of, changes_of, most_changes, IsGrown, IsMade, IsSameWritten}
+use Rattle.slub_serial.specs.Serial.{call_of, IsMade, IsSameWritten}
 use Rattle.slub_serial.proofs.Memory.{over}
 use Rattle.slub_core.specs.Accounted.{place_of}
 use Rattle.slub_serial.proofs.Knowing.{IsKnown, fewer-known, same-known}
 use Rattle.slub_serial.proofs.Scripts.{HasScript, told_after, rested-few, rested-on, rested-step, script-calls, script-next, script-number, script-other, script-place}
 use Rattle.slub_serial.proofs.Steps.{Keeps, rooms_of}
 use Rattle.slub_serial.proofs.Turns.{alone-keeps, rested-keeps}
+use Rattle.slub_changes.specs.Changes.{beside_after}
+use Rattle.slub_changes.specs.Events.{changes_of, most_changes, IsGrown}
 
 -- ---- the same lists over words
 
@@ -179,6 +181,13 @@ module _ (s0 : State) (b0 : Beside) (round : Round) (opening : World) where
         todo = ap (λ (l : Local). l.todo) waits ∙ todo;
       }
 
+      -- it has more calls to make than those to its later events
+      pub more_left : length (events_by x events) < length (worker_at system x).todo
+      more_left =
+          let all = ap length (ap (λ (l : Local). l.todo) waits ∙ todo) in
+          let long = length-map (events_by x events) (λ (event : Event). call_for s0.table (rooms_for (events_by x round.events)) event.cpu event.act) in
+          omega (arith, all, long)
+
       module _ (turns : ℕ) (reply : Reply) (given : State) (e : Beside) (r : Replies opening t d system x call turns reply given e) where
         abbrev last : System
         last = alone m x turns system
@@ -214,12 +223,6 @@ module _ (s0 : State) (b0 : Beside) (round : Round) (opening : World) where
           | inr apart ↦ script-other m s0.table round y events event reply told (worker_at system y) (worker_at last y) apart
               (ap (λ ls. get_or ls y idle) others ∙ get_or-set_other system.locals x y (worker_at last x) idle (λ e. apart (sym e))) (is.scripts y below)
         ]
-
-        more_left : length (events_by x events) < length (worker_at system x).todo
-        more_left =
-            let all = ap length (ap (λ (l : Local). l.todo) waits ∙ todo) in
-            let long = length-map (events_by x events) (λ (event : Event). call_for s0.table (rooms_for (events_by x round.events)) event.cpu event.act) in
-            omega (arith, all, long)
 
         pub by_turns : (mid : State) → Answers s event event.act reply mid → is_no_memory reply ≡ false → IsSameWritten (event ∷ past) mid given → given.table ≡ s0.table → IsGrown (changes_of s0.table (event ∷ past)) b0 e → e ≡ beside_after s d event.worker event.cpu event.act reply
             → (ks : List Known) → known_after (setup_of t d) system x turns ≡ ks → ((last : System) → last.locals ≡ set system.locals x (worker_at last x) → rooms_of (worker_at last x) ≡ rooms_of (worker_at system x) → (worker_at last x).known ≡ ks → IsKnown round.workers events mid last)

@@ -28,7 +28,7 @@ use Rattle.slub_opening.proofs.Names.{as_held}
 use Rattle.slub_alone.specs.Alone.{known_at, worker_at}
 use Rattle.slub_alone.specs.CheckedAlone.{PokesAlone, held_known}
 use Rattle.slub_alone.proofs.CheckedPokes.{pokes_done}
-use Rattle.slub_serial.specs.Serial.{IsSameWritten, call_of, changes_of}
+use Rattle.slub_serial.specs.Serial.{IsSameWritten, call_of}
 use Rattle.slub_serial.proofs.Acts.{event_of}
 use Rattle.slub_serial.proofs.Away.{checks-same, left-same, unwritten}
 use Rattle.slub_serial.proofs.Knowing.{KnowsGone, gone_as, held-frame}
@@ -36,6 +36,7 @@ use Rattle.slub_serial.proofs.Memory.{IsFreed, over}
 use Rattle.slub_serial.proofs.Middle.{IsInText, Stepped, at_once, by_turns, comes-next, grows-more, knows-the-same, m, mine, more-grown, none-there, table-same}
 use Rattle.slub_serial.proofs.Scripts.{script-same}
 use Rattle.slub_serial.proofs.Uses.{its, known, no-more, number, same-known, under}
+use Rattle.slub_changes.specs.Events.{changes_of}
 
 -- ---- over other words
 

@@ -1,5 +1,5 @@
 -- The events of a round one after the other, and the whole round.
-use Rattle.std.proofs.Common.{◌≡◌, ◌≢◌, ℕ, zero, suc, get_or, Option, Some, None, ◌+◌, ◌<◌, ◌≤◌, cond, eqb, Bool, true, false, List, [], ◌∷◌, ◌++◌, length, map, reverse, All, refl, ap, sym, ◌∙◌, subst, arith, inl, inr, append-nil, append_assoc}
+use Rattle.std.proofs.Common.{◌≡◌, ◌≢◌, ℕ, zero, suc, get_or, Option, Some, None, ◌⊎◌, ◌+◌, ◌<◌, ◌≤◌, cond, eqb, Bool, true, false, List, [], ◌∷◌, ◌++◌, length, map, reverse, All, refl, ap, sym, ◌∙◌, subst, arith, inl, inr, append-nil, append_assoc}
 use Rattle.std.specs.Prelude.{filter}
 use Rattle.std.specs.List.{AllByRecursion, IsDistinct, range_with_len, zip}
 use Rattle.std.specs.Option.{option_and_then}
@@ -40,19 +40,25 @@ use Rattle.slub_calls.proofs.Fitting.{may_begin}
 use Rattle.slub_alone.specs.Alone.{alone, worker_at}
 use Rattle.slub_alone.specs.Calls.{AllAllocationsAreThoseOfLists, AllFreesAreThoseOfLists}
 use Rattle.slub_alone.proofs.AnyCall.{all_allocated, all_freed}
+use Rattle.slub_alone.proofs.DetachFirst.{detached_first}
 use Rattle.slub_alone.specs.CheckedAlone.{held_known}
 use Rattle.slub_alone.proofs.Begins.{begins_at_rest}
 use Rattle.slub_alone.proofs.Workers.{rested_calls}
 use Rattle.slub_serial.specs.Laws.{RunsAsLists, RoundsInTextAreThoseOfLists, before, begun}
+use Rattle.slub_serial.specs.OnTheWay.{RoundsInTextAreThoseOfListsOrSpend}
 use Rattle.slub_outcomes.proofs.Events.{runs_with_memory_one}
 use Rattle.slub_serial.specs.Only.{RunsAs, RunsOfListsAreRounds}
-use Rattle.slub_serial.specs.Serial.{IsSameWritten, RunsInText, RunsWithIds, call_of, changes_of, most_changes, replies_by, told_to}
-use Rattle.slub_serial.proofs.Acts.{AreEnough, alloc_steps, event_of, free_steps, read_steps, write_steps}
+use Rattle.slub_serial.specs.Serial.{IsMade, IsSameWritten, RunsInText, call_of, replies_by, told_to}
+use Rattle.slub_serial.proofs.Acts.{alloc_steps, event_of, free_steps, read_steps, write_steps}
 use Rattle.slub_serial.proofs.Away.{flush_steps, trim_steps}
 use Rattle.slub_serial.proofs.Knowing.{IsKnown, gone_under, there_is}
 use Rattle.slub_serial.proofs.Middle.{IsInText, Stepped, grows-more, grows-none, m, same-coherent}
+use Rattle.slub_serial.proofs.Needs.{Needs, needed}
+use Rattle.slub_serial.proofs.OneIds.{ids-one, without-ids}
 use Rattle.slub_serial.proofs.Pokes.{poke_steps}
 use Rattle.slub_serial.proofs.Scripts.{script-spot, told_after}
+use Rattle.slub_serial.proofs.Spends.{Spends, later, needed_or_spent}
+use Rattle.slub_changes.specs.Events.{RunsWithIds, changes_of, most_changes}
 
 -- ---- what has come to pass
 
@@ -105,24 +111,7 @@ none-by x workers (event ∷ events) (reply ∷ replies) past within =
 
 -- ---- one event after the other
 
-module _ (alloc : AllAllocationsAreThoseOfLists) (free : AllFreesAreThoseOfLists) (s0 : State) (b0 : Beside) (round : Round) (opening : World) (most : ℕ → ℕ) (ids : AreEnough s0 b0 most) where
-  one : (line worker cpu : ℕ) (a : Act) (events past : List Event) (told : ℕ → List Reply) (s t : State) (d : Beside) (system : System) → IsInText s0 b0 round opening (event_of line worker cpu a ∷ events) past told s t d system
-      → worker < round.workers → cpu < s0.cpus → IsReadable past (event_of line worker cpu a) a → ((n : ℕ) → changes_of s0.table past n + most_changes s0.table n cpu a ≤ most n) → Stepped s0 b0 round opening (event_of line worker cpu a) events past told s d system
-  one line worker cpu (act.Alloc place object) events past told s t d system is below cpu_below reads few =
-      alloc_steps alloc s0 b0 round opening line worker cpu place object events past told s t d system is below most few ids
-  one line worker cpu (act.Free object) events past told s t d system is below cpu_below reads few =
-      free_steps free s0 b0 round opening line worker cpu object events past told s t d system is below most few ids
-  one line worker cpu (act.Write word object value) events past told s t d system is below cpu_below reads few =
-      write_steps s0 b0 round opening line worker cpu object word value events past told s t d system is below
-  one line worker cpu (act.Read word object) events past told s t d system is below cpu_below reads few =
-      read_steps s0 b0 round opening line worker cpu object word events past told s t d system is below reads
-  one line worker cpu (act.Poke object offset byte) events past told s t d system is below cpu_below reads few =
-      poke_steps s0 b0 round opening line worker cpu object offset byte events past told s t d system is below
-  one line worker cpu (act.Trim place) events past told s t d system is below cpu_below reads few =
-      trim_steps s0 b0 round opening line worker cpu place events past told s t d system is below
-  one line worker cpu act.Flush events past told s t d system is below cpu_below reads few =
-      flush_steps s0 b0 round opening line worker cpu events past told s t d system is below cpu_below
-
+module _ (s0 : State) (b0 : Beside) (round : Round) (opening : World) where
   -- the events to come are made
   pub record Ran (events past : List Event) (told : ℕ → List Reply) (s : State) (d : Beside) (system : System) : Type 0 where
     pub replies : List Reply
@@ -153,9 +142,32 @@ module _ (alloc : AllAllocationsAreThoseOfLists) (free : AllFreesAreThoseOfLists
     ends = r.ends;
   }
 
+-- `Stops`: from this machine, these events to come, the round comes no further on lists
+module _ (alloc : AllAllocationsAreThoseOfLists) (free : AllFreesAreThoseOfLists) (s0 : State) (b0 : Beside) (round : Round) (opening : World) (most : ℕ → ℕ) (Stops : List Event → System → Type 0)
+    -- each event finds the ids that it needs, or the round stops there
+    (ids : (line worker cpu : ℕ) (a : Act) (events past : List Event) (told : ℕ → List Reply) (s t : State) (d : Beside) (system : System) → IsInText s0 b0 round opening (event_of line worker cpu a ∷ events) past told s t d system → worker < round.workers
+    → ((n : ℕ) → changes_of s0.table past n + most_changes s0.table n cpu a ≤ most n) → Needs s0.table t d cpu a ⊎ Stops (event_of line worker cpu a ∷ events) system)
+    (later : (event : Event) (events : List Event) (system : System) (turns : ℕ) → IsMade (m s0 b0 round opening) system event.worker (call_of s0.table round event) (length (events_by event.worker events)) turns → Stops events (alone (m s0 b0 round opening) event.worker turns system) → Stops (event ∷ events) system) where
+  one : (line worker cpu : ℕ) (a : Act) (events past : List Event) (told : ℕ → List Reply) (s t : State) (d : Beside) (system : System) → IsInText s0 b0 round opening (event_of line worker cpu a ∷ events) past told s t d system
+      → worker < round.workers → cpu < s0.cpus → IsReadable past (event_of line worker cpu a) a → Needs s0.table t d cpu a → Stepped s0 b0 round opening (event_of line worker cpu a) events past told s d system
+  one line worker cpu (act.Alloc place object) events past told s t d system is below cpu_below reads has =
+      alloc_steps alloc s0 b0 round opening line worker cpu place object events past told s t d system is below has
+  one line worker cpu (act.Free object) events past told s t d system is below cpu_below reads has =
+      free_steps free s0 b0 round opening line worker cpu object events past told s t d system is below has
+  one line worker cpu (act.Write word object value) events past told s t d system is below cpu_below reads has =
+      write_steps s0 b0 round opening line worker cpu object word value events past told s t d system is below
+  one line worker cpu (act.Read word object) events past told s t d system is below cpu_below reads has =
+      read_steps s0 b0 round opening line worker cpu object word events past told s t d system is below reads
+  one line worker cpu (act.Poke object offset byte) events past told s t d system is below cpu_below reads has =
+      poke_steps s0 b0 round opening line worker cpu object offset byte events past told s t d system is below
+  one line worker cpu (act.Trim place) events past told s t d system is below cpu_below reads has =
+      trim_steps s0 b0 round opening line worker cpu place events past told s t d system is below
+  one line worker cpu act.Flush events past told s t d system is below cpu_below reads has =
+      flush_steps s0 b0 round opening line worker cpu events past told s t d system is below cpu_below
+
   pub ran : (events past : List Event) (told : ℕ → List Reply) (s t : State) (d : Beside) (system : System) → IsInText s0 b0 round opening events past told s t d system → All (λ (event : Event). event.worker < round.workers) events → All (λ (event : Event). event.cpu < s0.cpus) events
-      → AreReadable past events → ((n : ℕ) → changes_of s0.table past n + changes_of s0.table events n ≤ most n) → Ran events past told s d system
-  ran [] past told s t d system is within cpus reads few = record {
+      → AreReadable past events → ((n : ℕ) → changes_of s0.table past n + changes_of s0.table events n ≤ most n) → Ran s0 b0 round opening events past told s d system ⊎ Stops events system
+  ran [] past told s t d system is within cpus reads few = inl (record {
     replies = [];
     after = s;
     runs = refl;
@@ -167,16 +179,32 @@ module _ (alloc : AllAllocationsAreThoseOfLists) (free : AllFreesAreThoseOfLists
     beside = d;
     grows = (refl, refl);
     ends = is;
-  }
+  })
   ran (event ∷ events) past told s t d system is within cpus reads few =
-      let sum = λ (n : ℕ). sum_by-cons (λ (event : Event). most_changes s0.table n event.cpu event.act) event events in
-      let now = λ (n : ℕ). sum_by-cons (λ (event : Event). most_changes s0.table n event.cpu event.act) event past in
-      let st = one event.line event.worker event.cpu event.act events past told s t d system is (All-head (λ (event : Event). event.worker < round.workers) event events within) (All-head (λ (event : Event). event.cpu < s0.cpus) event events cpus) reads.0
-      (λ n. let fits = few n in let more = sum n in omega (arith, fits, more)) in
-      and-more event events past told s d system st
-      (ran events (event ∷ past) (told_after event st.reply told) st.mid st.given st.beside (alone (m s0 b0 round opening) event.worker st.turns system) st.next
-      (All-tail (λ (event : Event). event.worker < round.workers) event events within) (All-tail (λ (event : Event). event.cpu < s0.cpus) event events cpus) reads.1
-      (λ n. let fits = few n in let more = sum n in let here = now n in omega (arith, fits, more, here)))
+      elim (ids event.line event.worker event.cpu event.act events past told s t d system is worker (λ n. let fits = few n in let more = sum n in omega (arith, fits, more))) [
+        | inl has ↦
+            let st = one event.line event.worker event.cpu event.act events past told s t d system is worker (All-head (λ (event : Event). event.cpu < s0.cpus) event events cpus) reads.0 has in
+            by st
+            (ran events (event ∷ past) (told_after event st.reply told) st.mid st.given st.beside (alone (m s0 b0 round opening) event.worker st.turns system) st.next
+            (All-tail (λ (event : Event). event.worker < round.workers) event events within) (All-tail (λ (event : Event). event.cpu < s0.cpus) event events cpus) reads.1
+            (λ n. let fits = few n in let more = sum n in let here = now n in omega (arith, fits, more, here)))
+        | inr stops ↦ inr stops
+      ]
+    where
+      worker : event.worker < round.workers
+      worker = All-head (λ (event : Event). event.worker < round.workers) event events within
+
+      sum : (n : ℕ) → changes_of s0.table (event ∷ events) n ≡ most_changes s0.table n event.cpu event.act + changes_of s0.table events n
+      sum n = sum_by-cons (λ (event : Event). most_changes s0.table n event.cpu event.act) event events
+
+      now : (n : ℕ) → changes_of s0.table (event ∷ past) n ≡ most_changes s0.table n event.cpu event.act + changes_of s0.table past n
+      now n = sum_by-cons (λ (event : Event). most_changes s0.table n event.cpu event.act) event past
+
+      by : (st : Stepped s0 b0 round opening event events past told s d system)
+          → Ran s0 b0 round opening events (event ∷ past) (told_after event st.reply told) st.mid st.beside (alone (m s0 b0 round opening) event.worker st.turns system) ⊎ Stops events (alone (m s0 b0 round opening) event.worker st.turns system)
+          → Ran s0 b0 round opening (event ∷ events) past told s d system ⊎ Stops (event ∷ events) system
+      by st (inl rest) = inl (and-more s0 b0 round opening event events past told s d system st rest)
+      by st (inr stops) = inr (later event events system st.turns st.made stops)
 
 -- ---- the end of a round
 
@@ -282,8 +310,7 @@ begins s b trace round may does forgotten = record {
 
 -- ---- the whole
 
-module _ (s : State) (b : Beside) (round : Round) (inside : All (λ (event : Event). event.worker < round.workers) round.events) (ids : AreEnough s b (changes_of s.table round.events))
-    (r : Ran all_allocated all_freed s b round (before s b round) (changes_of s.table round.events) ids round.events [] (λ x. []) s b (begun s b round)) where
+module _ (s : State) (b : Beside) (round : Round) (inside : All (λ (event : Event). event.worker < round.workers) round.events) (r : Ran s b round (before s b round) round.events [] (λ x. []) s b (begun s b round)) where
   own : (worker : ℕ) → replies_by worker (zip round.events r.replies) ≡ told_to worker (replies_of r.last)
   own worker = elim (cases_lt worker round.workers) [
     | inl below ↦
@@ -314,15 +341,58 @@ module _ (s : State) (b : Beside) (round : Round) (inside : All (λ (event : Eve
     rest = r.ends.rest;
   }
 
+-- where each event finds the ids that it needs, or the round stops there
+module _ (s : State) (b : Beside) (trace : Trace) (round : Round) (may : MayOpen s b) (does : MayDo s trace round) (forgotten : (object : ℕ) → get_or s.gone object None ≡ None) (Stops : List Event → System → Type 0)
+    (ids : (line worker cpu : ℕ) (a : Act) (events past : List Event) (told : ℕ → List Reply) (mid t : State) (d : Beside) (system : System) → IsInText s b round (before s b round) (event_of line worker cpu a ∷ events) past told mid t d system → worker < round.workers
+    → ((n : ℕ) → changes_of s.table past n + most_changes s.table n cpu a ≤ changes_of s.table round.events n) → Needs s.table t d cpu a ⊎ Stops (event_of line worker cpu a ∷ events) system)
+    (later : (event : Event) (events : List Event) (system : System) (turns : ℕ) → IsMade (setup_of s b) system event.worker (call_of s.table round event) (length (events_by event.worker events)) turns → Stops events (alone (setup_of s b) event.worker turns system) → Stops (event ∷ events) system) where
+  inside : All (λ (event : Event). event.worker < round.workers) round.events
+  inside = within trace round.workers round.events does.sound.events
+
+  pub as_lists_or : RunsAsLists s b round ⊎ Stops round.events (begun s b round)
+  as_lists_or = elim (ran all_allocated all_freed s b round (before s b round) (changes_of s.table round.events) Stops ids later round.events [] (λ x. []) s s b (begun s b round) (begins s b trace round may does forgotten) inside (on-cpus trace round.workers s.cpus round.events does.cpus does.sound.events) does.sound.readable (λ n. omega arith)) [
+    | inl r ↦ inl (as-lists s b round inside r)
+    | inr stops ↦ inr stops
+  ]
+
+-- the ids before the round are enough
 pub rounds : RoundsInTextAreThoseOfLists
-rounds s b trace round may does simple =
-    let inside = within trace round.workers round.events does.sound.events in
-    as-lists s b round inside simple.ids
-    (ran all_allocated all_freed s b round (before s b round) (changes_of s.table round.events) simple.ids round.events [] (λ x. []) s s b (begun s b round) (begins s b trace round may does simple.forgotten) inside (on-cpus trace round.workers s.cpus round.events does.cpus does.sound.events) does.sound.readable (λ n. omega arith))
+rounds s b trace round may does simple = by (as_lists_or s b trace round may does simple.forgotten (λ events system. ⊥)
+    (λ line worker cpu a events past told mid t d system is below few. inl (needed s b round (before s b round) (changes_of s.table round.events) simple.ids line worker cpu a events past told mid t d system is below few))
+    (λ event events system turns made none. none))
+  where
+    by : RunsAsLists s b round ⊎ ⊥ → RunsAsLists s b round
+    by (inl r) = r
+    by (inr none) = absurd none
+
+-- or an id is spent on the way
+pub rounds_or_spent : RoundsInTextAreThoseOfListsOrSpend
+rounds_or_spent s b trace round may does forgotten = elim (as_lists_or s b trace round may does forgotten (Spends s b round)
+    (λ line worker cpu a events past told mid t d system is below few. needed_or_spent detached_first s b round (before s b round) line worker cpu a events past told mid t d system is below)
+    (later s b round)) [
+      | inl r ↦ inl r
+      | inr z ↦ inr (record {
+        here = z.here;
+        comes = z.comes;
+        cache = z.cache;
+        cpu = z.cpu;
+        cpu_there = z.cpu_there;
+        lives = z.lives;
+        unchecked = z.unchecked;
+        spent = z.spent;
+      })
+    ]
 
 -- the lists have no other outcome
 pub all_rounds : RunsOfListsAreRounds
-all_rounds s b trace round replies after may does simple runs memory = by (rounds s b trace round may does simple)
+all_rounds s b trace round replies after left may does simple runs memory = by (rounds s b trace round may does simple)
   where
-    by : RunsAsLists s b round → RunsAs s b round replies after
-    by r = let same = runs_with_memory_one s round.events r.replies replies r.after after r.memory memory r.runs runs in record { run = r; answered = same.0; left = same.1 }
+    by : RunsAsLists s b round → RunsAs s b round replies after left
+    by r =
+        let same = runs_with_memory_one s round.events r.replies replies r.after after r.memory memory r.runs (without-ids s b round.events replies after left runs) in
+        record {
+          run = r;
+          answered = same.0;
+          lists = same.1;
+          beside = ids-one s b round.events replies r.after after r.beside left (subst (λ (rs : List Reply). RunsWithIds s b round.events rs r.after r.beside) same.0 r.ids) runs;
+        }

@@ -19,7 +19,8 @@ use Rattle.slub_calls.specs.Calls.{workers_of}
 use Rattle.slub_calls.specs.Laws.{MayDo}
 use Rattle.slub_journal.specs.Lawful.{RunsEvents}
 use Rattle.slub_alone.specs.Alone.{IsAtRest}
-use Rattle.slub_serial.specs.Serial.{call_of, RunsInText, AreReplies, IsSameWritten, changes_of, IsGrown, RunsWithIds}
+use Rattle.slub_serial.specs.Serial.{call_of, RunsInText, AreReplies, IsSameWritten}
+use Rattle.slub_changes.specs.Events.{changes_of, IsGrown, RunsWithIds}
 
 -- ---- which rounds
 

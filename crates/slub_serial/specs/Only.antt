@@ -8,21 +8,22 @@ use Rattle.slub_lists.specs.State.{State}
 use Rattle.slub_opening.specs.Laws.{MayOpen}
 use Rattle.slub_opening.specs.Opening.{Beside}
 use Rattle.slub_calls.specs.Laws.{MayDo}
-use Rattle.slub_journal.specs.Lawful.{RunsEvents}
+use Rattle.slub_changes.specs.Events.{RunsWithIds}
 use Rattle.slub_serial.specs.Laws.{IsSimple, RunsAsLists}
 
--- the round has these replies, and leaves these lists
+-- the round has these replies, and leaves these lists and these ids beside them
 pub record RunsAs (s : State) (b : Beside) (round : Round) (replies : List Reply) (after : State)
-    : Type 0 where
+    (left : Beside) : Type 0 where
   pub run : RunsAsLists s b round
   pub answered : run.replies ≡ replies
-  pub left : run.after ≡ after
+  pub lists : run.after ≡ after
+  pub beside : run.beside ≡ left
 
--- whatever the lists answer to the events and leave, memory being there for each, the round whose
--- events are made one after the other answers and leaves
+-- whatever the lists answer to the events and leave, ids beside them, memory being there for each,
+-- the round whose events are made one after the other answers and leaves
 abbrev pub RunsOfListsAreRounds : Type 0
 RunsOfListsAreRounds =
     (s : State) (b : Beside) (trace : Trace) (round : Round) (replies : List Reply) (after : State)
-    → MayOpen s b → MayDo s trace round → IsSimple s b round.events
-    → RunsEvents s round.events replies after → All (λ reply. is_no_memory reply ≡ false) replies
-    → RunsAs s b round replies after
+    (left : Beside) → MayOpen s b → MayDo s trace round → IsSimple s b round.events
+    → RunsWithIds s b round.events replies after left
+    → All (λ reply. is_no_memory reply ≡ false) replies → RunsAs s b round replies after left

@@ -15,8 +15,12 @@
 //! grown, by a step for each change of their word: `RunsWithIds` has the number of changes event by event,
 //! `IsGrown` the most that the events make.
 //!
-//! `laws::runs_of_lists_are_rounds`: whatever the lists answer to the events and leave, memory being there for each
-//! reply, such a round answers and leaves, since the lists have one outcome (`slub_outcomes`).
+//! `laws::rounds_in_text_are_those_of_lists_or_spend`: however near to its end an id is, such a round gives this, or the
+//! id of an unchecked cache's word is spent at its begin or on the way, between two events or in the midst of a call
+//! (`specs/OnTheWay.antt`). An id that the last change spends does no harm.
+//!
+//! `laws::runs_of_lists_are_rounds`: whatever the lists answer to the events and leave, ids beside them, memory being
+//! there for each reply, such a round answers and leaves, since the lists have one outcome (`slub_outcomes`).
 //!
 //! A reply that takes no step, as that to a write in an object which the worker doesn't hold, is given as soon as
 //! the worker stands between two calls, maybe before earlier events of other workers. It is that of the lists at
@@ -31,7 +35,9 @@
 //! knows of the object (`proofs/Uses.antt`). What the lists note as freed by a worker is what it knows and doesn't
 //! hold (`proofs/Knowing.antt`): so a poke of a freed object is answered as on the lists. Operations on lists don't
 //! look at the words of the frames (`proofs/Memory.antt`, `proofs/Emptying.antt`), so that what the law says of the
-//! machine's lists holds of those of the text. `proofs/Rounds.antt` goes through the events.
+//! machine's lists holds of those of the text. `proofs/Rounds.antt` goes through the events. That each finds the ids
+//! that it needs is known from those before the round (`proofs/Needs.antt`), or else one is spent there: before the
+//! call's first turn, or once it has taken the current slab off its CPU (`proofs/Spends.antt`).
 //!
 //! # Not yet
 //!

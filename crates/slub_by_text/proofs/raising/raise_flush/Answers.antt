@@ -1,5 +1,5 @@
 use Rattle.std.proofs.Common.{◌/◌, arith}
-use Rattle.slub_alone.specs.Away.{has_slab_on}
+use Rattle.slub_changes.specs.Changes.{has_slab_on}
 use Rattle.slub_by_text.proofs.Raised.{raised-all}
 use Rattle.slub_by_text.proofs.raising.raise_flush.Goals as goal
 

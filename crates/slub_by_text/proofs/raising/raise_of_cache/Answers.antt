@@ -1,5 +1,5 @@
 use Rattle.std.proofs.Common.{◌%◌, arith}
-use Rattle.slub_alone.specs.Away.{has_slab_of}
+use Rattle.slub_changes.specs.Changes.{has_slab_of}
 use Rattle.slub_by_text.proofs.Raised.{cpu-of-slab, raised-all}
 use Rattle.slub_by_text.proofs.raising.raise_of_cache.Goals as goal
 

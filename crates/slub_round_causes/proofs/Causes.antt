@@ -211,6 +211,11 @@ module _ (s : State) (b : Beside) (rooms : List Known) (before : ℕ → Option 
           | inr plain ↦ plain
         ]
 
+    checked-told : (o k : ℕ) → core.cache_by before ds o ≡ Some k → is_some (checked_of s k) ≡ true → IsOfChecked s o own
+    checked-told o k cache checked =
+        let at = spot-with o k cache in
+        subst (λ x. MatchOption x ⊥ (λ (spot : Spot). IsSome (checked_of s spot.cache))) (sym at.1) checked
+
     on-board : (o a : ℕ) → core.address_on (setup_of s b) (before o) ≡ Some a → IsSome (held_under s o)
     on-board o a at = by (held_under s o) (ap (core.address_on (setup_of s b)) (sym (board-is o)) ∙ at)
       where
@@ -265,7 +270,7 @@ module _ (s : State) (b : Beside) (rooms : List Known) (before : ℕ → Option 
       free-cause x (reply.Freed a) may cause =
           let at = spot-at x a cause.1 in
           (freeable x a cause.2, subst (λ y. MatchOption y ⊥ (λ (spot : Spot). spot.address ≡ a)) (sym at.1) refl)
-      free-cause x (reply.Corrupt d) may cause = (by cause.3, cause.1)
+      free-cause x (reply.Corrupt d) may cause = (by cause.3, checked-told x cause.2.0 cause.2.1 cause.2.2, cause.1)
         where
           by : (core.holding ds x ≡ true) ⊎ ((a : ℕ) × (core.address_on (setup_of s b) (before x) ≡ Some a)) → IsFreeable s own x
           by (inl holds) = inl (held-told x ∙ holds)

@@ -17,17 +17,16 @@ use Rattle.slub_red_zone.proofs.Taken.{used-inside}
 use Rattle.slub_lists.specs.declared.lists.Held.{Held}
 use Rattle.slub_answers.specs.declared.reply.Reply.{Reply}
 use Rattle.slub_lists.specs.State.{State}
-use Rattle.slub_lists.specs.Alloc.{cache_of, checked_of, named}
+use Rattle.slub_lists.specs.Alloc.{cache_of, checked_of, named, HasLayout, IsLive}
 use Rattle.slub_lists.specs.Checked.{slot_of_held}
 use Rattle.slub_lists.specs.Coherent.{IsCoherent, IsSetFrom, held_under, laid_down}
 use Rattle.slub_lists.specs.Free.{is_freeable}
 use Rattle.slub_lists.specs.Laws.{HasByte}
-use Rattle.slub_lists.specs.Alloc.{HasLayout, IsLive}
 use Rattle.slub_lists.specs.Words.{held_by, is_word, is_worker, own, word_of}
 use Rattle.slub_lists.proofs.Apart.{held-apart}
 use Rattle.slub_lists.proofs.CheckedGiving.{layout-live}
 use Rattle.slub_lists.proofs.CheckedTaking.{checked-set}
-use Rattle.slub_lists.proofs.ObjectWords.{memory-read, own-is, slab-read, used-word}
+use Rattle.slub_lists.proofs.ObjectWords.{held-cache, memory-read, own-is, slab-read, used-word}
 use Rattle.slub_lists.proofs.Trimming.{place-live}
 use Rattle.slub_round_law.specs.Answered.{Answered, did_free, found_bad, gave, holding, last_put, last_written, of_worker, times_freed, times_taken}
 use Rattle.slub_round_law.specs.Round.{Cause, IsFreeable, IsOfChecked, IsOwnBytes, IsOwnValue, IsPokedUnder, IsSpare, Spot, has_word, layout_of, spot_by, spot_of, spot_under}
@@ -183,6 +182,16 @@ module _ (before : State) (past : List Answered) (s : State) (one : Answered) (a
       by None e = inr (ap is_some (tale.boards.still object held there e))
       by (Some holder) e = inl (tale.holds one.0.worker object ∙ held-by-some s one.0.worker object held there ∙ ap (is_worker one.0.worker) e ∙ subst (λ w. is_freeable one.0.worker w ≡ true) e may)
 
+  -- what is found damaged is of a checked cache, which was checked before the round
+  of-damaged : IsCoherent before → (object : ℕ) (held : Held) (slabs : CheckedState) → held_under s object ≡ Some held → is_freeable one.0.worker held.worker ≡ true → checked_of s held.cache ≡ Some slabs
+      → IsOfChecked before object mine
+  of-damaged coherent object held slabs was may checked =
+      let live = found (cache_of s held.cache) (held-cache s held (record { object = object; here = was }) tale.coherent) in
+      let here : cache_of before held.cache ≡ Some live.0 = live-before held.cache live.0 live.1 in
+      subst (λ (x : Option Spot). MatchOption x ⊥ (λ spot. IsSome (checked_of before spot.cache)))
+      (sym (tale.spots one.0.worker object held was may ∙ the-spot before held live.0 here))
+      (checked-kept before s held.cache live.0 coherent tale.coherent tale.caches.table here ∙ ap is_some checked)
+
   refused : (object : ℕ) → (held_under s object ≡ None) ⊎ ((held : Held) × (held_under s object ≡ Some held) × (is_freeable one.0.worker held.worker ≡ false))
       → (holding object mine ≡ false) × ((held_under before object ≡ None) ⊎ (0 < times_taken object answers))
   refused object (inl none) = (
@@ -324,7 +333,11 @@ module _ (before : State) (past : List Answered) (s : State) (one : Answered) (a
     subst (λ (x : Option Spot). MatchOption x ⊥ (λ spot. spot.address ≡ address_of held.frame held.index live.layout))
         (sym (tale.spots one.0.worker object held was may ∙ the-spot before held live (live-before held.cache live is_live))) refl,
   )
-  cause-by coherent (keeps object damage held slabs asks was may checked taken is now) = as-is _ _ asks is (freeable object held was may, damage-differs slabs.layout _ _ damage (damage-taken slabs.layout slabs.flags _ damage taken.0))
+  cause-by coherent (keeps object damage held slabs asks was may checked taken is now) = as-is _ _ asks is (
+    freeable object held was may,
+    of-damaged coherent object held slabs was may checked,
+    damage-differs slabs.layout _ _ damage (damage-taken slabs.layout slabs.flags _ damage taken.0),
+  )
   cause-by coherent (refuses object asks why is now) = as-is _ _ asks is (refused object why)
   cause-by coherent (writes object word value live held asks holds within is now) = as-is _ _ asks is (holds-it object held live holds, its-word object held live holds word ∙ within)
   cause-by coherent (writes_none object word value live held asks holds beyond is now) = as-is _ _ asks is (holds-it object held live holds, its-word object held live holds word ∙ beyond)

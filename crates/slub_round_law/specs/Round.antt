@@ -122,14 +122,16 @@ AllocCause before answers own place _ = ⊥
 abbrev pub IsFreeable : State → List Answered → ℕ → Type 0
 IsFreeable before own object = (holding object own ≡ true) ⊎ IsSome (held_under before object)
 
--- what is freed, or found damaged, is the worker's or was on the board; what isn't held was not on
--- the board before the round, or another free took it
+-- what is freed, or found damaged, is the worker's or was on the board, and only an object of a
+-- checked cache is found damaged; what isn't held was not on the board before the round, or another
+-- free took it
 abbrev pub FreeCause : State → List Answered → List Answered → ℕ → Reply → Type 0
 FreeCause before answers own object (reply.Freed address) =
     IsFreeable before own object
     × MatchOption (spot_by before object own) ⊥ (λ spot. spot.address ≡ address)
 FreeCause before answers own object (reply.Corrupt damage) =
-    IsFreeable before own object × (damage.found ≢ damage.wanted)
+    IsFreeable before own object × IsOfChecked before object own
+    × (damage.found ≢ damage.wanted)
 FreeCause before answers own object reply.NotHeld =
     (holding object own ≡ false)
     × ((held_under before object ≡ None) ⊎ (0 < times_taken object answers))

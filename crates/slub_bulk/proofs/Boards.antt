@@ -1,5 +1,5 @@
 -- What rounds of allocations and rounds of frees leave on the board.
-use Rattle.std.proofs.Common.{◌≡◌, ◌≢◌, ℕ, suc, ◌+◌, ◌^◌, ◌<◌, ◌≤◌, cond, Bool, true, false, ◌&&◌, eqb, List, [], ◌∷◌, ◌++◌, append_assoc, length, refl, sym, ◌∙◌, ap, subst, All, arith, Option, Some, None, IsSome, MatchOption, Result, Ok, Err, IfOk, inl, inr}
+use Rattle.std.proofs.Common.{◌≡◌, ◌≢◌, ℕ, ◌+◌, ◌^◌, ◌<◌, ◌≤◌, cond, Bool, true, false, ◌&&◌, eqb, List, [], ◌∷◌, ◌++◌, append_assoc, length, refl, sym, ◌∙◌, ap, subst, All, arith, Option, Some, None, IsSome, MatchOption, inl, inr}
 use Rattle.std.specs.List.{Contains, IsDistinct, cons_option, filter_map, zip}
 use Rattle.std.specs.Prelude.{nat_eq, slice_get}
 use Rattle.std.proofs.lemmas.List.Elements.{All-cons, All-contains, All-head, All-nil, All-tail}
@@ -11,7 +11,6 @@ use Rattle.slub_answers.specs.declared.reply.Reply.TheVariants as reply
 use Rattle.slub_answers.specs.Kinds.{is_freed, is_given, is_no_memory}
 use Rattle.slub_common.specs.Times.{times}
 use Rattle.slub_common.proofs.Times.{times-absent, times-cons, times-cons_other}
-use Rattle.slub_lists.specs.declared.lists.Held.{Held}
 use Rattle.slub_lists.specs.State.{State}
 use Rattle.slub_lists.specs.Coherent.{IsCoherent, held_under}
 use Rattle.slub_trace_reader.specs.declared.trace.Trace.{Trace}
@@ -35,10 +34,10 @@ use Rattle.slub_by_text.specs.Laws.{RoundsByTextAreLawful}
 use Rattle.slub_clients.specs.Asked.{AnswersAtOnce, DoesAsked, IsOpenTo}
 use Rattle.slub_clients.specs.BulkLines.{FreesAgain, FreesInOrder, ServesBulkFree, TakesAll, allocs_of, first_unheld, places_under, replied}
 use Rattle.slub_clients.specs.Laws.{IsNumber}
-use Rattle.slub_clients.proofs.Allowed.{allocations-may, frees-may, frees-objects, none-differ, one-differs}
-use Rattle.slub_clients.proofs.Staying.{open-fewer}
+use Rattle.slub_clients.proofs.Allowed.{allocations-may, allocs-long, frees-long, frees-may, frees-objects, none-differ, one-differs}
+use Rattle.slub_clients.proofs.Chosen.{replied_all, replied_long}
+use Rattle.slub_clients.proofs.Staying.{held-or-none, open-fewer}
 use Rattle.slub_bulk.specs.Taking.{MayTake}
-use Rattle.slub_bulk.proofs.Bulking.{replied_all, replied_long}
 
 -- ---- which rounds are lawful
 
@@ -102,32 +101,8 @@ allocs_give_all object cpu place (number ∷ numbers) (answer ∷ replies) even 
 
 -- ---- how many replies there are
 
-pub allocs_events : (cpu place : ℕ) (numbers : List ℕ) → length (round_of cpu (allocs_of place numbers)).events ≡ length numbers
-allocs_events cpu place [] = refl
-allocs_events cpu place (number ∷ numbers) = ap suc (allocs_events cpu place numbers)
-
-pub frees_events : (cpu : ℕ) (numbers : List ℕ) → length (round_of cpu (frees_of numbers)).events ≡ length numbers
-frees_events cpu [] = refl
-frees_events cpu (number ∷ numbers) = ap suc (frees_events cpu numbers)
-
 pub replies_even : (s : State) (cpu : ℕ) (numbers : List ℕ) (result : RoundResult) (after : State) → IsRound s (round_of cpu (frees_of numbers)) result after → length result.replies ≡ length numbers
-replies_even s cpu numbers result after law = omega (arith, law.replies, frees_events cpu numbers)
-
--- one act has one reply
-pub one_reply : (s : State) (cpu : ℕ) (act : Act) (result : RoundResult) (after : State) → IsRound s (round_of cpu (act ∷ [])) result after → (told : Reply) × (result.replies ≡ told ∷ [])
-one_reply s cpu act result after law = by result.replies refl
-  where
-    one : length result.replies ≡ 1
-    one = law.replies
-
-    by : (replies : List Reply) → result.replies ≡ replies → (told : Reply) × (result.replies ≡ told ∷ [])
-    by [] is = absurd (let long = ap (λ (l : List Reply). length l) is in let never : ⊥ = omega (arith, long, one) in never)
-    by (told ∷ []) is = (told, is)
-    by (told ∷ more ∷ replies) is = absurd (let long = ap (λ (l : List Reply). length l) is in let never : ⊥ = omega (arith, long, one) in never)
-
-pub if_ok : {A E : Type 0} (P Q : A → Type 0) (result : Result A E) → ((value : A) → P value → Q value) → IfOk result P → IfOk result Q
-if_ok P Q (Ok value) leads is = leads value is
-if_ok P Q (Err why) leads is = tt
+replies_even s cpu numbers result after law = omega (arith, law.replies, frees-long cpu numbers)
 
 -- ---- what an allocation is answered
 
@@ -141,7 +116,7 @@ given-of before all own place reply.NoSuchCache cause none memory = absurd (cc)
 given-of before all own place told cause none memory = absurd cause
 
 -- every event of such a round is worker 0's
-own-all : (cpu : ℕ) (acts : List Act) (replies : List Reply) → of_worker 0 (answers_of cpu acts replies) ≡ answers_of cpu acts replies
+pub own-all : (cpu : ℕ) (acts : List Act) (replies : List Reply) → of_worker 0 (answers_of cpu acts replies) ≡ answers_of cpu acts replies
 own-all cpu [] replies = refl
 own-all cpu (act ∷ acts) [] = refl
 own-all cpu (act ∷ acts) (told ∷ replies) = ap (λ (l : List Answered). (event_of cpu act, told) ∷ l) (own-all cpu acts replies)
@@ -166,7 +141,7 @@ given-all before all own cpu place (number ∷ numbers) (told ∷ replies) split
 pub all_given : (s : State) (cpu place : ℕ) (numbers : List ℕ) (result : RoundResult) (after : State) → IsRound s (round_of cpu (allocs_of place numbers)) result after
     → first_refusal result.replies ≡ None → All (λ told. is_no_memory told ≡ false) result.replies → All (λ told. is_given told ≡ true) result.replies
 all_given s cpu place numbers result after law none memory =
-    given-all s (answers_of cpu (allocs_of place numbers) result.replies) [] cpu place numbers result.replies (own-all cpu (allocs_of place numbers) result.replies) law.causes (omega (arith, law.replies, allocs_events cpu place numbers)) none memory
+    given-all s (answers_of cpu (allocs_of place numbers) result.replies) [] cpu place numbers result.replies (own-all cpu (allocs_of place numbers) result.replies) law.causes (omega (arith, law.replies, allocs-long cpu place numbers)) none memory
 
 -- ---- the board
 
@@ -177,13 +152,6 @@ stays_there s cpu acts result after object law none some = (law.board.numbers ob
 
 -- ---- all or nothing
 
-held-or-none : (s : State) (object : ℕ) → IsSome (held_under s object) → held_under s object ≡ None → ⊥
-held-or-none s object some none = by (held_under s object) some none
-  where
-    by : (x : Option Held) → IsSome x → x ≡ None → ⊥
-    by None some none = absurd (cc)
-    by (Some held) some none = absurd (cc)
-
 -- what was on the board isn't among numbers that were not
 apart : (s : State) (numbers : List ℕ) (object : ℕ) → All (IsUnheld s) numbers → IsSome (held_under s object) → times object numbers ≡ 0
 apart s numbers object unheld some = times-absent object numbers (λ mine. held-or-none s object some (All-contains (IsUnheld s) numbers object unheld mine))
@@ -193,6 +161,10 @@ pub again_made : (h : HeapState) (cpu : ℕ) (numbers : List ℕ) (first second 
     → DoesAsked h cpu (frees_of numbers) second after → rounds ≡ first ∷ second ∷ [] → FreesAgain h cpu numbers first rounds after
 again_made h cpu [] first second rounds after some done is = absurd (let never : true ≡ false = some in cc)
 again_made h cpu (number ∷ numbers) first second rounds after some done is = (second, done, is)
+
+pub some_there : (numbers : List ℕ) → eqb (length numbers) 0 ≡ false → numbers ≢ []
+some_there [] some = absurd (let never : true ≡ false = some in cc)
+some_there (number ∷ numbers) some = λ is. (let long = ap (λ (l : List ℕ). length l) is in let never : ⊥ = omega (arith, long) in never)
 
 -- none was
 pub none_made : (h : HeapState) (cpu : ℕ) (numbers : List ℕ) (first : ClientRound) (rounds : List ClientRound) → eqb (length numbers) 0 ≡ true → rounds ≡ first ∷ [] → FreesAgain h cpu numbers first rounds h
@@ -241,7 +213,25 @@ allocs_may h trace cpu place numbers may = allocations-may h trace cpu place num
 -- what replies gave of them is no more than can be freed in a round
 pub few_given : (h : HeapState) (trace : Trace) (cpu place : ℕ) (numbers : List ℕ) (replies : List Reply) → MayTake h trace cpu place numbers → length (replied is_given numbers replies) ≤ 2 ^ 32
 few_given h trace cpu place numbers replies may =
-    omega (arith, replied_long is_given numbers replies, (allocs_may h trace cpu place numbers may).few, allocs_events cpu place numbers)
+    omega (arith, replied_long is_given numbers replies, (allocs_may h trace cpu place numbers may).few, allocs-long cpu place numbers)
+
+-- frees that may be done before a round of allocations may be done after it
+pub frees-follow : (h : HeapState) (trace : Trace) (cpu place : ℕ) (numbers freed : List ℕ) (first : RoundResult) (mid : State) → IsOpenTo h trace (length numbers) → MayDo h.lists trace (round_of cpu (allocs_of place numbers))
+    → MayDo h.lists trace (round_of cpu (frees_of freed)) → IsRound h.lists (round_of cpu (allocs_of place numbers)) first mid → MayDo mid trace (round_of cpu (frees_of freed))
+frees-follow h trace cpu place numbers freed first mid is_open may before law = leads-on h.lists trace (round_of cpu (allocs_of place numbers)) (round_of cpu (frees_of freed)) first mid may follow law
+  where
+    none : (P : ℕ → Type 0) → All P (objects_of (round_of cpu (frees_of freed)).events)
+    none P = subst (All P) (sym (frees-objects cpu freed)) (All-nil P)
+
+    follow : MayFollow h.lists trace (round_of cpu (allocs_of place numbers)) (round_of cpu (frees_of freed))
+    follow = record {
+      sound = before.sound;
+      unheld = none (λ object. held_under h.lists object ≡ None);
+      new = none (λ object. ¬ Contains (objects_of (round_of cpu (allocs_of place numbers)).events) object);
+      distinct = subst (IsDistinct nat_eq) (sym (frees-objects cpu freed)) none-differ;
+      few = before.few;
+      dry = λ order. omega (arith, is_open.dry order, allocs-long cpu place numbers);
+    }
 
 -- the round that asks them
 module _ (lawful : RoundsByTextAreLawful) (h : HeapState) (trace : Trace) (cpu place : ℕ) (numbers : List ℕ) (may : MayTake h trace cpu place numbers) where
@@ -260,20 +250,7 @@ module _ (lawful : RoundsByTextAreLawful) (h : HeapState) (trace : Trace) (cpu p
 
     -- and after the round
     pub frees_may : MayDo mid.lists trace (round_of cpu (frees_of given))
-    frees_may = leads-on h.lists trace (round_of cpu (allocs_of place numbers)) (round_of cpu (frees_of given)) first.result mid.lists (allocs_may h trace cpu place numbers may) follow allocs_lawful
-      where
-        none : (P : ℕ → Type 0) → All P (objects_of (round_of cpu (frees_of given)).events)
-        none P = subst (All P) (sym (frees-objects cpu given)) (All-nil P)
-
-        follow : MayFollow h.lists trace (round_of cpu (allocs_of place numbers)) (round_of cpu (frees_of given))
-        follow = record {
-          sound = frees_before.sound;
-          unheld = none (λ object. held_under h.lists object ≡ None);
-          new = none (λ object. ¬ Contains (objects_of (round_of cpu (allocs_of place numbers)).events) object);
-          distinct = subst (IsDistinct nat_eq) (sym (frees-objects cpu given)) none-differ;
-          few = frees_before.few;
-          dry = λ order. omega (arith, may.heap.dry order, allocs_events cpu place numbers);
-        }
+    frees_may = frees-follow h trace cpu place numbers given first.result mid.lists may.heap (allocs_may h trace cpu place numbers may) frees_before allocs_lawful
 
     pub frees_lawful : (second : ClientRound) (after : HeapState) → DoesAsked mid cpu (frees_of given) second after → IsRound mid.lists (round_of cpu (frees_of given)) second.result after.lists
     frees_lawful second after again = asked_lawful mid trace cpu (frees_of given) second after lawful done.coherent allocs_lawful.rest frees_may again
@@ -308,7 +285,7 @@ module _ (lawful : RoundsByTextAreLawful) (h : HeapState) (trace : Trace) (cpu p
   takes_often rounds after takes object =
       let law = allocs_lawful takes.0 takes.1 takes.2 in
       let given = all_given h.lists cpu place numbers takes.0.result takes.1.lists law (sym takes.3) takes.2.memory in
-      allocs_give_all object cpu place numbers takes.0.result.replies (omega (arith, law.replies, allocs_events cpu place numbers)) given
+      allocs_give_all object cpu place numbers takes.0.result.replies (omega (arith, law.replies, allocs-long cpu place numbers)) given
 
   -- and comes
   pub takes_come : (rounds : List ClientRound) (after : HeapState) → TakesAll h cpu place numbers None rounds after → (object : ℕ) → 0 < times object numbers → IsSome (held_under after.lists object)

@@ -1,8 +1,8 @@
 -- The acts of a bulk round, and the numbers among them.
-use Rattle.std.proofs.Common.{◌≡◌, ℕ, ◌+◌, ◌<◌, ◌≤◌, Bool, true, false, eqb, min, List, [], ◌∷◌, ◌++◌, length, take, drop, filter, flat_map, get_or, refl, sym, ◌∙◌, ap, All, arith}
-use Rattle.std.specs.List.{Contains, IsDistinct, cons_option, filter_map, range_with_len, zip}
+use Rattle.std.proofs.Common.{◌≡◌, ℕ, ◌+◌, ◌<◌, ◌≤◌, Bool, true, false, min, List, [], ◌∷◌, ◌++◌, length, take, drop, filter, get_or, refl, sym, ◌∙◌, ap, All, arith}
+use Rattle.std.specs.List.{IsDistinct, cons_option, filter_map, range_with_len, zip}
 use Rattle.std.specs.Prelude.{Option, Some, None, nat_eq, slice_get, slice_index_or, if◌then◌else◌}
-use Rattle.std.proofs.lemmas.List.Elements.{All-append, All-cons, All-filter, All-head, All-map, All-nil, All-tail, filter-append, filter_map-append}
+use Rattle.std.proofs.lemmas.List.Elements.{filter-append, filter_map-append}
 use Rattle.std.proofs.lemmas.List.{append-nil, drop_more, length-map, take-append-drop, take_all, take_more}
 use Rattle.std.proofs.lemmas.Slice.Zip.{get_or-zip, length-zip}
 use Rattle.std.proofs.lemmas.List.FromFn.{get_or-range_with_len, length-range_with_len}
@@ -14,12 +14,12 @@ use Rattle.slub_lists.specs.State.{State}
 use Rattle.slub_trace_reader.specs.declared.trace.Trace.{Trace}
 use Rattle.slub_journal.specs.declared.client.CacheRefusal.{CacheRefusal}
 use Rattle.slub_journal.specs.Asked.{first_refusal, refusal_of}
-use Rattle.slub_journal.specs.Bulk.{free_order, objects_of_slab, slabs_among}
+use Rattle.slub_journal.specs.Bulk.{free_order}
 use Rattle.slub_clients.specs.BulkLines.{frame_under, places_under, replied}
-use Rattle.slub_engine.specs.Steps.{KeepsUnheld}
 use Rattle.slub_by_text.specs.Heap.{HeapState}
 use Rattle.slub_clients.specs.Asked.{IsOpenTo}
 use Rattle.slub_clients.specs.Laws.{IsNumber}
+use Rattle.slub_clients.proofs.Chosen.{order_all}
 use Rattle.slub_bulk.proofs.Counting.{total_whole}
 
 -- ---- numbers that differ
@@ -89,51 +89,11 @@ given_more numbers replies i number told given all in_numbers in_replies at_numb
 pub given_whole : (numbers : List ℕ) (replies : List Reply) (i : ℕ) (given : List ℕ) → i ≡ min (length numbers) (length replies) → given ≡ filter_map number_given (take i (zip numbers replies)) → given ≡ replied is_given numbers replies
 given_whole numbers replies i given whole so_far = so_far ∙ ap (filter_map number_given) (take_all i (zip numbers replies) (omega (arith, length-zip numbers replies)))
 
-pub replied_all : (P : ℕ → Type 0) (is : Reply → Bool) (numbers : List ℕ) (replies : List Reply) → All P numbers → All P (replied is numbers replies)
-replied_all P is [] replies all = All-nil P
-replied_all P is (number ∷ numbers) [] all = All-nil P
-replied_all P is (number ∷ numbers) (reply ∷ replies) all = by (is reply) (replied_all P is numbers replies (All-tail P number numbers all)) refl
-  where
-    by : (b : Bool) → All P (replied is numbers replies) → is reply ≡ b → All P (replied is (number ∷ numbers) (reply ∷ replies))
-    by true rest e = rw e (All-cons P number (replied is numbers replies) (All-head P number numbers all) rest)
-    by false rest e = rw e rest
-
-slab_all : (P : ℕ → Type 0) (places : List (ℕ × ℕ)) (frame : ℕ) → All (λ place. P place.0) places → All P (objects_of_slab places frame)
-slab_all P places frame all = All-map P (λ (place : ℕ × ℕ). place.0) (filter (λ place. eqb place.1 frame) places) (All-filter (λ place. eqb place.1 frame) (λ place. P place.0) places all)
-
-slabs_all : (P : ℕ → Type 0) (places : List (ℕ × ℕ)) (frames : List ℕ) → All (λ place. P place.0) places → All P (flat_map (objects_of_slab places) frames)
-slabs_all P places [] all = All-nil P
-slabs_all P places (frame ∷ frames) all = All-append P (objects_of_slab places frame) (flat_map (objects_of_slab places) frames) (slab_all P places frame all) (slabs_all P places frames all)
-
--- what a bulk free frees is among the numbers
-pub order_all : (P : ℕ → Type 0) (places : List (ℕ × ℕ)) → All (λ place. P place.0) places → All P (free_order places)
-order_all P places all = slabs_all P places (slabs_among places) all
-
 pub order_known : (h : HeapState) (numbers : List ℕ) → All (IsNumber h) numbers → All (IsNumber h) (free_order (places_under h.lists numbers))
-order_known h numbers known = order_all (IsNumber h) (places_under h.lists numbers) (All-map (λ (place : ℕ × ℕ). IsNumber h place.0) (λ number. (number, frame_under h.lists number)) numbers known)
+order_known h numbers known = order_all (IsNumber h) h.lists numbers known
 
 pub order_long : (s : State) (numbers : List ℕ) → length (free_order (places_under s numbers)) ≡ length numbers
 order_long s numbers = total_whole (places_under s numbers) ∙ length-map numbers (λ number. (number, frame_under s number))
-
-pub replied_long : (is : Reply → Bool) (numbers : List ℕ) (replies : List Reply) → length (replied is numbers replies) ≤ length numbers
-replied_long is [] replies = omega arith
-replied_long is (number ∷ numbers) [] = omega arith
-replied_long is (number ∷ numbers) (reply ∷ replies) = by (is reply) (replied_long is numbers replies) refl
-  where
-    by : (b : Bool) → length (replied is numbers replies) ≤ length numbers → is reply ≡ b → length (replied is (number ∷ numbers) (reply ∷ replies)) ≤ length (number ∷ numbers)
-    by true rest e = rw e (omega (arith, rest))
-    by false rest e = rw e (omega (arith, rest))
-
--- ---- what rounds keep
-
-pub unheld_same : (s : State) (objects : List ℕ) → KeepsUnheld s objects s
-unheld_same s objects object unheld out = unheld
-
-pub unheld_after : (s mid after : State) (objects : List ℕ) → KeepsUnheld s objects mid → KeepsUnheld mid [] after → KeepsUnheld s objects after
-unheld_after s mid after objects first second object unheld out = second object (first object unheld out) (λ mine. none_of object mine)
-  where
-    none_of : (object : ℕ) → Contains [] object → ⊥
-    none_of object mine = absurd (let never : ⊥ = omega (arith, mine.1) in never)
 
 -- the numbers of a trace's heap are those of every other one
 pub numbers_kept : (h after : HeapState) (trace : Trace) (asked more : ℕ) (numbers : List ℕ) → IsOpenTo h trace asked → IsOpenTo after trace more → All (IsNumber h) numbers → All (IsNumber after) numbers

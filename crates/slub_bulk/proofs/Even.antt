@@ -1,12 +1,9 @@
 -- What the ledger of a bulk's round counts.
-use Rattle.std.proofs.Common.{◌≡◌, ℕ, ◌+◌, ◌≤◌, ◌&&◌, cond, eqb, Bool, true, false, List, [], ◌∷◌, length, map, refl, sym, ◌∙◌, ap, All, arith}
-use Rattle.std.specs.List.{zip}
+use Rattle.std.proofs.Common.{◌≡◌, ℕ, ◌+◌, ◌≤◌, ◌&&◌, cond, eqb, Bool, true, false, List, [], ◌∷◌, length, map, refl, ◌∙◌, ap, All, arith}
 use Rattle.std.specs.Prelude.{count_by, slice_index_or, sum_by}
-use Rattle.std.proofs.lemmas.List.Elements.{All-cons, All-head, All-nil, All-tail}
+use Rattle.std.proofs.lemmas.List.Elements.{All-head, All-tail}
 use Rattle.std.proofs.lemmas.List.Sums.{sum_by-cons}
 use Rattle.slub_events.specs.declared.event.Act.{Act}
-use Rattle.slub_events.specs.declared.event.Act.TheVariants.{Alloc}
-use Rattle.slub_events.specs.declared.event.Event.{Event}
 use Rattle.slub_answers.specs.declared.ledger.Ledger.{Ledger}
 use Rattle.slub_answers.specs.declared.reply.Reply.{Reply}
 use Rattle.slub_answers.specs.declared.reply.Reply.TheVariants as reply
@@ -14,13 +11,11 @@ use Rattle.slub_answers.specs.Kinds.{is_freed, is_given}
 use Rattle.slub_common.specs.Times.{times}
 use Rattle.slub_common.proofs.Times.{times-cons}
 use Rattle.slub_lists.specs.State.{State}
-use Rattle.slub_journal.specs.Asked.{event_of, round_of}
-use Rattle.slub_clients.specs.BulkLines.{allocs_of, replied}
-use Rattle.slub_journal.specs.Lawful.{AreLedgers, RunsEvents, freed_in, given_in, is_by}
+use Rattle.slub_journal.specs.Asked.{event_of}
+use Rattle.slub_clients.specs.BulkLines.{replied}
+use Rattle.slub_journal.specs.Lawful.{AreLedgers, freed_in, given_in, is_by}
 use Rattle.slub_round_law.specs.Answered.{Answered}
-use Rattle.slub_round_law.proofs.Steps.{event-step}
 use Rattle.slub_bulk.proofs.Boards.{answers_of}
-use Rattle.slub_bulk.proofs.Undamaged.{AllocDoes, alloc-does, brought_none, came}
 
 -- ---- numbers with a reply of a kind
 
@@ -57,19 +52,6 @@ freed-given told is = absurd (let never : false ≡ true = is in cc)
 
 pub none-given : (replies : List Reply) → All (λ told. is_freed told ≡ true) replies → All (λ told. is_given told ≡ false) replies
 none-given replies all = λ k d inside. freed-given _ (all k d inside)
-
--- an allocation frees nothing
-pub none-freed : (cpu place : ℕ) (numbers : List ℕ) (s : State) (replies : List Reply) (last : State) → RunsEvents s (round_of cpu (allocs_of place numbers)).events replies last → All (λ told. is_freed told ≡ false) replies
-none-freed cpu place [] s [] last runs = All-nil (λ told. is_freed told ≡ false)
-none-freed cpu place [] s (answer ∷ replies) last runs = absurd runs
-none-freed cpu place (number ∷ numbers) s [] last runs = absurd runs
-none-freed cpu place (number ∷ numbers) s (answer ∷ replies) last runs =
-    All-cons (λ told. is_freed told ≡ false) answer replies (by (alloc-does s (event_of cpu (Alloc place number)) place number answer runs.0 refl (event-step s (event_of cpu (Alloc place number)) answer runs.0 runs.1)))
-    (none-freed cpu place numbers runs.0 replies last runs.3)
-  where
-    by : AllocDoes s place number answer runs.0 → is_freed answer ≡ false
-    by (came held live names is_live is gives_it frees_none board) = frees_none
-    by (brought_none gives_none frees_none board) = frees_none
 
 -- ---- the ledger
 

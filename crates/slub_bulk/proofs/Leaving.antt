@@ -1,12 +1,11 @@
 -- The board after a bulk line.
-use Rattle.std.proofs.Common.{◌≡◌, ℕ, zero, suc, ◌+◌, ◌^◌, ◌<◌, ◌≤◌, cond, Bool, true, false, ◌&&◌, eqb, is_none, List, [], ◌∷◌, length, filter, refl, sym, ◌∙◌, ap, subst, All, arith, Option, Some, None, IsSome, IfSome, inl, inr, ◌⊎◌}
+use Rattle.std.proofs.Common.{◌≡◌, ℕ, zero, suc, ◌+◌, ◌*◌, ◌^◌, ◌<◌, ◌≤◌, cond, Bool, true, false, ◌&&◌, eqb, is_none, List, [], ◌∷◌, length, get_or, filter, refl, sym, ◌∙◌, ap, subst, All, arith, Option, Some, None, IsSome, IfSome, inl, inr, ◌⊎◌}
 use Rattle.std.specs.List.{Contains, filter_map, range_with_len}
 use Rattle.std.specs.Prelude.{count_by, slice_get}
 use Rattle.std.proofs.lemmas.List.FromFn.{length-range_with_len}
 use Rattle.std.proofs.lemmas.List.Sums.{sum_by-cons}
-use Rattle.std.proofs.lemmas.List.Elements.{All-cons, All-contains, All-head, All-nil, All-tail}
+use Rattle.std.proofs.lemmas.List.Elements.{All-cons, All-contains, All-head, All-nil, All-tail, Contains-get_or}
 use Rattle.slub_events.specs.declared.event.Act.TheVariants.{Alloc, Free}
-use Rattle.slub_events.specs.declared.event.Round.{Round}
 use Rattle.slub_object_layout.specs.Layout.{address_of}
 use Rattle.slub_answers.specs.declared.reply.Reply.{Reply}
 use Rattle.slub_answers.specs.Kinds.{is_freed, is_given}
@@ -31,24 +30,25 @@ use Rattle.slub_journal.specs.declared.client.CacheRefusal.{CacheRefusal}
 use Rattle.slub_journal.specs.declared.client.ClientDone.{ClientDone}
 use Rattle.slub_journal.specs.declared.client.ClientAnswer.TheVariants as answer
 use Rattle.slub_journal.specs.declared.client.ClientRound.{ClientRound}
-use Rattle.slub_journal.specs.declared.journal.RoundResult.{RoundResult}
 use Rattle.slub_journal.specs.Asked.{event_of, frees_of, round_of}
 use Rattle.slub_journal.specs.Bulk.{free_order}
 use Rattle.slub_journal.specs.Lawful.{DoesRound, IsUnheld, freed_in, given_in}
 use Rattle.slub_round_law.specs.Answered.{Answered, did_free, gave, times_freed, times_given}
-use Rattle.slub_round_law.specs.Round.{IsRound}
+use Rattle.slub_round_law.specs.Round.{IsRound, NamesChecked}
 use Rattle.slub_round_law.proofs.Steps.{match_either}
 use Rattle.slub_round_law.proofs.Times.{once_times}
-use Rattle.slub_by_text.specs.ByText.{DoesByText}
 use Rattle.slub_by_text.specs.Heap.{HeapState}
 use Rattle.slub_by_text.specs.Laws.{RoundsByTextAreLawful}
 use Rattle.slub_clients.specs.Asked.{AnswersAtOnce, DoesAsked, IsOpenTo}
 use Rattle.slub_clients.specs.BulkLines.{AddsNumbers, DropsNumbers, FreesAgain, FreesInOrder, IsEven, LeavesBulk, LeavesBulkFree, ServesBulk, ServesBulkFree, TakesAll, address_under, allocs_of, bulk_answer, first_unheld, freed_by, freed_number, places_under, replied}
-use Rattle.slub_clients.proofs.Allowed.{frees-may}
-use Rattle.slub_bulk.specs.Taking.{MayTake}
+use Rattle.slub_clients.proofs.Allowed.{allocs-long, frees-long, frees-may}
+use Rattle.slub_clients.proofs.Chosen.{replied_all, replied_long}
+use Rattle.slub_bulk.specs.Taking.{IdsLastFor, MayTake}
 use Rattle.slub_bulk.proofs.Boards.{allocs_free_none, allocs_lawful, answers_of, asked_lawful, frees_give_none, frees_lawful, replies_even, stays_there, takes_come, takes_often, takes_stay}
-use Rattle.slub_bulk.proofs.Bulking.{order_known, order_long, range_known, replied_all}
-use Rattle.slub_bulk.proofs.Even.{ledger-freed, ledger-given, none-freed, none-given, replied-all, replied-few, replied-none}
+use Rattle.slub_bulk.proofs.Bulking.{order_known, order_long, range_known}
+use Rattle.slub_bulk.proofs.Even.{ledger-freed, ledger-given, none-given, replied-all, replied-few, replied-none}
+use Rattle.slub_bulk.proofs.Lasting.{lasts-on}
+use Rattle.slub_bulk.proofs.Plain.{IsPlain, allocs-unfreed, frees-plain, given-plain}
 use Rattle.slub_bulk.proofs.Undamaged.{IsFreed, IsUndamaged, frees-all, given-whole-all, laid-whole}
 
 -- ---- on the board or not
@@ -218,21 +218,17 @@ given-often object cpu place (number ∷ numbers) (told ∷ replies) =
         nothing true rest = omega (arith, rest)
         nothing false rest = omega (arith, rest)
 
--- a heap without ids does each round on its lists
-on-lists : (s : State) (ids : Option (List ℕ)) (round : Round) (result : RoundResult) (after : State) (left : Option (List ℕ)) → ids ≡ None → DoesByText s ids round result after left → DoesRound s round result after × (left ≡ None)
-on-lists s None round result after left none does = does
-on-lists s (Some ids) round result after left none does = absurd (cc)
+-- the cache isn't checked, or both rounds of a bulk are done on the lists
+abbrev IsPlainOrLasts : HeapState → ℕ → List ℕ → Type 0
+IsPlainOrLasts h place numbers = (¬ NamesChecked h.lists place) ⊎ IdsLastFor h (2 * length numbers)
 
-module _ (lawful : RoundsByTextAreLawful) (h : HeapState) (trace : Trace) (cpu place : ℕ) (numbers : List ℕ) (may : MayTake h trace cpu place numbers) (beside : h.ids ≡ None) (first : ClientRound) (mid : HeapState)
+module _ (lawful : RoundsByTextAreLawful) (h : HeapState) (trace : Trace) (cpu place : ℕ) (numbers : List ℕ) (may : MayTake h trace cpu place numbers) (first : ClientRound) (mid : HeapState)
     (does : DoesAsked h cpu (allocs_of place numbers) first mid) where
   abbrev given : List ℕ
   given = replied is_given numbers first.result.replies
 
   law : IsRound h.lists (round_of cpu (allocs_of place numbers)) first.result mid.lists
   law = allocs_lawful lawful h trace cpu place numbers may first mid does
-
-  on : DoesRound h.lists (round_of cpu (allocs_of place numbers)) first.result mid.lists × (mid.ids ≡ None)
-  on = on-lists h.lists h.ids (round_of cpu (allocs_of place numbers)) first.result mid.lists mid.ids beside does.does
 
   no_free : (object : ℕ) → times_freed object (answers_of cpu (allocs_of place numbers) first.result.replies) ≡ 0
   no_free object = allocs_free_none object cpu place numbers first.result.replies
@@ -243,28 +239,44 @@ module _ (lawful : RoundsByTextAreLawful) (h : HeapState) (trace : Trace) (cpu p
   once : (x : ℕ) → times x given ≤ 1
   once x = omega (arith, once_times x numbers may.distinct, replied-few is_given x numbers first.result.replies)
 
-  -- what was given can be freed again
-  each-freed : (number : ℕ) → 0 < times number given → IsUndamaged on.0.last number → IsFreed mid.lists number
-  each-freed number some whole = by (held_under mid.lists number) refl ((law.board.numbers number).1 (inr (omega (arith, some, often number)), no_free number))
-    where
-      by : (x : Option Held) → held_under mid.lists number ≡ x → IsSome (held_under mid.lists number) → IsFreed mid.lists number
-      by None is there = absurd (not-some (held_under mid.lists number) is there)
-      by (Some held) is there = record {
-        held = held;
-        there = is;
-        laid = at_some (held_under mid.lists number) held (λ held. held.worker ≡ None) is (law.rest.laid_down number);
-        whole = laid-whole on.0.last mid.lists number on.0.after_is whole;
-      }
+  -- what was given is there
+  given-there : (number : ℕ) → 0 < times number given → IsSome (held_under mid.lists number)
+  given-there number some = (law.board.numbers number).1 (inr (omega (arith, some, often number)), no_free number)
 
-  all-freed : All (IsFreed mid.lists) given
-  all-freed = by given (λ number some. some) (given-whole-all cpu place numbers h.lists first.result.replies on.0.last may.heap.sound.coherent (λ k d inside. (may.known k d inside).1) (λ x. once_times x numbers may.distinct) on.0.runs)
-    where
-      by : (some : List ℕ) → ((number : ℕ) → 0 < times number some → 0 < times number given) → All (IsUndamaged on.0.last) some → All (IsFreed mid.lists) some
-      by [] among whole = All-nil (IsFreed mid.lists)
-      by (number ∷ some) among whole =
-          All-cons (IsFreed mid.lists) number some
-          (each-freed number (among number (times-contained number (number ∷ some) (0, omega arith, refl))) (All-head (IsUndamaged on.0.last) number some whole))
-          (by some (λ n there. among n (omega (arith, there, times-cons n number some))) (All-tail (IsUndamaged on.0.last) number some whole))
+  -- after a round on the lists it is undamaged
+  module _ (on : DoesRound h.lists (round_of cpu (allocs_of place numbers)) first.result mid.lists) where
+    each-freed : (number : ℕ) → 0 < times number given → IsUndamaged on.last number → IsFreed mid.lists number
+    each-freed number some whole = by (held_under mid.lists number) refl (given-there number some)
+      where
+        by : (x : Option Held) → held_under mid.lists number ≡ x → IsSome (held_under mid.lists number) → IsFreed mid.lists number
+        by None is there = absurd (not-some (held_under mid.lists number) is there)
+        by (Some held) is there = record {
+          held = held;
+          there = is;
+          laid = at_some (held_under mid.lists number) held (λ held. held.worker ≡ None) is (law.rest.laid_down number);
+          whole = laid-whole on.last mid.lists number on.after_is whole;
+        }
+
+    all-freed : All (IsFreed mid.lists) given
+    all-freed = by given (λ number some. some) (given-whole-all cpu place numbers h.lists first.result.replies on.last may.heap.sound.coherent (λ k d inside. (may.known k d inside).1) (λ x. once_times x numbers may.distinct) on.runs)
+      where
+        by : (some : List ℕ) → ((number : ℕ) → 0 < times number some → 0 < times number given) → All (IsUndamaged on.last) some → All (IsFreed mid.lists) some
+        by [] among whole = All-nil (IsFreed mid.lists)
+        by (number ∷ some) among whole =
+            All-cons (IsFreed mid.lists) number some
+            (each-freed number (among number (times-contained number (number ∷ some) (0, omega arith, refl))) (All-head (IsUndamaged on.last) number some whole))
+            (by some (λ n there. among n (omega (arith, there, times-cons n number some))) (All-tail (IsUndamaged on.last) number some whole))
+
+  -- and it is of no checked cache, where the cache isn't one
+  all-plain : (¬ NamesChecked h.lists place) → All (IsPlain mid.lists) given
+  all-plain plain = λ k d inside.
+      let number = get_or given k d in
+      let mine : Contains given number = Contains-get_or given k d inside in
+      record {
+        there = given-there number (times-contained number given mine);
+        plain = given-plain h.lists cpu place numbers first.result mid.lists number may.heap.sound.coherent law plain
+            (All-contains (IsUnheld h.lists) given number (replied_all (IsUnheld h.lists) is_given numbers first.result.replies may.unheld) mine);
+      }
 
   -- the board, where what was given is gone again
   board-back : (after : State) → DropsNumbers mid.lists given after → (object : ℕ) → held_under after object ≡ held_under h.lists object
@@ -294,18 +306,23 @@ module _ (lawful : RoundsByTextAreLawful) (h : HeapState) (trace : Trace) (cpu p
   first-freed : freed_in first.result.ledgers ≡ 0
   first-freed =
       ledger-freed h.lists (Alloc place) cpu numbers first.result.replies first.result.ledgers law.ledgers
-      ∙ ap (λ (l : List ℕ). length l) (replied-none is_freed numbers first.result.replies (none-freed cpu place numbers h.lists first.result.replies on.0.last on.0.runs))
+      ∙ ap (λ (l : List ℕ). length l) (replied-none is_freed numbers first.result.replies (allocs-unfreed h.lists cpu place numbers first.result mid.lists law))
 
   -- what was given is freed again
-  module _ (second : ClientRound) (after : HeapState) (again : DoesAsked mid cpu (frees_of given) second after) where
+  module _ (sure : IsPlainOrLasts h place numbers) (second : ClientRound) (after : HeapState) (again : DoesAsked mid cpu (frees_of given) second after) where
     law_again : IsRound mid.lists (round_of cpu (frees_of given)) second.result after.lists
     law_again = frees_lawful lawful h trace cpu place numbers may first mid does second after again
 
-    on_again : DoesRound mid.lists (round_of cpu (frees_of given)) second.result after.lists
-    on_again = (on-lists mid.lists mid.ids (round_of cpu (frees_of given)) second.result after.lists after.ids on.1 again.does).0
-
     all-told : All (λ told. is_freed told ≡ true) second.result.replies
-    all-told = frees-all cpu given mid.lists second.result.replies on_again.last does.coherent all-freed once on_again.runs
+    all-told = by sure
+      where
+        by : IsPlainOrLasts h place numbers → All (λ told. is_freed told ≡ true) second.result.replies
+        by (inl plain) = frees-plain mid.lists cpu given second.result after.lists law_again once (all-plain plain)
+        by (inr last) =
+            let few : length (round_of cpu (frees_of given)).events + 0 ≤ length numbers = omega (arith, frees-long cpu given, replied_long is_given numbers first.result.replies) in
+            let on = lasts-on h (round_of cpu (allocs_of place numbers)) first.result mid (2 * length numbers) (length numbers) may.heap.sound.coherent law.cpus (omega (arith, allocs-long cpu place numbers)) last does.does in
+            let on_again = (lasts-on mid (round_of cpu (frees_of given)) second.result after (length numbers) 0 does.coherent law_again.cpus few on.1 again.does).0 in
+            frees-all cpu given mid.lists second.result.replies on_again.last does.coherent (all-freed on.0) once on_again.runs
 
     back-all : replied is_freed given second.result.replies ≡ given
     back-all = replied-all is_freed given second.result.replies (replies_even mid.lists cpu given second.result after.lists law_again) all-told
@@ -347,8 +364,8 @@ module _ (lawful : RoundsByTextAreLawful) (h : HeapState) (trace : Trace) (cpu p
         sum_by-cons (λ (round : ClientRound). freed_in round.result.ledgers) first [],
       )
 
-  pub back-again : (rounds : List ClientRound) (after : HeapState) → FreesAgain mid cpu given first rounds after → ((object : ℕ) → held_under after.lists object ≡ held_under h.lists object) × IsEven rounds
-  back-again rounds after again = by given refl again
+  pub back-again : IsPlainOrLasts h place numbers → (rounds : List ClientRound) (after : HeapState) → FreesAgain mid cpu given first rounds after → ((object : ℕ) → held_under after.lists object ≡ held_under h.lists object) × IsEven rounds
+  back-again sure rounds after again = by given refl again
     where
       by : (again_numbers : List ℕ) → given ≡ again_numbers → FreesAgain mid cpu again_numbers first rounds after → ((object : ℕ) → held_under after.lists object ≡ held_under h.lists object) × IsEven rounds
       by [] nothing again =
@@ -359,11 +376,11 @@ module _ (lawful : RoundsByTextAreLawful) (h : HeapState) (trace : Trace) (cpu p
           (board-back after.lists drop, subst IsEven (sym again.0) (even-one nothing))
       by (number ∷ more) are again =
           let does_again : DoesAsked mid cpu (frees_of given) again.0 after = subst (λ (l : List ℕ). DoesAsked mid cpu (frees_of l) again.0 after) (sym are) again.1 in
-          (board-back after.lists (dropped again.0 after does_again), subst IsEven (sym again.2) (even-two again.0 after does_again))
+          (board-back after.lists (dropped sure again.0 after does_again), subst IsEven (sym again.2) (even-two sure again.0 after does_again))
 
-none : (lawful : RoundsByTextAreLawful) (h : HeapState) (trace : Trace) (cpu place : ℕ) (numbers : List ℕ) (why : CacheRefusal) (rounds : List ClientRound) (after : HeapState) → MayTake h trace cpu place numbers → h.ids ≡ None
+none : (lawful : RoundsByTextAreLawful) (h : HeapState) (trace : Trace) (cpu place : ℕ) (numbers : List ℕ) (why : CacheRefusal) (rounds : List ClientRound) (after : HeapState) → MayTake h trace cpu place numbers → IsPlainOrLasts h place numbers
     → TakesAll h cpu place numbers (Some why) rounds after → ((object : ℕ) → held_under after.lists object ≡ held_under h.lists object) × IsEven rounds
-none lawful h trace cpu place numbers why rounds after may beside takes = back-again lawful h trace cpu place numbers may beside takes.0 takes.1 takes.2 rounds after takes.4
+none lawful h trace cpu place numbers why rounds after may sure takes = back-again lawful h trace cpu place numbers may takes.0 takes.1 takes.2 sure rounds after takes.4
 
 -- ---- a bulk
 
@@ -375,13 +392,13 @@ bulks_add lawful h trace cpu place numbers done after may serves all = by serves
     by None takes is = adds lawful h trace cpu place numbers done.rounds after may takes
     by (Some why) takes is = absurd (let never : answer.All ≡ answer.Nothing why = sym all ∙ is in cc)
 
-pub bulks : (lawful : RoundsByTextAreLawful) (h : HeapState) (trace : Trace) (cpu place : ℕ) (numbers : List ℕ) (done : ClientDone) (after : HeapState) → MayTake h trace cpu place numbers → h.ids ≡ None
+pub bulks : (lawful : RoundsByTextAreLawful) (h : HeapState) (trace : Trace) (cpu place : ℕ) (numbers : List ℕ) (done : ClientDone) (after : HeapState) → MayTake h trace cpu place numbers → IsPlainOrLasts h place numbers
     → ServesBulk h cpu place numbers done after → LeavesBulk h numbers done after done.answer
-bulks lawful h trace cpu place numbers done after may beside serves = by serves.0 serves.1 serves.2
+bulks lawful h trace cpu place numbers done after may sure serves = by serves.0 serves.1 serves.2
   where
     by : (refusal : Option CacheRefusal) → TakesAll h cpu place numbers refusal done.rounds after → done.answer ≡ bulk_answer refusal → LeavesBulk h numbers done after done.answer
     by None takes is = subst (LeavesBulk h numbers done after) (sym is) (adds lawful h trace cpu place numbers done.rounds after may takes)
-    by (Some why) takes is = subst (LeavesBulk h numbers done after) (sym is) (none lawful h trace cpu place numbers why done.rounds after may beside takes)
+    by (Some why) takes is = subst (LeavesBulk h numbers done after) (sym is) (none lawful h trace cpu place numbers why done.rounds after may sure takes)
 
 -- ---- the least number that isn't on the board
 

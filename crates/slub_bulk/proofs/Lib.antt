@@ -2,6 +2,8 @@ pub mod Boards
 pub mod Bulking
 pub mod Counting
 pub mod Even
+pub mod Lasting
 pub mod Leaving
+pub mod Plain
 pub mod Undamaged
 pub mod Writing

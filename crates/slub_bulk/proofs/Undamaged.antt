@@ -1,11 +1,9 @@
 -- An object that was given by a round is undamaged when the next round frees it.
-use Rattle.std.proofs.Common.{◌≡◌, ◌≢◌, ℕ, zero, suc, ◌+◌, ◌*◌, ◌<◌, ◌≤◌, cond, eqb, Bool, true, false, List, [], ◌∷◌, ◌++◌, length, length-set, get_or, get_or-set_other, get_or-set_same, set, map, refl, sym, ◌∙◌, ap, subst, All, arith, Option, Some, None, IsSome, MatchOption, inl, inr, ◌⊎◌, ℤ, option_map}
-use Rattle.std.specs.List.{Contains}
+use Rattle.std.proofs.Common.{◌≡◌, ◌≢◌, ℕ, zero, suc, ◌+◌, ◌*◌, ◌<◌, ◌≤◌, cond, eqb, Bool, true, false, List, [], ◌∷◌, ◌++◌, length, length-set, get_or, get_or-set_other, get_or-set_same, set, refl, sym, ◌∙◌, ap, subst, All, arith, Option, Some, None, MatchOption, inl, inr, ◌⊎◌, ℤ, option_map}
 use Rattle.std.specs.Prelude.{IsTrue}
 use Rattle.std.proofs.lemmas.List.{ext_get_or}
 use Rattle.std.proofs.lemmas.List.Elements.{All-cons, All-contains, Contains-append_right, All-head, All-nil, All-tail}
 use Rattle.slub_common.proofs.Writes.{inside-of}
-use Rattle.slub_events.specs.declared.event.Act.{Act}
 use Rattle.slub_events.specs.declared.event.Act.TheVariants as act
 use Rattle.slub_events.specs.declared.event.Event.{Event}
 use Rattle.slub_object_layout.specs.declared.layout.Layout.{Layout}
@@ -20,12 +18,11 @@ use Rattle.slub_red_zone.specs.declared.checked.CheckedGive.TheVariants as give
 use Rattle.slub_red_zone.specs.declared.checked.Run.{Run as SlabRun}
 use Rattle.slub_red_zone.specs.declared.checked.Slot.{Slot}
 use Rattle.slub_red_zone.specs.declared.zones.Damage.{Damage}
-use Rattle.slub_red_zone.specs.declared.zones.Part.{Part}
 use Rattle.slub_red_zone.specs.Bytes.{IsWhole}
 use Rattle.slub_red_zone.specs.Sound.{IsLayoutFor, IsSound}
 use Rattle.slub_red_zone.specs.State.{CheckedState, IsUsed, SlabState, bytes_of, slab_of as checked_slab, slot_of}
-use Rattle.slub_red_zone.specs.Steps.{Gives, IsNext, damage_of_free, damage_of_used, next_is_damaged, next_is_whole, nothing_listed, new_slab, slab_with_given, with_damaged, with_given, with_new_slab}
-use Rattle.slub_red_zone.specs.Zones.{damage_when_given, damage_when_taken, examined_free, examined_used, new_slot, padding, poison, red_active, red_inactive, red_zones, set_up}
+use Rattle.slub_red_zone.specs.Steps.{Gives, damage_of_free, damage_of_used, next_is_damaged, next_is_whole, nothing_listed, new_slab, slab_with_given, with_damaged, with_given, with_new_slab}
+use Rattle.slub_red_zone.specs.Zones.{damage_when_given, damage_when_taken, examined_free, padding, poison, red_active, red_inactive, red_zones, set_up}
 use Rattle.slub_red_zone.proofs.Given.{damaged-sound, next-frame, next-inside}
 use Rattle.slub_red_zone.proofs.NewSlabs.{new-undamaged}
 use Rattle.slub_red_zone.proofs.Parts.{given-whole}
@@ -33,14 +30,14 @@ use Rattle.slub_red_zone.proofs.Sums.{slab_at-set}
 use Rattle.slub_red_zone.proofs.Taken.{used-inside}
 use Rattle.slub_red_zone.proofs.Written.{slot-long, with_slot-this}
 use Rattle.slub_common.specs.Times.{times}
-use Rattle.slub_common.proofs.Times.{times-cons_other, times-contained, times-cons}
+use Rattle.slub_common.proofs.Times.{times-contained, times-cons}
 use Rattle.slub_page_pool.specs.FreeFrames.{FreeFrames}
 use Rattle.slub_lists.specs.declared.lists.Held.{Held}
 use Rattle.slub_lists.specs.declared.lists.Run.{Run}
 use Rattle.slub_lists.specs.declared.lists.Slab.{Slab}
 use Rattle.slub_lists.specs.State.{State}
-use Rattle.slub_lists.specs.Alloc.{Allocates, FindsRun, cache_of, checked_of, named, slab_of}
-use Rattle.slub_lists.specs.Checked.{AllocatesChecked, GivesOrMakes, GivesSlot, LacksMemory, LacksRun, first_slot, new_given, slot_of_held, with_checked, with_checked_slab}
+use Rattle.slub_lists.specs.Alloc.{cache_of, checked_of, named, slab_of}
+use Rattle.slub_lists.specs.Checked.{GivesOrMakes, GivesSlot, LacksMemory, LacksRun, first_slot, new_given, slot_of_held, with_checked, with_checked_slab}
 use Rattle.slub_lists.specs.Coherent.{IsCoherent, all_on_board, held_under, laid_down}
 use Rattle.slub_lists.specs.Free.{is_freeable}
 use Rattle.slub_lists.specs.Named.{AllocatesNamed}
@@ -52,7 +49,7 @@ use Rattle.slub_clients.specs.BulkLines.{allocs_of, replied}
 use Rattle.slub_journal.specs.Lawful.{Answers, RunsEvents}
 use Rattle.slub_round_law.proofs.Bytes.{Has, outside-used, set-up-at, set-up-length}
 use Rattle.slub_round_law.proofs.Clean.{new-bytes, slot-byte}
-use Rattle.slub_round_law.proofs.Damages.{IsDamageOf, damage-taken}
+use Rattle.slub_round_law.proofs.Damages.{damage-taken}
 use Rattle.slub_round_law.proofs.Reports.{slabs-sound}
 use Rattle.slub_round_law.proofs.Slabs.{event-slabs}
 use Rattle.slub_round_law.proofs.Sparing.{SparesIt, SparesSlot, kept, spares-it, swapped}

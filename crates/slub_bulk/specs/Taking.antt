@@ -1,7 +1,8 @@
--- Which objects may be asked of a cache.
-use Rattle.std.specs.Prelude.{ℕ, ◌<◌, List, length, All, nat_eq}
+-- Which objects may be asked of a cache, and for how many events the ids of a heap last.
+use Rattle.std.specs.Prelude.{ℕ, ◌+◌, ◌*◌, ◌^◌, ◌<◌, List, length, All, IfSome, nat_eq}
 use Rattle.std.specs.List.{IsDistinct}
 use Rattle.slub_trace_reader.specs.declared.trace.Trace.{Trace}
+use Rattle.slub_trace_reader.specs.Grammar.{step_of}
 use Rattle.slub_journal.specs.Lawful.{IsUnheld}
 use Rattle.slub_by_text.specs.Heap.{HeapState}
 use Rattle.slub_clients.specs.Asked.{IsOpenTo}
@@ -17,3 +18,9 @@ pub record MayTake (h : HeapState) (trace : Trace) (cpu place : ℕ) (numbers : 
   pub known : All (IsNumber h) numbers
   pub unheld : All (IsUnheld h.lists) numbers
   pub distinct : IsDistinct nat_eq numbers
+
+-- after so many events, each of which changed each CPU word twice, each id that stands beside the
+-- lists would have room for one change more
+abbrev pub IdsLastFor : HeapState → ℕ → Type 0
+IdsLastFor h events =
+    IfSome h.ids (All (λ id. id + (2 * events + 1) * step_of h.lists.cpus < 2 ^ 32))

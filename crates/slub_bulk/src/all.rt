@@ -4,13 +4,13 @@ ghost use Rattle.std.specs.Prelude.{◌≡◌, ◌^◌, ◌<◌, ◌≤◌, ◌+
 ghost use Rattle.std.specs.List.{IsDistinct};
 ghost use Rattle.slub_answers.specs.Kinds.{is_given};
 ghost use Rattle.slub_trace_reader.specs.declared.trace.Trace.{Trace};
-ghost use Rattle.slub_journal.specs.Asked.{first_refusal, frees_of, round_of};
+ghost use Rattle.slub_journal.specs.Asked.{first_refusal, frees_of};
 ghost use Rattle.slub_journal.specs.Lawful.{IsUnheld};
 ghost use Rattle.slub_engine.specs.Steps.{KeepsUnheld};
-ghost use Rattle.slub_clients.specs.Asked.{DoesAsked, IsOpenTo, StaysOpen};
-ghost use Rattle.slub_clients.specs.BulkLines.{FreesAgain, TakesAll, allocs_of, replied};
+ghost use Rattle.slub_clients.specs.Asked.{DoesAsked, IsOpenTo, SpendsAsked, StaysOpen};
+ghost use Rattle.slub_clients.specs.BulkLines.{FreesAgain, SpendsAgain, SpendsTaking, TakesAll, allocs_of, replied};
 ghost use Rattle.slub_clients.specs.Laws.{IsNumber};
-ghost use Rattle.slub_clients.specs.Stopped.{IsLineStopped, IsRoundStopped};
+ghost use Rattle.slub_clients.specs.Stopped.{IsStoppedWhere};
 
 use slub_answers::reply::{Kind, Reply};
 use slub_by_text::heap::Heap;
@@ -42,7 +42,7 @@ pub fn take_all(
         TakesAll heap cpu place numbers.now done.1 rounds.new.items done.0) }
     ensures stays { IfOk result (λ done. (trace : Trace) → StaysOpen heap trace (length numbers.now) done.0) }
     ensures unheld { IfOk result (λ done. KeepsUnheld heap.lists numbers.now done.0.lists) }
-    ensures stopped { IfErr result (IsLineStopped heap) }
+    ensures stopped { IfErr result (IsStoppedWhere (SpendsTaking heap cpu place numbers.now)) }
 {
     let (mid, first) = alloc_round(alloc, heap, cpu, place, numbers)?;
     let replies = first.result.replies.as_slice();
@@ -72,7 +72,7 @@ fn free_again(
     ensures freed { IfOk result (λ after. FreesAgain heap cpu numbers.now first rounds.new.items after) }
     ensures stays { IfOk result (λ after. (trace : Trace) → StaysOpen heap trace 0 after) }
     ensures unheld { IfOk result (λ after. KeepsUnheld heap.lists [] after.lists) }
-    ensures stopped { IfErr result (IsRoundStopped heap (round_of cpu (frees_of numbers.now))) }
+    ensures stopped { IfErr result (IsStoppedWhere (SpendsAgain heap cpu numbers.now)) }
 {
     rounds.push(first)?;
     if numbers.is_empty() {
@@ -101,7 +101,7 @@ fn alloc_round(
     ensures done { IfOk result (λ done. DoesAsked heap cpu (allocs_of place numbers.now) done.1 done.0) }
     ensures stays { IfOk result (λ done. (trace : Trace) → StaysOpen heap trace (length numbers.now) done.0) }
     ensures unheld { IfOk result (λ done. KeepsUnheld heap.lists numbers.now done.0.lists) }
-    ensures stopped { IfErr result (IsRoundStopped heap (round_of cpu (allocs_of place numbers.now))) }
+    ensures stopped { IfErr result (IsStoppedWhere (SpendsAsked heap cpu (allocs_of place numbers.now))) }
 {
     let asked = allocs(alloc, place, numbers)?;
     client_round(alloc, heap, cpu, asked.as_slice())
@@ -122,7 +122,7 @@ pub(crate) fn free_round(
     ensures replies { IfOk result (λ done. length done.1.result.replies ≡ length numbers.now) }
     ensures stays { IfOk result (λ done. (trace : Trace) → StaysOpen heap trace 0 done.0) }
     ensures unheld { IfOk result (λ done. KeepsUnheld heap.lists [] done.0.lists) }
-    ensures stopped { IfErr result (IsRoundStopped heap (round_of cpu (frees_of numbers.now))) }
+    ensures stopped { IfErr result (IsStoppedWhere (SpendsAsked heap cpu (frees_of numbers.now))) }
 {
     let acts = frees(alloc, numbers)?;
     client_round(alloc, heap, cpu, acts.as_slice())

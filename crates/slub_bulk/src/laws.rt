@@ -1,14 +1,15 @@
 //! What bulk lines leave of the board. None of these does anything.
 
-ghost use Rattle.std.specs.Prelude.{◌≡◌, ◌+◌, ◌<◌, ◌≤◌, ℕ, List, None, length};
+ghost use Rattle.std.specs.Prelude.{◌≡◌, ◌+◌, ◌*◌, ◌<◌, ◌≤◌, ◌⊎◌, ℕ, List, length};
 ghost use Rattle.std.specs.List.{range_with_len};
 ghost use Rattle.slub_trace_reader.specs.declared.trace.Trace.{Trace};
 ghost use Rattle.slub_journal.specs.declared.client.ClientAnswer.TheVariants.{All};
 ghost use Rattle.slub_journal.specs.declared.client.ClientDone.{ClientDone as Done};
+ghost use Rattle.slub_round_law.specs.Round.{NamesChecked};
 ghost use Rattle.slub_by_text.specs.Heap.{HeapState};
 ghost use Rattle.slub_clients.specs.Asked.{IsOpenTo};
 ghost use Rattle.slub_clients.specs.BulkLines.{AddsNumbers, LeavesBulk, LeavesBulkFree, ServesBulk, ServesBulkFree};
-ghost use Rattle.slub_bulk.specs.Taking.{MayTake};
+ghost use Rattle.slub_bulk.specs.Taking.{IdsLastFor, MayTake};
 
 use slub_by_text::laws::rounds_by_text_are_lawful;
 
@@ -24,10 +25,12 @@ pub fn bulks_of_all_add_their_numbers()
 }
 
 /// After a bulk that was given none, the board is the board before, too, and its rounds gave as many as
-/// they freed: of a heap without ids, whose rounds are all done on its lists.
+/// they freed: of every heap where the cache isn't checked, and where it is, of one without ids or whose ids
+/// can't be spent by so many events.
 pub fn bulks_leave_the_board()
     ensures { (h : HeapState) (trace : Trace) (cpu place : ℕ) (numbers : List ℕ) (done : Done)
-        (after : HeapState) → MayTake h trace cpu place numbers → h.ids ≡ None →
+        (after : HeapState) → MayTake h trace cpu place numbers →
+        (¬ NamesChecked h.lists place) ⊎ IdsLastFor h (2 * length numbers) →
         ServesBulk h cpu place numbers done after → LeavesBulk h numbers done after done.answer }
 {
     rounds_by_text_are_lawful();

@@ -12,7 +12,8 @@
 //! was given. `free_order` writes the numbers slab by slab: the slabs in the order of their first numbers, and
 //! the objects of a slab in their order. `laws`: after a bulk that was given all, the board is the board before
 //! and the numbers, at different addresses; a bulk free drops exactly what it freed; and after a bulk that was
-//! given none, on a heap without ids, the board is as it was, and the rounds gave as many as they freed.
+//! given none, the board is as it was, and the rounds gave as many as they freed; of a checked cache only where ids
+//! beside the lists can't be spent.
 #![tactic(auto)]
 
 pub mod all;

@@ -5,21 +5,21 @@ ghost use Rattle.std.specs.List.{range_with_len};
 ghost use Rattle.slub_answers.specs.Kinds.{is_freed};
 ghost use Rattle.slub_trace_reader.specs.declared.trace.Trace.{Trace as Read};
 ghost use Rattle.slub_trace_reader.specs.Sound.{asked_objects};
-ghost use Rattle.slub_journal.specs.declared.client.ClientAnswer.TheVariants.{NotHeldOf};
+ghost use Rattle.slub_journal.specs.Asked.{frees_of};
 ghost use Rattle.slub_journal.specs.Bulk.{free_order};
 ghost use Rattle.slub_journal.specs.Lawful.{IsUnheld};
 ghost use Rattle.slub_engine.specs.Steps.{KeepsUnheld};
-ghost use Rattle.slub_clients.specs.Asked.{IsOpenTo, IsServable, StaysOpen};
-ghost use Rattle.slub_clients.specs.BulkLines.{FreesInOrder, IsBulkLine, ServesBulk, ServesBulkFree, ServesBulkLines, bulk_answer, first_unheld, frame_under, places_under};
+ghost use Rattle.slub_clients.specs.Asked.{IsOpenTo, IsServable, SpendsAsked, StaysOpen};
+ghost use Rattle.slub_clients.specs.BulkLines.{FreesInOrder, IsBulkLine, ServesBulk, ServesBulkFree, ServesBulkLines, SpendsBulkFree, SpendsBulkLines, SpendsTaking, bulk_answer, first_unheld, frame_under, places_under};
 ghost use Rattle.slub_clients.specs.Laws.{IsNumber};
-ghost use Rattle.slub_clients.specs.Stopped.{IsLineStopped};
+ghost use Rattle.slub_clients.specs.Stopped.{IsStoppedWhere};
 ghost use Rattle.slub_bulk.specs.Places.{places_of};
 
 use crate::all::{free_round, take_all};
 use crate::order::{Place, free_order};
 use slub_answers::reply::{Kind, Reply};
 use slub_by_text::heap::Heap;
-use slub_clients::client::Stopped;
+use slub_clients::client::{Stopped, at_once};
 use slub_common::no_memory::NoMemory;
 use slub_common::sequence::Sequence;
 use slub_journal::client::{CacheRefusal, ClientAnswer, ClientDone};
@@ -69,7 +69,7 @@ fn bulk(
     ensures stays { IfOk result (λ done.
         (trace : Read) → StaysOpen heap trace (length (range_with_len first count)) done.0) }
     ensures unheld { IfOk result (λ done. KeepsUnheld heap.lists (range_with_len first count) done.0.lists) }
-    ensures stopped { IfErr result (IsLineStopped heap) }
+    ensures stopped { IfErr result (IsStoppedWhere (SpendsTaking heap cpu place (range_with_len first count))) }
 {
     let numbers = numbers_from(alloc, first, count)?;
     let mut rounds = Vec::new(alloc);
@@ -159,25 +159,14 @@ fn bulk_free(
         ServesBulkFree heap cpu (range_with_len first count) done.1 done.0) }
     ensures stays { IfOk result (λ done. (trace : Read) → StaysOpen heap trace 0 done.0) }
     ensures unheld { IfOk result (λ done. KeepsUnheld heap.lists [] done.0.lists) }
-    ensures stopped { IfErr result (IsLineStopped heap) }
+    ensures stopped { IfErr result (IsStoppedWhere (SpendsBulkFree heap cpu (range_with_len first count))) }
 {
     let numbers = numbers_from(alloc, first, count)?;
     if let Some(number) = first_unheld(&heap, numbers.as_slice()) {
-        return Ok((heap, not_held(alloc, number)));
+        return Ok((heap, at_once(alloc, ClientAnswer::NotHeldOf(number))));
     }
     let order = in_free_order(alloc, &heap, numbers.as_slice())?;
     free_all(alloc, heap, cpu, order.as_slice())
-}
-
-/// The answer that this number isn't on the board.
-fn not_held(alloc: Global, number: u32) -> ClientDone
-    ensures rounds { result.rounds ≡ [] }
-    ensures answer { result.answer ≡ NotHeldOf number }
-{
-    ClientDone {
-        rounds: Sequence::new(alloc),
-        answer: ClientAnswer::NotHeldOf(number),
-    }
 }
 
 /// Frees these numbers by one round, in this order.
@@ -194,7 +183,7 @@ fn free_all(
     ensures served { IfOk result (λ done. FreesInOrder heap cpu numbers.now done.1 done.0) }
     ensures stays { IfOk result (λ done. (trace : Read) → StaysOpen heap trace 0 done.0) }
     ensures unheld { IfOk result (λ done. KeepsUnheld heap.lists [] done.0.lists) }
-    ensures stopped { IfErr result (IsLineStopped heap) }
+    ensures stopped { IfErr result (IsStoppedWhere (SpendsAsked heap cpu (frees_of numbers.now))) }
 {
     let (after, round) = free_round(alloc, heap, cpu, numbers)?;
     let freed = freed_in(round.result.replies.as_slice()) as u32;
@@ -219,7 +208,7 @@ pub fn serve(
     ensures served { IfOk result (λ done. ServesBulkLines heap client.now done.1 done.0) }
     ensures stays { IfOk result (λ done. StaysOpen heap trace.now (length (asked_objects client.now)) done.0) }
     ensures unheld { IfOk result (λ done. KeepsUnheld heap.lists (asked_objects client.now) done.0.lists) }
-    ensures stopped { IfErr result (IsLineStopped heap) }
+    ensures stopped { IfErr result (IsStoppedWhere (SpendsBulkLines heap client.now)) }
 {
     match client {
         Client::Bulk {

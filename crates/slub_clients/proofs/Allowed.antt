@@ -27,21 +27,21 @@ pub frees-objects : (cpu : ℕ) (numbers : List ℕ) → objects_of (round_of cp
 frees-objects cpu [] = refl
 frees-objects cpu (number ∷ numbers) = frees-objects cpu numbers
 
-allocs-long : (cpu place : ℕ) (numbers : List ℕ) → length (round_of cpu (allocs_of place numbers)).events ≡ length numbers
+pub allocs-long : (cpu place : ℕ) (numbers : List ℕ) → length (round_of cpu (allocs_of place numbers)).events ≡ length numbers
 allocs-long cpu place [] = refl
 allocs-long cpu place (number ∷ numbers) = ap suc (allocs-long cpu place numbers)
 
-frees-long : (cpu : ℕ) (numbers : List ℕ) → length (round_of cpu (frees_of numbers)).events ≡ length numbers
+pub frees-long : (cpu : ℕ) (numbers : List ℕ) → length (round_of cpu (frees_of numbers)).events ≡ length numbers
 frees-long cpu [] = refl
 frees-long cpu (number ∷ numbers) = ap suc (frees-long cpu numbers)
 
 -- ---- they read nothing
 
-allocs-read : (cpu place : ℕ) (numbers : List ℕ) (before : List Event) → AreReadable before (round_of cpu (allocs_of place numbers)).events
+pub allocs-read : (cpu place : ℕ) (numbers : List ℕ) (before : List Event) → AreReadable before (round_of cpu (allocs_of place numbers)).events
 allocs-read cpu place [] before = tt
 allocs-read cpu place (number ∷ numbers) before = (tt, allocs-read cpu place numbers (event_of cpu (Alloc place number) ∷ before))
 
-frees-read : (cpu : ℕ) (numbers : List ℕ) (before : List Event) → AreReadable before (round_of cpu (frees_of numbers)).events
+pub frees-read : (cpu : ℕ) (numbers : List ℕ) (before : List Event) → AreReadable before (round_of cpu (frees_of numbers)).events
 frees-read cpu [] before = tt
 frees-read cpu (number ∷ numbers) before = (tt, frees-read cpu numbers (event_of cpu (Free number) ∷ before))
 

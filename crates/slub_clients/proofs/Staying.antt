@@ -1,6 +1,7 @@
 -- What a heap stays open to.
-use Rattle.std.proofs.Common.{◌≡◌, ℕ, ◌+◌, ◌<◌, ◌≤◌, Bool, true, false, List, length, get_or, All, refl, sym, ◌∙◌, ap, subst, arith, Option, Some, None, IsSome, inl, inr, ◌⊎◌}
-use Rattle.std.specs.List.{list_any, zip}
+use Rattle.std.proofs.Common.{◌≡◌, ℕ, ◌+◌, ◌<◌, ◌≤◌, Bool, true, false, List, [], length, get_or, All, refl, sym, ◌∙◌, ap, subst, arith, Option, Some, None, IsSome, inl, inr, ◌⊎◌}
+use Rattle.std.specs.List.{Contains, list_any, zip}
+use Rattle.std.specs.Prelude.{slice_index_or}
 use Rattle.std.proofs.lemmas.List.Folds.{list_any_at}
 use Rattle.std.proofs.lemmas.Bool.{false≢true}
 use Rattle.slub_common.specs.Times.{times}
@@ -100,3 +101,23 @@ module _ (s : State) (round : Round) (result : RoundResult) (after : State) (is 
       by : ((IsSome (held_under s object) ⊎ (0 < times_given object (zip round.events result.replies))) × (times_freed object (zip round.events result.replies) ≡ 0)) → ⊥
       by (inl was, freed) = absurd (false≢true (subst IsSome none was))
       by (inr given, freed) = out (counted-there object (objects_of round.events) (omega (arith, given, few)))
+
+-- ---- what isn't held
+
+pub held-or-none : (s : State) (object : ℕ) → IsSome (held_under s object) → held_under s object ≡ None → ⊥
+held-or-none s object some none = by (held_under s object) some none
+  where
+    by : (x : Option Held) → IsSome x → x ≡ None → ⊥
+    by None some none = absurd (cc)
+    by (Some held) some none = absurd (cc)
+
+-- stays so where the board does
+pub board_keeps : (s after : State) (objects : List ℕ) → after.board ≡ s.board → KeepsUnheld s objects after
+board_keeps s after objects same object none out = subst (λ (b : List (Option Held)). slice_index_or b object None ≡ None) (sym same) none
+
+-- and after one round and another, which asks nothing
+pub unheld_after : (s mid after : State) (objects : List ℕ) → KeepsUnheld s objects mid → KeepsUnheld mid [] after → KeepsUnheld s objects after
+unheld_after s mid after objects first second object unheld out = second object (first object unheld out) (λ mine. none_of object mine)
+  where
+    none_of : (object : ℕ) → Contains [] object → ⊥
+    none_of object mine = absurd (let never : ⊥ = omega (arith, mine.1) in never)

@@ -1,20 +1,20 @@
--- A line stops where a round of it does.
-use Rattle.std.proofs.Common.{ℕ, List, inl, inr}
-use Rattle.slub_events.specs.declared.event.Act.{Act}
-use Rattle.slub_events.specs.declared.event.Round.{Round}
-use Rattle.slub_journal.specs.declared.journal.RoundResult.{RoundResult}
-use Rattle.slub_journal.specs.Asked.{round_of}
-use Rattle.slub_by_text.specs.Heap.{DoesRoundOf, HeapState}
+-- Why a line, or a part of it, stops.
+use Rattle.std.proofs.Common.{◌≡◌, sym, subst, IfErr, Result, Ok, Err}
+use Rattle.std.specs.Prelude.{IsErrAnd}
 use Rattle.slub_clients.specs.declared.client.Stopped.{Stopped}
 use Rattle.slub_clients.specs.declared.client.Stopped.TheVariants.{NoMemory, TurnsSpent}
-use Rattle.slub_clients.specs.Stopped.{IsLineStopped, IsRoundStopped}
+use Rattle.slub_clients.specs.Stopped.{IsStoppedWhere}
 
--- its first round
-pub first-stopped : (h : HeapState) (cpu : ℕ) (acts : List Act) (why : Stopped) → IsRoundStopped h (round_of cpu acts) why → IsLineStopped h why
-first-stopped h cpu acts NoMemory stopped = tt
-first-stopped h cpu acts TurnsSpent stopped = inl (cpu, acts, stopped)
+-- want of memory stops it at any time
+pub none-stopped : {A : Type 0} (spent : Type 0) (result : Result A Stopped) → IsErrAnd result (λ cause. cause ≡ NoMemory) → IfErr result (IsStoppedWhere spent)
+none-stopped spent (Ok value) gives = tt
+none-stopped spent (Err cause) gives = subst (IsStoppedWhere spent) (sym gives) tt
 
--- or the one after a first
-pub second-stopped : (h : HeapState) (round : Round) (result : RoundResult) (mid : HeapState) → DoesRoundOf h round result mid → (cpu : ℕ) (acts : List Act) (why : Stopped) → IsRoundStopped mid (round_of cpu acts) why → IsLineStopped h why
-second-stopped h round result mid does cpu acts NoMemory stopped = tt
-second-stopped h round result mid does cpu acts TurnsSpent stopped = inr (round, result, mid, does, (cpu, acts, stopped))
+-- what stops a part stops the whole, which spends the turns that the part spends
+pub cause-whole : (part whole : Type 0) → (part → whole) → (cause : Stopped) → IsStoppedWhere part cause → IsStoppedWhere whole cause
+cause-whole part whole leads NoMemory stopped = tt
+cause-whole part whole leads TurnsSpent stopped = leads stopped
+
+pub whole-stopped : {A : Type 0} (part whole : Type 0) → (part → whole) → (result : Result A Stopped) → IfErr result (IsStoppedWhere part) → IfErr result (IsStoppedWhere whole)
+whole-stopped part whole leads (Ok value) stopped = tt
+whole-stopped part whole leads (Err cause) stopped = cause-whole part whole leads cause stopped

@@ -1,7 +1,6 @@
 -- The rounds that clients of the allocator make.
-use Rattle.std.specs.Prelude.{◌≡◌, ◌≢◌, ℕ, ◌+◌, ◌^◌, ◌≤◌, ◌⊎◌, false, List, [], length, All, Option, Some, None, slice_index}
+use Rattle.std.specs.Prelude.{◌≡◌, ◌≢◌, ℕ, ◌+◌, ◌^◌, ◌≤◌, false, List, [], length, All, Option, Some, None, slice_index}
 use Rattle.slub_events.specs.declared.event.Act.{Act}
-use Rattle.slub_events.specs.declared.event.Round.{Round}
 use Rattle.slub_answers.specs.Kinds.{is_no_memory}
 use Rattle.slub_lists.specs.Coherent.{IsCoherent}
 use Rattle.slub_trace_reader.specs.declared.trace.Client.{Client as Asked}
@@ -10,7 +9,6 @@ use Rattle.slub_trace_reader.specs.Sound.{IsSound, IsSoundClient, asked_objects}
 use Rattle.slub_journal.specs.declared.client.ClientAnswer.{ClientAnswer}
 use Rattle.slub_journal.specs.declared.client.ClientDone.{ClientDone}
 use Rattle.slub_journal.specs.declared.client.ClientRound.{ClientRound}
-use Rattle.slub_journal.specs.declared.journal.RoundResult.{RoundResult}
 use Rattle.slub_journal.specs.Asked.{round_of}
 use Rattle.slub_journal.specs.Lawful.{IsAtRest, IsUnheld}
 use Rattle.slub_by_text.specs.Heap.{HeapState, IsSoundHeap, DoesRoundOf, SpendsRoundOf}
@@ -67,13 +65,7 @@ pub record IsServable (h : HeapState) (trace : Trace) (client : Asked) : Type 0 
 
 -- ---- turns that are spent
 
--- a round of one worker on one CPU has made all its turns, and the worker is unfinished
-abbrev pub SpendsOne : HeapState → Type 0
-SpendsOne h = (cpu : ℕ) × (acts : List Act) × SpendsRoundOf h (round_of cpu acts)
-
--- the first round of a line has, or the second
-abbrev pub SpendsLine : HeapState → Type 0
-SpendsLine h =
-    SpendsOne h
-    ⊎ ((round : Round) × (result : RoundResult) × (mid : HeapState) × DoesRoundOf h round result mid
-    × SpendsOne mid)
+-- the round of one worker that does these acts on one CPU has made all its turns, and the worker is
+-- unfinished
+abbrev pub SpendsAsked : HeapState → ℕ → List Act → Type 0
+SpendsAsked h cpu acts = SpendsRoundOf h (round_of cpu acts)

@@ -1,5 +1,5 @@
 -- What `bulk` and `bulkfree` are answered, and what they leave.
-use Rattle.std.specs.Prelude.{◌≡◌, ℕ, ◌≤◌, ◌↔◌, Bool, List, [], ◌∷◌, map, length, count_by, sum_by, Option, Some, None, is_none, IsSome, MatchOption, Contains, ⊤, if◌then◌else◌, slice_get}
+use Rattle.std.specs.Prelude.{◌≡◌, ◌≢◌, ℕ, ◌⊎◌, ◌≤◌, ◌↔◌, Bool, List, [], ◌∷◌, map, length, count_by, sum_by, Option, Some, None, is_none, IsSome, MatchOption, Contains, ⊤, if◌then◌else◌, slice_get}
 use Rattle.std.specs.List.{filter, filter_map, range_with_len, zip}
 use Rattle.std.specs.Option.{option_map_or}
 use Rattle.slub_events.specs.declared.event.Act.{Act}
@@ -22,7 +22,7 @@ use Rattle.slub_journal.specs.Asked.{first_refusal, frees_of}
 use Rattle.slub_journal.specs.Bulk.{free_order}
 use Rattle.slub_journal.specs.Lawful.{freed_in, given_in}
 use Rattle.slub_by_text.specs.Heap.{HeapState}
-use Rattle.slub_clients.specs.Asked.{AnswersAtOnce, DoesAsked}
+use Rattle.slub_clients.specs.Asked.{AnswersAtOnce, DoesAsked, SpendsAsked}
 
 -- ---- all or nothing
 
@@ -106,6 +106,36 @@ ServesBulkLines h (line.Bulk cpu place first count) done after =
 ServesBulkLines h (line.Bulkfree cpu first count) done after =
     ServesBulkFree h cpu (range_with_len first count) done after
 ServesBulkLines h _ done after = ⊥
+
+-- ---- turns that are spent
+
+-- the round that frees these numbers again spends them, where there are any
+abbrev pub SpendsAgain : HeapState → ℕ → List ℕ → Type 0
+SpendsAgain h cpu numbers = (numbers ≢ []) × SpendsAsked h cpu (frees_of numbers)
+
+-- the round that asks for these numbers spends them; or it is done, one of them is refused, and the
+-- round that frees again those that were given spends them
+abbrev pub SpendsTaking : HeapState → ℕ → ℕ → List ℕ → Type 0
+SpendsTaking h cpu place numbers =
+    SpendsAsked h cpu (allocs_of place numbers)
+    ⊎ ((first : ClientRound) × (mid : HeapState)
+    × DoesAsked h cpu (allocs_of place numbers) first mid
+    × IsSome (first_refusal first.result.replies)
+    × SpendsAgain mid cpu (replied is_given numbers first.result.replies))
+
+-- the round that frees these numbers, slab by slab, where all are on the board
+abbrev pub SpendsBulkFree : HeapState → ℕ → List ℕ → Type 0
+SpendsBulkFree h cpu numbers =
+    (first_unheld h.lists numbers ≡ None)
+    × SpendsAsked h cpu (frees_of (free_order (places_under h.lists numbers)))
+
+-- a round that the line makes
+abbrev pub SpendsBulkLines : HeapState → Asked → Type 0
+SpendsBulkLines h (line.Bulk cpu place first count) =
+    SpendsTaking h cpu place (range_with_len first count)
+SpendsBulkLines h (line.Bulkfree cpu first count) =
+    SpendsBulkFree h cpu (range_with_len first count)
+SpendsBulkLines h _ = ⊥
 
 -- ---- what they leave
 

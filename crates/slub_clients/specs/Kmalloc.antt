@@ -1,5 +1,5 @@
 -- What `kmalloc`, `kget` and `krealloc` are answered, and what they leave.
-use Rattle.std.specs.Prelude.{◌≡◌, ℕ, ◌&&◌, ◌==◌, not, Bool, false, nat_le, List, [], ◌∷◌, ◌++◌, Option, None, Some, Result, Ok, Err, MatchOption, slice_index_or, ⊤}
+use Rattle.std.specs.Prelude.{◌≡◌, ℕ, ◌⊎◌, ◌&&◌, ◌==◌, not, Bool, false, true, nat_le, List, [], ◌∷◌, ◌++◌, Option, None, Some, Result, Ok, Err, MatchOption, slice_index_or, ⊤}
 use Rattle.std.specs.Bool.{MatchBool}
 use Rattle.std.specs.List.{list_any, position, range_with_len}
 use Rattle.std.specs.Option.{option_map, option_map_or}
@@ -12,6 +12,7 @@ use Rattle.slub_answers.specs.declared.create.Created.TheVariants.{New}
 use Rattle.slub_answers.specs.declared.create.CreateRefusal.{CreateRefusal}
 use Rattle.slub_answers.specs.declared.reply.Reply.{Reply}
 use Rattle.slub_cache_create.specs.Table.{number_of}
+use Rattle.slub_lists.specs.declared.lists.Held.{Held}
 use Rattle.slub_lists.specs.State.{State}
 use Rattle.slub_lists.specs.Alloc.{cache_of}
 use Rattle.slub_lists.specs.Coherent.{IsCoherent, held_under}
@@ -30,7 +31,7 @@ use Rattle.slub_journal.specs.Classes.{class_place, class_spec}
 use Rattle.slub_journal.specs.Lawful.{CreatesName}
 use Rattle.slub_ids.specs.Growth.{with_first}
 use Rattle.slub_by_text.specs.Heap.{HeapState}
-use Rattle.slub_clients.specs.Asked.{AnswersAtOnce, DoesAsked}
+use Rattle.slub_clients.specs.Asked.{AnswersAtOnce, DoesAsked, SpendsAsked}
 
 -- the name of the class at a place
 abbrev pub class_name : ℕ → List ℕ
@@ -165,3 +166,47 @@ ServesClasses h trace (line.Kget cpu size object) done after =
 ServesClasses h trace (line.Krealloc cpu object size fresh) done after =
     ServesKrealloc h trace cpu object size fresh done after
 ServesClasses h trace _ done after = ⊥
+
+-- ---- turns that are spent
+
+-- the one allocation from the cache that the class's name names now spends them
+abbrev pub SpendsOfClass : HeapState → Trace → ℕ → ℕ → ℕ → Type 0
+SpendsOfClass h trace cpu class object =
+    (place : ℕ) × (place_of_class trace class ≡ Some place)
+    × SpendsAsked h cpu (Alloc place object ∷ [])
+
+abbrev pub SpendsKget : HeapState → Trace → ℕ → ℕ → ℕ → Type 0
+SpendsKget h trace cpu size object =
+    (class : ℕ) × (class_place size ≡ Some class) × SpendsOfClass h trace cpu class object
+
+-- the allocation of the fresh object spends them; or it was given, and the free of the other one
+-- spends them
+abbrev pub SpendsMove : HeapState → Trace → ℕ → ℕ → ℕ → ℕ → Type 0
+SpendsMove h trace cpu class object fresh =
+    SpendsOfClass h trace cpu class fresh
+    ⊎ ((address : ℕ) × (first : List ClientRound) × (mid : HeapState)
+    × TakesOfClass h trace cpu class fresh first (Ok address) mid
+    × SpendsAsked mid cpu (Free object ∷ []))
+
+-- objects of the cache are kmalloc's, and too small for a size, which is one of this class
+pub record Outgrows (s : State) (cache size class : ℕ) : Type 0 where
+  pub kmalloc : is_kmalloc s cache ≡ true
+  pub fits : class_place size ≡ Some class
+  pub small : is_enough s cache size ≡ false
+
+-- for an object of this cache
+abbrev pub SpendsHeld : HeapState → Trace → ℕ → ℕ → ℕ → ℕ → ℕ → Type 0
+SpendsHeld h trace cpu object size fresh cache =
+    (class : ℕ) × Outgrows h.lists cache size class × SpendsMove h trace cpu class object fresh
+
+abbrev pub SpendsKrealloc : HeapState → Trace → ℕ → ℕ → ℕ → ℕ → Type 0
+SpendsKrealloc h trace cpu object size fresh =
+    (held : Held) × (held_under h.lists object ≡ Some held)
+    × SpendsHeld h trace cpu object size fresh held.cache
+
+-- a round that the line makes; a `kmalloc` makes none
+abbrev pub SpendsClasses : HeapState → Trace → Asked → Type 0
+SpendsClasses h trace (line.Kget cpu size object) = SpendsKget h trace cpu size object
+SpendsClasses h trace (line.Krealloc cpu object size fresh) =
+    SpendsKrealloc h trace cpu object size fresh
+SpendsClasses h trace _ = ⊥

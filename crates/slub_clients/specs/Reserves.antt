@@ -1,5 +1,5 @@
 -- The reserves of `mempool` lines: what the lines are answered, and what they leave.
-use Rattle.std.specs.Prelude.{◌≡◌, ℕ, ◌<◌, ◌≤◌, ◌==◌, ◌++◌, Bool, false, nat_le, nat_lt, List, [], ◌∷◌, length, map, sum_by, Option, None, Some, Result, Ok, Err, IsSome, MatchOption, All, ⊤, is_some, slice_index_or, slice_set}
+use Rattle.std.specs.Prelude.{◌≡◌, ℕ, ◌<◌, ◌≤◌, ◌==◌, ◌++◌, Bool, false, true, nat_le, nat_lt, List, [], ◌∷◌, length, map, sum_by, Option, None, Some, Result, Ok, Err, IsSome, MatchOption, All, ⊤, is_some, slice_index_or, slice_set}
 use Rattle.std.specs.Bool.{MatchBool}
 use Rattle.std.specs.List.{filter, list_any, position, range_with_len}
 use Rattle.std.specs.Option.{option_map_or}
@@ -8,6 +8,7 @@ use Rattle.slub_common.specs.Times.{times}
 use Rattle.slub_events.specs.declared.event.Act.TheVariants.{Alloc, Free}
 use Rattle.slub_answers.specs.declared.reply.Reply.{Reply}
 use Rattle.slub_answers.specs.declared.reply.Reply.TheVariants as reply
+use Rattle.slub_lists.specs.declared.lists.Held.{Held}
 use Rattle.slub_lists.specs.State.{State}
 use Rattle.slub_lists.specs.Alloc.{named}
 use Rattle.slub_lists.specs.Coherent.{held_under}
@@ -21,8 +22,8 @@ use Rattle.slub_journal.specs.declared.client.ClientDone.{ClientDone}
 use Rattle.slub_journal.specs.declared.client.ClientRound.{ClientRound}
 use Rattle.slub_journal.specs.Asked.{Tells}
 use Rattle.slub_by_text.specs.Heap.{HeapState}
-use Rattle.slub_clients.specs.Asked.{AnswersAtOnce, DoesAsked}
-use Rattle.slub_clients.specs.BulkLines.{TakesAll, address_under}
+use Rattle.slub_clients.specs.Asked.{AnswersAtOnce, DoesAsked, SpendsAsked}
+use Rattle.slub_clients.specs.BulkLines.{SpendsTaking, TakesAll, address_under}
 
 -- a reserve (`mempool_t`): its name, the place of its cache's name among those of the trace, how
 -- many numbers it keeps at most, and these numbers; the last one is lent next
@@ -253,3 +254,43 @@ abbrev pub ServesReserves
     : HeapState → List Reserve → Asked → ClientDone → HeapState → List Reserve → Type 0
 ServesReserves h reserves client done after left =
     ServesKept h (kept_in h.lists reserves) client done after left
+
+-- ---- turns that are spent
+
+-- a round that takes the numbers of a new reserve spends them
+abbrev pub SpendsMempool : HeapState → List Reserve → Reserve → Type 0
+SpendsMempool h reserves fresh =
+    (place_of reserves fresh.name ≡ None) × (length reserves < reserves_max)
+    × SpendsTaking h 0 fresh.cache fresh.numbers
+
+-- the one allocation from the cache of the reserve of this name
+abbrev pub SpendsMget : HeapState → List Reserve → ℕ → List ℕ → ℕ → Type 0
+SpendsMget h reserves cpu pool object =
+    (at : ℕ) × (place_of reserves pool ≡ Some at)
+    × SpendsAsked h cpu (Alloc (reserve_at reserves at).cache object ∷ [])
+
+-- an object of the cache of the reserve at a place is in no reserve, and this one is full
+pub record IsTurnedAway (s : State) (reserves : List Reserve) (at object : ℕ) : Type 0 where
+  pub held : Held
+  pub here : held_under s object ≡ Some held
+  pub own : is_of_cache s (reserve_at reserves at) held.cache ≡ true
+  pub out : list_any (has_number object) reserves ≡ false
+  pub full : (reserve_at reserves at).min_nr ≤ length (reserve_at reserves at).numbers
+
+-- the free of such an object
+abbrev pub SpendsMput : HeapState → List Reserve → ℕ → List ℕ → ℕ → Type 0
+SpendsMput h reserves cpu pool object =
+    (at : ℕ) × (place_of reserves pool ≡ Some at) × IsTurnedAway h.lists reserves at object
+    × SpendsAsked h cpu (Free object ∷ [])
+
+-- a round that the line makes, of reserves of which each number is on the board
+abbrev pub SpendsKept : HeapState → List Reserve → Asked → Type 0
+SpendsKept h reserves (line.Mempool pool place min first) =
+    SpendsMempool h reserves (fresh_reserve pool place min first)
+SpendsKept h reserves (line.Mget cpu pool object) = SpendsMget h reserves cpu pool object
+SpendsKept h reserves (line.Mput cpu pool object) = SpendsMput h reserves cpu pool object
+SpendsKept h reserves _ = ⊥
+
+-- with what is left of the reserves that were there before the line
+abbrev pub SpendsReserves : HeapState → List Reserve → Asked → Type 0
+SpendsReserves h reserves client = SpendsKept h (kept_in h.lists reserves) client

@@ -1,6 +1,6 @@
 //! A client's round: one worker's acts on one CPU.
 
-ghost use Rattle.std.specs.Prelude.{◌≡◌, ◌<◌, IfErr, IfOk, MatchOption, length, slice_get};
+ghost use Rattle.std.specs.Prelude.{◌≡◌, ◌<◌, [], IfErr, IfOk, MatchOption, length, slice_get};
 ghost use Rattle.std.specs.List.{list_any};
 ghost use Rattle.slub_answers.specs.Kinds.{is_no_memory};
 ghost use Rattle.slub_trace_reader.specs.declared.trace.Trace.{Trace};
@@ -9,8 +9,8 @@ ghost use Rattle.slub_calls.specs.Laws.{MayDo};
 ghost use Rattle.slub_journal.specs.Asked.{Tells, round_of};
 ghost use Rattle.slub_round_law.specs.Round.{IsRound};
 ghost use Rattle.slub_engine.specs.Steps.{KeepsUnheld};
-ghost use Rattle.slub_clients.specs.Asked.{DoesAsked, IsOpenTo, StaysOpen};
-ghost use Rattle.slub_clients.specs.Stopped.{IsRoundStopped};
+ghost use Rattle.slub_clients.specs.Asked.{DoesAsked, IsOpenTo, SpendsAsked, StaysOpen};
+ghost use Rattle.slub_clients.specs.Stopped.{IsStoppedWhere};
 ghost use Rattle.slub_clients.specs.declared.client.Stopped.TheVariants as stopped;
 
 use slub_answers::reply::{Kind, Reply};
@@ -18,7 +18,7 @@ use slub_by_text::heap::{Heap, Stopped as RoundStopped};
 use slub_common::no_memory::NoMemory;
 use slub_common::sequence::Sequence;
 use slub_events::event::{Act, Event, Round};
-use slub_journal::client::{CacheRefusal, ClientRound};
+use slub_journal::client::{CacheRefusal, ClientAnswer, ClientDone, ClientRound};
 use std::alloc::{AllocError, AllocFailed, Global};
 
 /// Why a client's line wasn't served. What it did so far is gone with the heap.
@@ -72,7 +72,7 @@ pub fn client_round(
         → StaysOpen heap trace (length (objects_of (round_of cpu acts.now).events)) done.0) }
     ensures unheld { IfOk result (λ done.
         KeepsUnheld heap.lists (objects_of (round_of cpu acts.now).events) done.0.lists) }
-    ensures stopped { IfErr result (IsRoundStopped heap (round_of cpu acts.now)) }
+    ensures stopped { IfErr result (IsStoppedWhere (SpendsAsked heap cpu acts.now)) }
 {
     let asked = one_worker(alloc, cpu, acts)?;
     match heap.round_by_text(alloc, &asked) {
@@ -105,6 +105,17 @@ fn one_worker(alloc: Global, cpu: u32, acts: &[Act]) -> Result<Round, NoMemory>
         workers: 1,
         events: Sequence::from_vec(events),
     })
+}
+
+/// An answer without a round.
+pub fn at_once(alloc: Global, answer: ClientAnswer) -> ClientDone
+    ensures rounds { result.rounds ≡ [] }
+    ensures answer { result.answer ≡ answer }
+{
+    ClientDone {
+        rounds: Sequence::new(alloc),
+        answer,
+    }
 }
 
 /// What the reply to the one allocation of a round tells: the address, or why the cache gave none. The one

@@ -2,7 +2,8 @@
 //!
 //! `specs/Asked.antt` has a client's round, which is one of one worker on one CPU, and the heap on which a line is
 //! served; `specs/Kmalloc.antt`, `specs/BulkLines.antt` and `specs/Reserves.antt` say what the lines of each request are
-//! answered and leave. The crates of the requests (`slub_kmalloc`, `slub_bulk`, `slub_mempool`) serve them.
+//! answered and leave, and which of a line's own rounds spends its turns, where the line ends so. The crates of the
+//! requests (`slub_kmalloc`, `slub_bulk`, `slub_mempool`) serve them.
 //!
 //! # What it promises
 //!

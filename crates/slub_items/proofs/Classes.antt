@@ -5,8 +5,6 @@ use Rattle.std.specs.Option.{option_map_or}
 use Rattle.std.specs.Str.{bytes_eq}
 use Rattle.std.proofs.lemmas.List.Elements.{All-cons, All-head, All-nil}
 use Rattle.std.proofs.lemmas.List.Quantifiers.{position-Some}
-use Rattle.slub_common.proofs.Times.{times-cons_other}
-use Rattle.slub_events.specs.declared.event.Act.{Act}
 use Rattle.slub_events.specs.declared.event.Act.TheVariants.{Alloc, Free}
 use Rattle.slub_object_layout.specs.Layout.{address_of, is_checked}
 use Rattle.slub_object_layout.specs.declared.layout.Spec.{Spec}
@@ -18,7 +16,6 @@ use Rattle.slub_answers.specs.declared.reply.Reply.TheVariants as reply
 use Rattle.slub_answers.specs.Kinds.{is_freed, is_given}
 use Rattle.slub_cache_create.specs.Table.{cache_of as live_cache}
 use Rattle.slub_cache_create.specs.declared.caches.Cache.{Cache}
-use Rattle.slub_red_zone.specs.State.{CheckedState}
 use Rattle.slub_lists.specs.declared.lists.Held.{Held}
 use Rattle.slub_lists.specs.State.{State}
 use Rattle.slub_lists.specs.Alloc.{cache_of, checked_of}
@@ -29,6 +26,7 @@ use Rattle.slub_trace_reader.specs.declared.trace.Client.{Client as Asked}
 use Rattle.slub_trace_reader.specs.declared.trace.Client.TheVariants as line
 use Rattle.slub_trace_reader.specs.declared.trace.Trace.{Trace}
 use Rattle.slub_trace_reader.specs.Classes.{class_names}
+use Rattle.slub_calls.specs.Laws.{MayDo}
 use Rattle.slub_journal.specs.declared.client.CacheRefusal.{CacheRefusal}
 use Rattle.slub_journal.specs.declared.client.CacheRefusal.TheVariants as why
 use Rattle.slub_journal.specs.declared.client.ClientAnswer.{ClientAnswer}
@@ -37,23 +35,22 @@ use Rattle.slub_journal.specs.declared.client.ClientDone.{ClientDone}
 use Rattle.slub_journal.specs.declared.client.ClientRound.{ClientRound}
 use Rattle.slub_journal.specs.Asked.{refusal_of, round_of}
 use Rattle.slub_journal.specs.Classes.{class_place}
-use Rattle.slub_journal.specs.Lawful.{CreatesName, DoesRound, IsUnheld}
-use Rattle.slub_round_law.specs.Round.{Fits, IsRound}
+use Rattle.slub_journal.specs.Lawful.{CreatesName, IsUnheld}
+use Rattle.slub_round_law.specs.Round.{IsRound}
 use Rattle.slub_round_law.proofs.Steps.{match_bool, match_either, match_some}
-use Rattle.slub_round_law.proofs.Tale.{injected}
 use Rattle.slub_round_law.proofs.Times.{once_times}
-use Rattle.slub_round_law.proofs.Whole.{lawful as lists_lawful}
-use Rattle.slub_by_text.specs.ByText.{DoesByText}
 use Rattle.slub_by_text.specs.Heap.{HeapState}
 use Rattle.slub_by_text.specs.Laws.{RoundsByTextAreLawful}
 use Rattle.slub_clients.specs.Asked.{AnswersAtOnce, DoesAsked, IsOpenTo, IsServable}
 use Rattle.slub_clients.specs.BulkLines.{AddsNumbers}
 use Rattle.slub_clients.specs.Kmalloc.{CreatesClasses, MovesOn, ServesClasses, ServesKget, ServesKrealloc, TakesOfClass, class_name, given_answer, is_enough, is_kmalloc, names_cache, place_of_class}
-use Rattle.slub_clients.specs.Laws.{AllocationsMayBeDone, IsNumber}
-use Rattle.slub_clients.proofs.Allowed.{none-differ, one-differs}
-use Rattle.slub_bulk.proofs.Boards.{one_reply}
-use Rattle.slub_bulk.proofs.Undamaged.{IsFreed, IsUndamaged, allocs-leave, frees-all, laid-whole}
-use Rattle.slub_items.specs.Leaves.{LeavesClasses, MovesNumber, MovesOnLists}
+use Rattle.slub_clients.specs.Laws.{AllocationsMayBeDone, FreesMayBeDone, IsNumber}
+use Rattle.slub_clients.proofs.Allowed.{one-differs}
+use Rattle.slub_clients.proofs.Replies.{one_reply}
+use Rattle.slub_clients.proofs.Staying.{open-fewer}
+use Rattle.slub_bulk.proofs.Boards.{asked_lawful, frees-follow}
+use Rattle.slub_bulk.proofs.Plain.{IsPlain, frees-plain, held-plain}
+use Rattle.slub_items.specs.Leaves.{LeavesClasses, MovesNumber}
 use Rattle.slub_items.proofs.Ones.{IsAsBefore, freed-gone, freed-others, given-at, given-board, given-there, mine-alone, refused-board}
 
 same-board : (h after : HeapState) → after ≡ h → IsAsBefore h.lists after.lists
@@ -81,11 +78,13 @@ refused-given (reply.Given address) why is = absurd (let never : None ≡ Some w
 refused-given told why is = refl
 
 module _ (lawful : RoundsByTextAreLawful) (may : AllocationsMayBeDone) (h : HeapState) (trace : Trace) (cpu class object : ℕ) (rounds : List ClientRound) (after : HeapState) (is_open : IsOpenTo h trace 1) (within : cpu < trace.cpus) (known : IsNumber h object) (unheld : IsUnheld h.lists object) where
-  -- its allocation is lawful
+  -- its allocation may be done, and is lawful
+  alloc-may : (place : ℕ) → place_of_class trace class ≡ Some place → MayDo h.lists trace (round_of cpu (Alloc place object ∷ []))
+  alloc-may place is =
+      may h trace cpu place (object ∷ []) is_open within (position-Some (bytes_eq (class_name class)) trace.names place [] is).0 (All-cons (IsNumber h) object [] known (All-nil (IsNumber h))) (All-cons (IsUnheld h.lists) object [] unheld (All-nil (IsUnheld h.lists))) (one-differs object)
+
   alloc-law : (place : ℕ) (round : ClientRound) → place_of_class trace class ≡ Some place → DoesAsked h cpu (Alloc place object ∷ []) round after → IsRound h.lists (round_of cpu (Alloc place object ∷ [])) round.result after.lists
-  alloc-law place round is does =
-      lawful h.lists h.ids trace (round_of cpu (Alloc place object ∷ [])) round.result after.lists after.ids is_open.sound.coherent is_open.rest
-      (may h trace cpu place (object ∷ []) is_open within (position-Some (bytes_eq (class_name class)) trace.names place [] is).0 (All-cons (IsNumber h) object [] known (All-nil (IsNumber h))) (All-cons (IsUnheld h.lists) object [] unheld (All-nil (IsUnheld h.lists))) (one-differs object)) does.does
+  alloc-law place round is does = asked_lawful h trace cpu (Alloc place object ∷ []) round after lawful is_open.sound.coherent is_open.rest (alloc-may place is) does
 
   pub refused-class : (why : CacheRefusal) → TakesOfClass h trace cpu class object rounds (Err why) after → IsAsBefore h.lists after.lists
   refused-class why takes = match_either (place_of_class trace class) _ _ (IsAsBefore h.lists after.lists) takes
@@ -95,20 +94,19 @@ module _ (lawful : RoundsByTextAreLawful) (may : AllocationsMayBeDone) (h : Heap
   pub record Given (address : ℕ) : Type 0 where
     pub place : ℕ
     pub round : ClientRound
-    pub does : DoesAsked h cpu (Alloc place object ∷ []) round after
+    pub allowed : MayDo h.lists trace (round_of cpu (Alloc place object ∷ []))
     pub law : IsRound h.lists (round_of cpu (Alloc place object ∷ [])) round.result after.lists
     pub told : round.result.replies ≡ reply.Given address ∷ []
 
   pub given-class : (address : ℕ) → TakesOfClass h trace cpu class object rounds (Ok address) after → Given address
   given-class address takes = match_either (place_of_class trace class) _ _ (Given address) takes
       (λ none nothing. absurd (let never : Ok address ≡ Err why.NoSuchCache = nothing.1 in cc))
-      (λ place is done. record { place = place; round = done.0; does = done.3; law = alloc-law place done.0 is done.3; told = done.4 ∙ ap (λ (r : Reply). r ∷ []) done.5 })
+      (λ place is done. record { place = place; round = done.0; allowed = alloc-may place is; law = alloc-law place done.0 is done.3; told = done.4 ∙ ap (λ (r : Reply). r ∷ []) done.5 })
 
--- ---- a move, on the lists alone
+-- ---- a move
 
 module _ (s : State) (cpu object fresh address : ℕ) (held : Held) (mid after : State) (place : ℕ) (first second : ClientRound) (coherent : IsCoherent s) (unheld : IsUnheld s fresh) (there : held_under s object ≡ Some held) (plain : is_kmalloc s held.cache ≡ true)
-    (law : IsRound s (round_of cpu (Alloc place fresh ∷ [])) first.result mid) (does : DoesRound s (round_of cpu (Alloc place fresh ∷ [])) first.result mid) (told : first.result.replies ≡ reply.Given address ∷ [])
-    (frees : DoesRound mid (round_of cpu (Free object ∷ [])) second.result after) where
+    (law : IsRound s (round_of cpu (Alloc place fresh ∷ [])) first.result mid) (told : first.result.replies ≡ reply.Given address ∷ []) (second-law : IsRound mid (round_of cpu (Free object ∷ [])) second.result after) where
   adds : AddsNumbers s (fresh ∷ []) mid
   adds = given-board s cpu place fresh first.result mid unheld law address told
 
@@ -122,8 +120,8 @@ module _ (s : State) (cpu object fresh address : ℕ) (held : Held) (mid after :
   still = adds.stay object some ∙ there
 
   -- its cache isn't checked
-  unchecked : (slabs : CheckedState) → checked_of s held.cache ≡ Some slabs → ⊥
-  unchecked slabs was = by (cache_of s held.cache) refl
+  unchecked : IsSome (checked_of s held.cache) → ⊥
+  unchecked was = by (cache_of s held.cache) refl
     where
       by : (x : Option Cache) → cache_of s held.cache ≡ x → ⊥
       by None e = let never : false ≡ true = sym (ap (λ (x : Option Cache). option_map_or (λ live. not (is_checked live.flags)) x false && list_any (names_cache s held.cache) class_names) e) ∙ plain in absurd (cc)
@@ -136,24 +134,12 @@ module _ (s : State) (cpu object fresh address : ℕ) (held : Held) (mid after :
               absurd (cc)
           of-flag false off =
               let has : is_checked live.flags ≡ is_some (checked_of s held.cache) = at_some (cache_of s held.cache) live (λ (live : Cache). is_checked live.flags ≡ is_some (checked_of s held.cache)) e (coherent.shaped.checked.all held.cache) in
-              let never : false ≡ true = sym off ∙ has ∙ ap is_some was in
+              let never : false ≡ true = sym off ∙ has ∙ was in
               absurd (cc)
 
-  whole : IsUndamaged mid object
-  whole =
-      laid-whole does.last mid object does.after_is
-      (allocs-leave cpu place (fresh ∷ []) s first.result.replies does.last object coherent does.runs (times-cons_other object fresh [] (λ same. differ (sym same)))
-      (λ other slabs here was. absurd (unchecked slabs (ap (checked_of s) (ap (λ (h : Held). h.cache) (injected (sym there ∙ here))) ∙ was))))
-
-  ready : All (IsFreed mid) (object ∷ [])
-  ready = All-cons (IsFreed mid) object [] (record { held = held; there = still; laid = at_some (held_under mid object) held (λ held. held.worker ≡ None) still (law.rest.laid_down object); whole = whole }) (All-nil (IsFreed mid))
-
-  -- the second round is lawful, and it frees the object
-  fits : Fits mid (round_of cpu (Free object ∷ []))
-  fits = record { within = All-nil (λ object. object < length mid.board); unheld = All-nil (IsUnheld mid); distinct = none-differ }
-
-  second-law : IsRound mid (round_of cpu (Free object ∷ [])) second.result after
-  second-law = lists_lawful mid (round_of cpu (Free object ∷ [])) second.result after law.coherent law.rest fits frees
+  -- so the second round frees the object
+  ready : All (IsPlain mid) (object ∷ [])
+  ready = All-cons (IsPlain mid) object [] (record { there = rw still refl; plain = held-plain s mid object held coherent law.coherent law.table still unchecked }) (All-nil (IsPlain mid))
 
   second-told : (told : Reply) × (second.result.replies ≡ told ∷ [])
   second-told = one_reply mid cpu (Free object) second.result after second-law
@@ -161,7 +147,7 @@ module _ (s : State) (cpu object fresh address : ℕ) (held : Held) (mid after :
   freed : is_freed second-told.0 ≡ true
   freed =
       All-head (λ (told : Reply). is_freed told ≡ true) second-told.0 []
-      (subst (All (λ (told : Reply). is_freed told ≡ true)) second-told.1 (frees-all cpu (object ∷ []) mid second.result.replies frees.last law.coherent ready (λ x. once_times x (object ∷ []) (one-differs object)) frees.runs))
+      (subst (All (λ (told : Reply). is_freed told ≡ true)) second-told.1 (frees-plain mid cpu (object ∷ []) second.result after second-law (λ x. once_times x (object ∷ []) (one-differs object)) ready))
 
   others : (x : ℕ) → x ≢ object → held_under after x ≡ held_under mid x
   others = freed-others mid cpu object second.result after second-law second-told.0 second-told.1 freed
@@ -188,13 +174,9 @@ module _ (s : State) (cpu object fresh address : ℕ) (held : Held) (mid after :
           unnamed (Some held) never = absurd (never refl)
       before other not_fresh (Some held) is = adds.stay other (rw is refl)
 
--- beside no ids a round is one on the lists
-on-lists : (h : HeapState) (cpu : ℕ) (act : Act) (round : ClientRound) (after : HeapState) → h.ids ≡ None → DoesAsked h cpu (act ∷ []) round after → DoesRound h.lists (round_of cpu (act ∷ [])) round.result after.lists × (after.ids ≡ None)
-on-lists h cpu act round after none does = subst (λ (ids : Option (List ℕ)). DoesByText h.lists ids (round_of cpu (act ∷ [])) round.result after.lists after.ids) none does.does
-
 -- ---- the lines
 
-module _ (lawful : RoundsByTextAreLawful) (may : AllocationsMayBeDone) (h : HeapState) (trace : Trace) (done : ClientDone) (after : HeapState) (is_open : IsOpenTo h trace 1) (cpu : ℕ) (within : cpu < trace.cpus) where
+module _ (lawful : RoundsByTextAreLawful) (may : AllocationsMayBeDone) (frees : FreesMayBeDone) (h : HeapState) (trace : Trace) (done : ClientDone) (after : HeapState) (is_open : IsOpenTo h trace 1) (cpu : ℕ) (within : cpu < trace.cpus) where
   kgets : (size object : ℕ) → IsNumber h object → IsUnheld h.lists object → ServesKget h trace cpu size object done after → LeavesClasses h.lists (line.Kget cpu size object) after.lists done.answer
   kgets size object known unheld served = match_either (class_place size) _ _ (LeavesClasses h.lists (line.Kget cpu size object) after.lists done.answer) served
       (λ none told. subst (LeavesClasses h.lists (line.Kget cpu size object) after.lists) (sym told.1) (same-board h after told.2))
@@ -206,8 +188,8 @@ module _ (lawful : RoundsByTextAreLawful) (may : AllocationsMayBeDone) (h : Heap
           (given-board h.lists cpu given.place object given.round.result after.lists unheld given.law address given.told, given-at h.lists cpu given.place object given.round.result after.lists unheld given.law address given.told)
       by class (Err why) takes = refused-class lawful may h trace cpu class object done.rounds after is_open within known unheld why takes
 
-  kreallocs : (object size fresh : ℕ) → MovesOnLists h done.answer → IsNumber h fresh → IsUnheld h.lists fresh → ServesKrealloc h trace cpu object size fresh done after → LeavesClasses h.lists (line.Krealloc cpu object size fresh) after.lists done.answer
-  kreallocs object size fresh lists known unheld served = match_either (held_under h.lists object) _ _ Goal served
+  kreallocs : (object size fresh : ℕ) → IsNumber h object → IsNumber h fresh → IsUnheld h.lists fresh → ServesKrealloc h trace cpu object size fresh done after → LeavesClasses h.lists (line.Krealloc cpu object size fresh) after.lists done.answer
+  kreallocs object size fresh numbered known unheld served = match_either (held_under h.lists object) _ _ Goal served
       (λ none told. at-once answer.NotHeld told (same-board h after told.2))
       (λ held there served. match_bool (is_kmalloc h.lists held.cache) _ _ Goal served
       (λ plain served. match_either (class_place size) _ _ Goal served
@@ -227,11 +209,12 @@ module _ (lawful : RoundsByTextAreLawful) (may : AllocationsMayBeDone) (h : Heap
           → TakesOfClass h trace cpu class fresh first told mid → MovesOn mid cpu object told first done after → Goal
       by held there plain class (Ok address) first mid takes moves =
           let given = given-class lawful may h trace cpu class fresh first mid is_open within known unheld address takes in
-          let none : h.ids ≡ None = subst (MovesOnLists h) moves.3 lists in
-          let one = on-lists h cpu (Alloc given.place fresh) given.round mid none given.does in
-          let two = on-lists mid cpu (Free object) moves.0 after one.1 moves.1 in
+          let before : MayDo h.lists trace (round_of cpu (Free object ∷ [])) = frees h trace cpu (object ∷ []) (open-fewer h trace 1 0 (omega arith) is_open) within (omega arith) (All-cons (IsNumber h) object [] numbered (All-nil (IsNumber h))) in
+          let second : IsRound mid.lists (round_of cpu (Free object ∷ [])) moves.0.result after.lists =
+          asked_lawful mid trace cpu (Free object ∷ []) moves.0 after lawful given.law.coherent given.law.rest
+          (frees-follow h trace cpu given.place (fresh ∷ []) (object ∷ []) given.round.result mid.lists is_open given.allowed before given.law) moves.1 in
           subst (LeavesClasses h.lists (line.Krealloc cpu object size fresh) after.lists) (sym moves.3)
-          (moved h.lists cpu object fresh address held mid.lists after.lists given.place given.round moves.0 is_open.sound.coherent unheld there plain given.law one.0 given.told two.0)
+          (moved h.lists cpu object fresh address held mid.lists after.lists given.place given.round moves.0 is_open.sound.coherent unheld there plain given.law given.told second)
       by held there plain class (Err why) first mid takes moves =
           let kept = refused-class lawful may h trace cpu class fresh first mid is_open within known unheld why takes in
           subst (LeavesClasses h.lists (line.Krealloc cpu object size fresh) after.lists) (sym moves.1) (λ x. same-board mid after moves.2 x ∙ kept x)
@@ -239,12 +222,12 @@ module _ (lawful : RoundsByTextAreLawful) (may : AllocationsMayBeDone) (h : Heap
 number-of : (h : HeapState) (trace : Trace) (object : ℕ) → length h.lists.board ≡ trace.objects + 1 → (1 ≤ object) × (object ≤ trace.objects) → IsNumber h object
 number-of h trace object long sound = (sound.0, omega (arith, long, sound.1))
 
-pub serves : RoundsByTextAreLawful → AllocationsMayBeDone → (h : HeapState) (trace : Trace) (client : Asked) (done : ClientDone) (after : HeapState) → IsServable h trace client → MovesOnLists h done.answer → ServesClasses h trace client done after
+pub serves : RoundsByTextAreLawful → AllocationsMayBeDone → FreesMayBeDone → (h : HeapState) (trace : Trace) (client : Asked) (done : ClientDone) (after : HeapState) → IsServable h trace client → ServesClasses h trace client done after
     → LeavesClasses h.lists client after.lists done.answer
-serves lawful may h trace line.Kmalloc done after servable lists served =
+serves lawful may frees h trace line.Kmalloc done after servable served =
     subst (LeavesClasses h.lists line.Kmalloc after.lists) (sym served.2) (λ object. ap (λ (l : List (Option Held)). get_or l object None) (classes-board h trace (range_with_len 0 13) served.0 after served.3))
-serves lawful may h trace (line.Kget cpu size object) done after servable lists served =
-    kgets lawful may h trace done after servable.heap cpu servable.sound.0 size object (number-of h trace object servable.heap.objects servable.sound.2) (All-head (IsUnheld h.lists) object [] servable.unheld) served
-serves lawful may h trace (line.Krealloc cpu object size fresh) done after servable lists served =
-    kreallocs lawful may h trace done after servable.heap cpu servable.sound.0 object size fresh lists (number-of h trace fresh servable.heap.objects servable.sound.3) (All-head (IsUnheld h.lists) fresh [] servable.unheld) served
-serves lawful may h trace _ done after servable lists served = absurd served
+serves lawful may frees h trace (line.Kget cpu size object) done after servable served =
+    kgets lawful may frees h trace done after servable.heap cpu servable.sound.0 size object (number-of h trace object servable.heap.objects servable.sound.2) (All-head (IsUnheld h.lists) object [] servable.unheld) served
+serves lawful may frees h trace (line.Krealloc cpu object size fresh) done after servable served =
+    kreallocs lawful may frees h trace done after servable.heap cpu servable.sound.0 object size fresh (number-of h trace object servable.heap.objects servable.sound.1) (number-of h trace fresh servable.heap.objects servable.sound.3) (All-head (IsUnheld h.lists) fresh [] servable.unheld) served
+serves lawful may frees h trace _ done after servable served = absurd served

@@ -16,11 +16,11 @@ use Rattle.slub_round_law.specs.Round.{IsRound}
 use Rattle.slub_engine.specs.Steps.{KeepsSizes, KeepsUnheld}
 use Rattle.slub_engine.proofs.Ready.{ready_next}
 use Rattle.slub_by_text.specs.Heap.{HeapState, IsSoundHeap}
-use Rattle.slub_clients.specs.Asked.{IsOpenTo, IsServable, SpendsLine}
+use Rattle.slub_clients.specs.Asked.{IsOpenTo, IsServable}
 use Rattle.slub_clients.specs.Reserves.{AreSoundReserves}
 use Rattle.slub_clients.proofs.Staying.{round-unheld}
 use Rattle.slub_ways.specs.declared.way.Way.{Way}
-use Rattle.slub_ways.specs.Runs.{AreIdsFor, IsReadyMachine, ItemSpendsTurns, KeepsReserves, KeepsRounds, MachineState, heap_of}
+use Rattle.slub_ways.specs.Runs.{AreIdsFor, IsReadyMachine, ItemSpendsTurns, KeepsReserves, KeepsRounds, MachineState, SpendsLine, heap_of}
 use Rattle.slub_ways.specs.Ways.{DoesRoundBy}
 use Rattle.slub_items.specs.declared.machine.Stopped.{Stopped}
 use Rattle.slub_items.specs.declared.machine.Stopped.TheVariants.{NoMemory, TurnsSpent}
@@ -125,12 +125,12 @@ pub stopped_round : (way : Way) (m : MachineState) (trace : Trace) (number : ℕ
     → IsMachineStopped way m round why → IsStopped way m trace number why
 stopped_round way m trace number it round (NoMemory (Some after)) within at is same = (takes_at trace number it within at (subst TakesMemory (sym is) tt), let back : after ≡ m = cc in back)
 stopped_round way m trace number it round (NoMemory None) within at is same = absurd (let never : ⊥ = cc in never)
-stopped_round way m trace number it round TurnsSpent within at is spends = found_at trace number it (ItemSpendsTurns way m) within at (subst (ItemSpendsTurns way m) (sym is) spends)
+stopped_round way m trace number it round TurnsSpent within at is spends = found_at trace number it (ItemSpendsTurns way m trace) within at (subst (ItemSpendsTurns way m trace) (sym is) spends)
 
 -- no memory was there for a client's line
 pub wanting_client : (way : Way) (m : MachineState) (trace : Trace) (number : ℕ) (it : Item) (client : Asked) → number < length trace.items → it ≡ get_or trace.items number it → it ≡ item.Client client → IsStopped way m trace number (NoMemory None)
 wanting_client way m trace number it client within at is = (takes_at trace number it within at (subst TakesMemory (sym is) tt), client_at trace number it client within at is)
 
 -- or the turns of a round of it are spent
-pub spent_client : (way : Way) (m : MachineState) (trace : Trace) (number : ℕ) (it : Item) (client : Asked) → number < length trace.items → it ≡ get_or trace.items number it → it ≡ item.Client client → SpendsLine (heap_of m) → IsStopped way m trace number TurnsSpent
-spent_client way m trace number it client within at is spends = found_at trace number it (ItemSpendsTurns way m) within at (subst (ItemSpendsTurns way m) (sym is) spends)
+pub spent_client : (way : Way) (m : MachineState) (trace : Trace) (number : ℕ) (it : Item) (client : Asked) → number < length trace.items → it ≡ get_or trace.items number it → it ≡ item.Client client → SpendsLine m trace client → IsStopped way m trace number TurnsSpent
+spent_client way m trace number it client within at is spends = found_at trace number it (ItemSpendsTurns way m trace) within at (subst (ItemSpendsTurns way m trace) (sym is) spends)

@@ -1,12 +1,11 @@
 -- What `kmalloc`, `kget` and `krealloc` lines leave of the board.
-use Rattle.std.specs.Prelude.{◌≡◌, ◌≢◌, ℕ, [], ◌∷◌, None, IsSome, ⊤}
+use Rattle.std.specs.Prelude.{◌≡◌, ◌≢◌, ℕ, [], ◌∷◌, None, IsSome}
 use Rattle.slub_lists.specs.State.{State}
 use Rattle.slub_lists.specs.Coherent.{held_under}
 use Rattle.slub_trace_reader.specs.declared.trace.Client.{Client as Asked}
 use Rattle.slub_trace_reader.specs.declared.trace.Client.TheVariants as line
 use Rattle.slub_journal.specs.declared.client.ClientAnswer.{ClientAnswer}
 use Rattle.slub_journal.specs.declared.client.ClientAnswer.TheVariants as answer
-use Rattle.slub_by_text.specs.Heap.{HeapState}
 use Rattle.slub_clients.specs.BulkLines.{AddsNumbers, address_under}
 
 -- the board before, but that the object of a number is gone, and that a fresh number has one at
@@ -26,8 +25,3 @@ LeavesClasses s (line.Kget cpu size object) after (answer.Given address) =
 LeavesClasses s (line.Krealloc cpu object size fresh) after (answer.Moved address) =
     MovesNumber s object fresh address after
 LeavesClasses s client after _ = (object : ℕ) → held_under after object ≡ held_under s object
-
--- where a `krealloc` moved, no ids stand beside the lists: its rounds are done on them alone
-abbrev pub MovesOnLists : HeapState → ClientAnswer → Type 0
-MovesOnLists h (answer.Moved address) = h.ids ≡ None
-MovesOnLists h _ = ⊤

@@ -18,8 +18,8 @@
 //! `specs/Stopped.antt`): there was no memory, only where the item takes some, and but for a client's line the machine
 //! is given back as it was, its ids too; or all turns of the round, or of one that the client's line made, are made,
 //! and a worker is unfinished. `Machine::total` has the sums of the ledgers and of the machine.
-//! `laws`: after a refusal of a `kmalloc` line the board is as it was, and after a move, where no ids stand beside the
-//! lists, it differs by the two numbers of its line alone.
+//! `laws`: after a refusal of a `kmalloc` line the board is as it was, and after a move it differs by the two numbers
+//! of its line alone, whether ids stand beside the lists or not.
 #![tactic(auto)]
 
 pub mod laws;

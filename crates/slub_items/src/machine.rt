@@ -13,9 +13,9 @@ ghost use Rattle.slub_engine.specs.Steps.{KeepsUnheld};
 ghost use Rattle.slub_by_text.specs.Heap.{IsSoundHeap};
 ghost use Rattle.slub_clients.specs.Asked.{IsServable, StaysOpen};
 ghost use Rattle.slub_clients.specs.Reserves.{AreSoundReserves};
-ghost use Rattle.slub_clients.specs.Stopped.{IsLineStopped};
+ghost use Rattle.slub_clients.specs.Stopped.{IsStoppedWhere};
 ghost use Rattle.slub_ways.specs.Ways.{DoesRoundBy};
-ghost use Rattle.slub_ways.specs.Runs.{DoesAt, IsReadyMachine, KeepsReserves, KeepsRounds, Serves, heap_of, machine_of, opening_ids};
+ghost use Rattle.slub_ways.specs.Runs.{DoesAt, IsReadyMachine, KeepsReserves, KeepsRounds, Serves, SpendsLine, heap_of, machine_of, opening_ids};
 ghost use Rattle.slub_items.specs.Ids.{LeavesIdsAt};
 ghost use Rattle.slub_items.specs.Parts.{machine_on};
 ghost use Rattle.slub_items.specs.Stopped.{IsMachineStopped, IsStopped};
@@ -214,7 +214,7 @@ impl Machine {
             KeepsUnheld self.lists (asked_objects client.now) done.0.lists) }
         ensures reserves { IfOk result (λ done. AreSoundReserves trace.now done.0.reserves) }
         ensures rounds { IfOk result (λ done. KeepsRounds self done.0) }
-        ensures stopped { IfErr result (IsLineStopped (heap_of self)) }
+        ensures stopped { IfErr result (IsStoppedWhere (SpendsLine self trace.now client.now)) }
     {
         let Machine {
             heap,
@@ -261,7 +261,8 @@ fn serve_on(
     ensures unheld { IfOk result (λ done.
         KeepsUnheld heap.lists (asked_objects client.now) done.0.lists) }
     ensures reserves { OnOk result (AreSoundReserves trace.now reserves.new) }
-    ensures stopped { IfErr result (IsLineStopped heap) }
+    ensures stopped { IfErr result (λ why. (rounds : ℕ) → IsStoppedWhere
+        (SpendsLine (machine_on heap reserves.old rounds) trace.now client.now) why) }
 {
     match client {
         Client::Kmalloc | Client::Kget { .. } | Client::Krealloc { .. } => {

@@ -8,17 +8,17 @@ ghost use Rattle.slub_object_layout.specs.Layout.{is_checked};
 ghost use Rattle.slub_lists.specs.Alloc.{cache_of};
 ghost use Rattle.slub_trace_reader.specs.Sound.{IsSound, IsSoundObject, asked_objects};
 ghost use Rattle.slub_journal.specs.Lawful.{IsUnheld};
-ghost use Rattle.slub_journal.specs.Asked.{round_of};
 ghost use Rattle.slub_engine.specs.Steps.{KeepsUnheld};
 ghost use Rattle.slub_events.specs.declared.event.Act.TheVariants.{Free};
-ghost use Rattle.slub_clients.specs.Asked.{IsOpenTo, IsServable, StaysOpen};
-ghost use Rattle.slub_clients.specs.Kmalloc.{IsKmallocLine, Moves, MovesOn, ServesClasses, ServesHeld, ServesKget, ServesKmalloc, ServesKrealloc, TakesOfClass, given_answer, is_enough, is_kmalloc, names_cache, place_of_class};
-ghost use Rattle.slub_clients.specs.Stopped.{IsLineStopped, IsRoundStopped};
+ghost use Rattle.slub_clients.specs.Asked.{IsOpenTo, IsServable, SpendsAsked, StaysOpen};
+ghost use Rattle.slub_clients.specs.Kmalloc.{IsKmallocLine, Moves, MovesOn, ServesClasses, ServesHeld, ServesKget, ServesKmalloc, ServesKrealloc, SpendsClasses, SpendsHeld, SpendsKget, SpendsKrealloc, SpendsMove, SpendsOfClass, TakesOfClass, given_answer, is_enough, is_kmalloc, names_cache, place_of_class};
+ghost use Rattle.slub_clients.specs.Stopped.{IsStoppedWhere};
 
 use crate::classes::{class_place, class_spec};
 use slub_by_text::heap::Heap;
-use slub_clients::client::{Stopped, client_round, told};
+use slub_clients::client::{Stopped, at_once, client_round, told};
 use slub_clients::create::create;
+use slub_common::no_memory::NoMemory;
 use slub_common::sequence::Sequence;
 use slub_events::event::Act;
 use slub_journal::client::{CacheRefusal, ClientAnswer, ClientDone, ClientRound};
@@ -72,7 +72,7 @@ fn take_of_class(
         TakesOfClass heap trace.now cpu class object rounds.new.items done.1 done.0) }
     ensures stays { IfOk result (λ done. StaysOpen heap trace.now 1 done.0) }
     ensures unheld { IfOk result (λ done. KeepsUnheld heap.lists (object ∷ []) done.0.lists) }
-    ensures stopped { IfErr result (IsLineStopped heap) }
+    ensures stopped { IfErr result (IsStoppedWhere (SpendsOfClass heap trace.now cpu class object)) }
 {
     let Some(cache) = place_of_class(trace, class) else {
         return Ok((heap, Err(CacheRefusal::NoSuchCache)));
@@ -81,17 +81,6 @@ fn take_of_class(
     let told = told(&round)?;
     rounds.push(round)?;
     Ok((after, told))
-}
-
-/// An answer without a round.
-fn at_once(alloc: Global, answer: ClientAnswer) -> ClientDone
-    ensures rounds { result.rounds ≡ [] }
-    ensures answer { result.answer ≡ answer }
-{
-    ClientDone {
-        rounds: Sequence::new(alloc),
-        answer,
-    }
 }
 
 /// What an allocation answers a client.
@@ -121,7 +110,7 @@ fn kget(
     ensures served { IfOk result (λ done. ServesKget heap trace.now cpu size object done.1 done.0) }
     ensures stays { IfOk result (λ done. StaysOpen heap trace.now 1 done.0) }
     ensures unheld { IfOk result (λ done. KeepsUnheld heap.lists (object ∷ []) done.0.lists) }
-    ensures stopped { IfErr result (IsLineStopped heap) }
+    ensures stopped { IfErr result (IsStoppedWhere (SpendsKget heap trace.now cpu size object)) }
 {
     let Some(class) = class_place(size) else {
         return Ok((heap, at_once(alloc, ClientAnswer::TooLarge)));
@@ -136,13 +125,12 @@ fn kget(
 }
 
 /// Creates the caches of the classes, in rising order (`create_kmalloc_caches`).
-fn kmalloc(alloc: Global, heap: Heap, trace: &Trace) -> Result<(Heap, ClientDone), Stopped>
+fn kmalloc(alloc: Global, heap: Heap, trace: &Trace) -> Result<(Heap, ClientDone), NoMemory>
     requires sound { IsSound trace.now }
     requires asks { IsOpenTo heap trace.now 0 }
     ensures served { IfOk result (λ done. ServesKmalloc heap trace.now done.1 done.0) }
     ensures stays { IfOk result (λ done. StaysOpen heap trace.now 0 done.0) }
     ensures board { IfOk result (λ done. done.0.lists.board ≡ heap.lists.board) }
-    ensures stopped { IfErr result (IsLineStopped heap) }
 {
     let mut now = heap;
     let mut answers = Vec::new(alloc);
@@ -224,7 +212,8 @@ fn krealloc(
         asked.size asked.fresh done.1 done.0) }
     ensures stays { IfOk result (λ done. StaysOpen heap trace.now 1 done.0) }
     ensures unheld { IfOk result (λ done. KeepsUnheld heap.lists (asked.fresh ∷ []) done.0.lists) }
-    ensures stopped { IfErr result (IsLineStopped heap) }
+    ensures stopped { IfErr result (IsStoppedWhere
+        (SpendsKrealloc heap trace.now asked.cpu asked.object asked.size asked.fresh)) }
 {
     match heap.lists.board()[asked.object as usize] {
         None => Ok((heap, at_once(alloc, ClientAnswer::NotHeld))),
@@ -251,7 +240,8 @@ fn krealloc_of(
         asked.size asked.fresh cache done.1 done.0) }
     ensures stays { IfOk result (λ done. StaysOpen heap trace.now 1 done.0) }
     ensures unheld { IfOk result (λ done. KeepsUnheld heap.lists (asked.fresh ∷ []) done.0.lists) }
-    ensures stopped { IfErr result (IsLineStopped heap) }
+    ensures stopped { IfErr result (IsStoppedWhere
+        (SpendsHeld heap trace.now asked.cpu asked.object asked.size asked.fresh cache)) }
 {
     if !is_kmalloc(&heap.lists, cache) {
         return Ok((heap, at_once(alloc, ClientAnswer::NotKmalloc)));
@@ -284,7 +274,8 @@ fn move_to(
         asked.fresh done.1 done.0) }
     ensures stays { IfOk result (λ done. StaysOpen heap trace.now 1 done.0) }
     ensures unheld { IfOk result (λ done. KeepsUnheld heap.lists (asked.fresh ∷ []) done.0.lists) }
-    ensures stopped { IfErr result (IsLineStopped heap) }
+    ensures stopped { IfErr result (IsStoppedWhere
+        (SpendsMove heap trace.now asked.cpu class asked.object asked.fresh)) }
 {
     let mut rounds = Vec::new(alloc);
     let (mid, told) = take_of_class(
@@ -324,7 +315,7 @@ fn free_other(
         MovesOn heap asked.cpu asked.object (Ok address) rounds.items done.1 done.0) }
     ensures stays { IfOk result (λ done. StaysOpen heap trace.now 0 done.0) }
     ensures unheld { IfOk result (λ done. KeepsUnheld heap.lists [] done.0.lists) }
-    ensures stopped { IfErr result (IsRoundStopped heap (round_of asked.cpu (Free asked.object ∷ []))) }
+    ensures stopped { IfErr result (IsStoppedWhere (SpendsAsked heap asked.cpu (Free asked.object ∷ []))) }
 {
     let mut rounds = rounds;
     let freed = Act::Free {
@@ -354,7 +345,7 @@ pub fn serve(
         StaysOpen heap trace.now (length (asked_objects client.now)) done.0) }
     ensures unheld { IfOk result (λ done.
         KeepsUnheld heap.lists (asked_objects client.now) done.0.lists) }
-    ensures stopped { IfErr result (IsLineStopped heap) }
+    ensures stopped { IfErr result (IsStoppedWhere (SpendsClasses heap trace.now client.now)) }
 {
     match client {
         Client::Kget { cpu, size, object } => kget(alloc, heap, trace, *cpu, *size, *object),
@@ -372,7 +363,7 @@ pub fn serve(
             };
             krealloc(alloc, heap, trace, asked)
         }
-        Client::Kmalloc => kmalloc(alloc, heap, trace),
+        Client::Kmalloc => Ok(kmalloc(alloc, heap, trace)?),
         Client::Bulk { .. }
         | Client::Bulkfree { .. }
         | Client::Mempool { .. }

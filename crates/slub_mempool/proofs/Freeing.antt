@@ -11,9 +11,9 @@ use Rattle.slub_journal.specs.declared.journal.RoundResult.{RoundResult}
 use Rattle.slub_journal.specs.Asked.{event_of, round_of}
 use Rattle.slub_round_law.specs.Answered.{Answered, did_free, found_bad, times_taken}
 use Rattle.slub_round_law.specs.Round.{FreeCause, HaveCauses, IsRound}
-use Rattle.slub_bulk.proofs.Boards.{one_reply}
+use Rattle.slub_clients.proofs.Replies.{one_reply}
+use Rattle.slub_clients.proofs.Staying.{held-or-none}
 use Rattle.slub_mempool.specs.Serving.{FreesHeld, IsFreeOfHeld}
-use Rattle.slub_mempool.proofs.Keeping.{held-or-none}
 
 -- that it isn't held is no answer that takes it
 none-taken : (cpu object : ℕ) → times_taken object ((event_of cpu (Free object), reply.NotHeld) ∷ []) ≡ 0

@@ -12,17 +12,9 @@ use Rattle.slub_lists.specs.State.{State}
 use Rattle.slub_lists.specs.Coherent.{held_under}
 use Rattle.slub_trace_reader.specs.declared.trace.Trace.{Trace}
 use Rattle.slub_common.proofs.Writes.{inside-of}
+use Rattle.slub_clients.proofs.Staying.{held-or-none}
 use Rattle.slub_mempool.specs.Serving.{AreKnown, IsUsable}
 use Rattle.slub_clients.specs.Reserves.{AreReserves, AreSoundReserves, IsSoundReserve, Reserve, has_number, kept_in, kept_of, no_reserve, reserve_at, times_in, with_numbers}
-
--- ---- on the board or not
-
-pub held-or-none : (s : State) (object : ℕ) → IsSome (held_under s object) → held_under s object ≡ None → ⊥
-held-or-none s object some none = by (held_under s object) some none
-  where
-    by : (x : Option Held) → IsSome x → x ≡ None → ⊥
-    by None some none = absurd (cc)
-    by (Some held) some none = absurd (cc)
 
 -- ---- numbers that are no longer on the board are dropped
 

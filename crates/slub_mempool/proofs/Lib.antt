@@ -3,4 +3,3 @@ pub mod Keeping
 pub mod Making
 pub mod Serving
 pub mod Spots
-pub mod Halting

@@ -2,16 +2,17 @@
 
 ghost use Rattle.std.specs.Prelude.{◌≡◌, ◌+◌, ◌^◌, ◌<◌, ◌≤◌, ◌==◌, ◌++◌, ◌∷◌, [], false, length, All, Err, IfErr, IfOk, IfSome, IsSome, OnErr, vec_capacity};
 ghost use Rattle.std.specs.List.{list_any, range_with_len};
+ghost use Rattle.slub_events.specs.declared.event.Act.TheVariants.{Alloc, Free};
 ghost use Rattle.slub_lists.specs.Coherent.{IsCoherent, held_under};
 ghost use Rattle.slub_trace_reader.specs.declared.trace.Trace.{Trace as Read};
 ghost use Rattle.slub_trace_reader.specs.Sound.{asked_objects};
 ghost use Rattle.slub_journal.specs.Lawful.{IsUnheld};
 ghost use Rattle.slub_engine.specs.Steps.{KeepsUnheld};
-ghost use Rattle.slub_clients.specs.Asked.{IsOpenTo, IsServable, StaysOpen};
-ghost use Rattle.slub_clients.specs.BulkLines.{address_under};
+ghost use Rattle.slub_clients.specs.Asked.{IsOpenTo, IsServable, SpendsAsked, StaysOpen};
+ghost use Rattle.slub_clients.specs.BulkLines.{SpendsTaking, address_under};
 ghost use Rattle.slub_clients.specs.Laws.{IsNumber};
-ghost use Rattle.slub_clients.specs.Reserves.{AreReserves, AreSoundReserves, Fills, Gets, IsReserveLine, PutsBack, ServesKept, ServesMempool, ServesMget, ServesMput, ServesReserves, TakesOne, fresh_reserve, has_number, is_of_cache, kept_in, numbers_of, place_of, reserve_at};
-ghost use Rattle.slub_clients.specs.Stopped.{IsLineStopped};
+ghost use Rattle.slub_clients.specs.Reserves.{AreReserves, AreSoundReserves, Fills, Gets, IsReserveLine, PutsBack, ServesKept, ServesMempool, ServesMget, ServesMput, ServesReserves, SpendsKept, SpendsMempool, SpendsMget, SpendsMput, SpendsReserves, TakesOne, fresh_reserve, has_number, is_of_cache, kept_in, numbers_of, place_of, reserve_at};
+ghost use Rattle.slub_clients.specs.Stopped.{IsStoppedWhere};
 ghost use Rattle.slub_mempool.specs.Serving.{AreKnown, FreesHeld, IsUsable, TellsFreed};
 
 use crate::reserve::Reserve;
@@ -20,7 +21,7 @@ use slub_bulk::all::take_all;
 use slub_bulk::serve::numbers_from;
 use slub_by_text::heap::Heap;
 use slub_by_text::laws::rounds_by_text_are_lawful;
-use slub_clients::client::{Stopped, client_round, told};
+use slub_clients::client::{Stopped, at_once, client_round, told};
 use slub_common::no_memory::NoMemory;
 use slub_common::sequence::Sequence;
 use slub_events::event::Act;
@@ -55,17 +56,6 @@ impl Model for Reserves {
     ghost view = { λ r. r.made.items };
 
     ghost invariant = { λ r. (8 ≤ vec_capacity r.made) × (length r.made.items + length r.spare.items ≡ 8) × All (λ room. (room.items ≡ []) × (64 ≤ vec_capacity room)) r.spare.items };
-}
-
-/// An answer without a round.
-fn at_once(alloc: Global, answer: ClientAnswer) -> ClientDone
-    ensures rounds { result.rounds ≡ [] }
-    ensures answer { result.answer ≡ answer }
-{
-    ClientDone {
-        rounds: Sequence::new(alloc),
-        answer,
-    }
 }
 
 /// The room of one reserve.
@@ -120,7 +110,7 @@ fn take_one(
     ensures taken { IfOk result (λ done. TakesOne heap cpu place object rounds.new.items done.1 done.0) }
     ensures stays { IfOk result (λ done. (trace : Read) → StaysOpen heap trace 1 done.0) }
     ensures unheld { IfOk result (λ done. KeepsUnheld heap.lists (object ∷ []) done.0.lists) }
-    ensures stopped { IfErr result (IsLineStopped heap) }
+    ensures stopped { IfErr result (IsStoppedWhere (SpendsAsked heap cpu (Alloc place object ∷ []))) }
 {
     let asked = Act::Alloc {
         cache: place,
@@ -141,7 +131,7 @@ fn put_back(alloc: Global, heap: Heap, cpu: u32, object: u32) -> Result<(Heap, C
     ensures put { IfOk result (λ done. PutsBack heap cpu object done.1 done.0) }
     ensures stays { IfOk result (λ done. (trace : Read) → StaysOpen heap trace 0 done.0) }
     ensures unheld { IfOk result (λ done. KeepsUnheld heap.lists [] done.0.lists) }
-    ensures stopped { IfErr result (IsLineStopped heap) }
+    ensures stopped { IfErr result (IsStoppedWhere (SpendsAsked heap cpu (Free object ∷ []))) }
 {
     let (after, round) = client_round(alloc, heap, cpu, &[Act::Free { object }])?;
     let answer = freed(&round);
@@ -260,7 +250,8 @@ impl Reserves {
         ensures stays { IfOk result (λ done.
             (trace : Read) → StaysOpen heap trace (length (range_with_len first min_nr)) done.0) }
         ensures unheld { IfOk result (λ done. KeepsUnheld heap.lists (range_with_len first min_nr) done.0.lists) }
-        ensures stopped { IfErr result (IsLineStopped heap) }
+        ensures stopped { IfErr result (IsStoppedWhere (SpendsMempool heap self.old
+            (fresh_reserve pool.now place min_nr first))) }
     {
         if self.place_of(pool).is_some() {
             return Ok((heap, at_once(alloc, ClientAnswer::Taken)));
@@ -294,7 +285,7 @@ impl Reserves {
         ensures stays { IfOk result (λ done.
             (trace : Read) → StaysOpen heap trace (length (range_with_len first min_nr)) done.0) }
         ensures unheld { IfOk result (λ done. KeepsUnheld heap.lists (range_with_len first min_nr) done.0.lists) }
-        ensures stopped { IfErr result (IsLineStopped heap) }
+        ensures stopped { IfErr result (IsStoppedWhere (SpendsTaking heap 0 place (range_with_len first min_nr))) }
     {
         let numbers = numbers_from(alloc, first, min_nr)?;
         let mut rounds = Vec::new(alloc);
@@ -332,7 +323,7 @@ impl Reserves {
         ensures err { OnErr result (self.new ≡ self.old) }
         ensures stays { IfOk result (λ done. (trace : Read) → StaysOpen heap trace 1 done.0) }
         ensures unheld { IfOk result (λ done. KeepsUnheld heap.lists (object ∷ []) done.0.lists) }
-        ensures stopped { IfErr result (IsLineStopped heap) }
+        ensures stopped { IfErr result (IsStoppedWhere (SpendsMget heap self.old cpu pool.now object)) }
     {
         let Some(at) = self.place_of(pool) else {
             return Ok((heap, at_once(alloc, ClientAnswer::NoPool)));
@@ -402,7 +393,7 @@ impl Reserves {
         ensures err { OnErr result (self.new ≡ self.old) }
         ensures stays { IfOk result (λ done. (trace : Read) → StaysOpen heap trace 0 done.0) }
         ensures unheld { IfOk result (λ done. KeepsUnheld heap.lists [] done.0.lists) }
-        ensures stopped { IfErr result (IsLineStopped heap) }
+        ensures stopped { IfErr result (IsStoppedWhere (SpendsMput heap self.old cpu pool.now object)) }
     {
         let Some(at) = self.place_of(pool) else {
             return Ok((heap, at_once(alloc, ClientAnswer::NoPool)));
@@ -438,7 +429,7 @@ impl Reserves {
         ensures err { OnErr result (self.new ≡ self.old) }
         ensures stays { IfOk result (λ done. StaysOpen heap trace.now (length (asked_objects client.now)) done.0) }
         ensures unheld { IfOk result (λ done. KeepsUnheld heap.lists (asked_objects client.now) done.0.lists) }
-        ensures stopped { IfErr result (IsLineStopped heap) }
+        ensures stopped { IfErr result (IsStoppedWhere (SpendsKept heap self.old client.now)) }
     {
         match client {
             Client::Mempool {
@@ -474,7 +465,7 @@ impl Reserves {
         ensures err { OnErr result (self.new ≡ kept_in heap.lists self.old) }
         ensures stays { IfOk result (λ done. StaysOpen heap trace.now (length (asked_objects client.now)) done.0) }
         ensures unheld { IfOk result (λ done. KeepsUnheld heap.lists (asked_objects client.now) done.0.lists) }
-        ensures stopped { IfErr result (IsLineStopped heap) }
+        ensures stopped { IfErr result (IsStoppedWhere (SpendsReserves heap self.old client.now)) }
     {
         rounds_by_text_are_lawful();
         self.drop_freed(&heap.lists);

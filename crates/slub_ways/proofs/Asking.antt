@@ -1,24 +1,23 @@
 -- The rounds that a client's line asks are sound ones of its trace, and none is long.
-use Rattle.std.proofs.Common.{◌≡◌, ℕ, ◌+◌, ◌*◌, ◌^◌, ◌<◌, ◌≤◌, Bool, true, false, eqb, not, List, [], ◌∷◌, length, filter, flat_map, refl, arith, All, Some}
+use Rattle.std.proofs.Common.{◌≡◌, ℕ, ◌+◌, ◌*◌, ◌^◌, ◌<◌, ◌≤◌, eqb, not, List, [], ◌∷◌, length, filter, flat_map, arith, All, Some}
 use Rattle.std.specs.List.{range_with_len}
 use Rattle.std.specs.Str.{bytes_eq}
 use Rattle.std.proofs.lemmas.List.{length-append, length-map}
-use Rattle.std.proofs.lemmas.List.Elements.{All-append, All-cons, All-filter, All-head, All-map, All-nil, All-tail}
+use Rattle.std.proofs.lemmas.List.Elements.{All-cons, All-map, All-nil}
 use Rattle.std.proofs.lemmas.List.FromFn.{get_or-range_with_len, length-range_with_len}
 use Rattle.std.proofs.lemmas.List.Quantifiers.{position-Some}
 use Rattle.std.proofs.lemmas.List.Sums.{count_by-le-length, length-filter}
 use Rattle.slub_events.specs.declared.event.Act.{Act}
 use Rattle.slub_events.specs.declared.event.Act.TheVariants.{Alloc, Free}
-use Rattle.slub_events.specs.declared.event.Event.{Event}
 use Rattle.slub_events.specs.declared.event.Round.{Round}
-use Rattle.slub_answers.specs.declared.reply.Reply.{Reply}
 use Rattle.slub_lists.specs.State.{State}
 use Rattle.slub_trace_reader.specs.declared.trace.Trace.{Trace}
-use Rattle.slub_trace_reader.specs.Sound.{AreReadable, IsSoundEvent, IsSoundObject, IsSoundRound}
+use Rattle.slub_trace_reader.specs.Sound.{IsSoundEvent, IsSoundObject, IsSoundRound}
 use Rattle.slub_journal.specs.Asked.{event_of, frees_of, round_of}
 use Rattle.slub_journal.specs.Bulk.{free_order, objects_of_slab, slabs_among}
-use Rattle.slub_clients.specs.BulkLines.{allocs_of, frame_under, places_under, replied}
+use Rattle.slub_clients.specs.BulkLines.{allocs_of, frame_under, places_under}
 use Rattle.slub_clients.specs.Kmalloc.{class_name, place_of_class}
+use Rattle.slub_clients.proofs.Allowed.{allocs-read, frees-read}
 use Rattle.slub_clients.specs.Reserves.{AreSoundReserves, Reserve, kept_in, kept_of, no_reserve, place_of, reserve_at}
 
 -- ---- rounds of one act each
@@ -32,14 +31,6 @@ pub record IsAsked (trace : Trace) (round : Round) : Type 0 where
 abbrev pub AreKnown : Trace → List ℕ → Type 0
 AreKnown trace numbers = All (IsSoundObject trace) numbers
 
-allocs-readable : (cpu place : ℕ) (numbers : List ℕ) (before : List Event) → AreReadable before (round_of cpu (allocs_of place numbers)).events
-allocs-readable cpu place [] before = tt
-allocs-readable cpu place (number ∷ numbers) before = (tt, allocs-readable cpu place numbers (event_of cpu (Alloc place number) ∷ before))
-
-frees-readable : (cpu : ℕ) (numbers : List ℕ) (before : List Event) → AreReadable before (round_of cpu (frees_of numbers)).events
-frees-readable cpu [] before = tt
-frees-readable cpu (number ∷ numbers) before = (tt, frees-readable cpu numbers (event_of cpu (Free number) ∷ before))
-
 -- allocations under numbers of the trace, from the cache of a name of the trace
 pub allocs-asked : (trace : Trace) (cpu place : ℕ) (numbers : List ℕ) → cpu < trace.cpus → place < length trace.names → AreKnown trace numbers → length numbers ≤ 1048576 → IsAsked trace (round_of cpu (allocs_of place numbers))
 allocs-asked trace cpu place numbers on named known few =
@@ -49,7 +40,7 @@ allocs-asked trace cpu place numbers on named known few =
       sound = record {
         workers = (omega arith, omega arith);
         events = All-map (IsSoundEvent trace 1) (event_of cpu) (allocs_of place numbers) all;
-        readable = allocs-readable cpu place numbers [];
+        readable = allocs-read cpu place numbers [];
       };
       few = omega (arith, length-map (allocs_of place numbers) (event_of cpu), length-map numbers (Alloc place), few);
     }
@@ -63,7 +54,7 @@ frees-asked trace cpu numbers on known few =
       sound = record {
         workers = (omega arith, omega arith);
         events = All-map (IsSoundEvent trace 1) (event_of cpu) (frees_of numbers) all;
-        readable = frees-readable cpu numbers [];
+        readable = frees-read cpu numbers [];
       };
       few = omega (arith, length-map (frees_of numbers) (event_of cpu), length-map numbers Free, few);
     }
@@ -83,40 +74,7 @@ range-known trace first count from within k d inside =
     let at = get_or-range_with_len first count k d (omega (arith, inside, long)) in
     rw at (omega (arith, from), omega (arith, within, inside, long))
 
--- those with a reply of a kind
-pub replied-known : (trace : Trace) (is : Reply → Bool) (numbers : List ℕ) (replies : List Reply) → AreKnown trace numbers → AreKnown trace (replied is numbers replies)
-replied-known trace is [] replies known = All-nil (IsSoundObject trace)
-replied-known trace is (number ∷ numbers) [] known = All-nil (IsSoundObject trace)
-replied-known trace is (number ∷ numbers) (reply ∷ replies) known = by (is reply) refl (replied-known trace is numbers replies (All-tail (IsSoundObject trace) number numbers known))
-  where
-    by : (b : Bool) → is reply ≡ b → AreKnown trace (replied is numbers replies) → AreKnown trace (replied is (number ∷ numbers) (reply ∷ replies))
-    by true e rest = rw e (All-cons (IsSoundObject trace) number (replied is numbers replies) (All-head (IsSoundObject trace) number numbers known) rest)
-    by false e rest = rw e rest
-
-pub replied-few : (is : Reply → Bool) (numbers : List ℕ) (replies : List Reply) → length (replied is numbers replies) ≤ length numbers
-replied-few is [] replies = omega arith
-replied-few is (number ∷ numbers) [] = omega arith
-replied-few is (number ∷ numbers) (reply ∷ replies) = by (is reply) refl (replied-few is numbers replies)
-  where
-    by : (b : Bool) → is reply ≡ b → length (replied is numbers replies) ≤ length numbers → length (replied is (number ∷ numbers) (reply ∷ replies)) ≤ length (number ∷ numbers)
-    by true e rest = rw e (omega (arith, rest))
-    by false e rest = rw e (omega (arith, rest))
-
 -- ---- the order of a bulk free
-
-slab-known : (trace : Trace) (places : List (ℕ × ℕ)) (frame : ℕ) → All (λ place. IsSoundObject trace place.0) places → AreKnown trace (objects_of_slab places frame)
-slab-known trace places frame all =
-    All-map (IsSoundObject trace) (λ (place : ℕ × ℕ). place.0) (filter (λ place. eqb place.1 frame) places) (All-filter (λ place. eqb place.1 frame) (λ place. IsSoundObject trace place.0) places all)
-
-slabs-known : (trace : Trace) (places : List (ℕ × ℕ)) (frames : List ℕ) → All (λ place. IsSoundObject trace place.0) places → AreKnown trace (flat_map (objects_of_slab places) frames)
-slabs-known trace places [] all = All-nil (IsSoundObject trace)
-slabs-known trace places (frame ∷ frames) all =
-    All-append (IsSoundObject trace) (objects_of_slab places frame) (flat_map (objects_of_slab places) frames) (slab-known trace places frame all) (slabs-known trace places frames all)
-
--- what it frees is among the numbers
-pub order-known : (trace : Trace) (s : State) (numbers : List ℕ) → AreKnown trace numbers → AreKnown trace (free_order (places_under s numbers))
-order-known trace s numbers known =
-    slabs-known trace (places_under s numbers) (slabs_among (places_under s numbers)) (All-map (λ (place : ℕ × ℕ). IsSoundObject trace place.0) (λ number. (number, frame_under s number)) numbers known)
 
 slab-few : (places : List (ℕ × ℕ)) (frame : ℕ) → length (objects_of_slab places frame) ≤ length places
 slab-few places frame =

@@ -31,7 +31,8 @@ use Rattle.slub_clients.specs.Kmalloc.{CreatesClasses, Moves, MovesOn, ServesCla
 use Rattle.slub_clients.specs.Reserves.{AnswersLeaving, AreSoundReserves, Asks, Fills, Puts, PutsBack, Refills, Reserve, ServesKept, ServesMempool, ServesMget, ServesMput, fresh_reserve, has_number, is_of_cache, kept_in, place_of, reserve_at, with_numbers}
 use Rattle.slub_clients.proofs.Allowed.{allocs-objects, frees-objects}
 use Rattle.slub_ways.specs.Runs.{MachineState, Serves, heap_of}
-use Rattle.slub_ways.proofs.Asking.{AreKnown, AreNamed, IsAsked, alloc-asked, allocs-asked, class-named, free-asked, frees-asked, kept-named, order-few, order-known, range-known, replied-few, replied-known, reserve-named}
+use Rattle.slub_clients.proofs.Chosen.{order_all, replied_all, replied_long}
+use Rattle.slub_ways.proofs.Asking.{AreKnown, AreNamed, IsAsked, alloc-asked, allocs-asked, class-named, free-asked, frees-asked, kept-named, order-few, range-known, reserve-named}
 
 -- ---- rounds
 
@@ -185,7 +186,7 @@ module _ (trace : Trace) (sound : Type 0) where
 
       gives : sound → IsAsked trace (round_of cpu (frees_of given))
       gives whole =
-          frees-asked trace cpu given (known whole).0 (replied-known trace is_given numbers takes.0.result.replies (known whole).2) (omega (arith, (known whole).3, replied-few is_given numbers takes.0.result.replies))
+          frees-asked trace cpu given (known whole).0 (replied_all (IsSoundObject trace) is_given numbers takes.0.result.replies (known whole).2) (omega (arith, (known whole).3, replied_long is_given numbers takes.0.result.replies))
 
   bulk_free_made : (h : HeapState) (cpu : ℕ) (numbers : List ℕ) (done : ClientDone) (after : HeapState) → (sound → (cpu < trace.cpus) × AreKnown trace numbers × (length numbers ≤ 1024))
       → ServesBulkFree h cpu numbers done after → MadeFor trace sound h done.rounds [] after
@@ -198,7 +199,7 @@ module _ (trace : Trace) (sound : Type 0) where
       order = free_order (places_under h.lists numbers)
 
       asks : sound → IsAsked trace (round_of cpu (frees_of order))
-      asks whole = frees-asked trace cpu order (known whole).0 (order-known trace h.lists numbers (known whole).1) (order-few h.lists numbers (known whole).2)
+      asks whole = frees-asked trace cpu order (known whole).0 (order_all (IsSoundObject trace) h.lists numbers (known whole).1) (order-few h.lists numbers (known whole).2)
 
   -- ---- reserves
 

@@ -1,8 +1,7 @@
--- What the crates above stand on: an item of a number is done, a run of items grows by one, and which runs are serial.
-use Rattle.std.proofs.Common.{◌≡◌, ℕ, ◌+◌, ◌<◌, ◌≤◌, List, [], ◌∷◌, ◌++◌, length, take, get_or, refl, sym, subst, arith, Some, None, Option, MatchOption, inl, inr, slice_get, All}
+-- What the crates above stand on: an item of a number is done, and a run of items grows by one.
+use Rattle.std.proofs.Common.{◌≡◌, ℕ, ◌+◌, ◌<◌, List, [], ◌∷◌, ◌++◌, length, take, get_or, refl, sym, subst, Some, None, Option, MatchOption, slice_get}
 use Rattle.std.specs.Option.{option_map}
 use Rattle.std.proofs.lemmas.List.{take_more}
-use Rattle.std.proofs.lemmas.List.Elements.{All-head, All-tail}
 use Rattle.std.proofs.lemmas.Option.{slice_get-get_or, slice_get_read}
 use Rattle.slub_events.specs.declared.event.Round.{Round}
 use Rattle.slub_lists.specs.Coherent.{IsCoherent}
@@ -13,15 +12,12 @@ use Rattle.slub_trace_reader.specs.declared.trace.Trace.{Trace}
 use Rattle.slub_journal.specs.declared.client.ClientDone.{ClientDone}
 use Rattle.slub_journal.specs.declared.journal.Done.{Done}
 use Rattle.slub_journal.specs.declared.journal.Done.TheVariants as done
-use Rattle.slub_journal.specs.declared.journal.Journal.{Journal}
 use Rattle.slub_journal.specs.declared.journal.RoundResult.{RoundResult}
 use Rattle.slub_journal.specs.Lawful.{DoesPlain, DoesPlainAt}
 use Rattle.slub_ids.specs.Growth.{ids_after}
 use Rattle.slub_ways.specs.declared.way.Way.{Way}
-use Rattle.slub_ways.specs.declared.way.Way.TheVariants.{Serial, Schedule, Threads}
 use Rattle.slub_ways.specs.Ways.{DoesRoundBy}
-use Rattle.slub_ways.specs.Runs.{AreByText, Does, DoesAt, IsAlone, IsLawful, KeepsReserves, KeepsRounds, MachineState, RunsItems, Serves, machine_of}
-use Rattle.slub_ways.proofs.Numbers.{front}
+use Rattle.slub_ways.specs.Runs.{Does, DoesAt, KeepsReserves, KeepsRounds, MachineState, RunsItems, Serves}
 
 -- ---- items done one after the other
 
@@ -86,53 +82,3 @@ does_plain_at way m trace number dn after does ids kept same = by (slice_get tra
     by : (found : Option Item) → slice_get trace.items number ≡ found → MatchOption found ⊥ (λ it. DoesPlain m.lists trace it dn after.lists) → MatchOption found ⊥ (λ it. Does way m trace it dn after)
     by None is does = absurd does
     by (Some it) is does = does_plain way m trace it dn after does (ids it is) kept same
-
--- ---- items that are done in the order of the text
-
--- a round of one worker is, by every way
-alone-serially : (way : Way) (m : MachineState) (round : Round) (result : RoundResult) (after : MachineState) → round.workers ≤ 1 → DoesRoundBy way m.rounds m.lists m.ids round result after.lists after.ids
-    → DoesRoundBy Serial m.rounds m.lists m.ids round result after.lists after.ids
-alone-serially Serial m round result after alone does = does
-alone-serially (Schedule seed) m round result after alone (inl (few, serial)) = serial
-alone-serially (Schedule seed) m round result after alone (inr (several, drawn)) = absurd (let never : ⊥ = omega (arith, several, alone) in never)
-alone-serially Threads m round result after alone (inl (few, serial)) = serial
-alone-serially Threads m round result after alone (inr (several, threaded)) = absurd (let never : ⊥ = omega (arith, several, alone) in never)
-
--- and so an item that is no round of several workers
-serially : (way : Way) (m : MachineState) (trace : Trace) (it : Item) (dn : Done) (after : MachineState) → IsAlone it → Does way m trace it dn after → Does Serial m trace it dn after
-unfolding Does
-serially way m trace (item.Round round) (done.Round result) after alone does = (alone-serially way m round result after alone does.0, does.1, does.2)
-serially way m trace (item.Round round) _ after alone does = does
-serially way m trace (item.Client client) (done.Client outcome) after alone does = does
-serially way m trace (item.Client client) _ after alone does = does
-serially way m trace _ dn after alone does = does
-
-alone-items : (way : Way) (m : MachineState) (trace : Trace) (items : List Item) (dones : List Done) (after : MachineState) → All IsAlone items → RunsItems way m trace items dones after → RunsItems Serial m trace items dones after
-alone-items way m trace [] [] after alone run = run
-alone-items way m trace [] (dn ∷ dones) after alone run = absurd run
-alone-items way m trace (it ∷ items) [] after alone run = absurd run
-alone-items way m trace (it ∷ items) (dn ∷ dones) after alone run =
-    (run.0, serially way m trace it dn run.0 (All-head IsAlone it items alone) run.1, run.2, alone-items way run.0 trace items dones after (All-tail IsAlone it items alone) run.3)
-
-items-serially : (way : Way) (m : MachineState) (trace : Trace) (items : List Item) (dones : List Done) (after : MachineState) → AreByText way items → RunsItems way m trace items dones after → RunsItems Serial m trace items dones after
-items-serially Serial m trace items dones after by_text run = run
-items-serially (Schedule seed) m trace items dones after by_text run = alone-items (Schedule seed) m trace items dones after by_text run
-items-serially Threads m trace items dones after by_text run = alone-items Threads m trace items dones after by_text run
-
-first-by-text : (way : Way) (n : ℕ) (items : List Item) → AreByText way items → AreByText way (take n items)
-first-by-text Serial n items by_text = tt
-first-by-text (Schedule seed) n items by_text = front IsAlone n items by_text
-first-by-text Threads n items by_text = front IsAlone n items by_text
-
--- so is a journal that is lawful by any way, where every item is done so
-pub lawful-serially : (way : Way) (trace : Trace) (journal : Journal) → AreByText way trace.items → IsLawful way trace journal → IsLawful Serial trace journal
-lawful-serially way trace journal by_text lawful = record {
-  frames = lawful.frames;
-  cpus = lawful.cpus;
-  tid = lawful.tid;
-  machine = lawful.machine;
-  coherent = lawful.coherent;
-  within = lawful.within;
-  run = items-serially way (machine_of trace) trace (take (length journal.items) trace.items) journal.items lawful.machine (first-by-text way (length journal.items) trace.items by_text) lawful.run;
-  total = lawful.total;
-}

@@ -28,6 +28,7 @@ use Rattle.slub_round_law.specs.Round.{Fits, IsRound}
 use Rattle.slub_round_law.proofs.Times.{events_given}
 use Rattle.slub_by_text.specs.Heap.{DoesRoundOf, HeapState}
 use Rattle.slub_by_text.proofs.Lawful.{text-lawful}
+use Rattle.slub_clients.proofs.Allowed.{none-differ}
 use Rattle.slub_clients.specs.Reserves.{AreSoundReserves}
 use Rattle.slub_clients.proofs.Wanted.{round-room}
 use Rattle.slub_ways.specs.declared.way.Way.{Way}
@@ -47,12 +48,8 @@ differ-of x (y ∷ ys) none =
     let split = times-cons x y ys in
     (grind (arith, nat_tests, split, none), differ-of x ys (omega (arith, split, none)))
 
-none-distinct : IsDistinct nat_eq []
-unfolding IsDistinct
-none-distinct = tt
-
 pub distinct-of : (xs : List ℕ) → ((x : ℕ) → times x xs ≤ 1) → IsDistinct nat_eq xs
-distinct-of [] once = none-distinct
+distinct-of [] once = none-differ
 distinct-of (x ∷ xs) once =
     IsDistinct-cons nat_eq x xs (differ-of x xs (let none : times x xs ≡ 0 = omega (arith, once x, times-cons_same x x xs refl) in none))
     (distinct-of xs (λ y. omega (arith, once y, times-cons y x xs)))

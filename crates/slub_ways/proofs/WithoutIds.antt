@@ -1,16 +1,20 @@
 -- A client's line leaves ids where they stood. Where the first transaction id of a trace is 0 the machine has no ids, rounds in the order of the text are done on its lists alone, and no turns of them are spent.
-use Rattle.std.proofs.Common.{◌≡◌, ℕ, ◌==◌, if◌then◌else◌, true, false, is_some, List, [], ◌∷◌, length, take, refl, ◌∙◌, ap, subst, Option, Some, None, MatchOption, Result, slice_get, inl, inr}
+use Rattle.std.proofs.Common.{◌≡◌, ℕ, ◌==◌, if◌then◌else◌, true, false, is_some, List, [], ◌∷◌, length, take, refl, ◌∙◌, ap, subst, Option, Some, None, MatchOption, Result, Ok, slice_get, inl, inr}
 use Rattle.std.specs.List.{range_with_len}
 use Rattle.std.specs.Option.{option_map}
+use Rattle.slub_events.specs.declared.event.Act.{Act}
+use Rattle.slub_events.specs.declared.event.Act.TheVariants.{Alloc, Free}
 use Rattle.slub_events.specs.declared.event.Round.{Round}
 use Rattle.slub_answers.specs.declared.create.Created.{Created}
 use Rattle.slub_answers.specs.declared.create.CreateRefusal.{CreateRefusal}
 use Rattle.slub_lists.specs.State.{State}
 use Rattle.slub_trace_reader.specs.declared.trace.Client.{Client as Asked}
+use Rattle.slub_trace_reader.specs.declared.trace.Client.TheVariants as line
 use Rattle.slub_trace_reader.specs.declared.trace.Item.{Item}
 use Rattle.slub_trace_reader.specs.declared.trace.Item.TheVariants as item
 use Rattle.slub_trace_reader.specs.declared.trace.Trace.{Trace}
 use Rattle.slub_into_words.specs.Ids.{first_ids}
+use Rattle.slub_journal.specs.declared.client.CacheRefusal.{CacheRefusal}
 use Rattle.slub_journal.specs.declared.client.ClientDone.{ClientDone}
 use Rattle.slub_journal.specs.declared.client.ClientRound.{ClientRound}
 use Rattle.slub_journal.specs.declared.journal.Done.{Done}
@@ -20,14 +24,17 @@ use Rattle.slub_journal.specs.declared.journal.RoundResult.{RoundResult}
 use Rattle.slub_journal.specs.Asked.{round_of}
 use Rattle.slub_journal.specs.Lawful.{DoesRound}
 use Rattle.slub_ids.specs.Growth.{ids_after}
+use Rattle.slub_round_law.proofs.Steps.{match_either}
 use Rattle.slub_by_text.specs.ByText.{DoesByText, SpendsByText}
 use Rattle.slub_by_text.specs.Heap.{HeapState}
-use Rattle.slub_clients.specs.Asked.{SpendsLine, SpendsOne}
-use Rattle.slub_clients.specs.Kmalloc.{CreatesClasses, ids_made}
+use Rattle.slub_clients.specs.Asked.{DoesAsked, SpendsAsked}
+use Rattle.slub_clients.specs.BulkLines.{SpendsBulkLines, SpendsTaking, allocs_of}
+use Rattle.slub_clients.specs.Kmalloc.{CreatesClasses, SpendsClasses, SpendsOfClass, TakesOfClass, ids_made, place_of_class}
+use Rattle.slub_clients.specs.Reserves.{Reserve, SpendsKept, kept_in, reserve_at}
 use Rattle.slub_ways.specs.declared.way.Way.{Way}
 use Rattle.slub_ways.specs.declared.way.Way.TheVariants.{Serial, Schedule, Threads}
 use Rattle.slub_ways.specs.Ways.{AreLeft, DoesRoundBy, SpendsTurnsBy}
-use Rattle.slub_ways.specs.Runs.{Does, EndsSpent, IsLawful, ItemSpendsTurns, MachineState, RunsItems, Serves, heap_of, machine_of, opening_ids}
+use Rattle.slub_ways.specs.Runs.{Does, EndsSpent, IsLawful, ItemSpendsTurns, MachineState, RunsItems, Serves, SpendsLine, heap_of, machine_of, opening_ids}
 use Rattle.slub_ways.proofs.Made.{ClientEffect, IsSoundLine, MakesRounds, client_effect, made_caches, made_rounds}
 
 -- ---- before the first item
@@ -118,23 +125,58 @@ serial-without rounds s round spent = spent
 pub threads-without : HasNoTurns Threads
 threads-without rounds s round spent = spent.1
 
-one-unspent : (h : HeapState) → h.ids ≡ None → SpendsOne h → ⊥
-one-unspent h none spent = subst (λ (ids : Option (List ℕ)). SpendsByText h.lists ids (round_of spent.0 spent.1)) none spent.2
+asked-unspent : (h : HeapState) (cpu : ℕ) (acts : List Act) → h.ids ≡ None → SpendsAsked h cpu acts → ⊥
+asked-unspent h cpu acts none spent = subst (λ (ids : Option (List ℕ)). SpendsByText h.lists ids (round_of cpu acts)) none spent
 
-line-unspent : (h : HeapState) → h.ids ≡ None → SpendsLine h → ⊥
-line-unspent h none (inl spent) = one-unspent h none spent
-line-unspent h none (inr (round, result, mid, does, spent)) = one-unspent mid (text-without h.lists h.ids round result mid.lists mid.ids none does).1 spent
+asked-none : (h : HeapState) (cpu : ℕ) (acts : List Act) (round : ClientRound) (mid : HeapState) → h.ids ≡ None → DoesAsked h cpu acts round mid → mid.ids ≡ None
+asked-none h cpu acts round mid none asked = (text-without h.lists h.ids (round_of cpu acts) round.result mid.lists mid.ids none asked.does).1
 
-item-unspent : (way : Way) (m : MachineState) (it : Item) → HasNoTurns way → m.ids ≡ None → ItemSpendsTurns way m it → ⊥
-item-unspent way m (item.Round round) turns none spent = turns m.rounds m.lists round (subst (λ (ids : Option (List ℕ)). SpendsTurnsBy way m.rounds m.lists ids round) none spent)
-item-unspent way m (item.Client client) turns none spent = line-unspent (heap_of m) none spent
-item-unspent way m _ turns none spent = spent
+class-none : (h : HeapState) (trace : Trace) (cpu class object : ℕ) (rounds : List ClientRound) (told : Result ℕ CacheRefusal) (mid : HeapState) → h.ids ≡ None → TakesOfClass h trace cpu class object rounds told mid → mid.ids ≡ None
+class-none h trace cpu class object rounds told mid none takes =
+    match_either (place_of_class trace class) _ _ (mid.ids ≡ None) takes
+    (λ no same. ap (λ (h : HeapState). h.ids) same.2 ∙ none)
+    (λ place is taken. asked-none h cpu (Alloc place object ∷ []) taken.0 mid none taken.3)
 
-found-unspent : (way : Way) (m : MachineState) (found : Option Item) → HasNoTurns way → m.ids ≡ None → MatchOption found ⊥ (λ it. ItemSpendsTurns way m it) → ⊥
-found-unspent way m None turns none spent = spent
-found-unspent way m (Some it) turns none spent = item-unspent way m it turns none spent
+class-unspent : (h : HeapState) (trace : Trace) (cpu class object : ℕ) → h.ids ≡ None → SpendsOfClass h trace cpu class object → ⊥
+class-unspent h trace cpu class object none (place, is, spent) = asked-unspent h cpu (Alloc place object ∷ []) none spent
+
+classes-unspent : (h : HeapState) (trace : Trace) (client : Asked) → h.ids ≡ None → SpendsClasses h trace client → ⊥
+classes-unspent h trace (line.Kget cpu size object) none (class, is, spent) = class-unspent h trace cpu class object none spent
+classes-unspent h trace (line.Krealloc cpu object size fresh) none (held, here, (class, outgrows, inl spent)) = class-unspent h trace cpu class fresh none spent
+classes-unspent h trace (line.Krealloc cpu object size fresh) none (held, here, (class, outgrows, inr (address, first, mid, takes, spent))) =
+    asked-unspent mid cpu (Free object ∷ []) (class-none h trace cpu class fresh first (Ok address) mid none takes) spent
+classes-unspent h trace _ none spent = spent
+
+taking-unspent : (h : HeapState) (cpu place : ℕ) (numbers : List ℕ) → h.ids ≡ None → SpendsTaking h cpu place numbers → ⊥
+taking-unspent h cpu place numbers none (inl spent) = asked-unspent h cpu (allocs_of place numbers) none spent
+taking-unspent h cpu place numbers none (inr (first, mid, does, refused, (some, spent))) = asked-unspent mid cpu _ (asked-none h cpu (allocs_of place numbers) first mid none does) spent
+
+bulk-unspent : (h : HeapState) (client : Asked) → h.ids ≡ None → SpendsBulkLines h client → ⊥
+bulk-unspent h (line.Bulk cpu place first count) none spent = taking-unspent h cpu place (range_with_len first count) none spent
+bulk-unspent h (line.Bulkfree cpu first count) none (all, spent) = asked-unspent h cpu _ none spent
+bulk-unspent h _ none spent = spent
+
+kept-unspent : (h : HeapState) (reserves : List Reserve) (client : Asked) → h.ids ≡ None → SpendsKept h reserves client → ⊥
+kept-unspent h reserves (line.Mempool pool place min first) none (free, room, spent) = taking-unspent h 0 place (range_with_len first min) none spent
+kept-unspent h reserves (line.Mget cpu pool object) none (at, is, spent) = asked-unspent h cpu (Alloc (reserve_at reserves at).cache object ∷ []) none spent
+kept-unspent h reserves (line.Mput cpu pool object) none (at, is, away, spent) = asked-unspent h cpu (Free object ∷ []) none spent
+kept-unspent h reserves _ none spent = spent
+
+line-unspent : (m : MachineState) (trace : Trace) (client : Asked) → m.ids ≡ None → SpendsLine m trace client → ⊥
+line-unspent m trace client none (inl spent) = classes-unspent (heap_of m) trace client none spent
+line-unspent m trace client none (inr (inl spent)) = bulk-unspent (heap_of m) client none spent
+line-unspent m trace client none (inr (inr spent)) = kept-unspent (heap_of m) (kept_in m.lists m.reserves) client none spent
+
+item-unspent : (way : Way) (m : MachineState) (trace : Trace) (it : Item) → HasNoTurns way → m.ids ≡ None → ItemSpendsTurns way m trace it → ⊥
+item-unspent way m trace (item.Round round) turns none spent = turns m.rounds m.lists round (subst (λ (ids : Option (List ℕ)). SpendsTurnsBy way m.rounds m.lists ids round) none spent)
+item-unspent way m trace (item.Client client) turns none spent = line-unspent m trace client none spent
+item-unspent way m trace _ turns none spent = spent
+
+found-unspent : (way : Way) (m : MachineState) (trace : Trace) (found : Option Item) → HasNoTurns way → m.ids ≡ None → MatchOption found ⊥ (λ it. ItemSpendsTurns way m trace it) → ⊥
+found-unspent way m trace None turns none spent = spent
+found-unspent way m trace (Some it) turns none spent = item-unspent way m trace it turns none spent
 
 -- so no journal ends by turns that are spent
 pub never-spent : (way : Way) (trace : Trace) (journal : Journal) → trace.tid ≡ 0 → HasNoTurns way → EndsSpent way trace journal → ⊥
 never-spent way trace journal bare turns ends =
-    found-unspent way ends.0.machine (slice_get trace.items (length journal.items)) turns (lawful-without way trace journal bare ends.0) ends.1
+    found-unspent way ends.0.machine trace (slice_get trace.items (length journal.items)) turns (lawful-without way trace journal bare ends.0) ends.1

@@ -1,5 +1,5 @@
 -- Runs of items: the machine, what each item does to it by a way, and which journals are lawful.
-use Rattle.std.specs.Prelude.{◌≡◌, ◌≢◌, ℕ, ◌+◌, ◌^◌, ◌≤◌, ◌⊎◌, ◌==◌, if◌then◌else◌, List, [], ◌∷◌, length, take, Option, Some, None, MatchOption, ⊤, All, slice_get, slice_index}
+use Rattle.std.specs.Prelude.{◌≡◌, ◌≢◌, ℕ, ◌+◌, ◌^◌, ◌≤◌, ◌⊎◌, ◌==◌, if◌then◌else◌, List, [], ◌∷◌, length, take, Option, Some, None, MatchOption, ⊤, slice_get, slice_index}
 use Rattle.std.specs.Option.{option_map}
 use Rattle.slub_lists.specs.State.{State}
 use Rattle.slub_lists.specs.Coherent.{IsCoherent}
@@ -13,12 +13,10 @@ use Rattle.slub_journal.specs.declared.journal.Done.TheVariants as done
 use Rattle.slub_journal.specs.declared.journal.Journal.{Journal}
 use Rattle.slub_journal.specs.Lawful.{DoesPlain, IsReady, IsTotal, coming, opening_of}
 use Rattle.slub_by_text.specs.Heap.{HeapState}
-use Rattle.slub_clients.specs.Asked.{SpendsLine}
-use Rattle.slub_clients.specs.BulkLines.{ServesBulkLines}
-use Rattle.slub_clients.specs.Kmalloc.{ServesClasses}
-use Rattle.slub_clients.specs.Reserves.{AreReserves, AreSoundReserves, Reserve, ServesReserves}
+use Rattle.slub_clients.specs.BulkLines.{ServesBulkLines, SpendsBulkLines}
+use Rattle.slub_clients.specs.Kmalloc.{ServesClasses, SpendsClasses}
+use Rattle.slub_clients.specs.Reserves.{AreReserves, AreSoundReserves, Reserve, ServesReserves, SpendsReserves}
 use Rattle.slub_ways.specs.declared.way.Way.{Way}
-use Rattle.slub_ways.specs.declared.way.Way.TheVariants.{Serial, Schedule, Threads}
 use Rattle.slub_into_words.specs.Ids.{AreIds, first_ids}
 use Rattle.slub_ids.specs.Growth.{ids_after}
 use Rattle.slub_ways.specs.Ways.{DoesRoundBy, SpendsTurnsBy}
@@ -116,30 +114,28 @@ abbrev pub IsAlone : Item → Type 0
 IsAlone (item.Round round) = round.workers ≤ 1
 IsAlone _ = ⊤
 
--- every one of the items is done in the order of the text: by schedule and by threads, where no
--- round is of several workers
-abbrev pub AreByText : Way → List Item → Type 0
-AreByText Serial items = ⊤
-AreByText (Schedule seed) items = All IsAlone items
-AreByText Threads items = All IsAlone items
-
--- every item of the trace is done in the order of the text, on the lists alone
-abbrev pub IsByText : Way → Trace → Type 0
-IsByText way trace = (trace.tid ≡ 0) × AreByText way trace.items
-
 -- ---- turns that are spent
+
+-- a line spends the turns of a round of its own, as one of its request: of kmalloc's classes, of
+-- many objects at once, or of reserves
+abbrev pub SpendsLine : MachineState → Trace → Asked → Type 0
+SpendsLine m trace client =
+    SpendsClasses (heap_of m) trace client
+    ⊎ SpendsBulkLines (heap_of m) client
+    ⊎ SpendsReserves (heap_of m) m.reserves client
 
 -- the item is a round whose turns are all made, and a worker of it is unfinished; or a client's
 -- line that makes such a round
-abbrev pub ItemSpendsTurns : Way → MachineState → Item → Type 0
-ItemSpendsTurns way m (item.Round round) = SpendsTurnsBy way m.rounds m.lists m.ids round
-ItemSpendsTurns way m (item.Client client) = SpendsLine (heap_of m)
-ItemSpendsTurns way m _ = ⊥
+abbrev pub ItemSpendsTurns : Way → MachineState → Trace → Item → Type 0
+ItemSpendsTurns way m trace (item.Round round) =
+    SpendsTurnsBy way m.rounds m.lists m.ids round
+ItemSpendsTurns way m trace (item.Client client) = SpendsLine m trace client
+ItemSpendsTurns way m trace _ = ⊥
 
 -- so is the item of this number
 abbrev pub SpendsAt : Way → MachineState → Trace → ℕ → Type 0
 SpendsAt way m trace number =
-    MatchOption (slice_get trace.items number) ⊥ (λ item. ItemSpendsTurns way m item)
+    MatchOption (slice_get trace.items number) ⊥ (λ item. ItemSpendsTurns way m trace item)
 
 -- ---- the journal
 

@@ -6,9 +6,9 @@ use Rattle.slub_trace_reader.specs.Sound.{objects_of}
 use Rattle.slub_calls.specs.Laws.{MayDo}
 use Rattle.slub_journal.specs.Asked.{round_of}
 use Rattle.slub_engine.specs.Steps.{KeepsUnheld}
-use Rattle.slub_clients.specs.Asked.{DoesAsked, IsOpenTo, StaysOpen}
+use Rattle.slub_clients.specs.Asked.{DoesAsked, IsOpenTo, SpendsAsked, StaysOpen}
 use Rattle.slub_clients.specs.BulkLines.{allocs_of}
-use Rattle.slub_clients.specs.Stopped.{IsRoundStopped}
+use Rattle.slub_clients.specs.Stopped.{IsStoppedWhere}
 use Rattle.slub_clients.proofs.Allowed.{allocs-objects}
 use Rattle.slub_bulk.proofs.Boards.{allocs_may, may_take}
 use Rattle.slub_bulk.proofs.all.alloc_round.Goals as goal
@@ -47,4 +47,4 @@ returns-clause-unheld c =
 pub returns-clause-stopped : goal.returns-clause-stopped
 returns-clause-stopped c =
     let acts : c.as_slice.result.now ≡ allocs_of c.args.place c.args.numbers.now = c.as_slice.ensures.value ∙ c.in_ok-asked.ensures in
-    subst (λ (acts : List Act). IfErr c.client_round.result (IsRoundStopped c.args.heap (round_of c.args.cpu acts))) acts c.client_round.ensures.stopped
+    subst (λ (acts : List Act). IfErr c.client_round.result (IsStoppedWhere (SpendsAsked c.args.heap c.args.cpu acts))) acts c.client_round.ensures.stopped

@@ -1,8 +1,11 @@
-use Rattle.std.proofs.Common.{◌≡◌, [], ◌∷◌, ◌++◌, List, sym, ◌∙◌, ap}
-use Rattle.std.proofs.lemmas.Result.{err_from_is_err_and}
+use Rattle.std.proofs.Common.{rules, IfErr, ◌≡◌, [], ◌∷◌, ◌++◌, List, sym, ◌∙◌, ap}
 use Rattle.slub_journal.specs.declared.client.ClientRound.{ClientRound}
+use Rattle.slub_journal.specs.Asked.{frees_of}
+use Rattle.slub_clients.specs.Asked.{SpendsAsked}
+use Rattle.slub_clients.specs.Stopped.{IsStoppedWhere}
 use Rattle.slub_clients.proofs.Staying.{stays-same}
-use Rattle.slub_bulk.proofs.Boards.{again_made, none_made}
+use Rattle.slub_clients.proofs.Stopping.{none-stopped, whole-stopped}
+use Rattle.slub_bulk.proofs.Boards.{again_made, none_made, some_there}
 use Rattle.slub_bulk.proofs.all.free_again.Goals as goal
 
 pub returns-then-is_empty-clause-freed : goal.returns-then-is_empty-clause-freed
@@ -20,4 +23,9 @@ returns-clause-freed c =
     again_made c.args.heap c.args.cpu c.args.numbers.now c.args.first c.in_ok-after.second c.push-2.new.self.items c.in_ok-after.after (sym c.is_empty.ensures ∙ c.if-is_empty.false) c.in_ok-after.ensures.done items
 
 pub returns-in_err-push-2-clause-stopped : goal.returns-in_err-push-2-clause-stopped
-returns-in_err-push-2-clause-stopped c = let p = err_from_is_err_and c.from_residual-in_err-push-2.result c.from_residual-in_err-push-2.ensures.1 in rw (p.1, p.2) tt
+returns-in_err-push-2-clause-stopped c = none-stopped _ c.from_residual-in_err-push-2.result c.from_residual-in_err-push-2.ensures.1
+
+pub returns-in_err-after-clause-stopped : goal.returns-in_err-after-clause-stopped
+returns-in_err-after-clause-stopped c =
+    let part : IfErr c.from_residual-in_err-after.result (IsStoppedWhere (SpendsAsked c.args.heap c.args.cpu (frees_of c.args.numbers.now))) = search rules in
+    whole-stopped _ _ (λ spent. (some_there c.args.numbers.now (sym c.is_empty.ensures ∙ c.if-is_empty.false), spent)) c.from_residual-in_err-after.result part

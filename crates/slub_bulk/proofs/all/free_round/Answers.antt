@@ -1,5 +1,6 @@
 use Rattle.std.proofs.Common.{◌≡◌, ℕ, List, length, sym, ◌∙◌, ap, subst, arith}
 use Rattle.std.specs.Prelude.{IfErr, IfOk}
+use Rattle.std.proofs.lemmas.Result.{IfOk-weaker}
 use Rattle.slub_events.specs.declared.event.Act.{Act}
 use Rattle.slub_trace_reader.specs.declared.trace.Trace.{Trace}
 use Rattle.slub_trace_reader.specs.Sound.{objects_of}
@@ -7,10 +8,10 @@ use Rattle.slub_calls.specs.Laws.{MayDo}
 use Rattle.slub_journal.specs.Asked.{frees_of, round_of}
 use Rattle.slub_round_law.specs.Round.{IsRound}
 use Rattle.slub_engine.specs.Steps.{KeepsUnheld}
-use Rattle.slub_clients.specs.Asked.{DoesAsked, IsOpenTo, StaysOpen}
-use Rattle.slub_clients.specs.Stopped.{IsRoundStopped}
+use Rattle.slub_clients.specs.Asked.{DoesAsked, IsOpenTo, SpendsAsked, StaysOpen}
+use Rattle.slub_clients.specs.Stopped.{IsStoppedWhere}
 use Rattle.slub_clients.proofs.Allowed.{frees-may, frees-objects}
-use Rattle.slub_bulk.proofs.Boards.{if_ok, replies_even}
+use Rattle.slub_bulk.proofs.Boards.{replies_even}
 use Rattle.slub_bulk.proofs.all.free_round.Goals as goal
 
 pub client_round-requires-clause-asks : goal.client_round-requires-clause-asks
@@ -35,7 +36,7 @@ returns-clause-done c =
 pub returns-clause-replies : goal.returns-clause-replies
 returns-clause-replies c =
     let acts : c.as_slice.result.now ≡ frees_of c.args.numbers.now = c.as_slice.ensures.value ∙ c.in_ok-acts.ensures in
-    if_ok _ _ c.client_round.result
+    IfOk-weaker c.client_round.result _ _
     (λ done is. replies_even c.args.heap.lists c.args.cpu c.args.numbers.now done.1.result done.0.lists (subst (λ (acts : List Act). IsRound c.args.heap.lists (round_of c.args.cpu acts) done.1.result done.0.lists) acts is)) c.client_round.ensures.lawful
 
 pub returns-clause-stays : goal.returns-clause-stays
@@ -53,4 +54,4 @@ returns-clause-unheld c =
 pub returns-clause-stopped : goal.returns-clause-stopped
 returns-clause-stopped c =
     let acts : c.as_slice.result.now ≡ frees_of c.args.numbers.now = c.as_slice.ensures.value ∙ c.in_ok-acts.ensures in
-    subst (λ (acts : List Act). IfErr c.client_round.result (IsRoundStopped c.args.heap (round_of c.args.cpu acts))) acts c.client_round.ensures.stopped
+    subst (λ (acts : List Act). IfErr c.client_round.result (IsStoppedWhere (SpendsAsked c.args.heap c.args.cpu acts))) acts c.client_round.ensures.stopped

@@ -1,13 +1,17 @@
-use Rattle.std.proofs.Common.{◌≡◌, ℕ, ◌≤◌, ◌^◌, List, length, sym, ◌∙◌, ap, subst, All, arith}
-use Rattle.std.proofs.lemmas.Result.{err_from_is_err_and}
+use Rattle.std.proofs.Common.{rules, IfErr, IsSome, Option, ◌≡◌, ℕ, ◌≤◌, ◌^◌, List, length, refl, sym, ◌∙◌, ap, subst, All, inl, inr, arith}
 use Rattle.slub_answers.specs.declared.reply.Reply.{Reply}
 use Rattle.slub_answers.specs.Kinds.{is_given}
+use Rattle.slub_journal.specs.declared.client.CacheRefusal.{CacheRefusal}
 use Rattle.slub_journal.specs.Asked.{first_refusal}
-use Rattle.slub_clients.specs.BulkLines.{FreesAgain, replied}
+use Rattle.slub_clients.specs.Asked.{SpendsAsked}
+use Rattle.slub_clients.specs.BulkLines.{FreesAgain, SpendsAgain, allocs_of, replied}
 use Rattle.slub_clients.specs.Laws.{IsNumber}
-use Rattle.slub_clients.proofs.Staying.{stays-now, stays-then}
+use Rattle.slub_clients.specs.Stopped.{IsStoppedWhere}
+use Rattle.slub_clients.proofs.Chosen.{replied_all}
+use Rattle.slub_clients.proofs.Staying.{stays-now, stays-then, unheld_after}
+use Rattle.slub_clients.proofs.Stopping.{none-stopped, whole-stopped}
 use Rattle.slub_bulk.proofs.Boards.{few_given, may_take}
-use Rattle.slub_bulk.proofs.Bulking.{numbers_kept, replied_all, unheld_after}
+use Rattle.slub_bulk.proofs.Bulking.{numbers_kept}
 use Rattle.slub_bulk.proofs.all.take_all.Goals as goal
 
 pub free_again-requires-clause-asks : goal.free_again-requires-clause-asks
@@ -43,10 +47,24 @@ pub returns-clause-unheld : goal.returns-clause-unheld
 returns-clause-unheld c = unheld_after c.args.heap.lists c.in_ok-mid.mid.lists c.in_ok-after.after.lists c.args.numbers.now c.in_ok-mid.ensures.unheld c.in_ok-after.ensures.unheld
 
 pub returns-in_err-push-clause-stopped : goal.returns-in_err-push-clause-stopped
-returns-in_err-push-clause-stopped c = let p = err_from_is_err_and c.from_residual-in_err-push.result c.from_residual-in_err-push.ensures.1 in rw (p.1, p.2) tt
+returns-in_err-push-clause-stopped c = none-stopped _ c.from_residual-in_err-push.result c.from_residual-in_err-push.ensures.1
 
 pub returns-in_err-given-clause-stopped : goal.returns-in_err-given-clause-stopped
-returns-in_err-given-clause-stopped c = let p = err_from_is_err_and c.from_residual-in_err-given.result c.from_residual-in_err-given.ensures.1 in rw (p.1, p.2) tt
+returns-in_err-given-clause-stopped c = none-stopped _ c.from_residual-in_err-given.result c.from_residual-in_err-given.ensures.1
+
+pub returns-in_err-mid-clause-stopped : goal.returns-in_err-mid-clause-stopped
+returns-in_err-mid-clause-stopped c =
+    let part : IfErr c.from_residual.result (IsStoppedWhere (SpendsAsked c.args.heap c.args.cpu (allocs_of c.args.place c.args.numbers.now))) = search rules in
+    whole-stopped _ _ inl c.from_residual.result part
+
+pub returns-in_err-after-clause-stopped : goal.returns-in_err-after-clause-stopped
+returns-in_err-after-clause-stopped c =
+    let replies = c.as_slice-replies.ensures in
+    let first = c.in_ok-mid.first in
+    let given : c.as_slice.result.now ≡ replied is_given c.args.numbers.now first.result.replies = c.as_slice.ensures.value ∙ c.in_ok-given.ensures ∙ ap (λ (l : List Reply). replied is_given c.args.numbers.now l) replies in
+    let refused : IsSome (first_refusal first.result.replies) = subst (λ (found : Option CacheRefusal). IsSome found) (c.in-Some.ensures ∙ ap first_refusal replies) refl in
+    let part : IfErr c.from_residual-in_err-after.result (IsStoppedWhere (SpendsAgain c.in_ok-mid.mid c.args.cpu c.as_slice.result.now)) = search rules in
+    whole-stopped _ _ (λ spent. inr (first, c.in_ok-mid.mid, c.in_ok-mid.ensures.done, refused, subst (SpendsAgain c.in_ok-mid.mid c.args.cpu) given spent)) c.from_residual-in_err-after.result part
 
 pub returns-clause-taken : goal.returns-clause-taken
 returns-clause-taken c =

@@ -1,8 +1,8 @@
 use Rattle.std.proofs.Common.{[], ◌∷◌, All, arith}
 use Rattle.std.proofs.lemmas.List.Elements.{All-cons, All-nil}
-use Rattle.std.proofs.lemmas.Result.{err_from_is_err_and}
 use Rattle.slub_clients.specs.Laws.{IsNumber}
 use Rattle.slub_clients.proofs.Allowed.{frees-may}
+use Rattle.slub_clients.proofs.Stopping.{none-stopped}
 use Rattle.slub_kmalloc.proofs.serve.free_other.Goals as goal
 
 pub client_round-requires-clause-asks : goal.client_round-requires-clause-asks
@@ -17,4 +17,4 @@ pub returns-clause-stays : goal.returns-clause-stays
 returns-clause-stays c = c.in_ok-after.ensures.stays c.args.trace.now
 
 pub returns-in_err-push-clause-stopped : goal.returns-in_err-push-clause-stopped
-returns-in_err-push-clause-stopped c = let p = err_from_is_err_and c.from_residual-in_err-push.result c.from_residual-in_err-push.ensures.1 in rw (p.1, p.2) tt
+returns-in_err-push-clause-stopped c = none-stopped _ c.from_residual-in_err-push.result c.from_residual-in_err-push.ensures.1

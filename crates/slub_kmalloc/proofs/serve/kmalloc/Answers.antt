@@ -5,7 +5,7 @@ use Rattle.slub_answers.specs.declared.create.CreateRefusal.{CreateRefusal}
 use Rattle.slub_journal.specs.declared.client.ClientAnswer.TheVariants as answer
 use Rattle.slub_clients.specs.Kmalloc.{CreatesClasses}
 use Rattle.slub_clients.proofs.Staying.{stays-now, stays-same, stays-then}
-use Rattle.slub_kmalloc.proofs.Serving.{creates_more, none-stopped, range_more}
+use Rattle.slub_kmalloc.proofs.Serving.{creates_more, range_more}
 use Rattle.slub_kmalloc.proofs.serve.kmalloc.Goals as goal
 
 pub loop-class-init : goal.loop-class-init
@@ -34,6 +34,3 @@ returns-clause-served c =
     let made = subst (λ (n : ℕ). CreatesClasses c.args.heap c.args.trace.now (range_with_len 0 n) c.loop-class.answers.items c.loop-class.now) all c.loop-class.invariant.made in
     let told = c.at_once.ensures.answer ∙ ap (λ (made : List (Result Created CreateRefusal)). answer.Created made) c.from_vec.ensures in
     (c.loop-class.answers.items, c.at_once.ensures.rounds, told, made)
-
-pub returns-in_err-push-clause-stopped : goal.returns-in_err-push-clause-stopped
-returns-in_err-push-clause-stopped c = none-stopped c.args.heap c.from_residual-in_err-push.result c.from_residual-in_err-push.ensures.1

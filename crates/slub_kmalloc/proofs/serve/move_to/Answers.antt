@@ -1,7 +1,9 @@
-use Rattle.std.proofs.Common.{[], ◌∷◌, refl, Err, Ok}
-use Rattle.slub_events.specs.declared.event.Act.TheVariants.{Free}
-use Rattle.slub_clients.proofs.Staying.{stays-now, stays-then}
-use Rattle.slub_kmalloc.proofs.Serving.{if_err, if_ok, move-stopped, unheld_after}
+use Rattle.std.proofs.Common.{rules, IfErr, [], ◌∷◌, refl, Err, Ok, inl, inr}
+use Rattle.std.proofs.lemmas.Result.{IfOk-weaker}
+use Rattle.slub_clients.specs.Kmalloc.{SpendsOfClass}
+use Rattle.slub_clients.specs.Stopped.{IsStoppedWhere}
+use Rattle.slub_clients.proofs.Staying.{stays-now, stays-then, unheld_after}
+use Rattle.slub_clients.proofs.Stopping.{whole-stopped}
 use Rattle.slub_kmalloc.proofs.serve.move_to.Goals as goal
 
 pub free_other-requires-clause-asks : goal.free_other-requires-clause-asks
@@ -10,20 +12,24 @@ free_other-requires-clause-asks c = stays-now c.args.heap c.args.trace.now 1 c.i
 pub returns-in-Ok-clause-served : goal.returns-in-Ok-clause-served
 returns-in-Ok-clause-served c =
     let takes = rw c.in-Ok.is at c.in_ok-mid.ensures.takes in
-    if_ok _ _ c.free_other.result (λ done moved. (Ok c.in-Ok.address, c.take_of_class.new.rounds.items, c.in_ok-mid.mid, takes, moved)) c.free_other.ensures.moved
+    IfOk-weaker c.free_other.result _ _ (λ done moved. (Ok c.in-Ok.address, c.take_of_class.new.rounds.items, c.in_ok-mid.mid, takes, moved)) c.free_other.ensures.moved
 
 pub returns-in-Ok-clause-stays : goal.returns-in-Ok-clause-stays
-returns-in-Ok-clause-stays c = if_ok _ _ c.free_other.result (λ done stays. stays-then c.args.heap c.in_ok-mid.mid done.0 c.args.trace.now 1 c.in_ok-mid.ensures.stays stays) c.free_other.ensures.stays
+returns-in-Ok-clause-stays c = IfOk-weaker c.free_other.result _ _ (λ done stays. stays-then c.args.heap c.in_ok-mid.mid done.0 c.args.trace.now 1 c.in_ok-mid.ensures.stays stays) c.free_other.ensures.stays
 
 pub returns-in-Ok-clause-unheld : goal.returns-in-Ok-clause-unheld
 returns-in-Ok-clause-unheld c =
-    if_ok _ _ c.free_other.result (λ done unheld. unheld_after c.args.heap.lists c.in_ok-mid.mid.lists done.0.lists (c.args.asked.fresh ∷ []) c.in_ok-mid.ensures.unheld unheld) c.free_other.ensures.unheld
+    IfOk-weaker c.free_other.result _ _ (λ done unheld. unheld_after c.args.heap.lists c.in_ok-mid.mid.lists done.0.lists (c.args.asked.fresh ∷ []) c.in_ok-mid.ensures.unheld unheld) c.free_other.ensures.unheld
 
 pub returns-in-Ok-clause-stopped : goal.returns-in-Ok-clause-stopped
 returns-in-Ok-clause-stopped c =
     let takes = rw c.in-Ok.is at c.in_ok-mid.ensures.takes in
-    if_err _ _ c.free_other.result
-    (λ why stopped. move-stopped c.args.heap c.args.trace.now c.args.asked.cpu c.args.class c.args.asked.fresh c.take_of_class.new.rounds.items c.in-Ok.address c.in_ok-mid.mid takes (Free c.args.asked.object ∷ []) why stopped) c.free_other.ensures.stopped
+    whole-stopped _ _ (λ spent. inr (c.in-Ok.address, c.take_of_class.new.rounds.items, c.in_ok-mid.mid, takes, spent)) c.free_other.result c.free_other.ensures.stopped
+
+pub returns-in_err-mid-clause-stopped : goal.returns-in_err-mid-clause-stopped
+returns-in_err-mid-clause-stopped c =
+    let part : IfErr c.from_residual.result (IsStoppedWhere (SpendsOfClass c.args.heap c.args.trace.now c.args.asked.cpu c.args.class c.args.asked.fresh)) = search rules in
+    whole-stopped _ _ inl c.from_residual.result part
 
 pub returns-in-Err-clause-served : goal.returns-in-Err-clause-served
 returns-in-Err-clause-served c =

@@ -2,7 +2,7 @@ use Rattle.std.proofs.Common.{◌≡◌, ℕ, List, [], ◌∷◌, length, refl,
 use Rattle.slub_trace_reader.specs.Sound.{asked_objects}
 use Rattle.slub_journal.specs.Lawful.{IsUnheld}
 use Rattle.slub_clients.specs.Asked.{IsOpenTo}
-use Rattle.slub_kmalloc.proofs.Serving.{board_keeps, if_ok}
+use Rattle.slub_clients.proofs.Staying.{board_keeps}
 use Rattle.slub_kmalloc.proofs.serve.serve.Goals as goal
 
 pub kget-requires-clause-asks : goal.kget-requires-clause-asks
@@ -42,8 +42,15 @@ returns-in-Krealloc-clause-stays c = rw c.in-Krealloc.is c.krealloc.ensures.stay
 pub returns-in-Krealloc-clause-unheld : goal.returns-in-Krealloc-clause-unheld
 returns-in-Krealloc-clause-unheld c = rw c.in-Krealloc.is c.krealloc.ensures.unheld
 
-pub returns-in-Kmalloc-clause-stays : goal.returns-in-Kmalloc-clause-stays
-returns-in-Kmalloc-clause-stays c = rw c.in-Kmalloc.is c.kmalloc.ensures.stays
+pub returns-in_ok-kmalloc-in-Kmalloc-clause-stays : goal.returns-in_ok-kmalloc-in-Kmalloc-clause-stays
+returns-in_ok-kmalloc-in-Kmalloc-clause-stays c = rw c.in-Kmalloc.is c.in_ok-kmalloc-in-Kmalloc.ensures.stays
 
-pub returns-in-Kmalloc-clause-unheld : goal.returns-in-Kmalloc-clause-unheld
-returns-in-Kmalloc-clause-unheld c = if_ok _ _ c.kmalloc.result (λ done board. board_keeps c.args.heap.lists done.0.lists (asked_objects c.args.client.now) board) c.kmalloc.ensures.board
+pub returns-in_ok-kmalloc-in-Kmalloc-clause-unheld : goal.returns-in_ok-kmalloc-in-Kmalloc-clause-unheld
+returns-in_ok-kmalloc-in-Kmalloc-clause-unheld c =
+    board_keeps c.args.heap.lists c.in_ok-kmalloc-in-Kmalloc.field-0.0.lists (asked_objects c.args.client.now) c.in_ok-kmalloc-in-Kmalloc.ensures.board
+
+pub returns-in-Kget-clause-stopped : goal.returns-in-Kget-clause-stopped
+returns-in-Kget-clause-stopped c = rw c.in-Kget.is c.kget.ensures.stopped
+
+pub returns-in-Krealloc-clause-stopped : goal.returns-in-Krealloc-clause-stopped
+returns-in-Krealloc-clause-stopped c = rw c.in-Krealloc.is c.krealloc.ensures.stopped

@@ -1,14 +1,15 @@
-use Rattle.std.proofs.Common.{rules, IfErr, ◌≡◌, [], ◌∷◌, refl, ◌∙◌, subst, MatchOption, slice_get, List, All, length, arith}
+use Rattle.std.proofs.Common.{rules, IfErr, ◌≡◌, [], ◌∷◌, refl, sym, ◌∙◌, subst, MatchOption, slice_get, List, All, arith}
 use Rattle.std.proofs.lemmas.List.Elements.{All-cons, All-nil}
 use Rattle.slub_answers.specs.declared.reply.Reply.{Reply}
 use Rattle.slub_events.specs.declared.event.Act.TheVariants.{Alloc}
-use Rattle.slub_journal.specs.Asked.{Tells, round_of}
+use Rattle.slub_journal.specs.Asked.{Tells}
 use Rattle.slub_journal.specs.Lawful.{IsUnheld}
 use Rattle.slub_clients.specs.Laws.{IsNumber}
 use Rattle.slub_clients.proofs.Allowed.{allocations-may, one-differs}
-use Rattle.slub_clients.proofs.Stopping.{first-stopped}
-use Rattle.slub_clients.specs.Stopped.{IsRoundStopped}
-use Rattle.slub_kmalloc.proofs.Serving.{if_err, none-stopped, one_reply}
+use Rattle.slub_clients.specs.Asked.{SpendsAsked}
+use Rattle.slub_clients.specs.Stopped.{IsStoppedWhere}
+use Rattle.slub_clients.proofs.Replies.{one_reply}
+use Rattle.slub_clients.proofs.Stopping.{none-stopped, whole-stopped}
 use Rattle.slub_kmalloc.proofs.serve.take_of_class.Goals as goal
 
 pub client_round-requires-clause-asks : goal.client_round-requires-clause-asks
@@ -23,8 +24,7 @@ client_round-requires-clause-may_do c =
 pub returns-clause-takes : goal.returns-clause-takes
 returns-clause-takes c =
     let round = c.in_ok-after.round in
-    let many : length round.result.replies ≡ 1 = c.in_ok-after.ensures.lawful.replies in
-    let one = one_reply round.result.replies many in
+    let one = one_reply c.args.heap.lists c.args.cpu _ round.result c.in_ok-after.after.lists c.in_ok-after.ensures.lawful in
     let items : c.push.new.self.items ≡ round ∷ [] = c.in_ok-push.ensures.items ∙ rw c.requires.empty refl in
     let tells : Tells one.0 c.in_ok-told.told = subst (λ (replies : List Reply). MatchOption (slice_get replies 0) ⊥ (λ reply. Tells reply c.in_ok-told.told)) one.1 c.in_ok-told.ensures in
     rw (← c.in-Some.ensures.place) (round, one.0, items, c.in_ok-after.ensures.done, one.1, tells)
@@ -33,12 +33,12 @@ pub returns-clause-stays : goal.returns-clause-stays
 returns-clause-stays c = c.in_ok-after.ensures.stays c.args.trace.now
 
 pub returns-in_err-told-clause-stopped : goal.returns-in_err-told-clause-stopped
-returns-in_err-told-clause-stopped c = none-stopped c.args.heap c.from_residual-in_err-told.result c.from_residual-in_err-told.ensures.1
+returns-in_err-told-clause-stopped c = none-stopped _ c.from_residual-in_err-told.result c.from_residual-in_err-told.ensures.1
 
 pub returns-in_err-push-clause-stopped : goal.returns-in_err-push-clause-stopped
-returns-in_err-push-clause-stopped c = none-stopped c.args.heap c.from_residual-in_err-push.result c.from_residual-in_err-push.ensures.1
+returns-in_err-push-clause-stopped c = none-stopped _ c.from_residual-in_err-push.result c.from_residual-in_err-push.ensures.1
 
 pub returns-in_err-after-clause-stopped : goal.returns-in_err-after-clause-stopped
 returns-in_err-after-clause-stopped c =
-    let round : IfErr c.from_residual.result (IsRoundStopped c.args.heap (round_of c.args.cpu (Alloc c.in-Some.cache c.args.object ∷ []))) = search rules in
-    if_err (IsRoundStopped c.args.heap (round_of c.args.cpu (Alloc c.in-Some.cache c.args.object ∷ []))) _ c.from_residual.result (λ why stopped. first-stopped c.args.heap c.args.cpu (Alloc c.in-Some.cache c.args.object ∷ []) why stopped) round
+    let round : IfErr c.from_residual.result (IsStoppedWhere (SpendsAsked c.args.heap c.args.cpu (Alloc c.in-Some.cache c.args.object ∷ []))) = search rules in
+    whole-stopped _ _ (λ spent. (c.in-Some.cache, sym c.in-Some.ensures.place, spent)) c.from_residual.result round

@@ -1,18 +1,14 @@
-use Rattle.std.proofs.Common.{rules, IfErr, ◌≡◌, [], ◌∷◌, ◌++◌, List, ◌∙◌, ap, subst, MatchOption, arith}
+use Rattle.std.proofs.Common.{◌≡◌, [], ◌∷◌, ◌++◌, List, ◌∙◌, ap, subst, MatchOption, arith}
 use Rattle.std.specs.Prelude.{slice_get}
 use Rattle.std.proofs.lemmas.List.Elements.{All-cons, All-nil}
-use Rattle.std.proofs.lemmas.Result.{err_from_is_err_and}
-use Rattle.slub_events.specs.declared.event.Act.TheVariants.{Free}
 use Rattle.slub_answers.specs.declared.reply.Reply.{Reply}
 use Rattle.slub_journal.specs.declared.client.ClientRound.{ClientRound}
-use Rattle.slub_journal.specs.Asked.{round_of}
 use Rattle.slub_clients.specs.Laws.{IsNumber}
-use Rattle.slub_clients.specs.Stopped.{IsRoundStopped}
 use Rattle.slub_clients.specs.Reserves.{TellsFree}
 use Rattle.slub_clients.proofs.Allowed.{frees-may}
-use Rattle.slub_bulk.proofs.Boards.{one_reply}
+use Rattle.slub_clients.proofs.Replies.{one_reply}
+use Rattle.slub_clients.proofs.Stopping.{none-stopped}
 use Rattle.slub_mempool.proofs.Freeing.{frees-held}
-use Rattle.slub_mempool.proofs.Halting.{line-stops}
 use Rattle.slub_mempool.proofs.reserves.put_back.Goals as goal
 
 pub client_round-requires-clause-asks : goal.client_round-requires-clause-asks
@@ -36,9 +32,4 @@ returns-clause-put c =
     (round, one.0, made.done, one.1, tells, items)
 
 pub returns-in_err-push-clause-stopped : goal.returns-in_err-push-clause-stopped
-returns-in_err-push-clause-stopped c = let p = err_from_is_err_and c.from_residual-in_err-push.result c.from_residual-in_err-push.ensures.1 in rw (p.1, p.2) tt
-
-pub returns-in_err-after-clause-stopped : goal.returns-in_err-after-clause-stopped
-returns-in_err-after-clause-stopped c =
-    let round : IfErr c.from_residual.result (IsRoundStopped c.args.heap (round_of c.args.cpu (Free c.args.object ∷ []))) = search rules in
-    line-stops c.args.heap c.args.cpu (Free c.args.object ∷ []) c.from_residual.result round
+returns-in_err-push-clause-stopped c = none-stopped _ c.from_residual-in_err-push.result c.from_residual-in_err-push.ensures.1

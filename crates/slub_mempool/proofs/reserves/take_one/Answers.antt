@@ -1,13 +1,11 @@
-use Rattle.std.proofs.Common.{rules, IfErr, ◌≡◌, [], ◌∷◌, ◌++◌, List, ◌∙◌, ap, subst, MatchOption}
+use Rattle.std.proofs.Common.{◌≡◌, [], ◌∷◌, ◌++◌, List, ◌∙◌, ap, subst, MatchOption}
 use Rattle.std.specs.Prelude.{slice_get}
-use Rattle.std.proofs.lemmas.Result.{err_from_is_err_and}
 use Rattle.slub_answers.specs.declared.reply.Reply.{Reply}
 use Rattle.slub_journal.specs.declared.client.ClientRound.{ClientRound}
-use Rattle.slub_events.specs.declared.event.Act.TheVariants.{Alloc}
-use Rattle.slub_journal.specs.Asked.{Tells, round_of}
-use Rattle.slub_clients.specs.Stopped.{IsRoundStopped}
-use Rattle.slub_bulk.proofs.Boards.{allocs_may, one_reply, one_take}
-use Rattle.slub_mempool.proofs.Halting.{line-stops}
+use Rattle.slub_journal.specs.Asked.{Tells}
+use Rattle.slub_clients.proofs.Replies.{one_reply}
+use Rattle.slub_clients.proofs.Stopping.{none-stopped}
+use Rattle.slub_bulk.proofs.Boards.{allocs_may, one_take}
 use Rattle.slub_mempool.proofs.reserves.take_one.Goals as goal
 
 pub client_round-requires-clause-asks : goal.client_round-requires-clause-asks
@@ -28,12 +26,7 @@ returns-clause-taken c =
     (round, one.0, made.done, one.1, tells, items)
 
 pub returns-in_err-told-clause-stopped : goal.returns-in_err-told-clause-stopped
-returns-in_err-told-clause-stopped c = let p = err_from_is_err_and c.from_residual-in_err-told.result c.from_residual-in_err-told.ensures.1 in rw (p.1, p.2) tt
+returns-in_err-told-clause-stopped c = none-stopped _ c.from_residual-in_err-told.result c.from_residual-in_err-told.ensures.1
 
 pub returns-in_err-push-clause-stopped : goal.returns-in_err-push-clause-stopped
-returns-in_err-push-clause-stopped c = let p = err_from_is_err_and c.from_residual-in_err-push.result c.from_residual-in_err-push.ensures.1 in rw (p.1, p.2) tt
-
-pub returns-in_err-after-clause-stopped : goal.returns-in_err-after-clause-stopped
-returns-in_err-after-clause-stopped c =
-    let round : IfErr c.from_residual.result (IsRoundStopped c.args.heap (round_of c.args.cpu (Alloc c.args.place c.args.object ∷ []))) = search rules in
-    line-stops c.args.heap c.args.cpu (Alloc c.args.place c.args.object ∷ []) c.from_residual.result round
+returns-in_err-push-clause-stopped c = none-stopped _ c.from_residual-in_err-push.result c.from_residual-in_err-push.ensures.1

@@ -2,8 +2,8 @@ use Rattle.std.proofs.Common.{◌≡◌, ◌+◌, get_or, length, subst}
 use Rattle.std.proofs.lemmas.Result.{err_from_is_err_and}
 use Rattle.slub_journal.specs.declared.journal.Done.TheVariants as done
 use Rattle.slub_journal.specs.Lawful.{coming}
-use Rattle.slub_clients.specs.Stopped.{IsLineStopped}
-use Rattle.slub_ways.specs.Runs.{heap_of}
+use Rattle.slub_clients.specs.Stopped.{IsStoppedWhere}
+use Rattle.slub_ways.specs.Runs.{SpendsLine}
 use Rattle.slub_ways.proofs.Runs.{does_client_at, does_plain_at, does_round_at}
 use Rattle.slub_items.proofs.Items.{line_at, plain_at, ready_client, ready_plain, ready_round, round_at, sound_heap, spent_client, stopped_round, wanting_client}
 use Rattle.slub_items.proofs.Standing.{fit_beside, leaves_at, plain_stands_at}
@@ -71,7 +71,7 @@ pub returns-in-Err-TurnsSpent-clause-stopped : goal.returns-in-Err-TurnsSpent-cl
 returns-in-Err-TurnsSpent-clause-stopped g c =
     let at : c.index-as_slice-number.result ≡ get_or c.args.trace.now.items c.args.number c.index-as_slice-number.result = rw (← c.as_slice.ensures) c.index-as_slice-number.is in
     spent_client c.args.way c.args.self c.args.trace.now c.args.number _ c.in-Client.client c.requires.within at c.in-Client.is
-    (subst (IsLineStopped (heap_of c.args.self)) c.in-Err-TurnsSpent.field-0-is c.in-Err-TurnsSpent.ensures.stopped)
+    (subst (IsStoppedWhere (SpendsLine c.args.self c.args.trace.now c.in-Client.client)) c.in-Err-TurnsSpent.field-0-is c.in-Err-TurnsSpent.ensures.stopped)
 
 -- ---- another item
 

@@ -3,8 +3,8 @@ use Rattle.std.proofs.lemmas.Result.{err_from_is_err_and}
 use Rattle.slub_trace_reader.specs.Sound.{asked_objects}
 use Rattle.slub_engine.specs.Steps.{KeepsUnheld}
 use Rattle.slub_clients.specs.Asked.{StaysOpen}
-use Rattle.slub_clients.specs.Stopped.{IsLineStopped}
-use Rattle.slub_ways.specs.Runs.{MachineState, Serves, heap_of}
+use Rattle.slub_clients.specs.Stopped.{IsStoppedWhere}
+use Rattle.slub_ways.specs.Runs.{MachineState, Serves, SpendsLine, heap_of}
 use Rattle.slub_items.specs.Parts.{machine_on}
 use Rattle.slub_items.proofs.machine.Machine.serve.Goals as goal
 
@@ -23,4 +23,4 @@ returns-clause-unheld c = subst (λ (m : MachineState). KeepsUnheld m.lists (ask
 pub returns-in_err-heap-clause-stopped : goal.returns-in_err-heap-clause-stopped
 returns-in_err-heap-clause-stopped c =
     let p = err_from_is_err_and c.from_residual.result c.from_residual.ensures.1 in
-    rw (p.1, p.2) (subst (λ (m : MachineState). IsLineStopped (heap_of m) c.in_err-heap.field-0.0) c.self.view_is c.in_err-heap.ensures.stopped)
+    rw (p.1, p.2) (subst (λ (m : MachineState). IsStoppedWhere (SpendsLine m c.args.trace.now c.args.client.now) c.in_err-heap.field-0.0) c.self.view_is (c.in_err-heap.ensures.stopped c.self.inside.rounds))

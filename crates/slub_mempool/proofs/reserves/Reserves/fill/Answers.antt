@@ -1,13 +1,14 @@
-use Rattle.std.proofs.Common.{List, ℕ, [], ◌∷◌, ◌++◌, length, sym, ◌∙◌, ap, subst, All, arith}
+use Rattle.std.proofs.Common.{rules, IfErr, List, ℕ, [], ◌∷◌, ◌++◌, length, sym, ◌∙◌, ap, subst, All, arith}
 use Rattle.std.specs.List.{IsDistinct, range_with_len}
 use Rattle.std.specs.Prelude.{nat_eq}
 use Rattle.std.proofs.lemmas.List.FromFn.{length-range_with_len}
 use Rattle.slub_journal.specs.declared.client.ClientRound.{ClientRound}
 use Rattle.slub_engine.specs.Steps.{KeepsUnheld}
 use Rattle.slub_clients.specs.Asked.{IsOpenTo, StaysOpen}
-use Rattle.slub_clients.specs.BulkLines.{TakesAll}
+use Rattle.slub_clients.specs.BulkLines.{SpendsTaking, TakesAll}
 use Rattle.slub_clients.specs.Laws.{IsNumber}
 use Rattle.slub_clients.specs.Reserves.{Makes, Reserve, fresh_reserve}
+use Rattle.slub_clients.specs.Stopped.{IsStoppedWhere}
 use Rattle.slub_bulk.proofs.Bulking.{range_differs, range_known}
 use Rattle.slub_mempool.proofs.Making.{made-all, made-none}
 use Rattle.slub_mempool.proofs.reserves.Reserves.fill.Goals as goal
@@ -60,3 +61,8 @@ returns-clause-filled c =
 
 pub returns-clause-unheld : goal.returns-clause-unheld
 returns-clause-unheld c = subst (λ (numbers : List ℕ). KeepsUnheld c.args.heap.lists numbers c.in_ok-after.after.lists) (c.as_slice.ensures.value ∙ c.in_ok-numbers.ensures) c.in_ok-after.ensures.unheld
+
+pub returns-in_err-after-clause-stopped : goal.returns-in_err-after-clause-stopped
+returns-in_err-after-clause-stopped c =
+    let part : IfErr c.from_residual-in_err-after.result (IsStoppedWhere (SpendsTaking c.args.heap 0 c.args.place c.as_slice.result.now)) = search rules in
+    subst (λ (numbers : List ℕ). IfErr c.from_residual-in_err-after.result (IsStoppedWhere (SpendsTaking c.args.heap 0 c.args.place numbers))) (c.as_slice.ensures.value ∙ c.in_ok-numbers.ensures) part

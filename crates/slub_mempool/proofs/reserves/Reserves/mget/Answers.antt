@@ -1,9 +1,13 @@
-use Rattle.std.proofs.Common.{List, ℕ, sym, ◌∙◌, ap, subst}
+use Rattle.std.proofs.Common.{rules, IfErr, List, [], ◌∷◌, ℕ, sym, ◌∙◌, ap, subst}
+use Rattle.slub_events.specs.declared.event.Act.TheVariants.{Alloc}
 use Rattle.slub_lists.specs.State.{State}
 use Rattle.slub_journal.specs.declared.client.ClientRound.{ClientRound}
 use Rattle.slub_by_text.specs.Heap.{HeapState}
+use Rattle.slub_clients.specs.Asked.{SpendsAsked}
 use Rattle.slub_clients.specs.Reserves.{Gets, TakesOne, reserve_at}
+use Rattle.slub_clients.specs.Stopped.{IsStoppedWhere}
 use Rattle.slub_clients.proofs.Staying.{stays-now}
+use Rattle.slub_clients.proofs.Stopping.{whole-stopped}
 use Rattle.slub_mempool.specs.Serving.{AreKnown}
 use Rattle.slub_mempool.proofs.Keeping.{known-after}
 use Rattle.slub_mempool.proofs.reserves.Reserves.mget.Goals as goal
@@ -22,3 +26,9 @@ returns-clause-served c =
     let takes = subst (λ (rounds : List ClientRound). TakesOne c.args.heap c.args.cpu (reserve_at c.args.self.now c.in-Some.at).cache c.args.object rounds c.in_ok-after.told after) (sym c.from_vec.ensures) asked in
     let gets = subst (λ (s : State). Gets s c.args.self.now c.in-Some.at c.in_ok-after.told c.get-answer.result c.get-answer.new.self) (ap (λ (h : HeapState). h.lists) c.after.view_is) c.get-answer.ensures in
     rw (← c.in-Some.ensures.place) (c.in_ok-after.told, takes, gets)
+
+pub returns-in_err-after-clause-stopped : goal.returns-in_err-after-clause-stopped
+returns-in_err-after-clause-stopped c =
+    let asks : ℕ → Type 0 = λ place. SpendsAsked c.args.heap c.args.cpu (Alloc place c.args.object ∷ []) in
+    let part : IfErr c.from_residual.result (IsStoppedWhere (SpendsAsked c.args.heap c.args.cpu (Alloc c.cache_at.result c.args.object ∷ []))) = search rules in
+    whole-stopped _ _ (λ spent. (c.in-Some.at, sym c.in-Some.ensures.place, subst asks c.cache_at.ensures spent)) c.from_residual.result part

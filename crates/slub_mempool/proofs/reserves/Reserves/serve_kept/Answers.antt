@@ -1,7 +1,7 @@
 use Rattle.std.proofs.Common.{◌≡◌, [], ◌∷◌, refl, subst, All, arith}
+use Rattle.std.proofs.lemmas.Result.{IfOk-weaker}
 use Rattle.slub_trace_reader.specs.Sound.{asked_objects}
 use Rattle.slub_journal.specs.Lawful.{IsUnheld}
-use Rattle.slub_bulk.proofs.Boards.{if_ok}
 use Rattle.slub_mempool.proofs.Keeping.{known-of, usable-of}
 use Rattle.slub_mempool.proofs.reserves.Reserves.serve_kept.Goals as goal
 
@@ -29,10 +29,19 @@ pub returns-in-Mget-clause-unheld : goal.returns-in-Mget-clause-unheld
 returns-in-Mget-clause-unheld c = rw c.in-Mget.is c.mget.ensures.unheld
 
 pub returns-in-Mempool-clause-stays : goal.returns-in-Mempool-clause-stays
-returns-in-Mempool-clause-stays c = rw c.in-Mempool.is (if_ok _ _ c.mempool.result (λ done stays. stays c.args.trace.now) c.mempool.ensures.stays)
+returns-in-Mempool-clause-stays c = rw c.in-Mempool.is (IfOk-weaker c.mempool.result _ _ (λ done stays. stays c.args.trace.now) c.mempool.ensures.stays)
 
 pub returns-in-Mget-clause-stays : goal.returns-in-Mget-clause-stays
-returns-in-Mget-clause-stays c = rw c.in-Mget.is (if_ok _ _ c.mget.result (λ done stays. stays c.args.trace.now) c.mget.ensures.stays)
+returns-in-Mget-clause-stays c = rw c.in-Mget.is (IfOk-weaker c.mget.result _ _ (λ done stays. stays c.args.trace.now) c.mget.ensures.stays)
 
 pub returns-in-Mput-clause-stays : goal.returns-in-Mput-clause-stays
-returns-in-Mput-clause-stays c = rw c.in-Mput.is (if_ok _ _ c.mput.result (λ done stays. stays c.args.trace.now) c.mput.ensures.stays)
+returns-in-Mput-clause-stays c = rw c.in-Mput.is (IfOk-weaker c.mput.result _ _ (λ done stays. stays c.args.trace.now) c.mput.ensures.stays)
+
+pub returns-in-Mempool-clause-stopped : goal.returns-in-Mempool-clause-stopped
+returns-in-Mempool-clause-stopped c = rw c.in-Mempool.is c.mempool.ensures.stopped
+
+pub returns-in-Mget-clause-stopped : goal.returns-in-Mget-clause-stopped
+returns-in-Mget-clause-stopped c = rw c.in-Mget.is c.mget.ensures.stopped
+
+pub returns-in-Mput-clause-stopped : goal.returns-in-Mput-clause-stopped
+returns-in-Mput-clause-stopped c = rw c.in-Mput.is c.mput.ensures.stopped

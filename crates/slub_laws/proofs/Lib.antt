@@ -10,6 +10,7 @@ pub mod Times
 pub mod Moved
 pub mod TrimmedLast
 pub mod Rounds
+pub mod PokedRounds
 pub mod Pokes
 mod Swept
 mod Flushed

@@ -1,4 +1,4 @@
--- Each damage of a journal that is lawful by the order of the text was poked.
+-- Each damage of a journal that is lawful by any way was poked.
 use Rattle.std.proofs.Common.{◌≡◌, ◌≢◌, ℕ, zero, suc, Bool, true, false, cond, eqb, List, [], ◌∷◌, ◌++◌, append_assoc, flat_map, length, take, get_or, set, refl, sym, ◌∙◌, ap, subst, arith, All, Option, Some, None, MatchOption, Result, Ok, Err, inl, inr, ◌⊎◌, unwrap_or, fold, is_some, append-nil, get_or-set_other, get_or-set_same}
 use Rattle.std.specs.List.{Contains, range_with_len}
 use Rattle.std.specs.Prelude.{slice_get}
@@ -56,7 +56,7 @@ use Rattle.slub_journal.specs.declared.client.ClientDone.{ClientDone}
 use Rattle.slub_journal.specs.declared.client.ClientRound.{ClientRound}
 use Rattle.slub_journal.specs.declared.journal.RoundResult.{RoundResult}
 use Rattle.slub_journal.specs.Lawful.{CreatesName, DoesPlain, opening_of}
-use Rattle.slub_by_text.specs.Heap.{DoesRoundOf, HeapState}
+use Rattle.slub_by_text.specs.Heap.{HeapState}
 use Rattle.slub_clients.specs.Kmalloc.{CreatesClasses}
 use Rattle.slub_round_law.specs.Answered.{Answered}
 use Rattle.slub_round_law.specs.Pokes.{WasGiven, WasPoked}
@@ -65,20 +65,19 @@ use Rattle.slub_round_law.proofs.Cleaning.{Clean, by_place, gone-clean}
 use Rattle.slub_round_law.proofs.Poked.{IsTold}
 use Rattle.slub_round_law.proofs.Runs.{gone_under}
 use Rattle.slub_round_law.proofs.Tale.{injected}
-use Rattle.slub_round_law.proofs.Telling.{round-told}
 use Rattle.slub_laws.specs.Freed.{answered_by, rounds_among, rounds_of}
 use Rattle.slub_laws.specs.Poked.{HasPokedDamages, RunsPoked}
-use Rattle.slub_ways.specs.declared.way.Way.TheVariants.{Serial}
+use Rattle.slub_ways.specs.declared.way.Way.{Way}
+use Rattle.slub_ways.specs.Ways.{DoesRoundBy}
 use Rattle.slub_ways.specs.Runs.{Does, IsLawful, MachineState, RunsItems, heap_of, machine_of}
-use Rattle.slub_ways.proofs.Asking.{IsAsked}
 use Rattle.slub_ways.proofs.Dry.{match_some}
 use Rattle.slub_ways.proofs.Made.{ClientEffect, IsSoundLine, MadeFor, MakesRounds, client_effect, made_caches, made_rounds, objects_asked}
 use Rattle.slub_ways.proofs.Numbers.{IsBrief, front, items-brief}
 use Rattle.slub_ways.proofs.Ready.{stands-first}
 use Rattle.slub_ways.proofs.Rests.{Rests, creates-rest, destroys-rest, rests-same, shrinks-rest, tunes-rest}
-use Rattle.slub_ways.proofs.Standing.{Stands, StandsBefore, line-sound, made-numbers, next-numbers, stands-fit, stands-next, stands-round}
-use Rattle.slub_ways.proofs.WithoutIds.{none-stays, opens-without, text-without}
+use Rattle.slub_ways.proofs.Standing.{Stands, StandsBefore, line-sound, made-numbers, next-numbers, stands-may, stands-next, stands-round}
 use Rattle.slub_laws.proofs.Moved.{rounds_done}
+use Rattle.slub_laws.proofs.PokedRounds.{text-told, way-told}
 
 module _ (told : List Answered) where
   -- ---- a machine with the same board, whose checked caches have fewer slabs
@@ -353,18 +352,18 @@ module _ (told : List Answered) where
 abbrev GoesOn : List Answered → List ClientRound → State → Type 0
 GoesOn told rounds after = RunsPoked told rounds × IsTold (told ++ flat_map answered_by rounds) after
 
-rounds-told : (told : List Answered) (sound : Type 0) (h : HeapState) (trace : Trace) (rounds : List ClientRound) (coming : List ℕ) (after : HeapState) → sound → h.ids ≡ None → Stands h.lists trace (flat_map objects_asked rounds ++ coming)
+rounds-told : (told : List Answered) (sound : Type 0) (h : HeapState) (trace : Trace) (rounds : List ClientRound) (coming : List ℕ) (after : HeapState) → sound → Stands h.lists trace (flat_map objects_asked rounds ++ coming)
     → MakesRounds trace sound h rounds after → IsTold told h.lists → GoesOn told rounds after.lists
-rounds-told told sound h trace [] coming after whole none stands same is_told =
+rounds-told told sound h trace [] coming after whole stands same is_told =
     (tt, subst (λ (l : List Answered). IsTold l after.lists) (sym (append-nil told)) (subst (λ (now : HeapState). IsTold told now.lists) (sym same) is_told))
-rounds-told told sound h trace (round ∷ rounds) coming after whole none stands makes is_told =
+rounds-told told sound h trace (round ∷ rounds) coming after whole stands makes is_told =
     let mid = makes.0 in
     let later = flat_map objects_asked rounds ++ coming in
     let now = next-numbers h.lists trace round rounds coming stands in
-    let listed = text-without h.lists h.ids round.asked round.result mid.lists mid.ids none makes.1.does in
-    let tells = round-told told h.lists round.asked round.result mid.lists now.coherent now.rest (stands-fit h.lists trace round.asked later now) listed.0 is_told in
-    let next = stands-round h trace round.asked later round.result mid now (makes.1.asks whole) makes.1.does in
-    let rest = rounds-told (told ++ answered_by round) sound mid trace rounds coming after whole listed.1 next makes.2 tells.then in
+    let asked = makes.1.asks whole in
+    let tells = text-told told h.lists trace round.asked round.result mid.lists now.coherent now.rest (stands-may h.lists trace round.asked later now asked.sound asked.few) is_told h.ids mid.ids makes.1.does in
+    let next = stands-round h trace round.asked later round.result mid now asked makes.1.does in
+    let rest = rounds-told (told ++ answered_by round) sound mid trace rounds coming after whole next makes.2 tells.then in
     ((record { reports = tells.damages; frees = tells.frees_told }, rest.0), subst (λ (l : List Answered). IsTold l after.lists) (append_assoc told (answered_by round) (flat_map answered_by rounds)) rest.1)
 
 -- more rounds, after these
@@ -382,18 +381,18 @@ quiet-told told rounds after none is_told = subst (λ (rounds : List ClientRound
 quiet : (told : List Answered) (s : State) (trace : Trace) (coming : List ℕ) (after : State) → Stands s trace coming → Rests s after → Fewer told s after → IsTold told s → GoesOn told [] after
 quiet told s trace coming after stands rests fewer is_told = quiet-told told [] after refl (told-fewer told s after rests stands.rest.forgotten fewer is_told)
 
-made-told : (told : List Answered) (sound : Type 0) (h : HeapState) (trace : Trace) (rounds : List ClientRound) (numbers coming : List ℕ) (after : HeapState) → sound → h.ids ≡ None → Stands h.lists trace (numbers ++ coming)
+made-told : (told : List Answered) (sound : Type 0) (h : HeapState) (trace : Trace) (rounds : List ClientRound) (numbers coming : List ℕ) (after : HeapState) → sound → Stands h.lists trace (numbers ++ coming)
     → MadeFor trace sound h rounds numbers after → IsTold told h.lists → GoesOn told rounds after.lists
-made-told told sound h trace rounds numbers coming after whole none stands made is_told =
-    rounds-told told sound h trace rounds coming after whole none (made-numbers h.lists trace rounds numbers coming made.objects stands) made.runs is_told
+made-told told sound h trace rounds numbers coming after whole stands made is_told =
+    rounds-told told sound h trace rounds coming after whole (made-numbers h.lists trace rounds numbers coming made.objects stands) made.runs is_told
 
--- a round is one that was made, each event of it by one of its workers
-round-made : (h : HeapState) (trace : Trace) (round : Round) (result : RoundResult) (after : HeapState) → IsSoundItem trace (item.Round round) → IsCoherent after.lists → DoesRoundOf h round result after
-    → MadeFor trace (IsAsked trace round) h (record { asked = round; result = result } ∷ []) (objects_of round.events) after
-round-made h trace round result after sound coherent does = record {
-  runs = (after, record { does = does; coherent = coherent; workers = λ k d within. (sound.events k d within).worker; asks = λ asked. asked }, refl);
-  objects = inl (append-nil (objects_of round.events));
-}
+-- a round is done by the way
+way-round : (told : List Answered) (way : Way) (m : MachineState) (trace : Trace) (round : Round) (result : RoundResult) (coming : List ℕ) (after : MachineState) → Stands m.lists trace (objects_of round.events ++ coming) → IsSoundItem trace (item.Round round)
+    → IsBrief (item.Round round) → DoesRoundBy way m.rounds m.lists m.ids round result after.lists after.ids → IsTold told m.lists → GoesOn told (record { asked = round; result = result } ∷ []) after.lists
+way-round told way m trace round result coming after stands sound brief does is_told =
+    let tells = way-told told m.lists trace round result after.lists stands.coherent stands.rest (stands-may m.lists trace round coming stands sound brief) is_told way m.rounds m.ids after.ids does in
+    let answers = answered_by (record { asked = round; result = result }) in
+    ((record { reports = tells.damages; frees = tells.frees_told }, tt), subst (λ (l : List Answered). IsTold (told ++ l) after.lists) (sym (append-nil answers)) tells.then)
 
 plain-told : (told : List Answered) (s : State) (trace : Trace) (it : Item) (dn : Done) (coming : List ℕ) (after : State) → Stands s trace (objects_in it ++ coming) → IsCoherent after → DoesPlain s trace it dn after → IsTold told s → GoesOn told (rounds_of it dn) after
 unfolding DoesPlain
@@ -409,33 +408,31 @@ plain-told told s trace (item.Tune place setting) (done.Tuned answer) coming aft
     quiet told s trace coming after stands (tunes-rest s _ setting answer after does) (tunes-fewer told s _ setting answer after does is_told) is_told
 plain-told told s trace _ _ coming after stands coherent does is_told = absurd does
 
-client-told : (told : List Answered) (sound : Type 0) (h : HeapState) (trace : Trace) (client : Asked) (outcome : ClientDone) (coming : List ℕ) (after : HeapState) → sound → h.ids ≡ None → Stands h.lists trace (asked_objects client ++ coming)
+client-told : (told : List Answered) (sound : Type 0) (h : HeapState) (trace : Trace) (client : Asked) (outcome : ClientDone) (coming : List ℕ) (after : HeapState) → sound → Stands h.lists trace (asked_objects client ++ coming)
     → ClientEffect trace sound h client outcome after → IsTold told h.lists → GoesOn told outcome.rounds after.lists
-client-told told sound h trace client outcome coming after whole bare stands (made_rounds rounds) is_told = made-told told sound h trace outcome.rounds (asked_objects client) coming after whole bare stands rounds is_told
-client-told told sound h trace client outcome coming after whole bare stands (made_caches answers none creates) is_told =
+client-told told sound h trace client outcome coming after whole stands (made_rounds rounds) is_told = made-told told sound h trace outcome.rounds (asked_objects client) coming after whole stands rounds is_told
+client-told told sound h trace client outcome coming after whole stands (made_caches answers none creates) is_told =
     quiet-told told outcome.rounds after.lists none (classes-told told h trace (range_with_len 0 13) answers after stands.rest.forgotten creates is_told)
 
-item-told : (told : List Answered) (m : MachineState) (trace : Trace) (it : Item) (dn : Done) (coming : List ℕ) (after : MachineState) → m.ids ≡ None → StandsBefore m trace (objects_in it ++ coming) → IsSoundItem trace it → IsBrief it → IsCoherent after.lists
-    → Does Serial m trace it dn after → IsTold told m.lists → GoesOn told (rounds_of it dn) after.lists
+item-told : (told : List Answered) (way : Way) (m : MachineState) (trace : Trace) (it : Item) (dn : Done) (coming : List ℕ) (after : MachineState) → StandsBefore m trace (objects_in it ++ coming) → IsSoundItem trace it → IsBrief it → IsCoherent after.lists
+    → Does way m trace it dn after → IsTold told m.lists → GoesOn told (rounds_of it dn) after.lists
 unfolding Does
-item-told told m trace (item.Round round) (done.Round result) coming after none stands sound brief coherent does is_told =
-    made-told told (IsAsked trace round) (heap_of m) trace (record { asked = round; result = result } ∷ []) (objects_of round.events) coming (heap_of after) (record { sound = sound; few = brief }) none stands.lists
-    (round-made (heap_of m) trace round result (heap_of after) sound coherent does.0) is_told
-item-told told m trace (item.Client client) (done.Client outcome) coming after none stands sound brief coherent does is_told =
-    client-told told (IsSoundLine trace m.reserves client) (heap_of m) trace client outcome coming (heap_of after) (line-sound m trace client (asked_objects client ++ coming) stands sound) none stands.lists
+item-told told way m trace (item.Round round) (done.Round result) coming after stands sound brief coherent does is_told = way-round told way m trace round result coming after stands.lists sound brief does.0 is_told
+item-told told way m trace (item.Client client) (done.Client outcome) coming after stands sound brief coherent does is_told =
+    client-told told (IsSoundLine trace m.reserves client) (heap_of m) trace client outcome coming (heap_of after) (line-sound m trace client (asked_objects client ++ coming) stands sound) stands.lists
     (client_effect m trace client outcome after does.0) is_told
-item-told told m trace it dn coming after none stands sound brief coherent does is_told = plain-told told m.lists trace it dn coming after.lists stands.lists coherent does.0 is_told
+item-told told way m trace it dn coming after stands sound brief coherent does is_told = plain-told told m.lists trace it dn coming after.lists stands.lists coherent does.0 is_told
 
-all-told : (told : List Answered) (m : MachineState) (trace : Trace) (items : List Item) (dones : List Done) (after : MachineState) → m.ids ≡ None → StandsBefore m trace (flat_map objects_in items) → All (IsSoundItem trace) items → All IsBrief items → RunsItems Serial m trace items dones after
+all-told : (told : List Answered) (way : Way) (m : MachineState) (trace : Trace) (items : List Item) (dones : List Done) (after : MachineState) → StandsBefore m trace (flat_map objects_in items) → All (IsSoundItem trace) items → All IsBrief items → RunsItems way m trace items dones after
     → IsTold told m.lists → RunsPoked told (rounds_among items dones)
-all-told told m trace [] [] after none stands sound brief run is_told = tt
-all-told told m trace [] (dn ∷ dones) after none stands sound brief run is_told = absurd run
-all-told told m trace (it ∷ items) [] after none stands sound brief run is_told = absurd run
-all-told told m trace (it ∷ items) (dn ∷ dones) after none stands sound brief run is_told =
+all-told told way m trace [] [] after stands sound brief run is_told = tt
+all-told told way m trace [] (dn ∷ dones) after stands sound brief run is_told = absurd run
+all-told told way m trace (it ∷ items) [] after stands sound brief run is_told = absurd run
+all-told told way m trace (it ∷ items) (dn ∷ dones) after stands sound brief run is_told =
     let here = All-head (IsSoundItem trace) it items sound in
-    let goes = item-told told m trace it dn (flat_map objects_in items) run.0 none stands here (All-head IsBrief it items brief) run.2 run.1 is_told in
-    let next = stands-next Serial m trace it dn (flat_map objects_in items) run.0 stands here (All-head IsBrief it items brief) run.2 run.1 in
-    poked-more told (rounds_of it dn) (rounds_among items dones) goes.0 (all-told (told ++ flat_map answered_by (rounds_of it dn)) run.0 trace items dones after (none-stays Serial m trace it dn run.0 none run.1) next (All-tail (IsSoundItem trace) it items sound) (All-tail IsBrief it items brief) run.3 goes.1)
+    let goes = item-told told way m trace it dn (flat_map objects_in items) run.0 stands here (All-head IsBrief it items brief) run.2 run.1 is_told in
+    let next = stands-next way m trace it dn (flat_map objects_in items) run.0 stands here (All-head IsBrief it items brief) run.2 run.1 in
+    poked-more told (rounds_of it dn) (rounds_among items dones) goes.0 (all-told (told ++ flat_map answered_by (rounds_of it dn)) way run.0 trace items dones after next (All-tail (IsSoundItem trace) it items sound) (All-tail IsBrief it items brief) run.3 goes.1)
 
 -- before the first item nothing is checked, and no number is known
 opened-told : (trace : Trace) → IsTold [] (opening_of trace)
@@ -444,9 +441,9 @@ opened-told trace = record {
   clean = λ cache slabs now. absurd (let never : None ≡ Some slabs = sym (get_or-replicate_any 32 cache None) ∙ now in cc);
 }
 
--- each damage of a trace whose first transaction id is 0 was poked
-pub poked-damages : (trace : Trace) (journal : Journal) → IsSound trace → trace.tid ≡ 0 → IsLawful Serial trace journal → HasPokedDamages trace journal
-poked-damages trace journal sound bare lawful =
+-- each damage was poked
+pub poked-damages : (way : Way) (trace : Trace) (journal : Journal) → IsSound trace → IsLawful way trace journal → HasPokedDamages trace journal
+poked-damages way trace journal sound lawful =
     let some = length journal.items in
-    let told = all-told [] (machine_of trace) trace (take some trace.items) journal.items lawful.machine (opens-without trace bare) (stands-first trace some sound lawful.coherent) (front (IsSoundItem trace) some trace.items sound.items) (front IsBrief some trace.items (items-brief trace sound)) lawful.run (opened-told trace) in
+    let told = all-told [] way (machine_of trace) trace (take some trace.items) journal.items lawful.machine (stands-first trace some sound lawful.coherent) (front (IsSoundItem trace) some trace.items sound.items) (front IsBrief some trace.items (items-brief trace sound)) lawful.run (opened-told trace) in
     subst (RunsPoked []) (rounds_done trace journal) told

@@ -11,7 +11,7 @@ ghost use Rattle.slub_journal.specs.declared.journal.RoundResult.{RoundResult as
 ghost use Rattle.slub_slabinfo_text.specs.Counts.{counts_of};
 ghost use Rattle.slub_trace_reader.specs.Sound.{IsSound};
 ghost use Rattle.slub_journal.specs.Lawful.{opening_of};
-ghost use Rattle.slub_ways.specs.Runs.{IsByText, IsLawful, IsReadyMachine, machine_of};
+ghost use Rattle.slub_ways.specs.Runs.{IsLawful, IsReadyMachine, machine_of};
 ghost use Rattle.slub_laws.specs.Freed.{freed_times, given_times};
 ghost use Rattle.slub_laws.specs.Trimmed.{EndsTrimmed};
 ghost use Rattle.slub_laws.specs.Poked.{HasPokedDamages};
@@ -42,11 +42,9 @@ pub fn rounds_of_a_journal_are_lawful(way: Way, trace: &Trace, journal: &Journal
 {}
 
 /// Each damage that a journal tells of, in a report or as a free's answer, is a byte that was poked there in the same
-/// round or an earlier one, with the answer that it was. Every item of the trace is one that the way does in the order of
-/// the text, on the lists alone: its first transaction id is 0.
+/// round or an earlier one, with the answer that it was: by any way, and of rounds of several workers too.
 pub fn damages_of_a_journal_were_poked(way: Way, trace: &Trace, journal: &Journal)
     requires sound { IsSound trace.now }
-    requires by_text { IsByText way trace.now }
     requires lawful { IsLawful way trace.now journal.now }
     ensures { HasPokedDamages trace.now journal.now }
 {}

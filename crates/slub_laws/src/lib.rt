@@ -7,11 +7,10 @@
 //!
 //! # What it promises
 //!
-//! Of every journal of a sound trace that is lawful by any way, the order of the text or drawn turns: no number
-//! is given or freed twice; given less freed is live; each round is lawful. Of one whose items are all done in the
-//! order of the text, by whichever way, of a trace that gives no first transaction id: each damage was poked. Of every coherent machine:
-//! live, free and set-aside objects make up a cache's objects; shrinking leaves the slabs in use, in the order of
-//! promotion; an unused cache that was trimmed last is empty.
+//! Of every journal of a sound trace that is lawful by any way, in the order of the text, in drawn turns or by
+//! threads: no number is given or freed twice; given less freed is live; each round is lawful; each damage was
+//! poked. Of every coherent machine: live, free and set-aside objects make up a cache's objects; shrinking leaves
+//! the slabs in use, in the order of promotion; an unused cache that was trimmed last is empty.
 #![tactic(auto)]
 
 pub mod laws;

@@ -24,7 +24,6 @@ use Rattle.slub_trace_reader.specs.Sound.{IsSound}
 use Rattle.slub_ways.specs.declared.way.Way.{Way}
 use Rattle.slub_ways.specs.declared.way.Way.TheVariants.{Serial, Schedule}
 use Rattle.slub_ways.specs.Runs.{IsLawful}
-use Rattle.slub_ways.proofs.Runs.{lawful-serially}
 use Rattle.slub_ways.proofs.WithoutIds.{HasNoTurns, never-spent, serial-without, threads-without}
 use Rattle.slub_journal.specs.declared.journal.Journal.{Journal}
 use Rattle.slub_cli.specs.declared.stop.Stop.{Stop}
@@ -38,6 +37,7 @@ use Rattle.slub_laws.proofs.Rounds.{lawful-rounds}
 use Rattle.slub_laws.proofs.Pokes.{poked-damages}
 use Rattle.slub_cli.specs.Run.{AreBadWords, AsksReplay, Call, Ends, HasNoIds, IsAsked, IsBadInput, IsBadBytes, IsCauseOf, IsDone, IsFaultLine, IsJournalOf, IsLayoutAnswer, IsLayoutCause, IsLayoutText, IsReplayCause, HoldsOver, IsLoadCause, IsReplayJournal, IsRunOf, SpendsNextRound, IsSomeTrace, IsTextOf, IsWant, NoFault, TellsReads, TookAll, TookFront, Wrote, answer_status, done_status, is_refused, lacks_memory, last_in, text_in, way_asked, way_of}
 use Rattle.slub_cli.specs.Inner.{Finishes, StopsAtReadFault, StopsAtWriteFault, Worked, Works, stop_line, stop_status}
+use Rattle.slub_cli.proofs.OneText.{one_text_of}
 use Rattle.slub_cli.proofs.Words.{layout_apart, load_apart, one_layout, replay_apart, same_replay}
 
 -- ---- the status of a run that did every item
@@ -144,7 +144,7 @@ holds way trace journal sound lawful = record {
   freed_once = λ object. freed_was_given way trace journal sound lawful object;
   balance = given_is_live way trace journal sound lawful;
   rounds = lawful-rounds way trace journal sound lawful;
-  damages = λ by_text. poked-damages trace journal sound by_text.0 (lawful-serially way trace journal by_text.1 lawful);
+  damages = poked-damages way trace journal sound lawful;
 }
 
 holds_none : (way : Way) (trace : Option Trace) (journal : Journal) → trace ≡ None → IfSome trace (λ trace. HoldsOver way trace journal)
@@ -577,6 +577,7 @@ promise c outcome ends = record {
   threads = λ seed replies asks bare is.
       unspent c outcome.trace outcome.journal ends.asked ends.is_asked (subst (λ status. IsCauseOf c ends.asked outcome.trace outcome.journal status) is ends.cause) hows.Threads seed replies (λ n. threads-without) asks bare;
   load = λ seed events workers asks no_write. load c outcome.trace outcome.journal ends.asked outcome.status ends.is_asked ends.cause seed events workers asks no_write;
+  one_text = λ command asks no_write. one_text_of c outcome.trace outcome.journal outcome.status ends command asks no_write;
   done = λ done no_write. all_done c outcome.trace outcome.journal ends.asked outcome.status ends.cause done no_write;
   layout = λ spec cpus asks no_write. layout c outcome.trace outcome.journal ends.asked outcome.status ends.is_asked ends.cause spec cpus asks no_write;
 }

@@ -1,6 +1,6 @@
 -- Words spell one command only.
-use Rattle.std.proofs.Common.{◌≡◌, ℕ, ◌≤◌, List, [], ◌∷◌, ◌++◌, Bool, Some, None, refl, sym, ap, subst, ◌∙◌, drop, inl, inr, get_or, false, eqb, eq-eqb}
-use Rattle.std.specs.Prelude.{Option, ◌⊎◌, codes}
+use Rattle.std.proofs.Common.{◌≡◌, ℕ, ◌≤◌, List, [], ◌∷◌, ◌++◌, Bool, true, Some, None, refl, sym, ap, subst, ◌∙◌, drop, inl, inr, get_or, false, eqb, eq-eqb}
+use Rattle.std.specs.Prelude.{Option, ◌⊎◌, codes, if◌then◌else◌}
 use Rattle.std.proofs.lemmas.Bool.{false≢true}
 use Rattle.std.specs.Str.Parse.{digits_value}
 use Rattle.slub_object_layout.specs.declared.layout.Flags.{Flags}
@@ -10,8 +10,8 @@ use Rattle.slub_command.specs.declared.command.How.TheVariants.{Serial, Schedule
 use Rattle.slub_command.specs.declared.command.Command.{Command}
 use Rattle.slub_command.specs.declared.command.Command.TheVariants.{Replay, Layout, Load}
 use Rattle.slub_command.specs.Spelling.{Word, IsFlags, IsNumber, stands_in}
-use Rattle.slub_command.specs.Options.{AreGiven, Given, IsGiven, IsHow, IsReplay, how_given, hows, how_word, listed, replies_given, seed_given}
-use Rattle.slub_command.specs.Command.{IsCommand, IsLayout}
+use Rattle.slub_command.specs.Options.{AreGiven, Given, IsGiven, IsHow, IsReplay, IsSeed, how_given, hows, how_word, listed, replies_given, seed_given, seeds, times_replies}
+use Rattle.slub_command.specs.Command.{IsCommand, IsLayout, IsLoad}
 
 -- numbers that differ are not the same
 differ : (m n : ℕ) → eqb m n ≡ false → m ≡ n → ⊥
@@ -115,11 +115,33 @@ same_how None (Some w) x y is p q = absurd (let e : [] ≡ w ∷ [] = is in cc)
 same_how (Some v) None x y is p q = absurd (let e : v ∷ [] ≡ [] = is in cc)
 same_how (Some v) (Some w) x y is p q = same_word x y (sym p ∙ ap first is ∙ q)
 
--- words of a replay name one way only
-one_how : (words : List Word) (x y : How) (m n : ℕ) (b d : Bool) → IsReplay words x m b → IsReplay words y n d → x ≡ y
-one_how words x y m n b d p q =
-    let same = all_given p.options.given q.options.given words p.options.spelled q.options.spelled in
-    same_how p.how_text q.how_text x y (sym p.options.how_once ∙ ap hows same ∙ q.options.how_once) p.how_is q.how_is
+same_number : (least most : ℕ) (v w : Word) (m n : ℕ) → v ≡ w → IsNumber least most v m → IsNumber least most w n → m ≡ n
+same_number least most v w m n same p q = p.writes.value ∙ ap (digits_value 10) same ∙ sym q.writes.value
+
+same_seed : (a b : Option Word) (m n : ℕ) → listed a ≡ listed b → IsSeed a m → IsSeed b n → m ≡ n
+same_seed None None m n is p q = p ∙ sym q
+same_seed None (Some w) m n is p q = absurd (let e : [] ≡ w ∷ [] = is in cc)
+same_seed (Some v) None m n is p q = absurd (let e : v ∷ [] ≡ [] = is in cc)
+same_seed (Some v) (Some w) m n is p q = same_number 0 18446744073709551615 v w m n (ap first is) p q
+
+-- once, or not at all
+abbrev once_if : Bool → ℕ
+once_if b = if b then 1 else 0
+
+same_times : (b d : Bool) → once_if b ≡ once_if d → b ≡ d
+same_times true true is = refl
+same_times true false is = absurd (differ 1 0 refl is)
+same_times false true is = absurd (differ 0 1 refl is)
+same_times false false is = refl
+
+-- words of a replay say one way, one seed, and `--replies` or not
+one_replay : (words : List Word) (x y : How) (m n : ℕ) (b d : Bool) → IsReplay words x m b → IsReplay words y n d → (x ≡ y) × (m ≡ n) × (b ≡ d)
+one_replay words x y m n b d p q =
+    let same = all_given p.options.given q.options.given words p.options.spelled q.options.spelled in (
+      same_how p.how_text q.how_text x y (sym p.options.how_once ∙ ap hows same ∙ q.options.how_once) p.how_is q.how_is,
+      same_seed p.seed_text q.seed_text m n (sym p.options.seed_once ∙ ap seeds same ∙ q.options.seed_once) p.seed_is q.seed_is,
+      same_times b d (sym p.options.replies_once ∙ ap times_replies same ∙ q.options.replies_once),
+    )
 
 -- ---- the layout
 
@@ -132,9 +154,6 @@ record Says (size_word align_word flags_word cpus_word : Word) (spec : Spec) (cp
 
 says : (words : List Word) (spec : Spec) (cpus : ℕ) (l : IsLayout words spec cpus) → Says l.size_word l.align_word l.flags_word l.cpus_word spec cpus
 says words spec cpus l = record { size_is = l.say.size_is; align_is = l.say.align_is; flags_is = l.say.flags_is; cpus_is = l.say.cpus_is }
-
-same_number : (least most : ℕ) (v w : Word) (m n : ℕ) → v ≡ w → IsNumber least most v m → IsNumber least most w n → m ≡ n
-same_number least most v w m n same p q = p.writes.value ∙ ap (digits_value 10) same ∙ sym q.writes.value
 
 abbrev flags_of : Bool → Bool → Bool → Bool → Bool → Bool → Bool → Bool → Flags
 flags_of a b c d e f g h = record { line = a; reclaim = b; checks = c; zones = d; poison = e; user = f; trace = g; fail = h }
@@ -195,7 +214,40 @@ layout_apart (name ∷ words) spec cpus m events workers (named, p) (again, q) =
 
 pub same_replay : (words : List Word) (x y : How) (m n : ℕ) (b d : Bool) → IsCommand words (Replay x m b) → IsCommand words (Replay y n d) → x ≡ y
 same_replay [] x y m n b d p q = absurd p
-same_replay (name ∷ words) x y m n b d (named, p) (again, q) = one_how words x y m n b d p q
+same_replay (name ∷ words) x y m n b d (named, p) (again, q) = (one_replay words x y m n b d p q).0
+
+-- ---- one command
+
+-- words of a load say one
+one_load : (words : List Word) (m n events more workers crew : ℕ) → IsLoad words m events workers → IsLoad words n more crew → (m ≡ n) × (events ≡ more) × (workers ≡ crew)
+one_load words m n events more workers crew p q =
+    let e = sym p.places ∙ q.places in (
+      same_number 0 18446744073709551615 p.seed_word q.seed_word m n (ap first e) p.say.seed_is q.say.seed_is,
+      same_number 0 500000 p.events_word q.events_word events more (ap second e) p.say.events_is q.say.events_is,
+      same_number 1 16 p.workers_word q.workers_word workers crew (ap (λ l. first (drop 2 l)) e) p.say.workers_is q.say.workers_is,
+    )
+
+replay_same : (x y : How) (m n : ℕ) (b d : Bool) → (x ≡ y) × (m ≡ n) × (b ≡ d) → Replay x m b ≡ Replay y n d
+replay_same x y m n b d is = λ i. Replay (is.0 i) (is.1 i) (is.2 i)
+
+load_same : (m n events more workers crew : ℕ) → (m ≡ n) × (events ≡ more) × (workers ≡ crew) → Load m events workers ≡ Load n more crew
+load_same m n events more workers crew is = λ i. Load (is.0 i) (is.1 i) (is.2 i)
+
+layout_same : (spec other : Spec) (cpus more : ℕ) → (spec ≡ other) × (cpus ≡ more) → Layout spec cpus ≡ Layout other more
+layout_same spec other cpus more is = λ i. Layout (is.0 i) (is.1 i)
+
+-- words spell one command
+pub one_command : (words : List Word) (one other : Command) → IsCommand words one → IsCommand words other → one ≡ other
+one_command [] one other p q = absurd p
+one_command (name ∷ words) (Replay x m b) (Replay y n d) p q = replay_same x y m n b d (one_replay words x y m n b d p.1 q.1)
+one_command (name ∷ words) (Replay x m b) (Layout spec cpus) p q = absurd (replay_apart (name ∷ words) x m b spec cpus p q)
+one_command (name ∷ words) (Replay x m b) (Load n more crew) p q = absurd (load_apart (name ∷ words) x m b n more crew p q)
+one_command (name ∷ words) (Layout spec cpus) (Replay y n d) p q = absurd (replay_apart (name ∷ words) y n d spec cpus q p)
+one_command (name ∷ words) (Layout spec cpus) (Layout other more) p q = layout_same spec other cpus more (one_layout (name ∷ words) spec other cpus more p q)
+one_command (name ∷ words) (Layout spec cpus) (Load n more crew) p q = absurd (layout_apart (name ∷ words) spec cpus n more crew p q)
+one_command (name ∷ words) (Load m events workers) (Replay y n d) p q = absurd (load_apart (name ∷ words) y n d m events workers q p)
+one_command (name ∷ words) (Load m events workers) (Layout spec cpus) p q = absurd (layout_apart (name ∷ words) spec cpus m events workers q p)
+one_command (name ∷ words) (Load m events workers) (Load n more crew) p q = load_same m n events more workers crew (one_load words m n events more workers crew p.1 q.1)
 
 -- ---- what was read
 

@@ -1,5 +1,5 @@
 -- What a run promises: the table of statuses, the text, the law.
-use Rattle.std.specs.Prelude.{◌+◌, ◌≤◌, ◌≡◌, ◌≢◌, ℕ, ◌-◌, ◌↔◌, ◌⊎◌, List, [], ◌∷◌, ◌++◌, length, take, Bool, true, false, ◌||◌, not, cond, Option, Some, None, IfSome, IsSome, IsSomeAnd, Result, Ok, Err, codes, ⊤}
+use Rattle.std.specs.Prelude.{◌+◌, ◌≤◌, ◌≡◌, ◌≢◌, ℕ, ◌-◌, ◌↔◌, ◌⊎◌, List, [], ◌∷◌, ◌++◌, length, take, All, Bool, true, false, ◌||◌, not, cond, Option, Some, None, IfSome, IsSome, IsSomeAnd, Result, Ok, Err, codes, ⊤}
 use Rattle.std.specs.List.{list_any, zip}
 use Rattle.std.specs.Fmt.{decimal}
 use Rattle.std.specs.Io.KnownBytes.{Appends, IsAtEnd}
@@ -43,7 +43,9 @@ use Rattle.slub_laws.specs.Rounds.{HasLawfulRounds}
 use Rattle.slub_load.specs.Load.{load_of}
 use Rattle.slub_ways.specs.declared.way.Way.{Way}
 use Rattle.slub_ways.specs.declared.way.Way.TheVariants.{Serial, Schedule, Threads}
-use Rattle.slub_ways.specs.Runs.{IsByText, EndsSpent, IsLawful}
+use Rattle.slub_ways.specs.Runs.{EndsSpent, IsLawful}
+use Rattle.slub_one_text.specs.Journals.{TellAsMuch}
+use Rattle.slub_one_text.specs.Rounds.{IsFixed}
 use Rattle.slub_cli.specs.declared.status.Status.{Status}
 use Rattle.slub_cli.specs.declared.status.Status.TheVariants.{Fine, Refused, BadWords, BadTrace, ReadFault, WriteFault, NoMemory, TurnsSpent}
 use Rattle.slub_cli.specs.declared.status.Outcome.{Outcome}
@@ -77,6 +79,11 @@ abbrev pub way_asked : Option Command → Way
 way_asked (Some (Replay how seed replies)) = way_of how seed
 way_asked (Some (Load seed events workers)) = Schedule seed
 way_asked _ = Serial
+
+-- whether the lines are written that `--replies` asks for; of a load they aren't
+abbrev pub replies_asked : Option Command → Bool
+replies_asked (Some (Replay how seed replies)) = replies
+replies_asked _ = false
 
 -- ---- the replies
 
@@ -255,9 +262,8 @@ pub record HoldsOver (way : Way) (trace : Trace) (journal : Journal) : Type 0 wh
   pub balance : IfSome journal.total (λ total. total.given ≡ total.freed + total.live)
   -- each round is lawful by its events and replies alone
   pub rounds : HasLawfulRounds way trace journal
-  -- each damage that is told of was poked there before, where every item is done in the order of
-  -- the text, on the lists alone
-  pub damages : IsByText way trace → HasPokedDamages trace journal
+  -- each damage that is told of was poked there, in the same round or before
+  pub damages : HasPokedDamages trace journal
 
 -- ---- the statuses
 
@@ -436,6 +442,24 @@ Wrote c asked trace journal WriteFault =
     TookEntry c asked trace journal ⊎ TookLine c asked trace journal
 Wrote c asked trace journal status = TookAll c asked trace journal status
 
+-- ---- one text
+
+-- the text of this journal was taken, and after it the line of the status
+pub record TookTextOf (c : Call) (replies : Bool) (trace : Trace) (journal : Journal)
+    (status : Status) : Type 0 where
+  pub line : List ℕ
+  pub line_is : IsFaultLine c journal status line
+  pub taken : Appends c.old c.new (text_of replies trace journal ++ line)
+
+-- the text is a function of the trace, the way and the seed: what was taken is the text of every
+-- journal that is lawful for them and tells as much, where memory was there for each event of both;
+-- of threads, where no round is of several workers
+abbrev pub TookOneText : Call → Option Command → Trace → Journal → Status → Type 0
+TookOneText c asked trace journal status =
+    All (IsFixed (way_asked asked)) trace.items → (other : Journal)
+    → IsLawful (way_asked asked) trace other → TellAsMuch journal other
+    → TookTextOf c (replies_asked asked) trace other status
+
 -- ---- the run
 
 -- for one command that was read of the words, this status has its cause, this was written, the
@@ -499,6 +523,10 @@ pub record IsRunOf (c : Call) (outcome : Outcome) : Type 0 where
   -- a load is done to its end
   pub load : (seed events workers : ℕ) → IsCommand c.words (Load seed events workers) →
       ¬ Rose c.write.0 c.write.1 → IsDoneOrCut outcome
+  -- what it wrote is the one text of its trace, its way and its seed, want of memory aside
+  pub one_text : (command : Command) → IsCommand c.words command → ¬ Rose c.write.0 c.write.1 →
+      IfSome outcome.trace (λ trace.
+      TookOneText c (Some command) trace outcome.journal outcome.status)
   -- where every item was done, the status is that of what was done, of a replay as of a load
   pub done : IsDone outcome.trace outcome.journal → ¬ Rose c.write.0 c.write.1 →
       outcome.status ≡ done_status outcome.trace outcome.journal

@@ -21,11 +21,13 @@
 //!     give; it is sound, and the journal is lawful for it and for the way that was asked: the machine is
 //!     coherent after each item, after each event in the order of the text, and at every turn by schedule and by
 //!     threads;
-//!   - *over*: over the whole run no number is given or freed twice, given less freed is live, and rounds
-//!     are lawful; where every item is done in the order of the text, and the trace gives no first transaction id,
-//!     damage was poked;
+//!   - *over*: over the whole run no number is given or freed twice, given less freed is live, rounds are
+//!     lawful, and damage was poked;
 //! - *bad_words*, *bad_trace*, *complete*, *serial*, *threads*, *load*, *done*, *layout*: which status a run must
 //!   have; `Status::number` gives its number;
+//! - *one_text*: what a run wrote is a function of the trace, the way and the seed: it is the text of every journal
+//!   that is lawful for them and tells as much, but where memory was wanting, or threads of several workers made
+//!   a round;
 //! - *untouched*: where the words don't ask for a replay, the source is as it was.
 #![tactic(auto)]
 

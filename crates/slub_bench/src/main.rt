@@ -7,7 +7,7 @@
 //! in each, and what of it is reading, replay, text and writing; `schedule` replays rounds of eight workers by schedule
 //! and in the order of the text, a load, and a trace of small rounds; `threads` replays rounds by threads, of one
 //! worker, of four on CPUs of their own and of four on one CPU, with and without opening and closing, and how often the
-//! workers lost an exchange or slept.
+//! workers lost an exchange or slept; and a try of the fast path with the push that undoes it.
 #![tactic(auto)]
 
 mod pool;
@@ -16,6 +16,7 @@ mod runs;
 mod schedule;
 mod serial;
 mod threads;
+mod tries;
 mod waits;
 
 use std::rt::{Clock, Env};

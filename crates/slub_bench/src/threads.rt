@@ -2,6 +2,7 @@
 //! them, by the difference of two rounds. The rate that several workers are to have is one of events alone.
 
 use crate::runs::{HEAD, best_read, gated_nanos};
+use crate::tries;
 use crate::waits::{CountingGate, Waits};
 use slub_edges::faultless::FaultlessSink;
 use std::alloc::{AllocError, Global};
@@ -177,7 +178,7 @@ fn print_against(rt: &impl Print, which: &str, one: Cost, several: Cost) -> io::
     println!(rt; "  {lost} exchanges lost, {parked} times slept on a lock")
 }
 
-/// Measures one worker, several on CPUs of their own and several on one CPU, by threads and by schedule.
+/// Measures one worker, several on CPUs of their own and several on one CPU, by threads and by schedule; and tries.
 pub(crate) fn measure(
     rt: &(impl Clock + AllocGlobal + Print + Threads + Wait + Sync),
 ) -> io::Result<()> {
@@ -196,5 +197,6 @@ pub(crate) fn measure(
     let own = cost_of(rt, WORKERS, Cpus::Own, THREADS)?;
     print_against(rt, "CPUs of their own", one, own)?;
     let same = cost_of(rt, WORKERS, Cpus::One, THREADS)?;
-    print_against(rt, "one CPU", one, same)
+    print_against(rt, "one CPU", one, same)?;
+    tries::measure(rt)
 }

@@ -1,0 +1,5 @@
+pub mod Sitting
+pub mod Told
+pub mod Parts
+pub mod Ready
+pub mod Begins

@@ -1,0 +1,4 @@
+pub mod Lone
+pub mod Told
+pub mod Begun
+pub mod Fresh

@@ -8,10 +8,10 @@ use Rattle.slub_events.specs.declared.event.Round.{Round}
 use Rattle.slub_lists.specs.declared.lists.Held.{Held}
 use Rattle.slub_lists.specs.State.{State}
 use Rattle.slub_lists.specs.Coherent.{IsCoherent, KeepsMachine, all_on_board, laid_down}
-use Rattle.slub_trace_reader.specs.declared.trace.Item.{Item}
-use Rattle.slub_trace_reader.specs.declared.trace.Item.TheVariants as item
-use Rattle.slub_trace_reader.specs.declared.trace.Trace.{Trace}
-use Rattle.slub_trace_reader.specs.Sound.{IsSound, objects_in, objects_of}
+use Rattle.slub_trace.specs.declared.trace.Item.{Item}
+use Rattle.slub_trace.specs.declared.trace.Item.TheVariants as item
+use Rattle.slub_trace.specs.declared.trace.Trace.{Trace}
+use Rattle.slub_trace.specs.Sound.{IsSound, objects_in, objects_of}
 use Rattle.slub_journal.specs.Lawful.{DoesRound, IsAtRest, IsReady, IsUnheld, coming}
 use Rattle.slub_journal.specs.declared.journal.RoundResult.{RoundResult}
 use Rattle.slub_journal.proofs.Laws.{no_held}

@@ -12,7 +12,7 @@ use Rattle.slub_answers.specs.declared.reply.Reply.{Reply}
 use Rattle.slub_lists.specs.State.{State}
 use Rattle.slub_lists.specs.Alloc.{checked_of}
 use Rattle.slub_lists.specs.Coherent.{IsCoherent, KeepsOthers, all_on_board}
-use Rattle.slub_trace_reader.specs.Sound.{allocated, objects_of}
+use Rattle.slub_trace.specs.Sound.{allocated, objects_of}
 use Rattle.slub_journal.specs.Lawful.{Answers, AreLedgers, DoesRound, IsUnheld, RunsEvents, reports_of}
 use Rattle.slub_journal.specs.declared.journal.RoundResult.{RoundResult}
 use Rattle.slub_journal.proofs.Zips.{length-snoc, zip-snoc}

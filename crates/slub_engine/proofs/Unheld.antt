@@ -11,7 +11,7 @@ use Rattle.slub_answers.specs.declared.reply.Reply.{Reply}
 use Rattle.slub_lists.specs.Freeing.{Frees}
 use Rattle.slub_lists.specs.State.{State}
 use Rattle.slub_lists.specs.Coherent.{KeepsOthers, all_on_board, laid_down}
-use Rattle.slub_trace_reader.specs.Sound.{objects_of}
+use Rattle.slub_trace.specs.Sound.{objects_of}
 use Rattle.slub_journal.specs.Lawful.{IsUnheld}
 use Rattle.slub_engine.specs.Steps.{KeepsUnheld}
 use Rattle.slub_engine.proofs.Parts.{apart}

@@ -6,7 +6,7 @@ use Rattle.slub_answers.specs.declared.reply.Reply.{Reply}
 use Rattle.slub_lists.specs.State.{State}
 use Rattle.slub_lists.specs.Alloc.{checked_of}
 use Rattle.slub_lists.specs.Coherent.{AddsReportsOf, IsCoherent, findable_in}
-use Rattle.slub_trace_reader.specs.Sound.{objects_of}
+use Rattle.slub_trace.specs.Sound.{objects_of}
 use Rattle.slub_journal.specs.Lawful.{AreLedgers, IsUnheld, RunsEvents}
 use Rattle.slub_engine.specs.Steps.{IsKnown, KeepsCaches, KeepsUnheld, listed_in, told_in}
 use Rattle.slub_engine.specs.declared.running.Running.{Running}

@@ -10,7 +10,8 @@ ghost use Rattle.slub_slabinfo_text.specs.Counts.{aside_of, counts_of, free_in, 
 
 use slub_common::no_memory::NoMemory;
 use slub_list_machine::lists::{Lists, is_slab_of};
-use slub_lists::lists::{CpuLists, FreeList, Slab};
+use slub_list_machine::own_lists::OwnLists;
+use slub_lists::lists::{CpuLists, Slab};
 use slub_object_layout::layout::Layout;
 use slub_red_zone::checked::CheckedSlabs;
 use slub_slabinfo_text::counts::{Counts, InfoRow};
@@ -112,23 +113,23 @@ fn checked_free(slabs: &CheckedSlabs, frame: u16) -> u64
 }
 
 /// The free objects on the own freelists of these slabs.
-fn own_free_of(frames: &[u16], frees: &[FreeList]) -> u64
+fn own_free_of(frames: &[u16], frees: &OwnLists) -> u64
     requires { length frames.now ≤ 4095 }
     ensures { result ≡ sum_by (λ frame. length (slice_index_or frees.now frame [])) frames.now }
 {
     let mut count = 0;
     for frame in frames {
-        count += own_free(frees, usize::from(*frame));
+        count += own_free(frees, *frame);
     }
     count
 }
 
 /// The free objects on a slab's own freelist.
-fn own_free(frees: &[FreeList], frame: usize) -> u64
+fn own_free(frees: &OwnLists, frame: u16) -> u64
     ensures value { result ≡ length (slice_index_or frees.now frame []) }
     ensures room { result ≤ 512 }
 {
-    frees.get(frame).map_or(0, |free| free.len() as u64)
+    frees.len_of(frame) as u64
 }
 
 /// The free objects of a cache, wherever they stand.
@@ -163,7 +164,7 @@ fn loose_free(lists: &Lists, cache: u8) -> u64
 }
 
 /// The free objects on the own freelists of a cache's slabs.
-fn slab_free(slabs: &[Option<Slab>], frees: &[FreeList], cache: u8) -> u64
+fn slab_free(slabs: &[Option<Slab>], frees: &OwnLists, cache: u8) -> u64
     requires slabs { length slabs.now ≤ 4096 }
     requires frees { length frees.now ≡ length slabs.now }
     ensures value { result ≡ sum_by (free_in cache) (zip slabs.now frees.now) }
@@ -172,7 +173,7 @@ fn slab_free(slabs: &[Option<Slab>], frees: &[FreeList], cache: u8) -> u64
     let mut count = 0;
     for (frame, slab) in slabs.iter().enumerate() {
         if is_slab_of(slab, cache) {
-            count += own_free(frees, frame);
+            count += own_free(frees, frame as u16);
         }
     }
     count

@@ -3,7 +3,7 @@
 ghost use Rattle.std.specs.Prelude.{◌≡◌, ◌+◌, ◌-◌, ◌^◌, ◌<◌, ◌≤◌, [], ◌∷◌, length, All, IfOk, IfSome, OnOk, OnErr, nat_eq};
 ghost use Rattle.std.specs.List.{IsDistinct};
 ghost use Rattle.slub_lists.specs.Coherent.{IsCoherent, KeepsMachine, KeepsOthers};
-ghost use Rattle.slub_trace_reader.specs.Sound.{IsSound, objects_of};
+ghost use Rattle.slub_trace.specs.Sound.{IsSound, objects_of};
 ghost use Rattle.slub_journal.specs.Lawful.{Answers, CreatesName, DoesPlainAt, DoesRound, IsPlainAt, IsReady, IsTotal, IsUnheld, TakesMemoryAt, all_freed, all_given, least_order_of};
 ghost use Rattle.slub_engine.specs.Steps.{IsBelow, IsBlank, IsKnown, IsKnownAct, KeepsSizes, KeepsUnheld, Notes, NotesOwn, object_of};
 
@@ -22,7 +22,7 @@ use slub_journal::names::name_of;
 use slub_list_machine::lists::Lists;
 use slub_object_layout::layout::Spec;
 use slub_object_layout::name::Name;
-use slub_trace_reader::trace::{Item, Trace};
+use slub_trace::trace::{Item, Trace};
 use std::alloc::Global;
 
 /// Does the item of this number, which is neither a round nor a client's line. Only a creation and slabinfo take

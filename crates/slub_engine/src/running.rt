@@ -5,7 +5,7 @@ ghost use Rattle.slub_events.specs.declared.event.Event.{Event};
 ghost use Rattle.slub_events.specs.declared.event.Round.{Round};
 ghost use Rattle.slub_lists.specs.State.{State};
 ghost use Rattle.slub_lists.specs.Coherent.{IsCoherent, KeepsOthers, all_on_board};
-ghost use Rattle.slub_trace_reader.specs.Sound.{objects_of};
+ghost use Rattle.slub_trace.specs.Sound.{objects_of};
 ghost use Rattle.slub_journal.specs.Lawful.{Answers, DoesRound};
 ghost use Rattle.slub_engine.specs.Steps.{KeepsUnheld, object_of};
 ghost use Rattle.slub_engine.specs.Running.{HasRun, MayAnswer, replies_in};

@@ -3,6 +3,7 @@ pub mod Bounds
 pub mod Worlds
 pub mod Made
 pub mod Knows
+pub mod OwnWalks
 pub mod Counting
 pub mod Ended
 pub mod Taking

@@ -1,5 +1,5 @@
 -- What was moved behind the locks goes back to the lists that it was taken from.
-use Rattle.std.proofs.Common.{◌≡◌, ◌≢◌, ℕ, suc, ◌<◌, ◌≤◌, ◌&&◌, cond, Bool, true, false, List, [], length, get_or, vec_capacity, Option, Some, None, refl, ap, sym, ◌∙◌, subst, arith}
+use Rattle.std.proofs.Common.{◌≡◌, ℕ, suc, ◌<◌, ◌≤◌, ◌&&◌, cond, Bool, true, false, List, [], length, get_or, vec_capacity, Option, Some, None, refl, ap, sym, ◌∙◌, subst, arith}
 use Rattle.std.specs.Prelude.{is_some, not}
 use Rattle.std.proofs.lemmas.Bool.{false≢true}
 use Rattle.std.proofs.lemmas.List.{ext_get_or}
@@ -12,7 +12,7 @@ use Rattle.slub_core.specs.World.{LockValue, frames_in, pool_in}
 use Rattle.slub_core.specs.World as value
 use Rattle.slub_local.specs.declared.guarded.Guarded.{Guarded}
 use Rattle.slub_local.specs.declared.guarded.Guarded.TheVariants.{Nothing, Node, Checked, Pool}
-use Rattle.slub_local.specs.Values.{value_in, values_of, room_in, rooms_of, IsPoolValue}
+use Rattle.slub_local.specs.Values.{value_in, values_of, room_in, IsPoolValue}
 use Rattle.slub_opening.specs.Opening.{node_value, value_of}
 use Rattle.slub_opening.specs.Closing.{checked_in}
 use Rattle.slub_into_words.specs.declared.opened.KeptNode.{KeptNode}
@@ -22,7 +22,7 @@ use Rattle.slub_into_words.specs.Opened.{room_of}
 use Rattle.slub_into_words.specs.Values.{has_node, IsKeptOf}
 use Rattle.slub_into_words.proofs.Guards.{bare-node}
 use Rattle.slub_into_lists.specs.Joins.{Joins}
-use Rattle.slub_into_lists.specs.Closing.{MayTakeBack, IsPutTogether}
+use Rattle.slub_into_lists.specs.Closing.{MayTakeBack}
 use Rattle.slub_into_lists.specs.Undoing.{WasOpened}
 use Rattle.slub_into_lists.proofs.Ended.{length-rooms, room-at}
 

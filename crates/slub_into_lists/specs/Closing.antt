@@ -72,7 +72,7 @@ pub record HasSizes (rest : Rest) : Type 0 where
   pub frames : rest.frames ≤ 4096
   pub cpus : (1 ≤ rest.cpus) × (rest.cpus ≤ 16)
   pub slabs : length rest.slabs.items ≡ rest.frames
-  pub frees : length rest.frees.items ≡ rest.frames
+  pub frees : length rest.frees ≡ rest.frames
   pub cpu_lists : length rest.cpu_lists.items ≡ 32 * rest.cpus
   pub memory : length rest.memory.items ≡ 512 * rest.frames
   pub board : length rest.board.items ≤ 1048577
@@ -115,7 +115,7 @@ pub record IsWritten (facts : Facts) (words : List ℕ) (value : ℕ → LockVal
   pub slabs : (frame : ℕ) → frame < old.frames
       → slice_index_or new.slabs.items frame None ≡ slab_at facts words value frame
   pub frees : (frame : ℕ) → frame < old.frames
-      → slice_index_or new.frees.items frame [] ≡ own_at facts words new.memory.items frame
+      → slice_index_or new.frees frame [] ≡ own_at facts words new.memory.items frame
   pub lists : (place : ℕ) → place < 32 * old.cpus
       → slice_index_or new.cpu_lists.items place no_lists
       ≡ lists_at facts words new.memory.items (links_at old)
@@ -152,7 +152,7 @@ pub record IsPutTogether (step : ℕ) (value : ℕ → LockValue) (rest : Rest) 
     cpus = rest.cpus;
     pool = pool_in (value 0);
     slabs = rest.slabs.items;
-    frees = rest.frees.items;
+    frees = rest.frees;
     table = rest.table;
     cpu_lists = rest.cpu_lists.items;
     nodes = t.nodes;

@@ -49,7 +49,7 @@ fn write_lists(setup: &Setup, words: &[u64], values: &[Guarded], locals: &[Local
     let links = memory + 512 * rest.frames as usize;
     copy_memory(words, memory, &mut rest.memory);
     close_slabs(setup, words, values, &mut rest.slabs);
-    close_frees(setup, words, &rest.memory, &mut rest.frees);
+    close_frees(setup, words, &rest.memory, rest.frames, &mut rest.frees);
     let cpus = rest.cpus as usize;
     close_cpus(setup, words, &rest.memory, links, cpus, &mut rest.cpu_lists);
     close_board(words, board, locals, &mut rest.board);

@@ -4,8 +4,9 @@ ghost use Rattle.std.specs.Prelude.{◌≡◌, ℕ, ◌<◌, ◌≤◌, [], leng
 ghost use Rattle.slub_local.specs.Values.{value_in, values_of};
 ghost use Rattle.slub_into_lists.specs.Reads.{slab_at, slab_in_value, slab_in_values, slab_or, own_at};
 
-use crate::walks::{walk_chain, word};
-use slub_lists::lists::{FreeList, Slab};
+use crate::walks::{walk_own, word};
+use slub_list_machine::own_lists::OwnLists;
+use slub_lists::lists::Slab;
 use slub_local::guarded::Guarded;
 use slub_local::setup::Setup;
 use slub_local::words::slab_in;
@@ -25,14 +26,16 @@ pub fn close_slabs(setup: &Setup, words: &[u64], values: &[Guarded], slabs: &mut
     }
 }
 
-/// Walks the own freelist of each slab.
-pub fn close_frees(setup: &Setup, words: &[u64], memory: &[u64], frees: &mut [FreeList])
-    requires { length frees.old ≤ 4096 }
-    ensures { (frame : ℕ) → frame < length frees.old → slice_index_or frees.new frame [] ≡ own_at setup.now words.now memory.now frame }
+/// Walks the own freelists of the slabs of so many frames.
+pub fn close_frees(setup: &Setup, words: &[u64], memory: &[u64], frames: u32, frees: &mut OwnLists)
+    requires few { frames ≤ 4096 }
+    requires lists { length frees.old ≡ frames }
+    ensures walked { (frame : ℕ) → frame < frames → slice_index_or frees.new frame [] ≡ own_at setup.now words.now memory.now frame }
+    ensures lists { length frees.new ≡ frames }
 {
-    for (frame, free) in frees.iter_mut().enumerate() {
-        let slab = slab_in(word(words, 1057 + frame));
-        walk_chain(setup, memory, slab.cache, frame as u16, slab.head, free);
+    for frame in 0..frames {
+        let slab = slab_in(word(words, 1057 + frame as usize));
+        walk_own(setup, memory, slab.cache, frame as u16, slab.head, frees);
     }
 }
 

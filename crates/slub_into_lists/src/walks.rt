@@ -1,8 +1,10 @@
 //! Walks along free pointers and links.
 
-ghost use Rattle.std.specs.Prelude.{◌≡◌, ℕ, ◌+◌, ◌%◌, ◌^◌, ◌<◌, ◌≤◌, length, slice_index_or};
+ghost use Rattle.std.specs.Prelude.{◌≡◌, ℕ, ◌+◌, ◌%◌, ◌^◌, ◌<◌, ◌≤◌, length, slice_index_or, slice_set};
+ghost use Rattle.slub_local.specs.Facts.{found_in, pointer_in};
 ghost use Rattle.slub_into_lists.specs.Reads.{chain_in, string_in};
 
+use slub_list_machine::own_lists::OwnLists;
 use slub_lists::lists::{FrameList, FreeList};
 use slub_local::setup::Setup;
 
@@ -21,7 +23,7 @@ pub fn word(words: &[u64], at: usize) -> u64
     }
 }
 
-/// Walks along the free pointers of a slab from a head on (`get_freepointer`), into a freelist.
+/// Walks along the free pointers of a slab from a head on, into a CPU's freelist.
 pub fn walk_chain(
     setup: &Setup,
     memory: &[u64],
@@ -37,9 +39,39 @@ pub fn walk_chain(
     while next > 0 && free.len() < OBJECTS_MAX {
         let index = next - 1;
         free.push_back(index);
-        let place = setup.pointer_at(cache, frame, index);
-        next = setup.found_at(cache, frame, index, word(memory, place as usize));
+        next = behind(setup, memory, cache, frame, index);
     }
+}
+
+/// Walks along the free pointers of a slab from a head on, into the slab's own freelist. The objects come
+/// to the front of it one after the other, so it is turned around at the end.
+pub fn walk_own(
+    setup: &Setup,
+    memory: &[u64],
+    cache: u8,
+    frame: u16,
+    head: u16,
+    frees: &mut OwnLists,
+)
+    requires { frame < length frees.old }
+    ensures { frees.new ≡ slice_set frees.old frame (chain_in setup.now memory.now cache frame head) }
+{
+    frees.clear(frame);
+    let mut next = head;
+    while next > 0 && frees.len_of(frame) < OBJECTS_MAX {
+        let index = next - 1;
+        frees.push(frame, index);
+        next = behind(setup, memory, cache, frame, index);
+    }
+    frees.turn(frame);
+}
+
+/// The head of the objects behind this one (`get_freepointer`).
+fn behind(setup: &Setup, memory: &[u64], cache: u8, frame: u16, index: u16) -> u16
+    ensures { result ≡ found_in setup.now cache frame index (slice_index_or memory.now (pointer_in setup.now cache frame index) 0) }
+{
+    let place = setup.pointer_at(cache, frame, index);
+    setup.found_at(cache, frame, index, word(memory, place as usize))
 }
 
 /// Walks along the links of a CPU's partial list from its front on (`slab->next`). The links begin

@@ -11,7 +11,7 @@ pub record IsRestOf (s : State) (rest : Rest) : Type 0 where
   pub cpus : rest.cpus ≡ s.cpus
   pub table : rest.table ≡ s.table
   pub slabs : length rest.slabs.items ≡ s.frames
-  pub frees : length rest.frees.items ≡ s.frames
+  pub frees : length rest.frees ≡ s.frames
   pub cpu_lists : length rest.cpu_lists.items ≡ 32 * s.cpus
   pub memory : length rest.memory.items ≡ 512 * s.frames
   pub board : length rest.board.items ≡ length s.board
@@ -33,7 +33,7 @@ pub record IsRestOf (s : State) (rest : Rest) : Type 0 where
 -- but for the words of the frames, and for what is out, the vectors have what the lists had
 pub record IsUntouched (s : State) (rest : Rest) : Type 0 where
   pub slabs : rest.slabs.items ≡ s.slabs
-  pub frees : rest.frees.items ≡ s.frees
+  pub frees : rest.frees ≡ s.frees
   pub cpu_lists : rest.cpu_lists.items ≡ s.cpu_lists
   pub board : rest.board.items ≡ s.board
   pub gone : rest.gone.items ≡ s.gone

@@ -1,6 +1,6 @@
 //! The words of a machine, class by class, in their order.
 
-ghost use Rattle.std.specs.Prelude.{◌≡◌, ◌+◌, ◌-◌, ◌*◌, ◌^◌, ◌<◌, ◌≤◌, ◌++◌, ◌||◌, ℕ, length, nat_lt, replicate, slice_index_or, sum_by, vec_capacity, false, IfSome, MatchOption};
+ghost use Rattle.std.specs.Prelude.{◌≡◌, ◌+◌, ◌-◌, ◌*◌, ◌^◌, ◌<◌, ◌≤◌, ◌++◌, ◌||◌, [], ℕ, length, nat_lt, replicate, slice_index_or, sum_by, vec_capacity, false, IfSome, MatchOption};
 ghost use Rattle.std.specs.Option.{option_map};
 ghost use Rattle.slub_common.specs.Times.{times};
 ghost use Rattle.slub_words.specs.Words.{slab_bits};
@@ -13,6 +13,7 @@ ghost use Rattle.slub_into_words.specs.Classes.{lock_words, list_number, list_wo
 use crate::facts::is_checked;
 use crate::laying::{frame_of, lists_at};
 use slub_list_machine::node::Node;
+use slub_list_machine::own_lists::OwnLists;
 use slub_list_machine::parts::Parts;
 use slub_lists::lists::{FrameList, FreeList, Held, Slab};
 use slub_local::words::list_bits;
@@ -115,6 +116,17 @@ fn head_of(free: &FreeList) -> u16
     }
 }
 
+/// The head of a slab's own freelist.
+fn own_head(frees: &OwnLists, frame: u16) -> u16
+    requires { head_of (slice_index_or frees.now frame []) < 2 ^ 16 }
+    ensures { result ≡ head_of (slice_index_or frees.now frame []) }
+{
+    match frees.get(frame, 0) {
+        Some(index) => index + 1,
+        None => 0,
+    }
+}
+
 /// Marks the slabs that are on a node's list.
 fn mark_nodes(nodes: &[Node], marks: &mut [bool])
     ensures { (frame : ℕ) → frame < length marks.old → slice_index_or marks.old frame false ≡ false → slice_index_or marks.new frame false ≡ nat_lt 0 (sum_by (times frame) nodes.now) }
@@ -159,22 +171,22 @@ fn slab_number(parts: &Parts, frame: usize, listed: bool) -> u64
 {
     match parts.slabs[frame] {
         Some(slab) if !is_checked(parts, slab.cache) => {
-            plain_number(&slab, &parts.frees[frame], listed)
+            plain_number(&slab, &parts.frees, frame as u16, listed)
         }
         _ => 0,
     }
 }
 
 /// The word of an unchecked slab.
-fn plain_number(slab: &Slab, free: &FreeList, listed: bool) -> u64
-    requires head { head_of free.now < 2 ^ 16 }
+fn plain_number(slab: &Slab, frees: &OwnLists, frame: u16, listed: bool) -> u64
+    requires head { head_of (slice_index_or frees.now frame []) < 2 ^ 16 }
     requires objects { slab.now.objects < 2 ^ 16 }
-    ensures { result ≡ slab_bits (record { head = head_of free.now; inuse = slab.now.objects - length free.now; objects = slab.now.objects; frozen = slab.now.frozen; listed = listed; cache = slab.now.cache }) }
+    ensures { result ≡ slab_bits (record { head = head_of (slice_index_or frees.now frame []); inuse = slab.now.objects - length (slice_index_or frees.now frame []); objects = slab.now.objects; frozen = slab.now.frozen; listed = listed; cache = slab.now.cache }) }
 {
     let objects = slab.objects as u16;
     let word = SlabWord {
-        head: head_of(free),
-        inuse: objects.saturating_sub(free.len() as u16),
+        head: own_head(frees, frame),
+        inuse: objects.saturating_sub(frees.len_of(frame) as u16),
         objects,
         frozen: slab.frozen,
         listed,

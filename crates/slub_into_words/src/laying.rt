@@ -1,13 +1,16 @@
 //! Freelists are laid into the memory of their objects, and partial lists into the links of their slabs.
 
-ghost use Rattle.std.specs.Prelude.{◌≡◌, ◌/◌, ◌<◌, ◌≤◌, ℕ, [], length, slice_index_or, All, None, MatchOption};
+ghost use Rattle.std.specs.Prelude.{◌≡◌, ◌+◌, ◌/◌, ◌<◌, ◌≤◌, ℕ, [], length, slice_index_or, slice_set, All, None, MatchOption};
 ghost use Rattle.slub_lists.specs.Alloc.{no_lists};
 ghost use Rattle.slub_lists.specs.Coherent.{IsConsistent};
 ghost use Rattle.slub_list_machine.specs.Parts.{state_of};
+ghost use Rattle.slub_core.specs.Setup.{hardened};
+ghost use Rattle.slub_local.specs.Facts.{pointer_in};
 ghost use Rattle.slub_into_words.specs.Facts.{facts_of};
 ghost use Rattle.slub_opening.specs.Opening.{lay_each, own_row, cpu_row, string_row, cpu_at, cache_in, frame_of};
 ghost use Rattle.slub_into_words.specs.Laying.{read, laid, free_row, IsLayable, own_in, cpu_in, cpu_free_in, string_in};
 
+use slub_list_machine::own_lists::OwnLists;
 use slub_list_machine::parts::Parts;
 use slub_lists::lists::{CpuLists, FrameList, FreeList, Slab};
 use slub_local::setup::Setup;
@@ -25,7 +28,7 @@ pub fn lists_at(cpus: u32, lists: &[CpuLists], number: usize) -> Option<&CpuList
     }
 }
 
-/// Lays the free pointers of a freelist into the objects of a slab (`set_freepointer`).
+/// Lays the free pointers of a CPU's freelist into the objects of its slab.
 fn lay_free(setup: &Setup, cache: u8, frame: u16, free: &FreeList, memory: &mut [u64])
     requires { IsLayable setup.now (length memory.old) cache frame free.now }
     ensures { memory.new ≡ laid (free_row setup.now cache frame free.now) memory.old }
@@ -33,23 +36,52 @@ fn lay_free(setup: &Setup, cache: u8, frame: u16, free: &FreeList, memory: &mut 
     let mut next = 0;
     for at in (0..free.len()).rev() {
         if let Some(index) = free.get(at) {
-            let place = setup.pointer_at(cache, frame, index);
-            memory[place as usize] = setup.hardened(cache, place, next);
-            next = index + 1;
+            next = lay_pointer(setup, cache, frame, index, next, memory);
         }
     }
 }
 
+/// Lays those of a slab's own freelist.
+fn lay_own_free(setup: &Setup, cache: u8, frame: u16, frees: &OwnLists, memory: &mut [u64])
+    requires { IsLayable setup.now (length memory.old) cache frame (slice_index_or frees.now frame []) }
+    ensures { memory.new ≡ laid (free_row setup.now cache frame (slice_index_or frees.now frame [])) memory.old }
+{
+    let mut next = 0;
+    for at in (0..frees.len_of(frame)).rev() {
+        if let Some(index) = frees.get(frame, at) {
+            next = lay_pointer(setup, cache, frame, index, next, memory);
+        }
+    }
+}
+
+/// Lays the free pointer of an object before a head (`set_freepointer`). The object is the head then.
+fn lay_pointer(
+    setup: &Setup,
+    cache: u8,
+    frame: u16,
+    index: u16,
+    head: u16,
+    memory: &mut [u64],
+) -> u16
+    requires index { index < 512 }
+    requires inside { pointer_in setup.now cache frame index < length memory.old }
+    ensures head { result ≡ index + 1 }
+    ensures memory { memory.new ≡ slice_set memory.old (pointer_in setup.now cache frame index) (hardened cache (pointer_in setup.now cache frame index) head) }
+{
+    let place = setup.pointer_at(cache, frame, index);
+    memory[place as usize] = setup.hardened(cache, place, head);
+    index + 1
+}
+
 /// Lays the slabs' own freelists.
-fn lay_own(setup: &Setup, slabs: &[Option<Slab>], frees: &[FreeList], memory: &mut [u64])
+fn lay_own(setup: &Setup, slabs: &[Option<Slab>], frees: &OwnLists, memory: &mut [u64])
     requires frames { length slabs.now ≤ 4096 }
-    requires frees { length frees.now ≡ length slabs.now }
     requires layable { (frame : ℕ) → IsLayable setup.now (length memory.old) (cache_in (slice_index_or slabs.now frame None)) frame (slice_index_or frees.now frame []) }
     ensures { read memory.new ≡ lay_each (own_in setup.now slabs.now frees.now) (length slabs.now) (read memory.old) }
 {
     for frame in 0..slabs.len() {
         let cache = cache_of(&slabs[frame]);
-        lay_free(setup, cache, frame as u16, &frees[frame], memory);
+        lay_own_free(setup, cache, frame as u16, frees, memory);
     }
 }
 

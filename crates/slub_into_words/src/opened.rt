@@ -4,7 +4,8 @@ use crate::beside::Beside;
 use slub_cache_create::caches::Caches;
 use slub_list_machine::lists::Lists;
 use slub_list_machine::node::Node;
-use slub_lists::lists::{CpuLists, FreeList, Held, Slab};
+use slub_list_machine::own_lists::OwnLists;
+use slub_lists::lists::{CpuLists, Held, Slab};
 use slub_local::guarded::Guarded;
 use slub_local::setup::Setup;
 use slub_red_zone::checked::CheckedSlabs;
@@ -46,7 +47,7 @@ pub struct Rest {
     pub table: Caches,
     /// By frame: slabs, and their own freelists.
     pub slabs: Vec<Option<Slab>>,
-    pub frees: Vec<FreeList>,
+    pub frees: OwnLists,
     /// By cache number and CPU.
     pub cpu_lists: Vec<CpuLists>,
     /// Empty, with room for 32.

@@ -1,6 +1,12 @@
 -- Words of which only the first are stored: those behind are 0.
-use Rattle.std.proofs.Common.{◌≡◌, ◌∙◌, ℕ, ◌+◌, ◌-◌, ◌<◌, ◌≤◌, List, ◌++◌, length, replicate, set, ap, sym, append_assoc, arith}
+use Rattle.std.proofs.Common.{◌≡◌, ◌∙◌, ℕ, ◌+◌, ◌-◌, ◌<◌, ◌≤◌, List, [], ◌∷◌, ◌++◌, length, replicate, set, ap, sym, append_assoc, arith}
+use Rattle.std.proofs.lemmas.Grind.{replicate_next}
 use Rattle.std.proofs.lemmas.List.{length-append, length-replicate, length-set, replicate-append-replicate, set-append_left}
+
+-- copies of a value are put behind a list, and one more
+pub stored-next : {T : Type 0} (before now next : List T) (n : ℕ) (value : T) → now ≡ before ++ replicate n value → next ≡ now ++ value ∷ [] → next ≡ before ++ replicate (n + 1) value
+stored-next before now next n value is more =
+    more ∙ ap (λ xs. xs ++ value ∷ []) is ∙ append_assoc before (replicate n value) (value ∷ []) ∙ ap (λ xs. before ++ xs) (sym (replicate_next n value))
 
 -- so many words, of which these are stored
 abbrev pub padded : List ℕ → ℕ → List ℕ

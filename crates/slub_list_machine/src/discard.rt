@@ -24,7 +24,7 @@ impl Lists {
         requires frees { frame < length self.now.frees }
         ensures { result ≡ (inuse_of self.now frame == 0) }
     {
-        let free = self.frees[frame as usize].len();
+        let free = self.frees.len_of(frame);
         match &self.slabs[frame as usize] {
             Some(slab) => slab.objects as usize <= free,
             None => true,
@@ -44,6 +44,6 @@ impl Lists {
             unreachable!()
         };
         self.pool.put(u32::from(frame), slab.order);
-        self.frees[frame as usize].clear();
+        self.frees.clear(frame);
     }
 }

@@ -54,7 +54,7 @@ impl Lists {
         let Some(frame) = self.cpu_lists[at].current else {
             return;
         };
-        let was_full = self.frees[frame as usize].is_empty();
+        let was_full = self.frees.is_empty_at(frame);
         self.take_down(cache, cpu, frame);
         self.put_where(cache, frame, min_partial, was_full);
     }
@@ -73,7 +73,7 @@ impl Lists {
         let at = self.place(cache, cpu);
         self.set_frozen(frame, false);
         let lists = &mut self.cpu_lists[at];
-        self.frees[frame as usize].take_before(&mut lists.free);
+        self.frees.take_before(frame, &mut lists.free);
         lists.current = None;
     }
 
@@ -89,7 +89,7 @@ impl Lists {
     {
         if self.is_spare(cache, frame, min_partial) {
             self.discard(frame);
-        } else if !self.frees[frame as usize].is_empty() {
+        } else if !self.frees.is_empty_at(frame) {
             if was_full {
                 self.push_node_head(cache, frame);
             } else {

@@ -126,7 +126,7 @@ impl Lists {
         ensures freed { self.new ≡ freed_there (with_taken self.old object held.now.cache) layout.now held.now.cache cpu held.now.frame held.now.index }
         ensures consistent { IsConsistent self.new }
     {
-        let was_full = self.frees[held.frame as usize].is_empty();
+        let was_full = self.frees.is_empty_at(held.frame);
         self.free_own(object, held);
         if self.is_frozen(held.frame) {
             return;
@@ -147,7 +147,7 @@ impl Lists {
         ensures consistent { IsConsistent self.new }
     {
         self.take_off(object, held.cache);
-        self.frees[held.frame as usize].push(held.index);
+        self.frees.push(held.frame, held.index);
     }
 
     /// Takes a number off the board.

@@ -5,7 +5,9 @@
 //! `words`, `trim`, `flush_cpu`, `create`, `shrink`, `destroy` and `tune` have the calls; the other modules
 //! have their steps.
 //!
-//! After `Lists::open` only checked caches take memory: at their creation, and for each new slab.
+//! After `Lists::open` only checked caches take memory: at their creation, and for each new slab. What is never
+//! used is not touched: the words of the frames (`memory`) and the places of the slabs' own freelists
+//! (`own_lists`) are stored as far as they were written.
 //!
 //! # What it promises
 //!
@@ -27,6 +29,7 @@ pub mod free;
 pub mod lists;
 mod memory;
 pub mod node;
+pub mod own_lists;
 mod partial;
 pub mod parts;
 pub mod shrink;

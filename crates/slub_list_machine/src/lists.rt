@@ -8,11 +8,12 @@ ghost use Rattle.slub_lists.specs.Shrink.{is_slab_of};
 
 use crate::memory::Memory;
 use crate::node::Node;
+use crate::own_lists::OwnLists;
 use slub_cache_create::caches::Caches;
 use slub_common::front_list::FrontList;
 use slub_common::limits::{CACHES_MAX, FRAME_WORDS};
 use slub_common::no_memory::NoMemory;
-use slub_lists::lists::{CpuLists, FreeList, Held, Slab};
+use slub_lists::lists::{CpuLists, Held, Slab};
 use slub_object_layout::name::Name;
 use slub_page_pool::Pool;
 use slub_red_zone::checked::CheckedSlabs;
@@ -36,7 +37,7 @@ pub struct Lists {
     pub(crate) cpus: u32,
     pub(crate) pool: Pool,
     pub(crate) slabs: Vec<Option<Slab>>,
-    pub(crate) frees: Vec<FreeList>,
+    pub(crate) frees: OwnLists,
     pub(crate) table: Caches,
     pub(crate) cpu_lists: Vec<CpuLists>,
     pub(crate) nodes: Vec<Node>,
@@ -57,7 +58,7 @@ impl Model for Lists {
       cpus = l.cpus;
       pool = l.pool;
       slabs = l.slabs.items;
-      frees = l.frees.items;
+      frees = l.frees;
       table = l.table;
       cpu_lists = l.cpu_lists.items;
       nodes = l.nodes.items;
@@ -109,7 +110,7 @@ impl Lists {
             cpus,
             pool: Pool::open(alloc, frames)?,
             slabs: open_slabs(alloc, frames as usize)?,
-            frees: open_front_lists(alloc, frames as usize)?,
+            frees: OwnLists::open(alloc, frames as usize)?,
             table: Caches::open(alloc, names)?,
             cpu_lists: open_cpu_lists(alloc, CACHES_MAX * cpus as usize)?,
             nodes: open_nodes(alloc)?,
@@ -163,10 +164,10 @@ impl Lists {
     }
 
     /// By frame: the own freelist of the slab whose run begins there.
-    pub fn frees(&self) -> &[FreeList]
+    pub fn frees(&self) -> &OwnLists
         ensures { result.now ≡ self.now.frees }
     {
-        self.frees.as_slice()
+        &self.frees
     }
 
     /// The live names and caches.
@@ -210,21 +211,6 @@ impl Lists {
     {
         self.live.as_slice()
     }
-}
-
-/// So many empty lists.
-fn open_front_lists<const ROOM: usize>(
-    alloc: Global,
-    count: usize,
-) -> Result<Vec<FrontList<ROOM>>, NoMemory>
-    requires { count ≤ 4096 }
-    ensures { IfOk result (λ lists. lists.items ≡ replicate count []) }
-{
-    let mut lists = Vec::with_capacity(alloc, count)?;
-    for _ in 0..count {
-        lists.push(FrontList::open(alloc)?)?;
-    }
-    Ok(lists)
 }
 
 /// So many frames where no slab begins.

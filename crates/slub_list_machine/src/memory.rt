@@ -52,7 +52,7 @@ impl Memory {
         ensures { result.items ≡ self }
     {
         let Memory { mut words, count } = self;
-        store_up_to(&mut words, count);
+        store_up_to(&mut words, count, 0);
         words
     }
 
@@ -68,19 +68,19 @@ impl Memory {
         requires { at < length self.old }
         ensures { self.new ≡ slice_set self.old at value }
     {
-        store_up_to(&mut self.words, at + 1);
+        store_up_to(&mut self.words, at + 1, 0);
         self.words[at] = value;
     }
 }
 
-/// Stores words that are 0 behind these, until there are at least so many.
-fn store_up_to(words: &mut Vec<u64>, count: usize)
-    requires room { count ≤ vec_capacity words.old }
-    ensures stored { words.new.items ≡ words.old.items ++ replicate (count - length words.old.items) 0 }
-    ensures capacity { vec_capacity words.new ≡ vec_capacity words.old }
+/// Stores copies of a value behind these items, until there are at least so many.
+pub(crate) fn store_up_to<T: Copy + Drop>(items: &mut Vec<T>, count: usize, value: T)
+    requires room { count ≤ vec_capacity items.old }
+    ensures stored { items.new.items ≡ items.old.items ++ replicate (count - length items.old.items) value }
+    ensures capacity { vec_capacity items.new ≡ vec_capacity items.old }
 {
-    let more = count.saturating_sub(words.len());
+    let more = count.saturating_sub(items.len());
     for _ in 0..more {
-        words.push_reserved(0);
+        items.push_reserved(value);
     }
 }

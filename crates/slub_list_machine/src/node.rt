@@ -4,9 +4,9 @@ ghost use Rattle.std.specs.Prelude.{◌≡◌, ◌<◌, ◌≤◌, ◌++◌, ◌
 ghost use Rattle.slub_common.specs.Times.{times};
 ghost use Rattle.slub_node_partial.specs.Promotion.{IsPromoted};
 
+use crate::own_lists::OwnLists;
 use slub_common::limits::SLABS_MAX;
 use slub_common::no_memory::NoMemory;
-use slub_lists::lists::FreeList;
 use slub_node_partial::NodeList;
 use std::alloc::Global;
 use std::marker::Model;
@@ -115,7 +115,7 @@ impl Node {
 
     /// Puts the list into the order in which shrinking leaves it, by how many objects of each slab are
     /// free; `frees` has the slabs' own freelists, by frame (`__kmem_cache_do_shrink`).
-    pub fn promote(&mut self, frees: &[FreeList])
+    pub fn promote(&mut self, frees: &OwnLists)
         ensures promoted { IsPromoted self.old (map (λ frame. length (slice_index_or frees.now frame [])) self.old) self.new }
     {
         count_free(frees, self.list.frames(), &mut self.counts);
@@ -124,23 +124,13 @@ impl Node {
 }
 
 /// Counts the free objects of the slabs at these frames.
-fn count_free(frees: &[FreeList], frames: &[u16], counts: &mut Vec<u16>)
+fn count_free(frees: &OwnLists, frames: &[u16], counts: &mut Vec<u16>)
     requires { length frames.now ≤ vec_capacity counts.old }
     ensures counts { counts.new.items ≡ map (λ frame. length (slice_index_or frees.now frame [])) frames.now }
     ensures capacity { vec_capacity counts.old ≤ vec_capacity counts.new }
 {
     counts.clear();
     for frame in frames {
-        counts.push_reserved(free_in(frees, *frame));
-    }
-}
-
-/// How many objects are on the own freelist of the slab at this frame, at most 512.
-fn free_in(frees: &[FreeList], frame: u16) -> u16
-    ensures { result ≡ length (slice_index_or frees.now frame []) }
-{
-    match frees.get(frame as usize) {
-        Some(free) => free.len() as u16,
-        None => 0,
+        counts.push_reserved(frees.len_of(*frame) as u16);
     }
 }

@@ -6,8 +6,9 @@ ghost use Rattle.slub_list_machine.specs.Parts.{state_of};
 use crate::lists::Lists;
 use crate::memory::Memory;
 use crate::node::Node;
+use crate::own_lists::OwnLists;
 use slub_cache_create::caches::Caches;
-use slub_lists::lists::{CpuLists, FreeList, Held, Slab};
+use slub_lists::lists::{CpuLists, Held, Slab};
 use slub_page_pool::Pool;
 use slub_red_zone::checked::CheckedSlabs;
 
@@ -22,7 +23,7 @@ pub struct Parts {
     /// By frame: the live slab whose run begins there.
     pub slabs: Vec<Option<Slab>>,
     /// By frame: the own freelist of the slab whose run begins there.
-    pub frees: Vec<FreeList>,
+    pub frees: OwnLists,
     /// The live names and caches.
     pub table: Caches,
     /// By cache number and CPU, the CPUs of one cache side by side.

@@ -136,6 +136,6 @@ impl Lists {
         ensures promotes { Promotes self.old cache self.new }
         ensures coherent { IsCoherent self.new }
     {
-        self.nodes[cache as usize].promote(self.frees.as_slice());
+        self.nodes[cache as usize].promote(&self.frees);
     }
 }

@@ -8,7 +8,6 @@ ghost use Rattle.slub_lists.specs.Steps.{IsRelisted, IsTakable, PopsNode, PopsPa
 use crate::lists::Lists;
 use crate::node::Node;
 use slub_lists::lists::FrameList;
-use std::mem;
 
 impl Lists {
     /// Where what a CPU has of a cache stands.
@@ -60,7 +59,7 @@ impl Lists {
         let at = self.place(cache, cpu);
         self.set_frozen(frame, true);
         let lists = &mut self.cpu_lists[at];
-        mem::swap(&mut lists.free, &mut self.frees[frame as usize]);
+        self.frees.move_to(frame, &mut lists.free);
         lists.current = Some(frame);
     }
 
@@ -98,7 +97,7 @@ impl Lists {
         ensures relisted { IsRelisted self.old self.new }
         ensures consistent { IsConsistent self.new }
     {
-        if self.frees[frame as usize].is_empty() {
+        if self.frees.is_empty_at(frame) {
             self.retire(cache, cpu, frame);
             return self.stock_from_partial(cache, cpu, batch);
         }

@@ -1,5 +1,4 @@
-use Rattle.std.proofs.Common.{◌≡◌, refl, ap, sym, ◌∙◌}
-use Rattle.slub_lists.specs.State.{State}
+use Rattle.std.proofs.Common.{refl, ap, ◌∙◌}
 use Rattle.slub_core.specs.World.{pool_in}
 use Rattle.slub_into_lists.proofs.Undone.{may-put, nodes-back, checked-same}
 use Rattle.slub_into_lists.proofs.undoing.put_back.Goals as goal

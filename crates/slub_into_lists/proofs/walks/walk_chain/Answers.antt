@@ -1,5 +1,4 @@
-use Rattle.std.proofs.Common.{◌≡◌, ◌-◌, ◌<◌, ◌≤◌, ◌++◌, List, ℕ, length, get_or, refl, ap, sym, ◌∙◌, subst, arith}
-use Rattle.slub_local.specs.Facts.{found_in}
+use Rattle.std.proofs.Common.{◌≡◌, ◌-◌, ◌<◌, ◌≤◌, ◌++◌, List, ℕ, length, refl, sym, subst, arith}
 use Rattle.slub_into_lists.specs.Reads.{walked, chain_in, next_in}
 use Rattle.slub_into_lists.proofs.Walked.{walk-further, walk-done}
 use Rattle.slub_into_lists.proofs.walks.walk_chain.Goals as goal
@@ -8,12 +7,9 @@ pub loop-next-preserved : goal.loop-next-preserved
 loop-next-preserved c =
     let some : 0 < c.loop-next.next = omega (arith, c.loop-next-test.true) in
     let room : length c.loop-next.free < 512 = omega (arith, c.if-len-lt-OBJECTS_MAX.true, c.len.ensures.value) in
-    let leads : c.found_at-next.result ≡ next_in c.args.setup.now c.args.memory.now c.args.cache c.args.frame c.loop-next.next =
-    c.found_at-next.ensures
-    ∙ ap (found_in c.args.setup.now c.args.cache c.args.frame (c.loop-next.next - 1)) (c.word.ensures ∙ ap (λ p. get_or c.args.memory.now p 0) c.pointer_at-place.ensures.place) in
-    let step = walk-further (λ head. head - 1) (next_in c.args.setup.now c.args.memory.now c.args.cache c.args.frame) 512 c.loop-next.next c.found_at-next.result (c.loop-next.next - 1) c.loop-next.free
-    (chain_in c.args.setup.now c.args.memory.now c.args.cache c.args.frame c.args.head) some room refl leads c.loop-next.invariant in
-    subst (λ (z : List ℕ). chain_in c.args.setup.now c.args.memory.now c.args.cache c.args.frame c.args.head ≡ z ++ walked (λ head. head - 1) (next_in c.args.setup.now c.args.memory.now c.args.cache c.args.frame) (512 - length z) c.found_at-next.result)
+    let step = walk-further (λ head. head - 1) (next_in c.args.setup.now c.args.memory.now c.args.cache c.args.frame) 512 c.loop-next.next c.behind-next.result (c.loop-next.next - 1) c.loop-next.free
+    (chain_in c.args.setup.now c.args.memory.now c.args.cache c.args.frame c.args.head) some room refl c.behind-next.ensures c.loop-next.invariant in
+    subst (λ (z : List ℕ). chain_in c.args.setup.now c.args.memory.now c.args.cache c.args.frame c.args.head ≡ z ++ walked (λ head. head - 1) (next_in c.args.setup.now c.args.memory.now c.args.cache c.args.frame) (512 - length z) c.behind-next.result)
     (sym c.push_back.ensures) step
 
 pub returns-else-len-lt-OBJECTS_MAX : goal.returns-else-len-lt-OBJECTS_MAX

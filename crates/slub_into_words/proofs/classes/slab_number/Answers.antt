@@ -1,4 +1,4 @@
-use Rattle.std.proofs.Common.{◌≡◌, ◌<◌, ◌^◌, [], Some, None, false, sym, subst, ◌∙◌, arith}
+use Rattle.std.proofs.Common.{◌≡◌, ◌<◌, ◌^◌, [], Some, None, false, refl, sym, ◌∙◌, arith}
 use Rattle.slub_lists.proofs.ObjectWords.{read-inside}
 use Rattle.slub_list_machine.specs.Parts.{state_of}
 use Rattle.slub_lists.specs.Alloc.{slab_of, own_free, checked_of}
@@ -8,15 +8,11 @@ use Rattle.slub_into_words.proofs.classes.slab_number.Goals as goal
 
 pub plain_number-requires-clause-head : goal.plain_number-requires-clause-head
 plain_number-requires-clause-head c =
-    let free : c.index-in-Some.result.now ≡ own_free (state_of c.args.parts.now) c.args.frame =
-    read-inside c.args.parts.now.frees.items c.args.frame c.index-in-Some.result.now [] (omega (arith, c.requires.frame, c.requires.consistent.shaped.frees)) c.index-in-Some.ensures in
-    subst (λ xs. head_of xs < 2 ^ 16) (sym free) (own-head (state_of c.args.parts.now) c.args.frame c.requires.consistent)
+    own-head (state_of c.args.parts.now) c.args.frame c.requires.consistent
 
 pub returns-in-Some : goal.returns-in-Some
 returns-in-Some c =
-    let free : c.index-in-Some.result.now ≡ own_free (state_of c.args.parts.now) c.args.frame =
-    read-inside c.args.parts.now.frees.items c.args.frame c.index-in-Some.result.now [] (omega (arith, c.requires.frame, c.requires.consistent.shaped.frees)) c.index-in-Some.ensures in
     let slab : slab_of (state_of c.args.parts.now) c.args.frame ≡ Some c.in-Some.slab =
     sym (read-inside c.args.parts.now.slabs.items c.args.frame c.index.result.now None (omega (arith, c.requires.frame, c.requires.consistent.shaped.slabs)) c.index.ensures) ∙ c.in-Some.is in
     let unchecked : checked_of (state_of c.args.parts.now) c.in-Some.slab.cache ≡ None = none-is (checked_of (state_of c.args.parts.now) c.in-Some.slab.cache) (sym c.is_checked.ensures ∙ (let e : c.is_checked.result ≡ false = grind (arith, c.if-not-is_checked) in e)) in
-    c.plain_number.ensures ∙ plain-number (state_of c.args.parts.now) c.args.frame c.in-Some.slab c.index-in-Some.result.now c.args.listed c.requires.consistent slab unchecked free c.requires.listed
+    c.plain_number.ensures ∙ plain-number (state_of c.args.parts.now) c.args.frame c.in-Some.slab (own_free (state_of c.args.parts.now) c.args.frame) c.args.listed c.requires.consistent slab unchecked refl c.requires.listed

@@ -1,24 +1,23 @@
-use Rattle.std.proofs.Common.{◌≡◌, ◌-◌, ◌<◌, drop, Some, arith, ap, sym, ◌∙◌}
+use Rattle.std.proofs.Common.{◌≡◌, ◌-◌, ◌<◌, Some, refl, arith, ap, sym, ◌∙◌}
 use Rattle.std.specs.Prelude.{slice_get}
 use Rattle.std.proofs.lemmas.Bool.Decides.{nat_tests}
 use Rattle.slub_core.specs.Setup.{hardened}
 use Rattle.slub_local.specs.Facts.{pointer_in}
-use Rattle.slub_opening.specs.Opening.{head_of}
 use Rattle.slub_into_words.specs.Laying.{free_row}
 use Rattle.slub_into_words.proofs.Laid.{lay-step, next-head, no-gap}
 use Rattle.slub_into_words.proofs.laying.lay_free.Goals as goal
 
 pub loop-at-preserved-in-Some : goal.loop-at-preserved-in-Some
 loop-at-preserved-in-Some c =
+    let free = c.args.free.now in
     let some : 0 < c.loop-at.at = grind (arith, nat_tests, c.loop-at-test) in
-    let at : slice_get c.args.free.now (c.loop-at.at - 1) ≡ Some c.in-Some.index = sym c.get.ensures ∙ c.in-Some.is in
-    let row = free_row c.args.setup.now c.args.cache c.args.frame c.args.free.now in
-    let place : c.pointer_at-place.result ≡ pointer_in c.args.setup.now c.args.cache c.args.frame c.in-Some.index = c.pointer_at-place.ensures.place in
-    let value : c.hardened.result ≡ hardened c.args.cache (pointer_in c.args.setup.now c.args.cache c.args.frame c.in-Some.index) (head_of (drop c.loop-at.at c.args.free.now)) =
-    c.hardened.ensures ∙ ap (λ p. hardened c.args.cache p c.loop-at.next) place ∙ ap (hardened c.args.cache (pointer_in c.args.setup.now c.args.cache c.args.frame c.in-Some.index)) c.loop-at.invariant.next in
+    let at : slice_get free (c.loop-at.at - 1) ≡ Some c.in-Some.index = sym c.get.ensures ∙ c.in-Some.is in
+    let row = free_row c.args.setup.now c.args.cache c.args.frame free in
+    let place = pointer_in c.args.setup.now c.args.cache c.args.frame c.in-Some.index in
     record {
-      memory = lay-step row.place row.value c.args.free.now c.args.memory.now c.loop-at.memory c.loop-at.at c.in-Some.index c.pointer_at-place.result c.hardened.result some at c.loop-at.invariant.memory place value;
-      next = next-head c.args.free.now c.loop-at.at c.in-Some.index some at;
+      memory = c.lay_pointer-next.ensures.memory
+          ∙ lay-step row.place row.value free c.args.memory.now c.loop-at.memory c.loop-at.at c.in-Some.index place (hardened c.args.cache place c.loop-at.next) some at c.loop-at.invariant.memory refl (ap (hardened c.args.cache place) c.loop-at.invariant.next);
+      next = c.lay_pointer-next.ensures.head ∙ next-head free c.loop-at.at c.in-Some.index some at;
     }
 
 pub loop-at-preserved : goal.loop-at-preserved

@@ -3,7 +3,7 @@ use Rattle.slub_list_machine.proofs.memory.store_up_to.Given as goal
 
 -- so many are stored
 abbrev pub invariant-loop : goal.invariant-loop
-invariant-loop l =
-    (l.words.items ≡ l.initial.words.items ++ replicate l.counter 0)
-    × (vec_len l.words ≡ vec_len l.initial.words + l.counter)
-    × (vec_capacity l.words ≡ vec_capacity l.initial.words)
+invariant-loop g l =
+    (l.items.items ≡ l.initial.items.items ++ replicate l.counter l.value)
+    × (vec_len l.items ≡ vec_len l.initial.items + l.counter)
+    × (vec_capacity l.items ≡ vec_capacity l.initial.items)

@@ -1,6 +1,5 @@
 use Rattle.std.proofs.Common.{◌≡◌, ◌≢◌, false, length, ap, sym, ◌∙◌, arith}
 use Rattle.std.proofs.lemmas.Bool.Decides.{nat_tests}
-use Rattle.std.proofs.lemmas.Grind.{common_steps}
 use Rattle.slub_lists.specs.State.{State}
 use Rattle.slub_lists.specs.Alloc.{own_free}
 use Rattle.slub_lists.specs.Free.{is_frozen, without_spare, with_freed, with_taken}
@@ -13,8 +12,7 @@ returns-else-was_full-clause-freed c =
     let t : State = with_freed (with_taken c.args.self.now c.args.object c.args.held.now.cache) c.args.held.now.frame c.args.held.now.index in
     let stocked : length (own_free c.args.self.now c.args.held.now.frame) ≢ 0 =
     λ full.
-    let now : c.index.result.now ≡ own_free c.args.self.now c.args.held.now.frame = grind (arith, common_steps) in
-    let none = ap length now ∙ full in
+    let none = ap (λ (s : State). length (own_free s c.args.held.now.frame)) c.self.view_is ∙ full in
     let not_empty = c.if-was_full.ensures.value in
     grind (arith, nat_tests, none, not_empty) in
     let not_frozen : is_frozen t c.args.held.now.frame ≡ false = sym (ap (λ (s : State). is_frozen s c.args.held.now.frame) c.free_own.ensures.freed) ∙ sym c.if-is_frozen.ensures in

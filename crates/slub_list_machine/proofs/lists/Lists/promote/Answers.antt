@@ -1,4 +1,4 @@
-use Rattle.std.proofs.Common.{◌≡◌, ℕ, List, length, get_or, map, sym, [], subst, arith}
+use Rattle.std.proofs.Common.{◌≡◌, ℕ, List, length, get_or, map, sym, ap, [], subst, arith}
 use Rattle.std.proofs.lemmas.Grind.{common_steps}
 use Rattle.slub_node_partial.specs.Promotion.{IsPromoted}
 use Rattle.slub_lists.specs.State.{State}
@@ -13,9 +13,9 @@ use Rattle.slub_list_machine.proofs.lists.Lists.promote.Goals as goal
 promoted : (c : goal.After-self-1) → IsPromoted (node_of c.args.self.now c.args.cache) (node_counts c.args.self.now c.args.cache) c.promote.new.self
 promoted c =
     let now : c.index_mut.result.now ≡ node_of c.args.self.now c.args.cache = grind (arith, common_steps) in
-    let frees : c.as_slice.result.now ≡ c.args.self.now.frees = grind (arith, common_steps) in
+    let frees : c.self.inside.frees ≡ c.args.self.now.frees = ap (λ (s : State). s.frees) c.self.view_is in
     subst (λ (f : List (List ℕ)). IsPromoted (node_of c.args.self.now c.args.cache) (map (λ frame. length (get_or f frame [])) (node_of c.args.self.now c.args.cache)) c.promote.new.self) frees
-    (subst (λ (l : List ℕ). IsPromoted l (map (λ frame. length (get_or c.as_slice.result.now frame [])) l) c.promote.new.self) now c.promote.ensures.promoted)
+    (subst (λ (l : List ℕ). IsPromoted l (map (λ frame. length (get_or c.self.inside.frees frame [])) l) c.promote.new.self) now c.promote.ensures.promoted)
 
 pub returns-clause-promotes : goal.returns-clause-promotes
 returns-clause-promotes c = (c.promote.new.self, promoted c, grind (arith, common_steps))

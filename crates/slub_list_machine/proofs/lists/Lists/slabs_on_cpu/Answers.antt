@@ -1,4 +1,4 @@
-use Rattle.std.proofs.Common.{◌≡◌, ◌∙◌, ◌<◌, ℕ, List, length, get_or, ap, subst, arith}
+use Rattle.std.proofs.Common.{◌≡◌, ◌∙◌, ◌<◌, ℕ, List, length, get_or, ap, arith}
 use Rattle.slub_lists.specs.State.{State}
 use Rattle.slub_lists.proofs.FlushingCpu.{aged-live, ages-most}
 use Rattle.slub_lists.proofs.Trimming.{live-below}

@@ -3,7 +3,7 @@ use Rattle.std.proofs.lemmas.Grind.{common_steps}
 use Rattle.slub_lists.specs.State.{State}
 use Rattle.slub_lists.specs.Alloc.{checked_of}
 use Rattle.slub_lists.specs.Shrink.{min_partial_of}
-use Rattle.slub_lists.proofs.Tuning.{tunes-nothing, tunes-unchecked}
+use Rattle.slub_lists.proofs.Tuning.{tunes-unchecked}
 use Rattle.slub_list_machine.proofs.lists.Lists.tune_cpu_partial.Goals as goal
 
 pub returns-clause-tunes : goal.returns-clause-tunes

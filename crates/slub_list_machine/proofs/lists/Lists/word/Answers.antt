@@ -5,7 +5,6 @@ use Rattle.slub_red_zone.specs.State.{IsUsed}
 use Rattle.slub_red_zone.specs.Steps.{word_of as slab_word_of}
 use Rattle.slub_lists.specs.State.{State}
 use Rattle.slub_lists.specs.Alloc.{checked_of}
-use Rattle.slub_lists.specs.Words.{word_at}
 use Rattle.slub_lists.proofs.ObjectWords.{cache-inside, memory-read, place-inside-slab, read-inside, slab-read, used-word}
 use Rattle.slub_list_machine.proofs.lists.Lists.word.Goals as goal
 

@@ -50,6 +50,14 @@ impl Table {
         self.words.as_slice()
     }
 
+    /// The words, with their room. It takes no memory.
+    pub fn into_words(self) -> Vec<u64>
+        ensures words { result.items ≡ self.words }
+        ensures count { length self.words ≡ 1056 + 514 * self.frames + self.objects }
+    {
+        self.words
+    }
+
     /// One step on its word. Outside of the table a word is 0, and stays so.
     pub fn apply(&mut self, step: Step) -> Answer
         ensures frames { self.new.frames ≡ self.old.frames }

@@ -12,6 +12,7 @@ use Rattle.slub_schedule.specs.Table.{WordTable}
 use Rattle.slub_turns.specs.System.{system_of}
 use Rattle.slub_turns.specs.Ready.{IsReady}
 use Rattle.slub_workers.specs.Begun.{Begun}
+use Rattle.slub_workers.specs.Cells.{by_number}
 use Rattle.slub_workers.specs.Locks.{locks_of}
 use Rattle.slub_workers.specs.Standing.{Standing, Fork, branch, branches, locals_of}
 use Rattle.slub_workers.specs.Rule.{Stands, Holds, Owns, number_in, setup_in, table_in}
@@ -77,7 +78,7 @@ module _ (t : Bool) (key : Begun) (id : ℕ) (v : List Fork) (locals : List Loca
   abbrev workers : List Standing
   workers = branches refused holds.forks
 
-  stand : Stands key final.0.words final.0.homes workers
+  stand : Stands key (by_number final.0.words) final.0.homes workers
   stand = holds.stand refused
 
   locals_are : locals_of workers ≡ locals
@@ -104,10 +105,10 @@ module _ (t : Bool) (key : Begun) (id : ℕ) (v : List Fork) (locals : List Loca
       let home : get_elem? final.0.homes k ≡ some (some g) = stand.home k (omega arith) (no_lock k) in
       sym (place_or xs k g Nothing (final.4 k g home)))
 
-  pub ends : (facts : Facts) (table : WordTable) → length xs ≡ 33 → facts ≡ key.facts → table ≡ table_in key words → HasClosed key t record { facts = facts; table = table; guards = xs; locals = locals }
+  pub ends : (facts : Facts) (table : WordTable) → length xs ≡ 33 → facts ≡ key.facts → table ≡ table_in key (by_number words) → HasClosed key t record { facts = facts; table = table; guards = xs; locals = locals }
   ends facts table slots facts_is table_is =
       let g = guards_are slots in
-      let e : table_in key final.0.words ≡ table = ap (λ (w : List ℕ). table_in key w) final.2 ∙ sym table_is in
+      let e : table_in key (by_number final.0.words) ≡ table = ap (λ (w : List ℕ). table_in key (by_number w)) final.2 ∙ sym table_is in
       record {
         facts = facts_is;
         ready = subst (λ (y : (Facts × WordTable) × (List Guarded × List Local)). IsReady y.0.0 y.0.1 y.1.0 y.1.1) (λ i. ((sym facts_is i, e i), (g i, locals_are i))) stand.ready;

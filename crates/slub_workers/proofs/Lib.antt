@@ -16,9 +16,12 @@ pub mod StepStands
 pub mod StepGoesOn
 pub mod Branches
 pub mod Ties
+pub mod Cells
+pub mod InPlace
 pub mod Moves
 pub mod Makes
 pub mod Turning
+pub mod AtFast
 pub mod Opening
 pub mod Parts
 pub mod Backs

@@ -17,10 +17,12 @@ use Rattle.slub_local.specs.declared.guarded.Guarded.{Guarded}
 use Rattle.slub_local.specs.declared.guarded.Guarded.TheVariants.{Nothing}
 use Rattle.slub_turns.specs.Laws.{TurnsKeepReady, PicksFit}
 use Rattle.slub_workers.specs.Begun.{Begun}
+use Rattle.slub_workers.specs.Cells.{cell_of, by_number}
 use Rattle.slub_workers.specs.Locks.{Move, Stays, Takes, Gives, move_at, move_of, value_given, values_moved, slots_out, locks_of}
 use Rattle.slub_workers.specs.Standing.{Standing, Fork, step_in}
 use Rattle.slub_workers.specs.Rule.{Holds, setup_in}
 use Rattle.slub_workers.specs.Sits.{Steps, Told, Made, slots_after}
+use Rattle.slub_workers.proofs.Cells.{number-outside, length-by_number, get-by_number, set-by_number}
 use Rattle.slub_workers.proofs.StepStands.{number_at}
 use Rattle.slub_workers.proofs.StepGoesOn.{gives_last, takes_below}
 use Rattle.slub_workers.proofs.Moves.{IsWord, allowed}
@@ -103,35 +105,41 @@ module _ (keep : TurnsKeepReady) (fit : PicksFit) (key kk : Begun) (same_key : k
       subst (λ (k : Begun). Allows (Holds k) slots id me i f (λ n after. Told kk tries x (told n) me after)) same_key two
 
   -- on its word
-  asks : (word : ℕ) (f : ℕ → ℕ) → word ≡ number_of (setup_in kk) step.place → ((n : ℕ) → after_op step.op n ≡ f n)
+  asks : (word : ℕ) (f : ℕ → ℕ) → word ≡ cell_of (number_of (setup_in kk) step.place) → ((n : ℕ) → after_op step.op n ≡ f n)
       → ((lock n : ℕ) → move_of step n ≡ Gives lock → me.1 ≡ (lock, value_given lock x.values) ∷ rest me.1)
       → Allows (Holds key) slots id me word f (λ n after. Told kk tries x n me after)
   asks word f number after given =
       let m = setup_in kk in
-      let at : word ≡ number_at kk tries x = number ∙ ap (λ (s : Step). number_of m s.place) st.is in
-      asks_at word f (λ n. n) given (λ words long. record {
-        found = ap (λ (k : ℕ). slice_index words k) at;
-        after = ap (λ (y : ℕ). set words word y) (sym (after (slice_index words word)) ∙ ap (λ (s : Step). after_op s.op (slice_index words word)) st.is)
-            ∙ ap (λ (k : ℕ). set words k (after_op (step_in m tries x).op (slice_index words k))) at;
+      let n : ℕ = number_at kk tries x in
+      let op = (step_in m tries x).op in
+      let at : word ≡ cell_of n = number ∙ ap (λ (s : Step). cell_of (number_of m s.place)) st.is in
+      asks_at word f (λ n. n) given (λ words long.
+      let all : 1056 ≤ length words = omega arith in
+      let found : slice_index words word ≡ slice_index (by_number words) n = ap (λ (k : ℕ). slice_index words k) at ∙ sym (get-by_number words n all) in
+      record {
+        found = found;
+        after = ap (λ (y : ℕ). by_number (set words word y)) (sym (after (slice_index words word)) ∙ ap (λ (s : Step). after_op s.op (slice_index words word)) st.is ∙ ap (after_op op) found)
+            ∙ ap (λ (k : ℕ). by_number (set words k (after_op op (slice_index (by_number words) n)))) at
+            ∙ set-by_number words n (after_op op (slice_index (by_number words) n)) all;
       })
 
-  pub load_asks : (word : ℕ) → word ≡ number_of (setup_in kk) step.place → step.op ≡ Load → Allows (Holds key) slots id me word (λ n. n) (λ n after. Told kk tries x n me after)
+  pub load_asks : (word : ℕ) → word ≡ cell_of (number_of (setup_in kk) step.place) → step.op ≡ Load → Allows (Holds key) slots id me word (λ n. n) (λ n after. Told kk tries x n me after)
   load_asks word number op =
       asks word (λ n. n) number (λ n. ap (λ (o : Op). after_op o n) op)
       (λ lock n e. absurd (stays_given lock (sym (stays_load step.place n) ∙ ap (λ (o : Op). move_at step.place o n) (sym op) ∙ e)))
 
-  pub swap_asks : (word v : ℕ) → word ≡ number_of (setup_in kk) step.place → step.op ≡ Swap v → Allows (Holds key) slots id me word (λ _. v) (λ n after. Told kk tries x n me after)
+  pub swap_asks : (word v : ℕ) → word ≡ cell_of (number_of (setup_in kk) step.place) → step.op ≡ Swap v → Allows (Holds key) slots id me word (λ _. v) (λ n after. Told kk tries x n me after)
   swap_asks word v number op =
       asks word (λ _. v) number (λ n. ap (λ (o : Op). after_op o n) op)
       (λ lock n e. absurd (stays_given lock (sym (stays_swap step.place v n) ∙ ap (λ (o : Op). move_at step.place o n) (sym op) ∙ e)))
 
-  pub exchange_asks : (word from to : ℕ) → word ≡ number_of (setup_in kk) step.place → step.op ≡ Exchange from to
+  pub exchange_asks : (word from to : ℕ) → word ≡ cell_of (number_of (setup_in kk) step.place) → step.op ≡ Exchange from to
       → Allows (Holds key) slots id me word (λ n. either (n == from) to n) (λ n after. Told kk tries x n me after)
   exchange_asks word from to number op =
       asks word (λ n. either (n == from) to n) number (λ n. ap (λ (o : Op). after_op o n) op ∙ either_is (n == from) to n)
       (λ lock n e. absurd (swaps_give_none step.place from to n lock (ap (λ (o : Op). move_at step.place o n) (sym op) ∙ e)))
 
-  pub store_asks : (word v : ℕ) → word ≡ number_of (setup_in kk) step.place → step.op ≡ Store v
+  pub store_asks : (word v : ℕ) → word ≡ cell_of (number_of (setup_in kk) step.place) → step.op ≡ Store v
       → ((lock n : ℕ) → move_of step n ≡ Gives lock → me.1 ≡ (lock, value_given lock x.values) ∷ rest me.1)
       → Allows (Holds key) slots id me word (λ _. v) (λ _ after. (found : ℕ) × Told kk tries x found me after)
   store_asks word v number op given s h count at small =
@@ -143,10 +151,15 @@ module _ (keep : TurnsKeepReady) (fit : PicksFit) (key kk : Begun) (same_key : k
   outside (w ∷ ws) zero v far = absurd (omega arith)
   outside (w ∷ ws) (suc i) v far = let r = outside ws i v (omega arith) in (r.0, ap (λ (t : List ℕ). w ∷ t) r.1)
 
-  pub outside_asks : (count : ℕ) → count ≤ number_of (setup_in kk) step.place → count ≡ word_count (setup_in kk)
+  -- a number is outside of it where its cell is
+  far_number : (count : ℕ) → count ≤ cell_of (number_of (setup_in kk) step.place) → count ≡ word_count (setup_in kk) → count ≤ number_of (setup_in kk) step.place
+  far_number count far all = number-outside (number_of (setup_in kk) step.place) count (omega arith) far
+
+  pub outside_asks : (count : ℕ) → count ≤ cell_of (number_of (setup_in kk) step.place) → count ≡ word_count (setup_in kk)
       → Allows (Holds key) slots id me 0 (λ n. n) (λ n after. Told kk tries x 0 me after)
   outside_asks count far all =
       let m = setup_in kk in
+      let out = far_number count far all in
       let at : number_of m step.place ≡ number_at kk tries x = ap (λ (s : Step). number_of m s.place) st.is in
       asks_at 0 (λ n. n) (λ _. 0)
       (λ lock n e.
@@ -154,20 +167,26 @@ module _ (keep : TurnsKeepReady) (fit : PicksFit) (key kk : Begun) (same_key : k
       let here : number_of m step.place ≡ lock = ap (λ (p : Place). number_of m p) (given_place step.place step.op n lock e) in
       absurd (omega arith))
       (λ words long.
-      let past = outside words (number_at kk tries x) (after_op (step_in m tries x).op (slice_index_or words (number_at kk tries x) 0)) (omega arith) in
-      record { found = past.0; after = set-get_or words 0 0 ∙ sym past.1 })
+      let same = length-by_number words in
+      let past = outside (by_number words) (number_at kk tries x) (after_op (step_in m tries x).op (slice_index_or (by_number words) (number_at kk tries x) 0)) (omega arith) in
+      record { found = past.0; after = ap by_number (set-get_or words 0 0) ∙ sym past.1 })
 
-  pub outside_stays : (count : ℕ) → count ≤ number_of (setup_in kk) step.place → count ≡ word_count (setup_in kk) → move_of step 0 ≡ Stays
+  pub outside_stays : (count : ℕ) → count ≤ cell_of (number_of (setup_in kk) step.place) → count ≡ word_count (setup_in kk) → move_of step 0 ≡ Stays
   outside_stays count far all = by_move (move_of step 0) refl
     where
+      out : count ≤ number_of (setup_in kk) step.place
+      out = far_number count far all
+
       by_move : (mv : Move) → move_of step 0 ≡ mv → move_of step 0 ≡ Stays
       by_move Stays e = e
       by_move (Takes lock) e =
           let low = takes_below kk tries x keep fit st.may lock 0 (ap (λ (s : Step). move_of s 0) (sym st.is) ∙ e) in
+          let far_out = out in
           let here : number_of (setup_in kk) step.place ≡ lock = ap (λ (p : Place). number_of (setup_in kk) p) (taken_place step.place step.op 0 lock e) in
           absurd (omega arith)
       by_move (Gives lock) e =
           let low = (gives_last kk tries x keep fit st.may lock 0 (ap (λ (s : Step). move_of s 0) (sym st.is) ∙ e)).0 in
+          let far_out = out in
           let here : number_of (setup_in kk) step.place ≡ lock = ap (λ (p : Place). number_of (setup_in kk) p) (given_place step.place step.op 0 lock e) in
           absurd (omega arith)
 

@@ -9,10 +9,12 @@ use Rattle.slub_core.specs.Words.{word_count}
 use Rattle.slub_local.specs.declared.guarded.Guarded.{Guarded}
 use Rattle.slub_turns.specs.Laws.{TurnsKeepReady, PicksFit}
 use Rattle.slub_workers.specs.Begun.{Begun}
+use Rattle.slub_workers.specs.Cells.{by_number}
 use Rattle.slub_workers.specs.Locks.{Move, Stays, Takes, Gives, move_of, value_given}
 use Rattle.slub_workers.specs.Standing.{Standing, Fork, branch, branches, step_in, after_turn, fork_after}
 use Rattle.slub_workers.specs.Rule.{Stands, Holds, number_in, setup_in}
 use Rattle.slub_workers.specs.Sits.{Told, slots_after}
+use Rattle.slub_workers.proofs.Cells.{length-by_number}
 use Rattle.slub_workers.proofs.StepMoves.{homes_moved, IsHome}
 use Rattle.slub_workers.proofs.StepStands.{found_at, move_at, words_after, takes_home, stands_step, stays_numbered}
 use Rattle.slub_workers.proofs.StepGoesOn.{goes_on}
@@ -57,10 +59,10 @@ branch_after m tries x found y false = refl
 
 -- ---- the step
 
--- the word i becomes what the step makes of its own word, and what is found there tells what that is
+-- the word in cell i becomes what the step makes of its own word, and what is found there tells what that is
 pub record IsWord (key : Begun) (tries : Bool) (x : Standing) (words : List ℕ) (i : ℕ) (f told : ℕ → ℕ) : Type 0 where
-  pub found : told (slice_index words i) ≡ found_at key words tries x
-  pub after : slice_set words i (f (slice_index words i)) ≡ words_after key words tries x
+  pub found : told (slice_index words i) ≡ found_at key (by_number words) tries x
+  pub after : by_number (slice_set words i (f (slice_index words i))) ≡ words_after key (by_number words) tries x
 
 module _ (keep : TurnsKeepReady) (fit : PicksFit) (key : Begun) (slots id : ℕ) (tries : Bool) (x : Standing) (fork : Fork) (refused : Bool) (is : x ≡ branch refused fork)
     (c : List (ℕ × Guarded)) (i : ℕ) (f told : ℕ → ℕ)
@@ -70,30 +72,31 @@ module _ (keep : TurnsKeepReady) (fit : PicksFit) (key : Begun) (slots id : ℕ)
   allowed s h count at small =
       let m = setup_in key in
       let w : ℕ = number_in fork in
+      let ws : List ℕ = by_number s.words in
       let own = h.tied id (fork ∷ []) at in
-      let st : (r : ℕ → Bool) → Stands key s.words s.homes (branches (chosen w refused r) h.forks) = λ r. h.stand (chosen w refused r) in
+      let st : (r : ℕ → Bool) → Stands key ws s.homes (branches (chosen w refused r) h.forks) = λ r. h.stand (chosen w refused r) in
       let here : (r : ℕ → Bool) → get_elem? (branches (chosen w refused r) h.forks) w ≡ some x = λ r.
       branches_at w (chosen w refused r) h.forks fork own.0 ∙ ap (λ (b : Bool). some (branch b fork)) (chosen_here w refused r) ∙ ap (λ (z : Standing). some z) (sym is) in
       let any : ℕ → Bool = λ _. false in
-      let long : length s.words ≡ word_count m = (st any).ready.may.coherent.words in
+      let long : length s.words ≡ word_count m = sym (length-by_number s.words) ∙ (st any).ready.may.coherent.words in
       let at_word = word s.words long in
-      let found : ℕ = found_at key s.words tries x in
-      let mv : Move = move_at key s.words tries x in
-      let home = takes_home key s.words s.homes (branches (chosen w refused any) h.forks) w tries x keep fit (st any) h.slots (here any) in
+      let found : ℕ = found_at key ws tries x in
+      let mv : Move = move_at key ws tries x in
+      let home = takes_home key ws s.homes (branches (chosen w refused any) h.forks) w tries x keep fit (st any) h.slots (here any) in
       let y : Guarded = home.0 in
       let fork' : Fork = fork_after m tries x found y in
       let numbered : (b : Bool) → (after_turn m tries x found y b).local.worker ≡ w = λ b.
-      stays_numbered key s.words s.homes (branches (chosen w refused any) h.forks) w tries x keep fit (st any) h.slots (here any) y home.1 b in
+      stays_numbered key ws s.homes (branches (chosen w refused any) h.forks) w tries x keep fit (st any) h.slots (here any) y home.1 b in
       let number : x.local.worker ≡ w = (st any).numbers w x (here any) in
       let homes_is = homes_are mv s.homes c y x.values (λ lock e. given lock found e) in
-      let stand : (r : ℕ → Bool) → Stands key (slice_set s.words i (f (slice_index s.words i))) (homes_after s.homes c (act_of mv y)) (branches r (set h.forks w fork')) = λ r.
+      let stand : (r : ℕ → Bool) → Stands key (by_number (slice_set s.words i (f (slice_index s.words i)))) (homes_after s.homes c (act_of mv y)) (branches r (set h.forks w fork')) = λ r.
       let all = branches (chosen w refused r) h.forks in
-      let after = stands_step key s.words s.homes all w tries x keep fit (st r) h.slots (here r) y home.1 (r w) in
+      let after = stands_step key ws s.homes all w tries x keep fit (st r) h.slots (here r) y home.1 (r w) in
       let workers : set all w (after_turn m tries x found y (r w)) ≡ branches r (set h.forks w fork') =
       set_chosen w refused r h.forks (after_turn m tries x found y (r w)) ∙ ap (λ (z : Standing). set (branches r h.forks) w z) (branch_after m tries x found y (r w)) ∙ sym (branches_set w r h.forks fork') in
-      subst (λ (ws : List ℕ). Stands key ws (homes_after s.homes c (act_of mv y)) (branches r (set h.forks w fork'))) (sym at_word.after) (
-      subst (λ (hs : List (Option Guarded)). Stands key (words_after key s.words tries x) hs (branches r (set h.forks w fork'))) homes_is (
-      subst (λ (xs : List Standing). Stands key (words_after key s.words tries x) (homes_moved mv x.values s.homes) xs) workers after
+      subst (λ (words : List ℕ). Stands key words (homes_after s.homes c (act_of mv y)) (branches r (set h.forks w fork'))) (sym at_word.after) (
+      subst (λ (hs : List (Option Guarded)). Stands key (words_after key ws tries x) hs (branches r (set h.forks w fork'))) homes_is (
+      subst (λ (xs : List Standing). Stands key (words_after key ws tries x) (homes_moved mv x.values s.homes) xs) workers after
       )
       ) in (
         fork' ∷ [],
@@ -111,7 +114,7 @@ module _ (keep : TurnsKeepReady) (fit : PicksFit) (key : Begun) (slots id : ℕ)
           value = y;
           view = refl;
           slots = carried_is mv c y;
-          goes_on = goes_on key s.words s.homes (branches (chosen w refused any) h.forks) w tries x keep fit (st any) h.slots (here any) y home.1;
+          goes_on = goes_on key ws s.homes (branches (chosen w refused any) h.forks) w tries x keep fit (st any) h.slots (here any) y home.1;
           number = λ b. numbered b ∙ sym number;
         }),
       )

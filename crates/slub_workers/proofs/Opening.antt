@@ -1,5 +1,5 @@
 -- The table as it is opened meets the rule.
-use Rattle.std.proofs.Common.{◌≡◌, ℕ, zero, suc, ◌+◌, ◌<◌, Bool, true, false, List, [], ◌∷◌, length, map, get_or, refl, sym, ap, ◌∙◌, subst, arith}
+use Rattle.std.proofs.Common.{◌≡◌, ℕ, zero, suc, ◌+◌, ◌<◌, ◌≤◌, Bool, true, false, List, [], ◌∷◌, length, map, get_or, refl, sym, ap, ◌∙◌, subst, arith}
 use Rattle.std.specs.Prelude.{Contains}
 use Rattle.std.proofs.lemmas.List.Elements.{All-nil}
 use mathlib.Core.Option.{some, some-injective, some-ne-none}
@@ -15,11 +15,13 @@ use Rattle.slub_schedule.specs.Schedule.{IsCall}
 use Rattle.slub_turns.specs.System.{system_of}
 use Rattle.slub_turns.specs.Ready.{IsReady}
 use Rattle.slub_workers.specs.Begun.{Begun}
+use Rattle.slub_workers.specs.Cells.{by_number}
 use Rattle.slub_workers.specs.Locks.{locks_of}
 use Rattle.slub_workers.specs.Standing.{Standing, Fork, branch, branches, branches_from, locals_of, one_way}
 use Rattle.slub_workers.specs.Rule.{Stands, Holds, Owns, AreTied, IsAbsent, number_in, standing_first, first_view, setup_in}
 use Rattle.slub_workers.specs.Ranks.{AreFresh}
 use Rattle.slub_workers.specs.Round.{MayBegin}
+use Rattle.slub_workers.proofs.Cells.{by_number-twice}
 use Rattle.slub_workers.proofs.StepReady.{many-guards}
 
 -- ---- lists
@@ -134,11 +136,15 @@ module _ (key : Begun) (o : MayBegin key) where
   tied zero v e = subst (λ (x : List Fork). Owns (λ _. 0) (first_view key) 0 x) (some-injective (first_view key) v e) owns_all
   tied (suc k) v e = absurd (some-ne-none v (sym e))
 
-  pub opens : Holds key (opening key.table.words key.guards (first_view key))
+  every_word : 1056 ≤ length key.table.words
+  every_word = let n = o.ready.may.coherent.words in omega arith
+
+  -- in cells, the words are those with which the round begins
+  pub opens : Holds key (opening (by_number key.table.words) key.guards (first_view key))
   opens = record {
     forks = first_view key;
     owner = λ _. 0;
-    stand = stands_all;
+    stand = λ refused. subst (λ (ws : List ℕ). Stands key ws (map some key.guards) (branches refused (first_view key))) (sym (by_number-twice key.table.words every_word)) (stands_all refused);
     tied = tied;
     slots = length_of_map some key.guards ∙ many;
     count = length_of_map (λ l. one_way (standing_first l)) key.locals;

@@ -1,5 +1,6 @@
 -- Lists of workers, one more or one less.
-use Rattle.std.proofs.Common.{◌≡◌, ℕ, zero, suc, ◌+◌, ◌<◌, List, [], ◌∷◌, ◌++◌, map, length, get_or, All, refl, sym, ap, ◌∙◌, subst, arith, length-append}
+use Rattle.std.proofs.Common.{◌≡◌, ℕ, zero, suc, ◌+◌, ◌<◌, List, [], ◌∷◌, ◌++◌, map, length, get_or, All, refl, sym, ap, ◌∙◌, reverse, subst, arith, append_assoc, length-append}
+use Rattle.std.proofs.lemmas.List.{map-append, reverse-append}
 use Rattle.std.proofs.lemmas.List.Elements.{All-append}
 use lib.ListN.{get_elem?}
 use Rattle.atomic_table.specs.Seated.{TableId}
@@ -8,6 +9,7 @@ use Rattle.slub_core.specs.Local.{Local}
 use Rattle.slub_workers.specs.Begun.{Begun}
 use Rattle.slub_workers.specs.Standing.{Standing, Fork, one_way}
 use Rattle.slub_workers.specs.Rule.{standing_first}
+use Rattle.slub_workers.specs.Ends.{seated_first}
 use Rattle.slub_workers.specs.Ranks.{IsFresh, AreFresh, view_of}
 use Rattle.slub_workers.specs.Workers.{countdown, worker_in}
 
@@ -56,6 +58,20 @@ fresh_front key ls v l e f k y at = f k y (ap (λ (t : List Local). get_elem? t 
 pub view-snoc : (v : List Local) (l : Local) → view_of (v ++ l ∷ []) ≡ view_of v ++ one_way (standing_first l) ∷ []
 view-snoc [] l = refl
 view-snoc (k ∷ v) l = ap (λ (t : List Fork). one_way (standing_first k) ∷ t) (view-snoc v l)
+
+-- how those begin that are one more: the last one stands before the others
+first-snoc : (table : TableId) (v : List Local) (l : Local) → seated_first table (v ++ l ∷ []) ≡ (table, standing_first l) ∷ seated_first table v
+first-snoc table v l =
+    ap (λ (t : List (TableId × Standing)). reverse t) (map-append (λ (k : Local). (table, standing_first k)) v (l ∷ []))
+    ∙ reverse-append (map (λ (k : Local). (table, standing_first k)) v) ((table, standing_first l) ∷ [])
+
+-- the last one of those without a seat gets one, behind those that have one
+pub seated_next : (table : TableId) (list more : List (TableId × Standing)) (ls v : List Local) (w : TableId × Standing) (l : Local) → more ≡ list ++ w ∷ [] → ls ≡ v ++ l ∷ [] → w ≡ (table, standing_first l)
+    → more ++ seated_first table v ≡ list ++ seated_first table ls
+seated_next table list more ls v w l pushed popped stands =
+    ap (λ (t : List (TableId × Standing)). t ++ seated_first table v) pushed ∙ append_assoc list (w ∷ []) (seated_first table v)
+    ∙ ap (λ (t : TableId × Standing). list ++ t ∷ seated_first table v) stands
+    ∙ ap (λ (t : List (TableId × Standing)). list ++ t) (sym (ap (λ (t : List Local). seated_first table t) popped ∙ first-snoc table v l))
 
 -- ---- numbers that fall
 

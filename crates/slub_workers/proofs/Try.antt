@@ -54,6 +54,12 @@ rested_grows m (call ∷ calls) l =
     let one : List Answered = record { call = call_of l; reply = reply } ∷ [] in
     (g.0, (g.1.0 ++ one, g.1.1 ∙ sym (append_assoc g.1.0 one l.done))))
 
+-- ---- a try is noted
+
+pub has_tried : (b : Bool) → (b || true) ≡ true
+has_tried true = refl
+has_tried false = refl
+
 -- ---- a turn that takes no lock
 
 same_values : (x : Standing) → all_guarded (rooms_of x.values) (values_of x.values) ≡ x.values
@@ -277,6 +283,19 @@ module _ (key : Begun) (facts : Facts) (same : key.facts ≡ facts) (x : Standin
       }
 
   -- where it goes on
+
+  pub goes_next : is_spent_by facts.step word ≡ false → word.head ≢ 0 → y.local.spot ≡ InAlloc LoadNext
+  goes_next is some =
+      let unspent : is_spent m (cpu_in w) ≡ false = sym spent_is ∙ is in
+      let filled : ((cpu_in w).head == 0) ≡ false = ne_eqb (cpu_in w).head 0 (λ e. some (head_is ∙ e)) in
+      ap (λ (u : Standing). u.local.spot) (h.leads ∙ finds_some m x may w h.value h.refused unspent filled)
+
+  pub goes_pop : is_spent_by facts.step word ≡ false → word.head ≢ 0 → (second : Step × Answer) (z : Standing) → HasTurned key true y second z → z.local.spot ≡ InAlloc Pop
+  goes_pop is some second z g =
+      let unspent : is_spent m (cpu_in w) ≡ false = sym spent_is ∙ is in
+      let filled : ((cpu_in w).head == 0) ≡ false = ne_eqb (cpu_in w).head 0 (λ e. some (head_is ∙ e)) in
+      ap (λ (u : Standing). u.local.spot)
+      (g.leads ∙ ap (λ (u : Standing). after_turn m true u g.found g.value g.refused) (h.leads ∙ finds_some m x may w h.value h.refused unspent filled) ∙ finds_next m x may w g.found g.value g.refused)
 
   module _ (is : is_spent_by facts.step word ≡ false) (some : word.head ≢ 0) (second third : Step × Answer) (z u : Standing) (g : HasTurned key true y second z) (f : HasTurned key true z third u) where
     unspent : is_spent m (cpu_in w) ≡ false

@@ -9,6 +9,7 @@ use Rattle.slub_workers.specs.declared.workers.Ended.{Ended}
 use Rattle.slub_workers.specs.Begun.{Begun}
 use Rattle.slub_workers.specs.Standing.{Standing}
 use Rattle.slub_workers.specs.Ranks.{AreBack}
+use Rattle.slub_workers.specs.Rule.{standing_first}
 use Rattle.slub_workers.specs.Workers.{MayWorkAt, countdown, worker_in}
 
 -- ---- before the end
@@ -25,9 +26,15 @@ pub record IsRoom (table : TableId) (count : ℕ) (rest : Rest) : Type 0 where
 abbrev pub IsIdleAt : TableId → TableId × Standing → Type 0
 IsIdleAt table w = (w.0 ≡ table) × (w.1.local.spot ≡ Between)
 
--- all workers of the round have seats at this table, the last one first; each is between two calls,
--- and none has tried
+-- how workers begin at a table, the last one first: each as it came, with no lock, no answer and no
+-- step
+abbrev pub seated_first : TableId → List Local → List (TableId × Standing)
+seated_first table ls = reverse (map (λ l. (table, standing_first l)) ls)
+
+-- all workers of the round have seats at this table, the last one first; each stands as it begins,
+-- is between two calls, and hasn't tried
 pub record AreSeated (key : Begun) (table : TableId) (ws : Workers) : Type 0 where
+  pub first : ws.list.items ≡ seated_first table key.locals
   pub list : All (MayWorkAt key table) ws.list.items
   pub idle : All (IsIdleAt table) ws.list.items
   pub numbers : map worker_in ws.list.items ≡ countdown (length key.locals)

@@ -3,8 +3,10 @@ pub mod Locks
 pub mod Standing
 pub mod Nobody
 pub mod Seats
+pub mod Cells
 pub mod Rule
 pub mod Sits
+pub mod Quick
 pub mod Workers
 pub mod Round
 pub mod Ranks

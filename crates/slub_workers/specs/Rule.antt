@@ -17,6 +17,7 @@ use Rattle.slub_turns.specs.Means.{the_means}
 use Rattle.slub_turns.specs.System.{system_of}
 use Rattle.slub_turns.specs.Ready.{IsReady}
 use Rattle.slub_workers.specs.Begun.{Begun}
+use Rattle.slub_workers.specs.Cells.{by_number}
 use Rattle.slub_workers.specs.Locks.{locks_of}
 use Rattle.slub_workers.specs.Standing.{Standing, Fork, branches, locals_of, one_way}
 
@@ -86,11 +87,12 @@ AreTied owner all views =
 
 -- ---- the rule
 
--- whoever is refused memory, the workers stand
+-- whoever is refused memory, the workers stand, at the words that lie in the cells of the table
 pub record Holds (key : Begun) (s : State Guarded (List Fork)) : Type 0 where
   pub forks : List Fork
   pub owner : ℕ → ℕ
-  pub stand : (refused : ℕ → Bool) → Stands key s.words s.homes (branches refused forks)
+  pub stand : (refused : ℕ → Bool)
+      → Stands key (by_number s.words) s.homes (branches refused forks)
   pub tied : AreTied owner forks s.views
   pub slots : length s.homes ≡ 33
   pub count : length forks ≡ length key.locals

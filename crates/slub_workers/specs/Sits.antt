@@ -1,5 +1,5 @@
 -- A worker at its seat, and what a step tells it.
-use Rattle.std.specs.Prelude.{◌≡◌, ℕ, Bool, List, [], ◌∷◌, drop}
+use Rattle.std.specs.Prelude.{◌≡◌, ℕ, Bool, ◌||◌, List, [], ◌∷◌, drop}
 use mathlib.Core.Option.{some}
 use mathlib.Core.Option as core
 use lib.ListN.{get_elem?}
@@ -15,7 +15,7 @@ use Rattle.slub_fits.specs.Fits.{change_of}
 use Rattle.slub_turns.specs.Fits.{SettledFits}
 use Rattle.slub_workers.specs.Begun.{Begun}
 use Rattle.slub_workers.specs.Locks.{Move, Stays, Takes, Gives, locks_of, move_of, slots_out}
-use Rattle.slub_workers.specs.Standing.{Standing, Fork, branch, begun_in, step_in, in_hand, after_turn, fork_after}
+use Rattle.slub_workers.specs.Standing.{Standing, Fork, branch, counted, begun_in, step_in, in_hand, after_turn, fork_after}
 use Rattle.slub_workers.specs.Rule.{Stands, setup_in}
 
 -- there is a machine of the round in which it stands so
@@ -124,3 +124,21 @@ pub record HasTurned (key : Begun) (tries : Bool) (x : Standing) (made : Step ×
   pub step : made.0 ≡ step_in (setup_in key) tries x
   pub answer : made.1 ≡ answer_of made.0.op found
   pub leads : after ≡ after_turn (setup_in key) tries x found value refused
+
+-- the worker that sat and stood so has begun its call, and its step is counted, but not yet made
+pub record HasBegun (key : Begun) (tries : Bool) (x : Standing) (me : Me Guarded (List Fork))
+    (after : Standing) : Type 0 where
+  pub sits : Sits me x
+  pub may : MayStand key x
+  pub local : after.local ≡ begun_in (setup_in key) tries x
+  pub values : after.values ≡ x.values
+  pub tried : after.tried ≡ (x.tried || tries)
+  pub steps : after.steps ≡ counted x.steps 1
+
+-- the worker that stood so has made its turn, and may make the next
+pub record HasMade (key : Begun) (tries : Bool) (x : Standing) (me : Me Guarded (List Fork))
+    (made : Step × Answer) (after : Standing) : Type 0 where
+  pub sits : Sits me after
+  pub may : MayStand key after
+  pub number : after.local.worker ≡ x.local.worker
+  pub turned : HasTurned key tries x made after

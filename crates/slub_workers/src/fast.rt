@@ -7,6 +7,7 @@ ghost use Rattle.slub_workers.specs.Rule.{setup_in};
 ghost use Rattle.slub_workers.specs.Tables.{begun_at, table_of};
 ghost use Rattle.slub_workers.specs.Workers.{MayTurnAt, worker_in};
 
+use crate::quick::Quick;
 use crate::shared::Shared;
 use crate::worker::Worker;
 use slub_core::call::{Call, CallKind};
@@ -64,7 +65,7 @@ impl Worker {
         ensures number { worker_in self.new ≡ worker_in self.old }
         ensures tried { (may : MayTry (setup_in (begun_at shared.now)) self.old.1.local) → HasTried (begun_at shared.now) may.cache self.old.1 result self.new.1 }
     {
-        let (_, answer) = self.turn(shared, true);
+        let (_, answer) = self.try_first(shared);
         let Answer::Word(loaded) = answer else {
             unreachable!()
         };
@@ -76,8 +77,8 @@ impl Worker {
         if word.head == 0 {
             return Fast::Empty(loaded);
         }
-        let _ = self.turn(shared, true);
-        let (_, answer) = self.turn(shared, true);
+        let _ = self.try_next(shared, Quick::LoadNext);
+        let (_, answer) = self.try_next(shared, Quick::Pop);
         if let Answer::Lost(found) = answer {
             return Fast::Moved(found);
         }

@@ -6,8 +6,14 @@
 //! a run of turns of the step machine (`slub_core`) leads to its words, values and workers, and that the invariants of
 //! that machine hold: so they do at every step, whatever order the threads' steps have.
 //!
+//! Each word lies in the cell of its number, but for the CPU words: those of a cache lie at least a line of 64 bytes
+//! apart (`cell`, `specs/Cells.antt`), so that threads on different CPUs, each of which exchanges its own CPU word, don't
+//! slow each other down. The words of the machine are rearranged so as the table is opened, and back as it is closed.
+//!
 //! `round` does a round: it opens the table (`shared`), gives each worker a seat (`worker`), lets them make their turns
-//! until each event has its reply, and closes the table. `step` makes one step on it.
+//! until each event has its reply, and closes the table. `step` makes one step on it. The six spots of the two fast paths
+//! have turns of their own (`quick`), in which nothing is left to choose; each is the turn of the step machine all the
+//! same. A try is made of three of them (`try_turns`).
 //!
 //! The same, call by call: `round::open` gives the table and its `workers`; a worker makes its next call by `call`,
 //! which may wait for a lock, or tries it by `fast`, the fast path alone, which never waits; `Workers::end` takes the
@@ -15,8 +21,10 @@
 #![tactic(auto)]
 
 pub mod call;
+pub mod cell;
 pub mod fast;
 mod number;
+mod quick;
 pub mod round;
 mod rule;
 pub mod shared;
@@ -24,5 +32,6 @@ mod standing;
 mod step;
 #[cfg(test)]
 mod tests;
+mod try_turns;
 pub mod worker;
 pub mod workers;

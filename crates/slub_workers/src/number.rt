@@ -7,6 +7,7 @@ ghost use Rattle.slub_core.specs.Words.{number_of, answer_of};
 use slub_core::step::{Answer, Op, Place};
 
 /// The number of a word in the table of a machine with so many frames and object numbers.
+#[inline(always)]
 pub(crate) fn number(frames: u32, objects: u32, place: Place) -> usize
     ensures { (m : Setup) → m.frames ≡ frames → m.objects ≡ objects → result ≡ number_of m place }
 {
@@ -24,6 +25,7 @@ pub(crate) fn number(frames: u32, objects: u32, place: Place) -> usize
 }
 
 /// What a step answers that finds 0, as it does outside of the table.
+#[inline(always)]
 pub(crate) fn answer_outside(op: Op) -> Answer
     ensures { result ≡ answer_of op 0 }
 {

@@ -7,7 +7,7 @@ ghost use Rattle.slub_core.specs.Run.{IsFinished};
 ghost use Rattle.slub_local.specs.declared.guarded.Guarded.TheVariants.{Nothing};
 ghost use Rattle.slub_workers.specs.Standing.{Fork, branch, one_way};
 ghost use Rattle.slub_workers.specs.Rule.{standing_first};
-ghost use Rattle.slub_workers.specs.Ends.{AreGathered, AreSeated, HaveEnded, IsIdleAt, IsRoom};
+ghost use Rattle.slub_workers.specs.Ends.{AreGathered, AreSeated, HaveEnded, IsIdleAt, IsRoom, seated_first};
 ghost use Rattle.slub_workers.specs.Ranks.{AreFresh, view_of};
 ghost use Rattle.slub_workers.specs.Round.{HasWorked, IsUnchanged, MayWork, begun_by};
 ghost use Rattle.slub_workers.specs.Seats.{all_but_last};
@@ -31,8 +31,7 @@ use std::thread::{Threads, join};
 
 /// The memory that a round takes, but for its table.
 struct Room {
-    /// For the words at the end, and for what the locks guard.
-    words: Vec<u64>,
+    /// For what the locks guard, at the end.
     values: Vec<Guarded>,
     /// By worker: what is guarded by the locks that it has, which is nothing yet.
     hands: Vec<Vec<Guarded>>,
@@ -43,20 +42,17 @@ struct Room {
 
 /// Takes the memory of a round.
 fn take_room(alloc: Global, machine: &Machine) -> Result<Room, NoMemory>
-    ensures words { IfOk result (λ r. (r.words.items ≡ []) × (length machine.now.table.words ≤ vec_capacity r.words)) }
     ensures values { IfOk result (λ r. (r.values.items ≡ []) × (33 ≤ vec_capacity r.values)) }
     ensures hands { IfOk result (λ r. (length r.hands.items ≡ length machine.now.locals.items) × All (λ hand. hand.items ≡ replicate 33 Nothing) r.hands.items) }
     ensures workers { IfOk result (λ r. (r.workers.items ≡ []) × (length machine.now.locals.items ≤ vec_capacity r.workers)) }
     ensures done { IfOk result (λ r. (r.done.items ≡ []) × (length machine.now.locals.items ≤ vec_capacity r.done)) }
 {
     let count = machine.locals.len();
-    let words = Vec::with_capacity(alloc, machine.table.words().len())?;
     let values = Vec::with_capacity(alloc, 33)?;
     let hands = empty_hands(alloc, count)?;
     let workers = Vec::with_capacity(alloc, count)?;
     let done = Vec::with_capacity(alloc, count)?;
     Ok(Room {
-        words,
         values,
         hands,
         workers,
@@ -126,6 +122,7 @@ fn seat_all(
     ensures seated { All (MayWorkAt shared.now.words.shared.key shared.now.words.shared.table_id) result.items }
     ensures idle { All (IsIdleAt shared.now.words.shared.table_id) result.items }
     ensures numbers { map worker_in result.items ≡ countdown (length locals.old.items) }
+    ensures first { result.items ≡ seated_first shared.now.words.shared.table_id locals.old.items }
     ensures locals { (locals.new.items ≡ []) × (vec_capacity locals.new ≡ vec_capacity locals.old) }
 {
     while let Some(local) = locals.pop() {
@@ -291,7 +288,6 @@ pub fn open(
         return Err(Unopened { machine });
     };
     let Room {
-        words,
         values,
         hands,
         workers,
@@ -301,6 +297,7 @@ pub fn open(
         shared,
         mut root,
         mut locals,
+        room: words,
     } = Shared::open(alloc, frames, objects, machine)?;
     let list = seat_all(&shared, &mut root, &mut locals, hands, workers);
     let rest = Rest {

@@ -5,6 +5,7 @@ ghost use Rattle.std.specs.Mem.Slots.{slots_items, slots_filled, slots_len, IsFu
 ghost use Rattle.slub_workers.specs.Rule.{first_view};
 ghost use Rattle.slub_workers.specs.Round.{HasClosed, IsUnchanged, MayWork, begun_by};
 
+use crate::cell::rearrange;
 use crate::rule::{Key, Ruled, View};
 use crate::workers::Ended;
 use atomic_table::{Closed, Refused, Seat};
@@ -51,10 +52,12 @@ pub(crate) struct Opened {
     pub(crate) root: WorkerSeat,
     /// In rising number.
     pub(crate) locals: Vec<Local>,
+    /// Room for as many words: that in which those of the machine stood.
+    pub(crate) room: Vec<u64>,
 }
 
 impl Shared {
-    /// Opens a table with the words of the machine, and with what its locks guard in the slots.
+    /// Opens a table with the words of the machine, each in its cell, and with what its locks guard in the slots.
     pub(crate) fn open(
         alloc: Global,
         frames: u32,
@@ -66,6 +69,7 @@ impl Shared {
         ensures key { IfOk result (λ o. o.shared.words.shared.key ≡ begun_by machine) }
         ensures root { IfOk result (λ o. (o.root.table_id ≡ o.shared.words.shared.table_id) × (o.root.me ≡ (first_view o.shared.words.shared.key, []))) }
         ensures locals { IfOk result (λ o. o.locals ≡ machine.locals) }
+        ensures room { IfOk result (λ o. (o.room.items ≡ []) × (o.shared.words.shared.table_id.words ≤ vec_capacity o.room)) }
         ensures unopened { IfErr result (λ u. IsUnchanged machine u.machine) }
     {
         let key = Key {
@@ -73,10 +77,11 @@ impl Shared {
         };
         let Machine {
             setup,
-            table,
+            mut table,
             values,
             locals,
         } = machine;
+        rearrange(&mut table);
         match Words::new(alloc, table.words(), values, &key) {
             Ok((words, root)) => Ok(Opened {
                 shared: Shared {
@@ -88,15 +93,19 @@ impl Shared {
                 },
                 root,
                 locals,
+                room: emptied(table),
             }),
-            Err(Refused { slots: values }) => Err(Unopened {
-                machine: Machine {
-                    setup,
-                    table,
-                    values,
-                    locals,
-                },
-            }),
+            Err(Refused { slots: values }) => {
+                rearrange(&mut table);
+                Err(Unopened {
+                    machine: Machine {
+                        setup,
+                        table,
+                        values,
+                        locals,
+                    },
+                })
+            }
         }
     }
 
@@ -128,16 +137,28 @@ impl Shared {
         let words = words_of(&closed, count, words);
         let values = values_of(&mut closed, values);
         closed.free();
+        let mut table = Table::open(frames, objects, words);
+        rearrange(&mut table);
         Machine {
             setup,
-            table: Table::open(frames, objects, words),
+            table,
             values,
             locals,
         }
     }
 }
 
-/// The words of a closed table, of which there are so many. There is room for them.
+/// The room in which the words of a table stand, without them.
+fn emptied(table: Table) -> Vec<u64>
+    ensures empty { result.items ≡ [] }
+    ensures room { length table.words ≤ vec_capacity result }
+{
+    let mut words = table.into_words();
+    words.clear();
+    words
+}
+
+/// The words of a closed table by their cells, of which there are so many. There is room for them.
 fn words_of(closed: &Closed<Guarded, Global>, count: usize, mut words: Vec<u64>) -> Vec<u64>
     requires count { (count ≡ slots_len closed.now.words) × IsFull closed.now.words }
     requires room { (words.items ≡ []) × (count ≤ vec_capacity words) }

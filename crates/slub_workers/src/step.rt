@@ -2,9 +2,11 @@
 
 ghost use Rattle.std.specs.Prelude.{◌≡◌, ◌<◌};
 ghost use Rattle.slub_core.specs.Words.{number_of};
+ghost use Rattle.slub_workers.specs.Cells.{cell_of};
 ghost use Rattle.slub_workers.specs.Rule.{setup_in};
 ghost use Rattle.slub_workers.specs.Sits.{Steps, Made};
 
+use crate::cell::cell;
 use crate::number::{answer_outside, number};
 use crate::rule::{Does, Misses, Naming, Stores};
 use crate::shared::{Shared, WorkerSeat};
@@ -15,6 +17,7 @@ use std::mem::replace;
 
 /// Makes the step of the worker on its word. What a lock guards is in the worker's hand once the lock is won, and in
 /// its slot before the lock is given back. Outside of the table a word is 0, and stays so.
+#[inline(always)]
 pub(crate) fn make<N: Naming>(
     shared: &Shared,
     seat: &mut WorkerSeat,
@@ -29,7 +32,7 @@ pub(crate) fn make<N: Naming>(
 {
     picks_fit();
     turns_keep_ready();
-    let word = number(shared.frames, shared.objects, step.place);
+    let word = cell(number(shared.frames, shared.objects, step.place));
     if word >= shared.words.word_count() {
         shared.words.shared.load::<Misses<N>>(seat, 0);
         return answer_outside(step.op);
@@ -43,6 +46,7 @@ pub(crate) fn make<N: Naming>(
 }
 
 /// Stores in the word; of a lock, what it guards is put into its slot before.
+#[inline(always)]
 fn store<N: Naming>(
     shared: &Shared,
     seat: &mut WorkerSeat,
@@ -55,7 +59,7 @@ fn store<N: Naming>(
     requires seat { seat.old.table_id ≡ shared.now.words.shared.table_id }
     requires steps { Steps N.key N.tries N.standing seat.old.me values.old step }
     requires op { step.op ≡ Op.Store value }
-    requires word { word ≡ number_of (setup_in N.key) step.place }
+    requires word { word ≡ cell_of (number_of (setup_in N.key) step.place) }
     requires within { word < shared.now.words.shared.table_id.words }
     ensures seat { (seat.new.table_id ≡ seat.old.table_id) × (seat.new.id ≡ seat.old.id) }
     ensures made { Made N.key N.tries N.standing seat.new.me values.new result }
@@ -73,6 +77,7 @@ fn store<N: Naming>(
 }
 
 /// Compares and exchanges the word; of a lock that is won, what it guards is taken out of its slot then.
+#[inline(always)]
 fn exchange<N: Naming>(
     shared: &Shared,
     seat: &mut WorkerSeat,
@@ -86,7 +91,7 @@ fn exchange<N: Naming>(
     requires seat { seat.old.table_id ≡ shared.now.words.shared.table_id }
     requires steps { Steps N.key N.tries N.standing seat.old.me values.old step }
     requires op { step.op ≡ Op.Exchange from to }
-    requires word { word ≡ number_of (setup_in N.key) step.place }
+    requires word { word ≡ cell_of (number_of (setup_in N.key) step.place) }
     requires within { word < shared.now.words.shared.table_id.words }
     ensures seat { (seat.new.table_id ≡ seat.old.table_id) × (seat.new.id ≡ seat.old.id) }
     ensures made { Made N.key N.tries N.standing seat.new.me values.new result }

@@ -1,5 +1,6 @@
-//! Numbers of words, steps outside of the table, and the gate.
+//! Numbers and cells of words, steps outside of the table, and the gate.
 
+use crate::cell::cell;
 use crate::number::{answer_outside, number};
 use crate::worker::pass;
 use slub_answers::reply::Reply;
@@ -23,6 +24,30 @@ fn numbers_of_words(rt: HostRuntime) {
     assert_eq!(rt; number(16, 8, Place::BoardOf(1)), 1073);
     assert_eq!(rt; number(16, 8, Place::MemoryOf(0)), 1080);
     assert_eq!(rt; number(16, 8, Place::LinkOf(15)), 9287);
+}
+
+/// All other words than those of CPUs lie in the cells of their numbers.
+#[test]
+fn cells_of_words(rt: HostRuntime) {
+    assert_eq!(rt; cell(number(16, 8, Place::LockOf(32))), 32);
+    assert_eq!(rt; cell(number(16, 8, Place::ListOf(511))), 544);
+    assert_eq!(rt; cell(number(16, 8, Place::CpuOf(0))), 545);
+    assert_eq!(rt; cell(number(16, 8, Place::CpuOf(1))), 609);
+    assert_eq!(rt; cell(number(16, 8, Place::CpuOf(8))), 553);
+    assert_eq!(rt; cell(number(16, 8, Place::CpuOf(511))), 1056);
+    assert_eq!(rt; cell(number(16, 8, Place::SlabOf(1))), 1058);
+}
+
+/// The words of two CPUs of a cache, the last one, are 8 cells or more apart.
+#[test]
+fn words_of_two_cpus_lie_apart(rt: HostRuntime) {
+    for cpu in 496..512 {
+        for other in 496..cpu {
+            let mine = cell(number(16, 8, Place::CpuOf(cpu)));
+            let theirs = cell(number(16, 8, Place::CpuOf(other)));
+            assert!(rt; mine.abs_diff(theirs) >= 8);
+        }
+    }
 }
 
 #[test]

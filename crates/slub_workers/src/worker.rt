@@ -1,19 +1,25 @@
 //! A worker at its seat, and its turns.
 
 ghost use Rattle.std.specs.Prelude.{◌≡◌, ◌||◌, false};
-ghost use Rattle.slub_workers.specs.Sits.{Sits, MayStand, HasTurned};
+ghost use Rattle.slub_core.specs.Setup.{Means};
+ghost use Rattle.slub_core.specs.Steps.{begun};
+ghost use Rattle.slub_local.specs.Facts.{setup_of};
+ghost use Rattle.slub_fits.specs.Fits.{BeginFits};
+ghost use Rattle.slub_workers.specs.Sits.{Sits, MayStand, HasTurned, HasBegun, HasMade};
 ghost use Rattle.slub_workers.specs.Standing.{counted};
 ghost use Rattle.slub_workers.specs.Workers.{HasWorkedAt, MayTurnAt, MayWorkAt, worker_in};
 
+use crate::quick::{Quick, quick_turn};
 use crate::rule::Naming;
 use crate::shared::{Shared, WorkerSeat};
 use crate::standing::Standing;
 use crate::step::make;
 use crossbeam_utils::Backoff;
-use slub_core::spot::Spot;
+use slub_core::spot::{AllocSpot, FreeSpot, Spot};
 use slub_core::step::{Answer, Place, Step};
 use slub_edges::gate::Gate;
 use slub_local::local::Local;
+use slub_local::setup::Setup;
 use slub_turns::advance::advance_at;
 use slub_turns::at_once::settle;
 use slub_turns::begin::{begin, is_finished, rest};
@@ -70,15 +76,27 @@ fn tried_with(tried: bool, tries: bool) -> bool
 }
 
 /// A count of steps, with one step more.
-fn one_more(steps: u64) -> u64
+pub(crate) fn one_more(steps: u64) -> u64
     ensures { result ≡ counted steps 1 }
 {
     steps.wrapping_add(1)
 }
 
+/// A worker between two calls begins its next one, as a try, where `tries` says so; in a call it stays as it is.
+#[inline(always)]
+fn begin_next(setup: &Setup, local: &mut Local, tries: bool)
+    requires { BeginFits local.old local.old.spot }
+    ensures { (means : Means) → local.new ≡ begun (setup_of setup.now means) tries local.old }
+{
+    if let Spot::Between = local.spot() {
+        begin(setup, local, tries);
+    }
+}
+
 /// The turn of a worker: it begins a call where it is in none (as a try, where `tries` says so), makes a step on the
 /// table, and goes where the answer leads, with what is done at once after it and the replies that take no step. The
 /// step, and what it answered.
+#[inline]
 fn turn_of<N: Naming>(
     shared: &Shared,
     seat: &mut WorkerSeat,
@@ -101,7 +119,57 @@ fn turn_of<N: Naming>(
     turns_keep_ready();
     standing.tried = tried_with(standing.tried, tries);
     standing.steps = one_more(standing.steps);
-    begin(&shared.setup, &mut standing.local, tries);
+    begin_next(&shared.setup, &mut standing.local, tries);
+    turn_here::<N>(shared, seat, standing)
+}
+
+/// The turn of a worker that has begun its call: the spots of the fast paths have quick turns.
+#[inline]
+fn turn_here<N: Naming>(
+    shared: &Shared,
+    seat: &mut WorkerSeat,
+    standing: &mut Standing,
+) -> (Step, Answer)
+    requires key { N.key ≡ shared.now.words.shared.key }
+    requires seat { seat.old.table_id ≡ shared.now.words.shared.table_id }
+    requires begun { HasBegun N.key N.tries N.standing seat.old.me standing.old }
+    ensures seat { seat.new.table_id ≡ seat.old.table_id }
+    ensures made { HasMade N.key N.tries N.standing seat.new.me result standing.new }
+{
+    match standing.local.spot() {
+        Spot::InAlloc(AllocSpot::LoadCpu) => {
+            quick_turn::<N>(shared, seat, standing, Quick::LoadCpu)
+        }
+        Spot::InAlloc(AllocSpot::LoadNext) => {
+            quick_turn::<N>(shared, seat, standing, Quick::LoadNext)
+        }
+        Spot::InAlloc(AllocSpot::Pop) => quick_turn::<N>(shared, seat, standing, Quick::Pop),
+        Spot::InFree(FreeSpot::LoadOwn) => {
+            quick_turn::<N>(shared, seat, standing, Quick::LoadOwn)
+        }
+        Spot::InFree(FreeSpot::LinkOwn) => {
+            quick_turn::<N>(shared, seat, standing, Quick::LinkOwn)
+        }
+        Spot::InFree(FreeSpot::Push) => quick_turn::<N>(shared, seat, standing, Quick::Push),
+        _ => turn_at::<N>(shared, seat, standing),
+    }
+}
+
+/// The turn of a worker that has begun its call, at whichever spot it is.
+#[inline(never)]
+fn turn_at<N: Naming>(
+    shared: &Shared,
+    seat: &mut WorkerSeat,
+    standing: &mut Standing,
+) -> (Step, Answer)
+    requires key { N.key ≡ shared.now.words.shared.key }
+    requires seat { seat.old.table_id ≡ shared.now.words.shared.table_id }
+    requires begun { HasBegun N.key N.tries N.standing seat.old.me standing.old }
+    ensures seat { seat.new.table_id ≡ seat.old.table_id }
+    ensures made { HasMade N.key N.tries N.standing seat.new.me result standing.new }
+{
+    picks_fit();
+    turns_keep_ready();
     let spot = standing.local.spot();
     let step = step_at(&shared.setup, &standing.values, &standing.local, spot);
     let answer = make::<N>(shared, seat, standing.values.as_mut_slice(), step);
@@ -125,6 +193,7 @@ fn turn_of<N: Naming>(
 
 impl Worker {
     /// Makes a turn; a call that begins with it is a try, where `tries` says so. The step of it, and what it answered.
+    #[inline]
     pub(crate) fn turn(&mut self, shared: &Shared, tries: bool) -> (Step, Answer)
         requires { MayTurnAt shared.now.words.shared.key shared.now.words.shared.table_id self.old }
         ensures may { MayTurnAt shared.now.words.shared.key shared.now.words.shared.table_id self.new }

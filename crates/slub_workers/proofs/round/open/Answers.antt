@@ -1,6 +1,7 @@
-use Rattle.std.proofs.Common.{◌≡◌, List, length, rules, sym, ap, ◌∙◌, subst, arith}
+use Rattle.std.proofs.Common.{◌≡◌, List, length, sym, ap, ◌∙◌, subst, arith}
 use Rattle.slub_core.specs.Local.{Local}
 use Rattle.slub_workers.specs.Begun.{Begun}
+use Rattle.slub_workers.specs.Ends.{seated_first}
 use Rattle.slub_workers.specs.Ranks.{AreFresh}
 use Rattle.slub_workers.specs.Round.{begun_by}
 use Rattle.slub_workers.specs.Workers.{countdown}
@@ -25,12 +26,13 @@ returns-clause-seated c =
     let left = s.locals.1 in
     let ok = c.in_ok-shared.field-0.locals.ok in
     record {
+      first = s.first ∙ ap (λ (ls : List Local). seated_first c.in_ok-shared.field-0.shared.words.shared.table_id ls) (ap (λ v. v.items) o.locals ∙ sym (ap (λ (k : Begun). k.locals) o.key));
       list = s.seated;
       idle = s.idle;
       numbers = s.numbers ∙ ap countdown (same ∙ sym known);
       room = record {
         seat = (s.root.0 ∙ o.root.0, s.root.1);
-        words = search rules;
+        words = o.room;
         values = r.values;
         locals = (s.locals.0, omega (arith, same, known, left, ok.0, ok.1));
         done = (r.done.0, omega (arith, known, done));

@@ -11,7 +11,7 @@ use Rattle.slub_workers.specs.Ranks.{view_of}
 use Rattle.slub_workers.specs.Seats.{all_but_last}
 use Rattle.slub_workers.specs.Workers.{MayWorkAt, worker_in}
 use Rattle.slub_workers.proofs.Parts.{front-snoc}
-use Rattle.slub_workers.proofs.Ranks.{all_last, all_front, all_pushed, length_snoc, fresh_last, fresh_front, view-snoc, numbers_seated}
+use Rattle.slub_workers.proofs.Ranks.{all_last, all_front, all_pushed, length_snoc, fresh_last, fresh_front, view-snoc, numbers_seated, seated_next}
 use Rattle.slub_workers.proofs.round.seat_all.Goals as goal
 
 pub seat_one-requires-clause-between : goal.seat_one-requires-clause-between
@@ -53,5 +53,6 @@ loop-local-preserved c =
       seated = all_pushed (MayWorkAt key table) _ _ c.seat_one.result p.items inv.seated may;
       idle = all_pushed (IsIdleAt table) _ _ c.seat_one.result p.items inv.idle idle;
       numbers = numbers_seated _ _ (length left) _ _ c.seat_one.result a p.items (ap worker_in s.worker ∙ fresh.number) inv.numbers;
+      first = seated_next table _ _ _ left c.seat_one.result l p.items popped (s.worker ∙ ap (λ (t : TableId). (t, standing_first l)) inv.table) ∙ inv.first;
       capacity = c.pop.ensures.capacity ∙ inv.capacity;
     }

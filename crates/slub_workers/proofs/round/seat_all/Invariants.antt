@@ -1,6 +1,6 @@
 use Rattle.std.proofs.Common.{◌≡◌, ◌+◌, ◌≤◌, ◌++◌, [], length, map, replicate, All, vec_capacity}
 use Rattle.slub_local.specs.declared.guarded.Guarded.TheVariants.{Nothing}
-use Rattle.slub_workers.specs.Ends.{IsIdleAt}
+use Rattle.slub_workers.specs.Ends.{IsIdleAt, seated_first}
 use Rattle.slub_workers.specs.Ranks.{AreFresh, view_of}
 use Rattle.slub_workers.specs.Workers.{MayWorkAt, countdown, worker_in}
 use Rattle.slub_workers.proofs.round.seat_all.Given as goal
@@ -17,6 +17,7 @@ invariant-loop-local l = record {
   seated : All (MayWorkAt l.shared.words.shared.key l.shared.words.shared.table_id) l.list.items;
   idle : All (IsIdleAt l.shared.words.shared.table_id) l.list.items;
   numbers : map worker_in l.list.items ++ countdown (length l.locals.items) ≡ countdown (length l.fn.locals.items);
+  first : l.list.items ++ seated_first l.shared.words.shared.table_id l.locals.items ≡ seated_first l.shared.words.shared.table_id l.fn.locals.items;
   capacity : vec_capacity l.locals ≡ vec_capacity l.fn.locals;
 }
 

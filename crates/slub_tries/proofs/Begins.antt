@@ -1,7 +1,7 @@
 -- The machine in words with which a worker that is alone begins.
 use Rattle.std.proofs.Common.{◌≡◌, ℕ, List, refl}
 use Rattle.slub_events.specs.declared.event.Round.{Round}
-use Rattle.slub_trace_reader.specs.declared.trace.Trace.{Trace}
+use Rattle.slub_trace.specs.declared.trace.Trace.{Trace}
 use Rattle.slub_lists.specs.State.{State}
 use Rattle.slub_lists.specs.Coherent.{IsCoherent}
 use Rattle.slub_opening.specs.Opening.{IsLaidDown}

@@ -9,10 +9,10 @@ use Rattle.slub_common.specs.Times.{times}
 use Rattle.slub_common.proofs.Times.{times-append, times-cons, times-cons_same}
 use Rattle.slub_events.specs.declared.event.Round.{Round}
 use Rattle.slub_round_law.proofs.Times.{once_times}
-use Rattle.slub_trace_reader.specs.declared.trace.Item.{Item}
-use Rattle.slub_trace_reader.specs.declared.trace.Item.TheVariants as item
-use Rattle.slub_trace_reader.specs.declared.trace.Trace.{Trace}
-use Rattle.slub_trace_reader.specs.Sound.{IsSound, IsSoundItem, IsSoundRound, events_in, objects_in, objects_of}
+use Rattle.slub_trace.specs.declared.trace.Item.{Item}
+use Rattle.slub_trace.specs.declared.trace.Item.TheVariants as item
+use Rattle.slub_trace.specs.declared.trace.Trace.{Trace}
+use Rattle.slub_trace.specs.Sound.{IsSound, IsSoundItem, IsSoundRound, events_in, objects_in, objects_of}
 use Rattle.slub_tries.specs.Fresh.{IsRoundOf}
 
 -- ---- different numbers

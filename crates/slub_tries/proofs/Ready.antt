@@ -11,9 +11,9 @@ use Rattle.slub_lists.specs.State.{State}
 use Rattle.slub_lists.specs.Alloc.{no_lists}
 use Rattle.slub_opening.specs.Opening.{IsLaidDown, cpu_at}
 use Rattle.slub_opening.proofs.Cpus.{cpu-at}
-use Rattle.slub_trace_reader.specs.declared.trace.Trace.{Trace}
-use Rattle.slub_trace_reader.specs.Grammar.{step_of}
-use Rattle.slub_trace_reader.specs.Sound.{IsSound, objects_of}
+use Rattle.slub_trace.specs.declared.trace.Trace.{Trace}
+use Rattle.slub_trace.specs.Ranges.{step_of}
+use Rattle.slub_trace.specs.Sound.{IsSound, objects_of}
 use Rattle.slub_calls.specs.Laws.{MayDo}
 use Rattle.slub_ids.proofs.Steps.{is-step}
 use Rattle.slub_into_words.specs.Ids.{AreIds, IsStepOf, first_ids}

@@ -10,12 +10,12 @@ use Rattle.slub_workers.specs.declared.fast.Fast.{Fast}
 use Rattle.slub_workers.specs.declared.fast.Fast.TheVariants.{Given, Empty, Moved, IdsSpent}
 use Rattle.slub_workers.specs.declared.workers.Workers.{Workers}
 use Rattle.slub_workers.specs.Begun.{Begun}
-use Rattle.slub_workers.specs.Ends.{AreSeated, IsIdleAt, IsRoom, rising}
+use Rattle.slub_workers.specs.Ends.{AreSeated, IsIdleAt, IsRoom, rising, seated_first}
 use Rattle.slub_workers.specs.Standing.{Standing}
 use Rattle.slub_workers.specs.Try.{IsTold}
 use Rattle.slub_workers.specs.Turns.{HasNext}
 use Rattle.slub_workers.specs.Workers.{MayTurnAt, MayWorkAt, countdown, worker_in}
-use Rattle.slub_tries.specs.Lone.{IsAloneIn, SitsAlone, standing_of}
+use Rattle.slub_tries.specs.Lone.{IsAloneIn, SitsAlone, begins_as, first_of, standing_of}
 
 -- ---- the begin
 
@@ -61,6 +61,15 @@ seated-sits key table ws seated one = record {
   alone = seated-alone key table ws.list.items (length key.locals) one seated.numbers seated.list seated.idle;
   room = subst (λ (n : ℕ). IsRoom table n ws.rest) one seated.room;
 }
+
+one-first : (table : TableId) (locals : List Local) → length locals ≡ 1 → standing_of (seated_first table locals) ≡ first_of locals
+one-first table [] one = refl
+one-first table (l ∷ []) one = refl
+one-first table (l ∷ k ∷ ls) one = absurd (omega (arith, one))
+
+-- it stands as it begins
+pub seated-begins : (key : Begun) (table : TableId) (ws : Workers) → AreSeated key table ws → length key.locals ≡ 1 → standing_of ws.list.items ≡ begins_as key
+seated-begins key table ws seated one = ap standing_of seated.first ∙ one-first table key.locals one
 
 -- ---- where it is
 

@@ -11,9 +11,8 @@ use Rattle.slub_workers.specs.Begun.{Begun}
 use Rattle.slub_workers.specs.Round.{HasClosed, begun_by}
 use Rattle.slub_workers.specs.Rule.{setup_in}
 use Rattle.slub_workers.specs.Rule as rule
-use Rattle.slub_workers.specs.Standing.{Standing}
 use Rattle.slub_tries.specs.declared.tries.Told.{Told}
-use Rattle.slub_tries.specs.Lone.{Lone}
+use Rattle.slub_tries.specs.Lone.{Lone, begins_as}
 use Rattle.slub_tries.specs.Told.{AllAreTold}
 
 -- the lists and the ids beside them open into this machine, whose worker has the events of the
@@ -31,11 +30,10 @@ pub record Leaves (lone : Lone) (last : Machine) : Type 0 where
   pub closed : HasClosed lone.key tried (begun_by last)
   pub local : last.locals.items ≡ lone.standing.local ∷ []
 
--- the worker did all its calls, from where it stood first to where it stands
+-- the worker did all its calls, from where it stands in the machine that was opened
 pub record PlaysRound (s : State) (ids : List ℕ) (round : Round) (all : List Told)
     (last : Machine) : Type 0 where
   pub lone : Lone
   pub opens : OpensInto s ids round lone.key
-  pub first : Standing
-  pub told : AllAreTold lone.key first all lone.standing
+  pub told : AllAreTold lone.key (begins_as lone.key) all lone.standing
   pub leaves : Leaves lone last

@@ -2,8 +2,8 @@
 use Rattle.std.specs.Prelude.{◌≡◌, ℕ, ◌+◌, ◌*◌, List, replicate, None, Some, slice_get}
 use Rattle.slub_page_pool.specs.FreeFrames as pool
 use Rattle.slub_events.specs.declared.event.Round.{Round as Events}
-use Rattle.slub_trace_reader.specs.declared.trace.Item.TheVariants.{Round}
-use Rattle.slub_trace_reader.specs.declared.trace.Trace.{Trace}
+use Rattle.slub_trace.specs.declared.trace.Item.TheVariants.{Round}
+use Rattle.slub_trace.specs.declared.trace.Trace.{Trace}
 use Rattle.slub_lists.specs.State.{State}
 use Rattle.slub_lists.specs.Alloc.{no_lists}
 use Rattle.slub_lists.specs.Coherent.{IsCoherent}
@@ -11,7 +11,7 @@ use Rattle.slub_into_words.specs.Ids.{first_ids}
 use Rattle.slub_turns.specs.declared.machine.Machine.{Machine}
 use Rattle.slub_tries.specs.declared.tries.Told.{Told}
 use Rattle.slub_tries.specs.Begun.{OpensInto, PlaysRound}
-use Rattle.slub_tries.specs.Lone.{Lone}
+use Rattle.slub_tries.specs.Lone.{Lone, begins_as}
 
 -- it has the sizes and names of the trace, and whatever caches; no slab, and nothing on the board
 pub record IsFresh (trace : Trace) (s : State) : Type 0 where
@@ -38,6 +38,7 @@ pub record BeginsTrace (trace : Trace) (lone : Lone) : Type 0 where
   pub round : Events
   pub set : IsSetFor trace lists round
   pub opens : OpensInto lists (first_ids trace.tid trace.cpus) round lone.key
+  pub stands : lone.standing ≡ begins_as lone.key
 
 -- the events of such a round were answered so, and this machine is left
 pub record PlaysTrace (trace : Trace) (all : List Told) (last : Machine) : Type 0 where

@@ -5,7 +5,9 @@ use Rattle.slub_core.specs.declared.spot.Spot.TheVariants.{Between}
 use Rattle.slub_workers.specs.declared.workers.Workers.{Workers}
 use Rattle.slub_workers.specs.Begun.{Begun}
 use Rattle.slub_workers.specs.Ends.{IsRoom}
+use Rattle.slub_core.specs.Local.{Local}
 use Rattle.slub_workers.specs.Nobody.{nobody}
+use Rattle.slub_workers.specs.Rule.{standing_first}
 use Rattle.slub_workers.specs.Sits.{MayStand}
 use Rattle.slub_workers.specs.Standing.{Standing}
 
@@ -18,6 +20,14 @@ pub record Lone : Type 0 where
 abbrev pub standing_of : List (TableId × Standing) → Standing
 standing_of [] = nobody
 standing_of (w ∷ ws) = w.1
+
+-- the one worker of a machine as it begins: in no call, with no lock, no answer and no step
+abbrev pub first_of : List Local → Standing
+first_of [] = nobody
+first_of (l ∷ ls) = standing_first l
+
+abbrev pub begins_as : Begun → Standing
+begins_as key = first_of key.locals
 
 -- there is one worker, which sits at this table and is between two calls
 pub record IsAloneIn (key : Begun) (table : TableId) (list : List (TableId × Standing))

@@ -1,7 +1,7 @@
 //! A worker alone with the first round of a trace.
 
 ghost use Rattle.std.specs.Prelude.{◌≡◌, IfOk, IfSome};
-ghost use Rattle.slub_trace_reader.specs.Sound.{IsSound};
+ghost use Rattle.slub_trace.specs.Sound.{IsSound};
 ghost use Rattle.slub_into_words.specs.Ids.{first_ids};
 ghost use Rattle.slub_tries.specs.Fresh.{BeginsTrace, IsFresh, IsRoundOf, PlaysTrace};
 
@@ -13,7 +13,7 @@ use slub_events::event::Round;
 use slub_into_words::ids::Ids;
 use slub_journal::names::name_of;
 use slub_list_machine::lists::Lists;
-use slub_trace_reader::trace::{Item, Trace};
+use slub_trace::trace::{Item, Trace};
 use std::alloc::Global;
 use std::sync::Wait;
 

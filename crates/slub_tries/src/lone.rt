@@ -1,7 +1,7 @@
 //! A worker alone at a table of its own.
 
 ghost use Rattle.std.specs.Prelude.{◌≡◌, ◌≤◌, None, IfOk, IfSome, length};
-ghost use Rattle.slub_trace_reader.specs.declared.trace.Trace.{Trace};
+ghost use Rattle.slub_trace.specs.declared.trace.Trace.{Trace};
 ghost use Rattle.slub_lists.specs.Coherent.{IsCoherent};
 ghost use Rattle.slub_opening.specs.Opening.{IsLaidDown};
 ghost use Rattle.slub_calls.specs.Laws.{MayDo};
@@ -11,6 +11,7 @@ ghost use Rattle.slub_workers.specs.Rule.{setup_in};
 ghost use Rattle.slub_workers.specs.Try.{MayTry};
 ghost use Rattle.slub_core.specs.Run.{IsFinished};
 ghost use Rattle.slub_tries.specs.Begun.{Leaves, OpensInto};
+ghost use Rattle.slub_tries.specs.Lone.{begins_as};
 ghost use Rattle.slub_tries.specs.Told.{HasTriedNext};
 
 use crate::opening::{machine_of, seated};
@@ -60,7 +61,8 @@ impl LoneWorker {
         requires may_do { (trace : Trace) × MayDo lists trace round.now }
         requires ids { AreIds lists ids.now }
         requires alone { round.now.workers ≡ 1 }
-        ensures { IfOk result (λ lone. OpensInto lists ids.now round.now lone.key) }
+        ensures opens { IfOk result (λ lone. OpensInto lists ids.now round.now lone.key) }
+        ensures stands { IfOk result (λ lone. lone.standing ≡ begins_as lone.key) }
     {
         let (machine, sizes) = machine_of(alloc, lists, ids, round)?;
         let (shared, workers) = seated(alloc, machine, sizes)?;

@@ -1,7 +1,7 @@
 //! From lists to a table with one worker.
 
 ghost use Rattle.std.specs.Prelude.{◌≡◌, ◌≤◌, IfOk, length};
-ghost use Rattle.slub_trace_reader.specs.declared.trace.Trace.{Trace};
+ghost use Rattle.slub_trace.specs.declared.trace.Trace.{Trace};
 ghost use Rattle.slub_lists.specs.State.{State};
 ghost use Rattle.slub_lists.specs.Coherent.{IsCoherent};
 ghost use Rattle.slub_opening.specs.Opening.{IsLaidDown};
@@ -15,7 +15,7 @@ ghost use Rattle.slub_workers.specs.Round.{MayWork, begun_by};
 ghost use Rattle.slub_workers.specs.Tables.{begun_at, table_of};
 ghost use Rattle.slub_events.specs.declared.event.Round.{Round as Events};
 ghost use Rattle.slub_tries.specs.Begun.{OpensInto};
-ghost use Rattle.slub_tries.specs.Lone.{SitsAlone};
+ghost use Rattle.slub_tries.specs.Lone.{SitsAlone, begins_as, standing_of};
 
 use slub_calls::workers::workers;
 use slub_common::no_memory::NoMemory;
@@ -102,6 +102,7 @@ pub(crate) fn seated(
     requires alone { length machine.locals.items ≡ 1 }
     ensures key { IfOk result (λ r. begun_at r.0 ≡ begun_by machine) }
     ensures sits { IfOk result (λ r. SitsAlone (begun_at r.0) (table_of r.0) r.1) }
+    ensures stands { IfOk result (λ r. standing_of r.1.list.items ≡ begins_as (begun_at r.0)) }
 {
     match round::open(alloc, sizes.frames, sizes.objects, machine) {
         Ok(seated) => Ok(seated),

@@ -2,15 +2,15 @@
 //! 4096, 4288 and 4480.
 
 ghost use Rattle.std.specs.Prelude.{IfOk};
-ghost use Rattle.slub_trace_reader.specs.Sound.{IsSound};
+ghost use Rattle.slub_trace.specs.Sound.{IsSound};
 
 use crate::fresh::{begin, replay};
 use crate::lone::LoneWorker;
 use crate::tries::Told;
 use slub_answers::reply::Reply;
 use slub_edges::faultless::FaultlessSource;
+use slub_trace::trace::Trace;
 use slub_trace_reader::reading::read_trace;
-use slub_trace_reader::trace::Trace;
 use slub_workers::fast::Fast;
 use std::alloc::Global;
 use std::test::Fail;

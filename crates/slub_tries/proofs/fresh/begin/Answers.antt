@@ -21,5 +21,6 @@ returns c = record {
   lists = c.in_ok-lists.lists;
   round = c.in-Some.round.now;
   set = record { fresh = c.in_ok-lists.ensures; is_round = c.in-Some.ensures.of; alone = c.in-Some.ensures.alone };
-  opens = subst (λ (ids : List ℕ). OpensInto c.in_ok-lists.lists ids c.in-Some.round.now c.in_ok-lone.lone.key) c.in_ok-ids.ensures c.in_ok-lone.ensures;
+  opens = subst (λ (ids : List ℕ). OpensInto c.in_ok-lists.lists ids c.in-Some.round.now c.in_ok-lone.lone.key) c.in_ok-ids.ensures c.in_ok-lone.ensures.opens;
+  stands = c.in_ok-lone.ensures.stands;
 }

@@ -2,14 +2,14 @@
 //! bare table.
 
 ghost use Rattle.std.specs.Prelude.{◌≡◌};
-ghost use Rattle.slub_trace_reader.specs.Sound.{IsSound};
+ghost use Rattle.slub_trace.specs.Sound.{IsSound};
 
 use crate::nanos_since;
 use crate::runs::out_of_memory;
 use atomic_table::{Play, Seat, Table, TableRule};
 use slub_edges::faultless::FaultlessSource;
+use slub_trace::trace::Trace;
 use slub_trace_reader::reading::read_trace;
-use slub_trace_reader::trace::Trace;
 use slub_tries::fresh::begin;
 use slub_tries::lone::LoneWorker;
 use std::alloc::{AllocError, Global};

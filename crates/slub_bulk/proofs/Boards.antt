@@ -13,8 +13,8 @@ use Rattle.slub_common.specs.Times.{times}
 use Rattle.slub_common.proofs.Times.{times-absent, times-cons, times-cons_other}
 use Rattle.slub_lists.specs.State.{State}
 use Rattle.slub_lists.specs.Coherent.{IsCoherent, held_under}
-use Rattle.slub_trace_reader.specs.declared.trace.Trace.{Trace}
-use Rattle.slub_trace_reader.specs.Sound.{objects_of}
+use Rattle.slub_trace.specs.declared.trace.Trace.{Trace}
+use Rattle.slub_trace.specs.Sound.{objects_of}
 use Rattle.slub_calls.specs.Laws.{MayDo}
 use Rattle.slub_journal.specs.declared.client.CacheRefusal.{CacheRefusal}
 use Rattle.slub_journal.specs.declared.client.ClientAnswer.TheVariants as answer

@@ -11,7 +11,7 @@ use Rattle.slub_common.proofs.Lists.{range_with_len-append}
 use Rattle.slub_answers.specs.declared.reply.Reply.{Reply}
 use Rattle.slub_answers.specs.Kinds.{is_given}
 use Rattle.slub_lists.specs.State.{State}
-use Rattle.slub_trace_reader.specs.declared.trace.Trace.{Trace}
+use Rattle.slub_trace.specs.declared.trace.Trace.{Trace}
 use Rattle.slub_journal.specs.declared.client.CacheRefusal.{CacheRefusal}
 use Rattle.slub_journal.specs.Asked.{first_refusal, refusal_of}
 use Rattle.slub_journal.specs.Bulk.{free_order}

@@ -3,7 +3,7 @@ use Rattle.std.proofs.Common.{◌≡◌, ℕ, ◌+◌, ◌*◌, ◌^◌, ◌<◌
 use Rattle.std.proofs.lemmas.List.{get_or_default}
 use Rattle.slub_events.specs.declared.event.Round.{Round}
 use Rattle.slub_lists.specs.Coherent.{IsCoherent}
-use Rattle.slub_trace_reader.specs.Grammar.{step_of}
+use Rattle.slub_trace.specs.Ranges.{step_of}
 use Rattle.slub_journal.specs.declared.journal.RoundResult.{RoundResult}
 use Rattle.slub_journal.specs.Lawful.{DoesRound}
 use Rattle.slub_ids.proofs.Steps.{step-is}

@@ -24,7 +24,7 @@ use Rattle.slub_lists.proofs.CheckedSlabs.{at_some}
 use Rattle.slub_lists.proofs.CheckedTaking.{held-slab}
 use Rattle.slub_lists.proofs.Kept.{consistent-of}
 use Rattle.slub_lists.proofs.Places.{layout-of}
-use Rattle.slub_trace_reader.specs.declared.trace.Trace.{Trace}
+use Rattle.slub_trace.specs.declared.trace.Trace.{Trace}
 use Rattle.slub_calls.specs.Laws.{MayDo}
 use Rattle.slub_journal.specs.declared.client.CacheRefusal.{CacheRefusal}
 use Rattle.slub_journal.specs.declared.client.ClientDone.{ClientDone}

@@ -1,8 +1,8 @@
 -- Which objects may be asked of a cache, and for how many events the ids of a heap last.
 use Rattle.std.specs.Prelude.{ℕ, ◌+◌, ◌*◌, ◌^◌, ◌<◌, List, length, All, IfSome, nat_eq}
 use Rattle.std.specs.List.{IsDistinct}
-use Rattle.slub_trace_reader.specs.declared.trace.Trace.{Trace}
-use Rattle.slub_trace_reader.specs.Grammar.{step_of}
+use Rattle.slub_trace.specs.declared.trace.Trace.{Trace}
+use Rattle.slub_trace.specs.Ranges.{step_of}
 use Rattle.slub_journal.specs.Lawful.{IsUnheld}
 use Rattle.slub_by_text.specs.Heap.{HeapState}
 use Rattle.slub_clients.specs.Asked.{IsOpenTo}

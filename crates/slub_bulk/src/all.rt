@@ -3,7 +3,7 @@
 ghost use Rattle.std.specs.Prelude.{◌≡◌, ◌^◌, ◌<◌, ◌≤◌, ◌++◌, [], ◌∷◌, length, All, IfErr, IfOk, if◌then◌else◌, nat_eq};
 ghost use Rattle.std.specs.List.{IsDistinct};
 ghost use Rattle.slub_answers.specs.Kinds.{is_given};
-ghost use Rattle.slub_trace_reader.specs.declared.trace.Trace.{Trace};
+ghost use Rattle.slub_trace.specs.declared.trace.Trace.{Trace};
 ghost use Rattle.slub_journal.specs.Asked.{first_refusal, frees_of};
 ghost use Rattle.slub_journal.specs.Lawful.{IsUnheld};
 ghost use Rattle.slub_engine.specs.Steps.{KeepsUnheld};

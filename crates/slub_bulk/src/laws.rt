@@ -2,7 +2,7 @@
 
 ghost use Rattle.std.specs.Prelude.{◌≡◌, ◌+◌, ◌*◌, ◌<◌, ◌≤◌, ◌⊎◌, ℕ, List, length};
 ghost use Rattle.std.specs.List.{range_with_len};
-ghost use Rattle.slub_trace_reader.specs.declared.trace.Trace.{Trace};
+ghost use Rattle.slub_trace.specs.declared.trace.Trace.{Trace};
 ghost use Rattle.slub_journal.specs.declared.client.ClientAnswer.TheVariants.{All};
 ghost use Rattle.slub_journal.specs.declared.client.ClientDone.{ClientDone as Done};
 ghost use Rattle.slub_round_law.specs.Round.{NamesChecked};

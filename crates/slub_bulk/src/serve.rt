@@ -3,8 +3,8 @@
 ghost use Rattle.std.specs.Prelude.{◌≡◌, ◌+◌, ◌^◌, ◌<◌, ◌≤◌, [], length, count_by, All, IfErr, IfOk};
 ghost use Rattle.std.specs.List.{range_with_len};
 ghost use Rattle.slub_answers.specs.Kinds.{is_freed};
-ghost use Rattle.slub_trace_reader.specs.declared.trace.Trace.{Trace as Read};
-ghost use Rattle.slub_trace_reader.specs.Sound.{asked_objects};
+ghost use Rattle.slub_trace.specs.declared.trace.Trace.{Trace as Read};
+ghost use Rattle.slub_trace.specs.Sound.{asked_objects};
 ghost use Rattle.slub_journal.specs.Asked.{frees_of};
 ghost use Rattle.slub_journal.specs.Bulk.{free_order};
 ghost use Rattle.slub_journal.specs.Lawful.{IsUnheld};
@@ -23,7 +23,7 @@ use slub_clients::client::{Stopped, at_once};
 use slub_common::no_memory::NoMemory;
 use slub_common::sequence::Sequence;
 use slub_journal::client::{CacheRefusal, ClientAnswer, ClientDone};
-use slub_trace_reader::trace::{Client, Trace};
+use slub_trace::trace::{Client, Trace};
 use std::alloc::{AllocError, Global};
 
 /// These many numbers, from the first on.

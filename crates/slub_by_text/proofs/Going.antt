@@ -11,9 +11,9 @@ use Rattle.slub_events.specs.declared.event.Act.{Act}
 use Rattle.slub_events.specs.declared.event.Act.TheVariants as act
 use Rattle.slub_events.specs.declared.event.Event.{Event}
 use Rattle.slub_events.specs.declared.event.Round.{Round}
-use Rattle.slub_trace_reader.specs.Grammar.{step_of}
-use Rattle.slub_trace_reader.specs.Sound.{IsSoundAct, objects_of}
-use Rattle.slub_trace_reader.specs.declared.trace.Trace.{Trace}
+use Rattle.slub_trace.specs.Ranges.{step_of}
+use Rattle.slub_trace.specs.Sound.{IsSoundAct, objects_of}
+use Rattle.slub_trace.specs.declared.trace.Trace.{Trace}
 use Rattle.slub_lists.specs.State.{State}
 use Rattle.slub_lists.specs.Alloc.{checked_of, named}
 use Rattle.slub_lists.specs.Coherent.{IsCoherent, all_on_board}

@@ -7,7 +7,7 @@ use Rattle.slub_common.proofs.Writes.{get_or-replicate_any}
 use Rattle.slub_events.specs.declared.event.Act.{Act}
 use Rattle.slub_events.specs.declared.event.Act.TheVariants as act
 use Rattle.slub_events.specs.declared.event.Round.{Round}
-use Rattle.slub_trace_reader.specs.Grammar.{step_of}
+use Rattle.slub_trace.specs.Ranges.{step_of}
 use Rattle.slub_lists.specs.State.{State}
 use Rattle.slub_lists.specs.Coherent.{IsCoherent}
 use Rattle.slub_opening.specs.Opening.{Beside}

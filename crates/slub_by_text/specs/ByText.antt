@@ -3,7 +3,7 @@ use Rattle.std.specs.Prelude.{◌≡◌, ℕ, ◌+◌, ◌*◌, ◌^◌, ◌<◌
 use Rattle.slub_events.specs.declared.event.Round.{Round}
 use Rattle.slub_lists.specs.State.{State}
 use Rattle.slub_opening.specs.Opening.{Beside}
-use Rattle.slub_trace_reader.specs.Grammar.{step_of}
+use Rattle.slub_trace.specs.Ranges.{step_of}
 use Rattle.slub_turns.specs.Means.{the_means}
 use Rattle.slub_journal.specs.Lawful.{DoesRound}
 use Rattle.slub_journal.specs.declared.journal.RoundResult.{RoundResult}

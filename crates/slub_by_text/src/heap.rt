@@ -1,8 +1,8 @@
 //! What clients of the allocator allocate from, and rounds on it in the order of the text.
 
 ghost use Rattle.std.specs.Prelude.{◌≡◌, ◌≤◌, None, Some, IfErr, IfOk, length};
-ghost use Rattle.slub_trace_reader.specs.declared.trace.Trace.{Trace};
-ghost use Rattle.slub_trace_reader.specs.Grammar.{step_of};
+ghost use Rattle.slub_trace.specs.declared.trace.Trace.{Trace};
+ghost use Rattle.slub_trace.specs.Ranges.{step_of};
 ghost use Rattle.slub_calls.specs.Laws.{MayDo};
 ghost use Rattle.slub_into_words.specs.Ids.{AreIds};
 ghost use Rattle.slub_lists.specs.Coherent.{IsCoherent};

@@ -1,8 +1,8 @@
 //! A round on the lists, beside which transaction ids stand.
 
 ghost use Rattle.std.specs.Prelude.{◌≡◌, ◌+◌, ◌*◌, ◌^◌, ◌<◌, ◌≤◌, ◌↔◌, IsTrue, IfOk, OnErr, All, length};
-ghost use Rattle.slub_trace_reader.specs.declared.trace.Trace.{Trace};
-ghost use Rattle.slub_trace_reader.specs.Grammar.{step_of};
+ghost use Rattle.slub_trace.specs.declared.trace.Trace.{Trace};
+ghost use Rattle.slub_trace.specs.Ranges.{step_of};
 ghost use Rattle.slub_lists.specs.Coherent.{IsCoherent};
 ghost use Rattle.slub_calls.specs.Laws.{MayDo};
 ghost use Rattle.slub_into_words.specs.Ids.{AreIds};

@@ -21,8 +21,8 @@ use Rattle.slub_events.specs.declared.event.Round.{Round}
 use Rattle.slub_cache_create.specs.Table.{Table, cache_of, name_at}
 use Rattle.slub_cache_create.specs.declared.caches.Cache.{Cache}
 use Rattle.slub_cache_create.specs.Sound.{IsSound}
-use Rattle.slub_trace_reader.specs.declared.trace.Trace.{Trace}
-use Rattle.slub_trace_reader.specs.Sound.{AreReadable, IsSoundAct, IsSoundEvent, allocated, objects_of}
+use Rattle.slub_trace.specs.declared.trace.Trace.{Trace}
+use Rattle.slub_trace.specs.Sound.{AreReadable, IsSoundAct, IsSoundEvent, allocated, objects_of}
 use Rattle.slub_lists.specs.declared.lists.Held.{Held}
 use Rattle.slub_lists.specs.State.{State}
 use Rattle.slub_lists.specs.Coherent.{held_under}

@@ -6,7 +6,7 @@ use Rattle.slub_events.specs.declared.event.Act.{Act}
 use Rattle.slub_events.specs.declared.event.Act.TheVariants as act
 use Rattle.slub_events.specs.declared.event.Event.{Event}
 use Rattle.slub_cache_create.specs.Table.{Table}
-use Rattle.slub_trace_reader.specs.Sound.{AreReadable, IsReadable, is_written, written_after}
+use Rattle.slub_trace.specs.Sound.{AreReadable, IsReadable, is_written, written_after}
 use Rattle.slub_core.specs.declared.call.Call.{Call}
 use Rattle.slub_core.specs.declared.local.Known.{Known}
 use Rattle.slub_core.specs.Accounted.{MayCome, written}

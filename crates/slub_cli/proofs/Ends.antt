@@ -16,11 +16,11 @@ use Rattle.slub_command.specs.declared.command.Command.{Command}
 use Rattle.slub_command.specs.declared.command.Command.TheVariants.{Replay, Layout, Load}
 use Rattle.slub_command.specs.Command.{IsCommand}
 use Rattle.slub_slabinfo_text.specs.Texts.{layout_lines}
-use Rattle.slub_trace_reader.specs.declared.trace.Trace.{Trace}
+use Rattle.slub_trace.specs.declared.trace.Trace.{Trace}
 use Rattle.slub_trace_reader.specs.declared.reading.Why.{Why}
 use Rattle.slub_trace_reader.specs.Grammar.{IsTrace}
 use Rattle.slub_trace_reader.specs.Reads.{IsBadIn, Spells}
-use Rattle.slub_trace_reader.specs.Sound.{IsSound}
+use Rattle.slub_trace.specs.Sound.{IsSound}
 use Rattle.slub_ways.specs.declared.way.Way.{Way}
 use Rattle.slub_ways.specs.declared.way.Way.TheVariants.{Serial, Schedule}
 use Rattle.slub_ways.specs.Runs.{IsLawful}

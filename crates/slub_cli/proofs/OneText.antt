@@ -6,7 +6,7 @@ use Rattle.slub_edges.specs.Edges.{Rose}
 use Rattle.slub_command.specs.declared.command.Command.{Command}
 use Rattle.slub_command.specs.declared.command.Command.TheVariants.{Replay, Layout, Load}
 use Rattle.slub_command.specs.Command.{IsCommand}
-use Rattle.slub_trace_reader.specs.declared.trace.Trace.{Trace}
+use Rattle.slub_trace.specs.declared.trace.Trace.{Trace}
 use Rattle.slub_journal.specs.declared.journal.Journal.{Journal}
 use Rattle.slub_ways.specs.Runs.{IsLawful}
 use Rattle.slub_one_text.proofs.Items.{journals-one}

@@ -10,7 +10,7 @@ use Rattle.slub_object_layout.specs.Layout.{IsAccepted, IsAlign, IsLayout, IsSiz
 use Rattle.slub_command.specs.declared.command.How.{How}
 use Rattle.slub_command.specs.declared.command.Command.TheVariants.{Replay}
 use Rattle.slub_command.specs.Command.{IsCommand}
-use Rattle.slub_trace_reader.specs.declared.trace.Trace.{Trace}
+use Rattle.slub_trace.specs.declared.trace.Trace.{Trace}
 use Rattle.slub_trace_reader.specs.declared.reading.TraceFault.{TraceFault}
 use Rattle.slub_trace_reader.specs.declared.reading.TraceFault.TheVariants as fault
 use Rattle.slub_trace_reader.specs.Reads.{Reads}
@@ -19,7 +19,7 @@ use Rattle.slub_journal.specs.Journal.{IsEmpty}
 use Rattle.slub_cli.specs.declared.stop.Stop.{Stop}
 use Rattle.slub_cli.specs.declared.stop.Stop.TheVariants.{BadWords, BadLine, TooLong, ReadFault, WriteFault, NoMemory, TurnsSpent}
 use Rattle.slub_cli.specs.declared.status.Status.{Status}
-use Rattle.slub_trace_reader.specs.Sound.{IsSound}
+use Rattle.slub_trace.specs.Sound.{IsSound}
 use Rattle.slub_load.specs.Load.{load_of}
 use Rattle.slub_ways.specs.declared.way.Way.{Way}
 use Rattle.slub_ways.specs.declared.way.Way.TheVariants.{Schedule}

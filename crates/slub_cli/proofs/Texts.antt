@@ -7,8 +7,8 @@ use Rattle.std.proofs.KnownBytes.{Appends-nil, Appends-trans}
 use Rattle.std.proofs.lemmas.List.{take_at}
 use Rattle.slub_edges.specs.Edges.{AppendsFront}
 use Rattle.slub_edges.proofs.Told.{AppendsFront-after}
-use Rattle.slub_trace_reader.specs.declared.trace.Item.{Item}
-use Rattle.slub_trace_reader.specs.declared.trace.Trace.{Trace}
+use Rattle.slub_trace.specs.declared.trace.Item.{Item}
+use Rattle.slub_trace.specs.declared.trace.Trace.{Trace}
 use Rattle.slub_journal.specs.declared.journal.Done.{Done}
 use Rattle.slub_journal.specs.declared.journal.Total.{Total}
 use Rattle.slub_journal.specs.declared.journal.Journal.{Journal}

@@ -9,7 +9,7 @@ use Rattle.slub_command.specs.declared.command.Command.{Command}
 use Rattle.slub_command.specs.declared.command.Command.TheVariants.{Replay, Layout, Load}
 use Rattle.slub_slabinfo_text.specs.Texts.{layout_lines}
 use Rattle.slub_lists.specs.State.{State}
-use Rattle.slub_trace_reader.specs.declared.trace.Trace.{Trace}
+use Rattle.slub_trace.specs.declared.trace.Trace.{Trace}
 use Rattle.slub_trace_reader.specs.declared.reading.Why.{Why}
 use Rattle.slub_trace_reader.specs.Reads.{IsBadIn, IsTooLong, Spells}
 use Rattle.slub_journal.specs.declared.journal.Done.{Done}

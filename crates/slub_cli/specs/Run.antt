@@ -16,15 +16,15 @@ use Rattle.slub_command.specs.declared.command.How.TheVariants as hows
 use Rattle.slub_command.specs.Command.{IsCommand}
 use Rattle.slub_slabinfo_text.specs.Texts.{layout_lines}
 use Rattle.slub_answers.specs.Kinds.{is_no_memory, is_ok_reply}
-use Rattle.slub_trace_reader.specs.declared.trace.Client.{Client as Asked}
-use Rattle.slub_trace_reader.specs.declared.trace.Item.{Item}
-use Rattle.slub_trace_reader.specs.declared.trace.Item.TheVariants as item
-use Rattle.slub_trace_reader.specs.declared.trace.Trace.{Trace}
+use Rattle.slub_trace.specs.declared.trace.Client.{Client as Asked}
+use Rattle.slub_trace.specs.declared.trace.Item.{Item}
+use Rattle.slub_trace.specs.declared.trace.Item.TheVariants as item
+use Rattle.slub_trace.specs.declared.trace.Trace.{Trace}
 use Rattle.slub_trace_reader.specs.Grammar.{IsTrace}
 use Rattle.slub_trace_reader.specs.declared.reading.Why.{Why}
 use Rattle.slub_trace_reader.specs.Faults.{why_text}
 use Rattle.slub_trace_reader.specs.Reads.{IsBadIn, IsNoTrace, IsTooLong, Spells}
-use Rattle.slub_trace_reader.specs.Sound.{IsSound}
+use Rattle.slub_trace.specs.Sound.{IsSound}
 use Rattle.slub_journal.specs.declared.client.ClientAnswer.{ClientAnswer}
 use Rattle.slub_journal.specs.declared.client.ClientAnswer.TheVariants as answer
 use Rattle.slub_journal.specs.declared.client.ClientDone.{ClientDone}

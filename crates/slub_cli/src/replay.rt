@@ -7,7 +7,7 @@
 ghost use Rattle.std.specs.Prelude.{Bool, ◌≡◌, ◌<◌, ◌≤◌, [], None, Some, length, IfErr, IfOk, OnOk, IsSome};
 ghost use Rattle.slub_lists.specs.Coherent.{IsCoherent};
 ghost use Rattle.slub_journal.specs.Journal.{IsEmpty};
-ghost use Rattle.slub_trace_reader.specs.Sound.{IsSound};
+ghost use Rattle.slub_trace.specs.Sound.{IsSound};
 ghost use Rattle.slub_journal.specs.Lawful.{opening_of};
 ghost use Rattle.slub_ways.specs.Runs.{IsLawful, IsReadyMachine, RunsItems, machine_of};
 ghost use Rattle.slub_cli.specs.Inner.{DoesItem, IsItemStop, IsMachineOf, LeavesMachine, PutsItem, StopsAtWriteFault, StopsSpent, Tells, TookText, Totals};
@@ -19,7 +19,7 @@ use slub_edges::pieces::write_lines;
 use slub_items::machine::Machine;
 use slub_journal::journal::{Done, Journal};
 use slub_journal::text::{push_item, push_sums};
-use slub_trace_reader::trace::Trace;
+use slub_trace::trace::Trace;
 use slub_ways::way::Way;
 use std::alloc::Global;
 use std::sync::Wait;

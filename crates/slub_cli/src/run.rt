@@ -1,7 +1,7 @@
 //! The top call.
 
 ghost use Rattle.std.specs.Prelude.{◌≡◌, ◌≤◌, ℕ, List, None, map, string_bytes, IfOk};
-ghost use Rattle.slub_trace_reader.specs.Sound.{IsSound};
+ghost use Rattle.slub_trace.specs.Sound.{IsSound};
 ghost use Rattle.slub_journal.specs.Journal.{IsEmpty};
 ghost use Rattle.slub_cli.specs.Run.{AsksReplay, IsRunOf, way_of};
 ghost use Rattle.slub_cli.specs.Inner.{Finishes, Loaded, ReadsInput, Replayed, StopsAtReadFault, StopsAtWriteFault, Worked, stop_line, stop_status};
@@ -16,8 +16,8 @@ use slub_edges::gate::Gate;
 use slub_edges::pieces::write_lines;
 use slub_journal::journal::Journal;
 use slub_load::load::load_trace;
+use slub_trace::trace::Trace;
 use slub_trace_reader::reading::read_trace;
-use slub_trace_reader::trace::Trace;
 use slub_ways::way::Way;
 use std::alloc::Global;
 use std::sync::Wait;

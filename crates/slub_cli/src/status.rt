@@ -11,7 +11,7 @@ use slub_journal::client::{ClientAnswer, ClientDone, ClientRound};
 use slub_journal::client_text::is_ok_client;
 use slub_journal::journal::{Done, Journal};
 use slub_object_layout::layout::{Layout, LayoutRefusal};
-use slub_trace_reader::trace::{Client, Item, Trace};
+use slub_trace::trace::{Client, Item, Trace};
 
 /// How a run ended.
 #[derive(Clone, Copy, Debug, PartialEq, Eq)]

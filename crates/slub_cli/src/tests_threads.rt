@@ -8,7 +8,7 @@ use slub_edges::gate::{Gate, OpenGate, PairGate};
 use slub_edges::memory::{MemSink, MemSource};
 use slub_events::event::{Act, Round};
 use slub_journal::journal::{Done, RoundResult, Total};
-use slub_trace_reader::trace::Item;
+use slub_trace::trace::Item;
 use std::alloc::{AllocError, Global};
 use std::sync::Wait;
 use std::sync::atomic::{AtomicBool, Ordering};

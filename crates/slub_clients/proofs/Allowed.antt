@@ -10,7 +10,7 @@ use Rattle.indexmap.proofs.CallerLemmas.{Contains-list_any}
 use Rattle.slub_events.specs.declared.event.Act.{Act}
 use Rattle.slub_events.specs.declared.event.Act.TheVariants.{Alloc, Free}
 use Rattle.slub_events.specs.declared.event.Event.{Event}
-use Rattle.slub_trace_reader.specs.Sound.{AreReadable, IsSoundEvent, objects_of}
+use Rattle.slub_trace.specs.Sound.{AreReadable, IsSoundEvent, objects_of}
 use Rattle.slub_journal.specs.Asked.{event_of, frees_of, round_of}
 use Rattle.slub_journal.specs.Lawful.{IsUnheld}
 use Rattle.slub_by_text.specs.Heap.{HeapState}

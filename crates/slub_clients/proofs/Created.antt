@@ -14,8 +14,8 @@ use Rattle.slub_lists.specs.declared.lists.Held.{Held}
 use Rattle.slub_lists.specs.State.{State}
 use Rattle.slub_lists.specs.Coherent.{IsCoherent, KeepsMachine}
 use Rattle.slub_lists.specs.Create.{CreatesCache}
-use Rattle.slub_trace_reader.specs.declared.trace.Trace.{Trace}
-use Rattle.slub_trace_reader.specs.Sound.{IsSound}
+use Rattle.slub_trace.specs.declared.trace.Trace.{Trace}
+use Rattle.slub_trace.specs.Sound.{IsSound}
 use Rattle.slub_journal.specs.Lawful.{CreatesName}
 use Rattle.slub_into_words.specs.Ids.{AreIds}
 use Rattle.slub_ids.proofs.Flushed.{match-some}

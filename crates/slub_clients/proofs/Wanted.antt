@@ -9,7 +9,7 @@ use Rattle.slub_events.specs.declared.event.Event.{Event}
 use Rattle.slub_events.specs.declared.event.Round.{Round}
 use Rattle.slub_answers.specs.declared.reply.Reply.{Reply}
 use Rattle.slub_answers.specs.Kinds.{is_no_frames}
-use Rattle.slub_trace_reader.specs.Sound.{objects_of}
+use Rattle.slub_trace.specs.Sound.{objects_of}
 use Rattle.slub_lists.specs.State.{State}
 use Rattle.slub_bounds.proofs.Turns.{get_or-beyond}
 use Rattle.slub_journal.specs.declared.journal.RoundResult.{RoundResult}

@@ -11,8 +11,8 @@ use Rattle.slub_answers.specs.Kinds.{is_freed, is_given}
 use Rattle.slub_lists.specs.State.{State}
 use Rattle.slub_lists.specs.Coherent.{held_under}
 use Rattle.slub_lists.specs.Places.{layout_at}
-use Rattle.slub_trace_reader.specs.declared.trace.Client.{Client as Asked}
-use Rattle.slub_trace_reader.specs.declared.trace.Client.TheVariants as line
+use Rattle.slub_trace.specs.declared.trace.Client.{Client as Asked}
+use Rattle.slub_trace.specs.declared.trace.Client.TheVariants as line
 use Rattle.slub_journal.specs.declared.client.CacheRefusal.{CacheRefusal}
 use Rattle.slub_journal.specs.declared.client.ClientAnswer.{ClientAnswer}
 use Rattle.slub_journal.specs.declared.client.ClientAnswer.TheVariants as answer

@@ -1,7 +1,7 @@
 -- Rounds of clients that can be done.
 use Rattle.std.specs.Prelude.{ℕ, ◌^◌, ◌<◌, ◌≤◌, List, length, All, nat_eq}
 use Rattle.std.specs.List.{IsDistinct}
-use Rattle.slub_trace_reader.specs.declared.trace.Trace.{Trace}
+use Rattle.slub_trace.specs.declared.trace.Trace.{Trace}
 use Rattle.slub_calls.specs.Laws.{MayDo}
 use Rattle.slub_journal.specs.Asked.{frees_of, round_of}
 use Rattle.slub_journal.specs.Lawful.{IsUnheld}

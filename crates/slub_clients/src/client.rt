@@ -3,8 +3,8 @@
 ghost use Rattle.std.specs.Prelude.{◌≡◌, ◌<◌, [], IfErr, IfOk, MatchOption, length, slice_get};
 ghost use Rattle.std.specs.List.{list_any};
 ghost use Rattle.slub_answers.specs.Kinds.{is_no_memory};
-ghost use Rattle.slub_trace_reader.specs.declared.trace.Trace.{Trace};
-ghost use Rattle.slub_trace_reader.specs.Sound.{objects_of};
+ghost use Rattle.slub_trace.specs.declared.trace.Trace.{Trace};
+ghost use Rattle.slub_trace.specs.Sound.{objects_of};
 ghost use Rattle.slub_calls.specs.Laws.{MayDo};
 ghost use Rattle.slub_journal.specs.Asked.{Tells, round_of};
 ghost use Rattle.slub_round_law.specs.Round.{IsRound};

@@ -2,7 +2,7 @@
 
 ghost use Rattle.std.specs.Prelude.{◌≡◌, IfOk, length};
 ghost use Rattle.slub_lists.specs.State.{State};
-ghost use Rattle.slub_trace_reader.specs.Sound.{IsSound};
+ghost use Rattle.slub_trace.specs.Sound.{IsSound};
 ghost use Rattle.slub_clients.specs.Asked.{IsOpenTo, StaysOpen};
 ghost use Rattle.slub_clients.specs.Kmalloc.{CreatesFor, cache_made, ids_made};
 
@@ -14,7 +14,7 @@ use slub_ids::growth::begin_cache;
 use slub_into_words::ids::Ids;
 use slub_object_layout::layout::Spec;
 use slub_object_layout::name::Name;
-use slub_trace_reader::trace::Trace;
+use slub_trace::trace::Trace;
 use std::alloc::Global;
 
 /// Creates a name as a `cache` line does (`kmem_cache_create`): where a new cache comes of it, its CPU words begin at

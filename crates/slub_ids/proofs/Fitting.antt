@@ -12,9 +12,9 @@ use Rattle.slub_lists.specs.Alloc.{cache_of, no_lists}
 use Rattle.slub_lists.specs.Coherent.{IsCoherent}
 use Rattle.slub_opening.specs.Opening.{cpu_at}
 use Rattle.slub_opening.proofs.Cpus.{cpu-at}
-use Rattle.slub_trace_reader.specs.declared.trace.Trace.{Trace}
-use Rattle.slub_trace_reader.specs.Grammar.{step_of}
-use Rattle.slub_trace_reader.specs.Sound.{IsSound}
+use Rattle.slub_trace.specs.declared.trace.Trace.{Trace}
+use Rattle.slub_trace.specs.Ranges.{step_of}
+use Rattle.slub_trace.specs.Sound.{IsSound}
 use Rattle.slub_journal.specs.Lawful.{opening_of}
 use Rattle.slub_into_words.specs.Ids.{AreIds, IsStepOf, first_id, id_at}
 use Rattle.slub_into_words.proofs.Firsts.{first-ids-fit, first-is, first-leaves, first-most, step-below}

@@ -29,9 +29,9 @@ use Rattle.slub_lists.specs.Create.{CreatesCache}
 use Rattle.slub_lists.specs.Destroy.{Destroys, without}
 use Rattle.slub_lists.specs.Shrink.{ShrinksCache, Shrinks, flushed_below, has_slab, min_partial_of}
 use Rattle.slub_lists.specs.Tune.{Tunes, tuned, with_setting}
-use Rattle.slub_trace_reader.specs.declared.trace.Item.TheVariants as item
-use Rattle.slub_trace_reader.specs.declared.trace.Trace.{Trace}
-use Rattle.slub_trace_reader.specs.Sound.{IsSound}
+use Rattle.slub_trace.specs.declared.trace.Item.TheVariants as item
+use Rattle.slub_trace.specs.declared.trace.Trace.{Trace}
+use Rattle.slub_trace.specs.Sound.{IsSound}
 use Rattle.slub_journal.specs.declared.journal.Done.TheVariants as done
 use Rattle.slub_journal.specs.Lawful.{CreatesName, DoesPlain, name_at}
 use Rattle.slub_into_words.specs.Ids.{AreIds}

@@ -13,9 +13,9 @@ use Rattle.slub_lists.specs.Alloc.{lists_of, no_lists}
 use Rattle.slub_lists.specs.Coherent.{IsCoherent}
 use Rattle.slub_lists.proofs.Coherence.{live-inside}
 use Rattle.slub_opening.specs.Opening.{cpu_at}
-use Rattle.slub_trace_reader.specs.declared.trace.Item.{Item}
-use Rattle.slub_trace_reader.specs.declared.trace.Item.TheVariants as item
-use Rattle.slub_trace_reader.specs.declared.trace.Trace.{Trace}
+use Rattle.slub_trace.specs.declared.trace.Item.{Item}
+use Rattle.slub_trace.specs.declared.trace.Item.TheVariants as item
+use Rattle.slub_trace.specs.declared.trace.Trace.{Trace}
 use Rattle.slub_journal.specs.Lawful.{name_at}
 use Rattle.slub_ids.specs.Due.{AreCurrent, detached_by}
 

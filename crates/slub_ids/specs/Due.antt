@@ -6,9 +6,9 @@ use Rattle.slub_cache_create.specs.Table.{number_of}
 use Rattle.slub_answers.specs.declared.create.Created.TheVariants.{New}
 use Rattle.slub_lists.specs.State.{State}
 use Rattle.slub_opening.specs.Opening.{cpu_at}
-use Rattle.slub_trace_reader.specs.declared.trace.Item.{Item}
-use Rattle.slub_trace_reader.specs.declared.trace.Item.TheVariants as item
-use Rattle.slub_trace_reader.specs.declared.trace.Trace.{Trace}
+use Rattle.slub_trace.specs.declared.trace.Item.{Item}
+use Rattle.slub_trace.specs.declared.trace.Item.TheVariants as item
+use Rattle.slub_trace.specs.declared.trace.Trace.{Trace}
 use Rattle.slub_journal.specs.declared.journal.Done.{Done}
 use Rattle.slub_journal.specs.declared.journal.Done.TheVariants as done
 use Rattle.slub_journal.specs.Lawful.{name_at}

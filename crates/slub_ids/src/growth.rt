@@ -3,8 +3,8 @@
 ghost use Rattle.std.specs.Prelude.{◌≡◌, ◌+◌, ◌*◌, ◌/◌, ◌%◌, ◌^◌, ◌<◌, ◌≤◌, ◌==◌, ◌&&◌, ℕ, true, false, length, slice_index_or, if◌then◌else◌};
 ghost use Rattle.slub_lists.specs.State.{State};
 ghost use Rattle.slub_lists.specs.Coherent.{IsCoherent};
-ghost use Rattle.slub_trace_reader.specs.Grammar.{step_of};
-ghost use Rattle.slub_trace_reader.specs.Sound.{IsSound, IsSoundItem};
+ghost use Rattle.slub_trace.specs.Ranges.{step_of};
+ghost use Rattle.slub_trace.specs.Sound.{IsSound, IsSoundItem};
 ghost use Rattle.slub_into_words.specs.Ids.{AreIds, first_id, id_at};
 ghost use Rattle.slub_ids.specs.Growth.{with_first};
 ghost use Rattle.slub_ids.specs.Due.{AreAfter, AreCurrent, IsDue, HasRoom, came_about, detached_by, is_shrunk, is_tuned, made_by, new_in, with_steps};
@@ -15,7 +15,7 @@ use slub_journal::journal::Done;
 use slub_journal::names::name_of;
 use slub_list_machine::lists::Lists;
 use slub_object_layout::layout::Setting;
-use slub_trace_reader::trace::{Item, Trace};
+use slub_trace::trace::{Item, Trace};
 
 /// What an item is going to change of the ids, looked up before it is done.
 #[derive(Clone, Copy, Debug)]

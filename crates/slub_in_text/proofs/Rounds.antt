@@ -9,7 +9,7 @@ use Rattle.std.proofs.lemmas.List.FromFn.{length-range_with_len}
 use Rattle.std.proofs.Math.ListN.{get_or-map}
 use Rattle.slub_events.specs.declared.event.Event.{Event}
 use Rattle.slub_events.specs.declared.event.Round.{Round}
-use Rattle.slub_trace_reader.specs.declared.trace.Trace.{Trace}
+use Rattle.slub_trace.specs.declared.trace.Trace.{Trace}
 use Rattle.slub_answers.specs.declared.reply.Reply.{Reply}
 use Rattle.slub_answers.specs.Kinds.{is_no_memory}
 use Rattle.slub_lists.specs.State.{State}
@@ -39,7 +39,7 @@ use Rattle.slub_calls.specs.Laws.{MayDo}
 use Rattle.slub_calls.proofs.Fitting.{may_begin}
 use Rattle.slub_journal.specs.Lawful.{RunsEvents, found_in}
 use Rattle.slub_journal.specs.declared.journal.RoundResult.{RoundResult}
-use Rattle.slub_trace_reader.specs.Grammar.{step_of}
+use Rattle.slub_trace.specs.Ranges.{step_of}
 use Rattle.slub_into_words.specs.Ids.{id_at}
 use Rattle.slub_ids.proofs.Steps.{step-is}
 use Rattle.slub_alone.specs.Alone.{HasWord, IsAtRest}

@@ -2,9 +2,9 @@
 use Rattle.std.specs.Prelude.{◌≡◌, ◌≢◌, ℕ, ◌+◌, ◌*◌, ◌^◌, ◌<◌, true, false, List, reverse, Some, None, IsSome, All}
 use Rattle.slub_events.specs.declared.event.Round.{Round}
 use Rattle.slub_answers.specs.Kinds.{is_no_memory}
-use Rattle.slub_trace_reader.specs.declared.trace.Trace.{Trace}
-use Rattle.slub_trace_reader.specs.Grammar.{step_of}
-use Rattle.slub_trace_reader.specs.Sound.{allocated, is_written}
+use Rattle.slub_trace.specs.declared.trace.Trace.{Trace}
+use Rattle.slub_trace.specs.Ranges.{step_of}
+use Rattle.slub_trace.specs.Sound.{allocated, is_written}
 use Rattle.slub_lists.specs.declared.lists.Held.{Held}
 use Rattle.slub_lists.specs.State.{State}
 use Rattle.slub_lists.specs.Alloc.{cache_of, checked_of}

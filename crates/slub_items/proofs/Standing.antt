@@ -12,10 +12,10 @@ use Rattle.slub_into_words.proofs.Firsts.{first-ids-fit, step-below}
 use Rattle.slub_ids.specs.Growth.{ids_after}
 use Rattle.slub_ids.proofs.Items.{items-keep}
 use Rattle.slub_ids.proofs.Steps.{is-step}
-use Rattle.slub_trace_reader.specs.declared.trace.Item.{Item}
-use Rattle.slub_trace_reader.specs.declared.trace.Trace.{Trace}
-use Rattle.slub_trace_reader.specs.Grammar.{step_of}
-use Rattle.slub_trace_reader.specs.Sound.{IsSound}
+use Rattle.slub_trace.specs.declared.trace.Item.{Item}
+use Rattle.slub_trace.specs.declared.trace.Trace.{Trace}
+use Rattle.slub_trace.specs.Ranges.{step_of}
+use Rattle.slub_trace.specs.Sound.{IsSound}
 use Rattle.slub_journal.specs.declared.journal.Done.{Done}
 use Rattle.slub_journal.specs.declared.journal.RoundResult.{RoundResult}
 use Rattle.slub_journal.specs.Lawful.{DoesPlain, DoesPlainAt, IsReady}

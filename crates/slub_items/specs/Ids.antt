@@ -3,7 +3,7 @@ use Rattle.std.specs.Prelude.{◌≡◌, ℕ, List, Option, MatchOption, slice_g
 use Rattle.std.specs.Option.{option_map}
 use Rattle.slub_lists.specs.State.{State}
 use Rattle.slub_ids.specs.Growth.{ids_after}
-use Rattle.slub_trace_reader.specs.declared.trace.Trace.{Trace}
+use Rattle.slub_trace.specs.declared.trace.Trace.{Trace}
 use Rattle.slub_journal.specs.declared.journal.Done.{Done}
 
 -- the ids, where there are some, are those that the item of this number leaves

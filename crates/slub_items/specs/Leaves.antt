@@ -2,8 +2,8 @@
 use Rattle.std.specs.Prelude.{◌≡◌, ◌≢◌, ℕ, [], ◌∷◌, None, IsSome}
 use Rattle.slub_lists.specs.State.{State}
 use Rattle.slub_lists.specs.Coherent.{held_under}
-use Rattle.slub_trace_reader.specs.declared.trace.Client.{Client as Asked}
-use Rattle.slub_trace_reader.specs.declared.trace.Client.TheVariants as line
+use Rattle.slub_trace.specs.declared.trace.Client.{Client as Asked}
+use Rattle.slub_trace.specs.declared.trace.Client.TheVariants as line
 use Rattle.slub_journal.specs.declared.client.ClientAnswer.{ClientAnswer}
 use Rattle.slub_journal.specs.declared.client.ClientAnswer.TheVariants as answer
 use Rattle.slub_clients.specs.BulkLines.{AddsNumbers, address_under}

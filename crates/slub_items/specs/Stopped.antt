@@ -2,9 +2,9 @@
 use Rattle.std.specs.Prelude.{◌≡◌, ℕ, List, Option, Some, None, MatchOption, ⊤, slice_get}
 use Rattle.slub_events.specs.declared.event.Round.{Round}
 use Rattle.slub_lists.specs.State.{State}
-use Rattle.slub_trace_reader.specs.declared.trace.Item.{Item}
-use Rattle.slub_trace_reader.specs.declared.trace.Item.TheVariants as item
-use Rattle.slub_trace_reader.specs.declared.trace.Trace.{Trace}
+use Rattle.slub_trace.specs.declared.trace.Item.{Item}
+use Rattle.slub_trace.specs.declared.trace.Item.TheVariants as item
+use Rattle.slub_trace.specs.declared.trace.Trace.{Trace}
 use Rattle.slub_journal.specs.Lawful.{TakesMemoryAt}
 use Rattle.slub_rounds.specs.declared.scheduled.Stopped.{Stopped as StepsStopped}
 use Rattle.slub_rounds.specs.declared.scheduled.Stopped.TheVariants as steps_stopped

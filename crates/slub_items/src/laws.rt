@@ -1,7 +1,7 @@
 //! What `kmalloc` lines leave of the board. It does nothing.
 
-ghost use Rattle.slub_trace_reader.specs.declared.trace.Client.{Client as Asked};
-ghost use Rattle.slub_trace_reader.specs.declared.trace.Trace.{Trace as Read};
+ghost use Rattle.slub_trace.specs.declared.trace.Client.{Client as Asked};
+ghost use Rattle.slub_trace.specs.declared.trace.Trace.{Trace as Read};
 ghost use Rattle.slub_journal.specs.declared.client.ClientDone.{ClientDone as Done};
 ghost use Rattle.slub_by_text.specs.Heap.{HeapState};
 ghost use Rattle.slub_clients.specs.Asked.{IsServable};

@@ -2,8 +2,8 @@
 
 ghost use Rattle.std.specs.Prelude.{◌≡◌, ℕ, ◌+◌, ◌-◌, ◌^◌, ◌<◌, ◌≤◌, length, IfErr, IfOk, IfSome, OnErr, OnOk};
 ghost use Rattle.slub_lists.specs.Coherent.{IsCoherent};
-ghost use Rattle.slub_trace_reader.specs.declared.trace.Trace.{Trace as Read};
-ghost use Rattle.slub_trace_reader.specs.Sound.{IsSound, asked_objects};
+ghost use Rattle.slub_trace.specs.declared.trace.Trace.{Trace as Read};
+ghost use Rattle.slub_trace.specs.Sound.{IsSound, asked_objects};
 ghost use Rattle.slub_calls.specs.Laws.{MayDo};
 ghost use Rattle.slub_ids.specs.Due.{AreAfter};
 ghost use Rattle.slub_into_words.specs.Ids.{AreIds};
@@ -33,7 +33,7 @@ use slub_journal::client::ClientDone;
 use slub_journal::journal::{Done, RoundResult, Total};
 use slub_list_machine::lists::Lists;
 use slub_mempool::reserves::Reserves;
-use slub_trace_reader::trace::{Client, Item, Trace};
+use slub_trace::trace::{Client, Item, Trace};
 use slub_ways::laws::{items_leave_room, ready_lines_may_be_served, ready_rounds_may_be_done};
 use slub_ways::way::Way;
 use std::alloc::Global;

@@ -3,7 +3,7 @@ use Rattle.std.proofs.Common.{◌≡◌, ℕ, zero, suc, ◌+◌, replicate, get
 use Rattle.std.proofs.lemmas.List.{length-replicate}
 use Rattle.slub_lists.specs.declared.lists.Held.{Held}
 use Rattle.slub_lists.specs.Coherent.{IsCoherent}
-use Rattle.slub_trace_reader.specs.declared.trace.Trace.{Trace}
+use Rattle.slub_trace.specs.declared.trace.Trace.{Trace}
 use Rattle.slub_journal.specs.Lawful.{IsReady, coming, opening_of}
 
 -- ---- the machine that is opened

@@ -32,10 +32,10 @@ use Rattle.slub_lists.specs.Flush.{Flushes}
 use Rattle.slub_lists.specs.Coherent.{IsCoherent, all_on_board, held_under, opening}
 use Rattle.slub_slabinfo_text.specs.declared.counts.Counts.{Counts}
 use Rattle.slub_slabinfo_text.specs.Counts.{row_of, rows_of}
-use Rattle.slub_trace_reader.specs.declared.trace.Item.{Item}
-use Rattle.slub_trace_reader.specs.declared.trace.Item.TheVariants as item
-use Rattle.slub_trace_reader.specs.declared.trace.Trace.{Trace}
-use Rattle.slub_trace_reader.specs.Sound.{objects_in}
+use Rattle.slub_trace.specs.declared.trace.Item.{Item}
+use Rattle.slub_trace.specs.declared.trace.Item.TheVariants as item
+use Rattle.slub_trace.specs.declared.trace.Trace.{Trace}
+use Rattle.slub_trace.specs.Sound.{objects_in}
 use Rattle.slub_answers.specs.declared.create.Created.{Created}
 use Rattle.slub_answers.specs.declared.create.Created.TheVariants.{New, Merged}
 use Rattle.slub_answers.specs.declared.create.CreateRefusal.{CreateRefusal}

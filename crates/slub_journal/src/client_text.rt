@@ -12,7 +12,7 @@ use slub_answers::create::{CreateRefusal, Created};
 use slub_common::no_memory::NoMemory;
 use slub_object_layout::name::Name;
 use slub_slabinfo_text::text::ItemWord;
-use slub_trace_reader::trace::Client;
+use slub_trace::trace::Client;
 use std::alloc::Global;
 
 /// The lines of a client's line: what it is answered, and then what was found damaged in its rounds.

@@ -1,12 +1,12 @@
 //! The names of a trace, and those of the classes' caches.
 
 ghost use Rattle.std.specs.Prelude.{◌≡◌, ◌<◌, length};
-ghost use Rattle.slub_trace_reader.specs.Classes.{class_names};
+ghost use Rattle.slub_trace.specs.Classes.{class_names};
 ghost use Rattle.slub_journal.specs.Lawful.{name_at};
 
 use slub_object_layout::name::Name;
-use slub_trace_reader::classes::class_name;
-use slub_trace_reader::trace::Trace;
+use slub_trace::classes::class_name;
+use slub_trace::trace::Trace;
 
 /// The name at a place of the trace's names.
 pub fn name_of(trace: &Trace, place: u32) -> &Name
@@ -17,7 +17,7 @@ pub fn name_of(trace: &Trace, place: u32) -> &Name
 }
 
 /// The names of the classes' caches, in rising order of the classes.
-#[tactic(auto, unfolding(slub_trace_reader::specs::Classes::class_names))]
+#[tactic(auto, unfolding(slub_trace::specs::Classes::class_names))]
 pub fn class_names() -> [Name; 13]
     ensures { result ≡ class_names }
 {

@@ -3,7 +3,7 @@
 ghost use Rattle.std.specs.Prelude.{◌≡◌, ◌<◌, ◌++◌, length, flat_map, All, OnOk};
 ghost use Rattle.std.specs.List.{zip};
 ghost use Rattle.slub_slabinfo_text.specs.Texts.{IsNamed};
-ghost use Rattle.slub_trace_reader.specs.Sound.{IsSound};
+ghost use Rattle.slub_trace.specs.Sound.{IsSound};
 ghost use Rattle.slub_journal.specs.Lines.{answer_line, created_answer, destroyed_answer, event_text, found_text, round_text, shrunk_answer, tuned_answer};
 ghost use Rattle.slub_journal.specs.Text.{text_at, total_text};
 
@@ -23,7 +23,7 @@ use slub_slabinfo_text::text::{
     ItemAnswer, ItemWord, is_ok_answer, push_damage_line, push_item_line, push_reply_line,
     push_slabinfo, push_total,
 };
-use slub_trace_reader::trace::{Item, Trace};
+use slub_trace::trace::{Item, Trace};
 use std::alloc::Global;
 
 /// The lines of an item that was done are put behind a text; those that say that all went well only

@@ -3,7 +3,7 @@ use Rattle.std.proofs.Common.{◌≡◌, ℕ, zero, suc, ◌+◌, List, [], ◌�
 use Rattle.std.specs.List.{range_with_len}
 use Rattle.slub_answers.specs.declared.create.Created.{Created}
 use Rattle.slub_answers.specs.declared.create.CreateRefusal.{CreateRefusal}
-use Rattle.slub_trace_reader.specs.declared.trace.Trace.{Trace}
+use Rattle.slub_trace.specs.declared.trace.Trace.{Trace}
 use Rattle.slub_journal.specs.Classes.{class_spec}
 use Rattle.slub_by_text.specs.Heap.{HeapState}
 use Rattle.slub_clients.specs.Kmalloc.{CreatesClasses, CreatesFor, class_name}

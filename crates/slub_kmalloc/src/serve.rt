@@ -6,7 +6,7 @@ ghost use Rattle.std.specs.Option.{option_map_or};
 ghost use Rattle.std.specs.Str.{bytes_eq};
 ghost use Rattle.slub_object_layout.specs.Layout.{is_checked};
 ghost use Rattle.slub_lists.specs.Alloc.{cache_of};
-ghost use Rattle.slub_trace_reader.specs.Sound.{IsSound, IsSoundObject, asked_objects};
+ghost use Rattle.slub_trace.specs.Sound.{IsSound, IsSoundObject, asked_objects};
 ghost use Rattle.slub_journal.specs.Lawful.{IsUnheld};
 ghost use Rattle.slub_engine.specs.Steps.{KeepsUnheld};
 ghost use Rattle.slub_events.specs.declared.event.Act.TheVariants.{Free};
@@ -25,8 +25,8 @@ use slub_journal::client::{CacheRefusal, ClientAnswer, ClientDone, ClientRound};
 use slub_journal::names::class_names;
 use slub_list_machine::lists::Lists;
 use slub_object_layout::name::Name;
-use slub_trace_reader::classes::class_name;
-use slub_trace_reader::trace::{Client, Trace};
+use slub_trace::classes::class_name;
+use slub_trace::trace::{Client, Trace};
 use std::alloc::Global;
 
 /// The place of a class's name among those of the trace.

@@ -18,7 +18,7 @@ use Rattle.slub_lists.specs.declared.lists.Held.{Held}
 use Rattle.slub_lists.specs.State.{State}
 use Rattle.slub_lists.specs.Coherent.{IsCoherent, held_of, held_under}
 use Rattle.slub_lists.proofs.CheckedSlabs.{counted-within}
-use Rattle.slub_trace_reader.specs.Sound.{objects_of}
+use Rattle.slub_trace.specs.Sound.{objects_of}
 use Rattle.slub_journal.specs.declared.journal.RoundResult.{RoundResult}
 use Rattle.slub_journal.specs.Lawful.{freed_in, given_in, is_by}
 use Rattle.slub_journal.proofs.Numbers.{sum_from}

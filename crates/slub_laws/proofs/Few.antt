@@ -1,9 +1,9 @@
 -- A run gives no more objects than its items name, and frees no more than it gives.
 use Rattle.std.proofs.Common.{◌≡◌, ◌^◌, ◌<◌, List, flat_map, length, take, take_all, ap, sym, subst, arith}
 use Rattle.slub_lists.specs.Coherent.{IsCoherent}
-use Rattle.slub_trace_reader.specs.declared.trace.Item.{Item}
-use Rattle.slub_trace_reader.specs.declared.trace.Trace.{Trace}
-use Rattle.slub_trace_reader.specs.Sound.{IsSound, objects_in}
+use Rattle.slub_trace.specs.declared.trace.Item.{Item}
+use Rattle.slub_trace.specs.declared.trace.Trace.{Trace}
+use Rattle.slub_trace.specs.Sound.{IsSound, objects_in}
 use Rattle.slub_journal.specs.declared.journal.Done.{Done}
 use Rattle.slub_journal.specs.Lawful.{all_freed, all_given, opening_of}
 use Rattle.slub_ways.specs.declared.way.Way.{Way}

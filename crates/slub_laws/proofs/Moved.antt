@@ -1,8 +1,8 @@
 -- Over a run each number is freed no more often than it is given, and given once at most.
 use Rattle.std.proofs.Common.{◌≡◌, ℕ, ◌≤◌, count_by, flat_map, length, take, ap, arith}
-use Rattle.slub_trace_reader.specs.declared.trace.Item.{Item}
-use Rattle.slub_trace_reader.specs.declared.trace.Trace.{Trace}
-use Rattle.slub_trace_reader.specs.Sound.{IsSound, objects_in}
+use Rattle.slub_trace.specs.declared.trace.Item.{Item}
+use Rattle.slub_trace.specs.declared.trace.Trace.{Trace}
+use Rattle.slub_trace.specs.Sound.{IsSound, objects_in}
 use Rattle.slub_journal.specs.declared.journal.Done.{Done}
 use Rattle.slub_journal.specs.declared.journal.Journal.{Journal}
 use Rattle.slub_round_law.specs.Answered.{did_free, gave}

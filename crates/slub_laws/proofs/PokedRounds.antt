@@ -1,7 +1,7 @@
 -- A round that is done by any way tells only of damages that were poked, and leaves a machine of which the same is so.
 use Rattle.std.proofs.Common.{ℕ, List, Option, Some, None, inl, inr}
 use Rattle.slub_events.specs.declared.event.Round.{Round}
-use Rattle.slub_trace_reader.specs.declared.trace.Trace.{Trace}
+use Rattle.slub_trace.specs.declared.trace.Trace.{Trace}
 use Rattle.slub_lists.specs.State.{State}
 use Rattle.slub_lists.specs.Coherent.{IsCoherent}
 use Rattle.slub_calls.specs.Laws.{MayDo}

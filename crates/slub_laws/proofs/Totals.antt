@@ -15,9 +15,9 @@ use Rattle.slub_lists.specs.Coherent.{IsCoherent, held_of}
 use Rattle.slub_lists.proofs.ObjectWords.{held-cache}
 use Rattle.slub_slabinfo_text.specs.declared.counts.InfoRow.{InfoRow}
 use Rattle.slub_slabinfo_text.specs.Counts.{row_of, row_with}
-use Rattle.slub_trace_reader.specs.declared.trace.Item.{Item}
-use Rattle.slub_trace_reader.specs.declared.trace.Trace.{Trace}
-use Rattle.slub_trace_reader.specs.Sound.{IsSound, IsSoundItem, objects_in}
+use Rattle.slub_trace.specs.declared.trace.Item.{Item}
+use Rattle.slub_trace.specs.declared.trace.Trace.{Trace}
+use Rattle.slub_trace.specs.Sound.{IsSound, IsSoundItem, objects_in}
 use Rattle.slub_journal.specs.declared.journal.Done.{Done}
 use Rattle.slub_journal.specs.declared.journal.Journal.{Journal}
 use Rattle.slub_journal.specs.declared.journal.Total.{Total}

@@ -1,6 +1,6 @@
 -- The damages of a journal, and the pokes before them.
 use Rattle.std.specs.Prelude.{List, [], ◌∷◌, ◌++◌, All, Contains, ⊤}
-use Rattle.slub_trace_reader.specs.declared.trace.Trace.{Trace}
+use Rattle.slub_trace.specs.declared.trace.Trace.{Trace}
 use Rattle.slub_journal.specs.declared.client.ClientRound.{ClientRound}
 use Rattle.slub_journal.specs.declared.journal.Journal.{Journal}
 use Rattle.slub_round_law.specs.Answered.{Answered}

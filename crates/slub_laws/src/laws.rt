@@ -9,7 +9,7 @@ ghost use Rattle.slub_lists.specs.State.{State};
 ghost use Rattle.slub_events.specs.declared.event.Round.{Round as Events};
 ghost use Rattle.slub_journal.specs.declared.journal.RoundResult.{RoundResult as Outcome};
 ghost use Rattle.slub_slabinfo_text.specs.Counts.{counts_of};
-ghost use Rattle.slub_trace_reader.specs.Sound.{IsSound};
+ghost use Rattle.slub_trace.specs.Sound.{IsSound};
 ghost use Rattle.slub_journal.specs.Lawful.{opening_of};
 ghost use Rattle.slub_ways.specs.Runs.{IsLawful, IsReadyMachine, machine_of};
 ghost use Rattle.slub_laws.specs.Freed.{freed_times, given_times};
@@ -19,7 +19,7 @@ ghost use Rattle.slub_laws.specs.Rounds.{HasLawfulRounds};
 ghost use Rattle.slub_laws.specs.Shrinking.{LeavesUsedSlabs};
 
 use slub_journal::journal::Journal;
-use slub_trace_reader::trace::Trace;
+use slub_trace::trace::Trace;
 use slub_ways::way::Way;
 
 /// Over a whole run, by any way, no object number is freed twice, and none is given twice: a number is freed at most as

@@ -6,7 +6,7 @@ use Rattle.std.proofs.lemmas.Bool.{cases_Bool, eqb-true, false≢true}
 use Rattle.std.proofs.lemmas.List.{append-nil, get_or-set_same, get_or-set_other}
 use Rattle.std.proofs.lemmas.List.Elements.{filter-append, filter_map-append}
 use Rattle.slub_events.specs.declared.event.Event.{Event}
-use Rattle.slub_trace_reader.specs.Sound.{allocated, objects_of}
+use Rattle.slub_trace.specs.Sound.{allocated, objects_of}
 use Rattle.slub_load.specs.Kept.{AreHeld}
 use Rattle.slub_load.specs.Load.{freed, freed_of, events_of, event_behind, event_of, held_by, is_free}
 

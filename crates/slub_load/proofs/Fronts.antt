@@ -5,7 +5,7 @@ use Rattle.std.proofs.Math.Seq.{take-append-add}
 use Rattle.std.proofs.lemmas.Bool.{cond_both, cases_order}
 use Rattle.std.proofs.lemmas.List.{append-nil, take-append-drop, take-append-le, take_all}
 use Rattle.slub_events.specs.declared.event.Event.{Event}
-use Rattle.slub_trace_reader.specs.Sound.{allocated, objects_of}
+use Rattle.slub_trace.specs.Sound.{allocated, objects_of}
 use Rattle.slub_load.specs.Load.{drawn_events, emptied, events_of, freed_of, held_by, last_frees, load_events}
 use Rattle.slub_load.proofs.Drawn.{drawn_next, drawn_none}
 use Rattle.slub_load.proofs.Events.{events_append, holds_held, objects_append}

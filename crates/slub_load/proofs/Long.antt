@@ -4,7 +4,7 @@ use Rattle.std.specs.List.{range_with_len}
 use Rattle.std.proofs.lemmas.Bool.{cond_both}
 use Rattle.std.proofs.lemmas.List.{length-drop, length-map}
 use Rattle.slub_events.specs.declared.event.Event.{Event}
-use Rattle.slub_trace_reader.specs.Sound.{objects_of}
+use Rattle.slub_trace.specs.Sound.{objects_of}
 use Rattle.slub_load.specs.Load.{drawn_events, emptied, events_of, free_by, freed_of, held_by, last_frees, load_events}
 use Rattle.slub_load.proofs.Drawn.{drawn_next, drawn_none}
 use Rattle.slub_load.proofs.Events.{few_objects}

@@ -1,8 +1,8 @@
 -- What is put together is the load.
 use Rattle.std.proofs.Common.{◌≡◌, ℕ, List, length, fold, max, refl, sym, ap, ◌∙◌}
-use Rattle.slub_trace_reader.specs.declared.trace.Item.{Item}
-use Rattle.slub_trace_reader.specs.declared.trace.Trace.{Trace}
-use Rattle.slub_trace_reader.specs.Sound.{objects_of}
+use Rattle.slub_trace.specs.declared.trace.Item.{Item}
+use Rattle.slub_trace.specs.declared.trace.Trace.{Trace}
+use Rattle.slub_trace.specs.Sound.{objects_of}
 use Rattle.slub_load.specs.Load.{cache_names, drawn_events, emptied, items_of, load_events, load_of}
 use Rattle.slub_load.proofs.Numbered.{load_greatest}
 

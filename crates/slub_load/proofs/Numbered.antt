@@ -4,7 +4,7 @@ use Rattle.std.specs.List.{range_with_len}
 use Rattle.std.proofs.lemmas.Bool.{cond_both}
 use Rattle.std.proofs.lemmas.List.{append-nil}
 use Rattle.slub_events.specs.declared.event.Event.{Event}
-use Rattle.slub_trace_reader.specs.Sound.{objects_of}
+use Rattle.slub_trace.specs.Sound.{objects_of}
 use Rattle.slub_common.proofs.Lists.{range_with_len-append}
 use Rattle.slub_trace_reader.proofs.Runs.{greatest_from, greatest_within}
 use Rattle.slub_load.specs.Generator.{number}

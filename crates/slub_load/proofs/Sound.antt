@@ -11,10 +11,10 @@ use Rattle.slub_events.specs.declared.event.Act.{Act}
 use Rattle.slub_events.specs.declared.event.Act.TheVariants.{Alloc, Free, Write, Read, Poke, Trim, Flush}
 use Rattle.slub_events.specs.declared.event.Event.{Event}
 use Rattle.slub_object_layout.specs.Name.{IsName}
-use Rattle.slub_trace_reader.specs.declared.trace.Item.{Item}
-use Rattle.slub_trace_reader.specs.declared.trace.Item.TheVariants.{Cache, Round, Shrink}
-use Rattle.slub_trace_reader.specs.Sound.{IsSound, IsSoundAct, IsSoundEvent, IsSoundItem, IsSoundRound, AreReadable, IsReadable, allocated, events_in, objects_in, objects_of}
-use Rattle.slub_trace_reader.proofs.Fields.{name_tells}
+use Rattle.slub_trace.specs.declared.trace.Item.{Item}
+use Rattle.slub_trace.specs.declared.trace.Item.TheVariants.{Cache, Round, Shrink}
+use Rattle.slub_trace.specs.Sound.{IsSound, IsSoundAct, IsSoundEvent, IsSoundItem, IsSoundRound, AreReadable, IsReadable, allocated, events_in, objects_in, objects_of}
+use Rattle.slub_trace.proofs.Names.{name_tells}
 use Rattle.slub_trace_reader.proofs.Runs.{distinct_run, run_each}
 use Rattle.slub_load.specs.Generator.{number}
 use Rattle.slub_load.specs.Load.{alloc_by, cache_names, drawn_events, emptied, event_behind, event_of, events_of, free_by, freed_of, held_by, is_free, items_of, last_frees, load_events, load_of, plain, trace_of}
@@ -166,7 +166,7 @@ sound_act workers es (Poke object offset byte) is = absurd is
 sound_act workers es (Trim place) is = absurd is
 sound_act workers es Flush is = absurd is
 
-idle_cpu : (count : ℕ) (a : Act) (cpu : ℕ) → IsGoodAct count a → Rattle.slub_trace_reader.specs.Sound.IsSoundCpu a cpu
+idle_cpu : (count : ℕ) (a : Act) (cpu : ℕ) → IsGoodAct count a → Rattle.slub_trace.specs.Sound.IsSoundCpu a cpu
 idle_cpu count (Alloc place object) cpu is = tt
 idle_cpu count (Free object) cpu is = tt
 idle_cpu count (Write word object value) cpu is = absurd is

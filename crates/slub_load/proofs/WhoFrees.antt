@@ -4,7 +4,7 @@ use Rattle.std.specs.List.{range_with_len}
 use Rattle.std.proofs.lemmas.Bool.{cases_Bool, cond_both, eqb-true, ne_eqb}
 use Rattle.std.proofs.lemmas.List.{append-nil}
 use Rattle.slub_events.specs.declared.event.Event.{Event}
-use Rattle.slub_trace_reader.specs.Sound.{objects_of}
+use Rattle.slub_trace.specs.Sound.{objects_of}
 use Rattle.slub_load.specs.Generator.{number}
 use Rattle.slub_load.specs.Load.{alloc_by, drawn_events, event_behind, event_of, events_of, free_by, freed_of, held_by, is_free, last_frees}
 use Rattle.slub_load.proofs.Events.{event_worker, events_append, freed_append, holds_held, holds_other, holds_own}

@@ -1,7 +1,7 @@
 -- For proofs and private clauses: what is kept while a load is made.
 use Rattle.std.specs.Prelude.{◌≡◌, ℕ, List, [], ◌++◌, slice_index_or}
 use Rattle.slub_events.specs.declared.event.Event.{Event}
-use Rattle.slub_trace_reader.specs.Sound.{objects_of}
+use Rattle.slub_trace.specs.Sound.{objects_of}
 use Rattle.slub_load.specs.Load.{freed_of, events_of}
 
 -- these are what each worker holds after events, longest held first: all that it allocated are

@@ -1,7 +1,7 @@
 //! What follows from the definitions. None of these does anything.
 
 ghost use Rattle.std.specs.Prelude.{◌≡◌, ◌<◌, ◌++◌, ℕ, List, take};
-ghost use Rattle.slub_trace_reader.specs.Sound.{objects_of};
+ghost use Rattle.slub_trace.specs.Sound.{objects_of};
 ghost use Rattle.slub_load.specs.Load.{events_of, freed_of, load_events};
 
 /// In the end each worker has freed what it allocated: these objects and no others, each once, in

@@ -2,7 +2,7 @@
 
 ghost use Rattle.std.specs.Prelude.{◌≡◌, ◌+◌, ◌*◌, ◌%◌, ◌<◌, ◌≤◌, [], ◌∷◌, ◌++◌, length, map, replicate, true, false, IfNone, IfOk, MatchOption, vec_len, vec_capacity};
 ghost use Rattle.slub_object_layout.specs.Name.{IsName};
-ghost use Rattle.slub_trace_reader.specs.Sound.{IsSound, objects_of};
+ghost use Rattle.slub_trace.specs.Sound.{IsSound, objects_of};
 ghost use Rattle.slub_load.specs.Generator.{drawn, next};
 ghost use Rattle.slub_load.specs.Kept.{AreHeld};
 ghost use Rattle.slub_load.specs.Load.{cache_names, create, creations, drawn_events, emptied, event_behind, event_of, free_by, freed_of, is_free, items_of, load_of, plain};
@@ -14,7 +14,7 @@ use slub_common::sequence::Sequence;
 use slub_events::event::{Act, Event, Round};
 use slub_object_layout::layout::{Flags, Spec};
 use slub_object_layout::name::Name;
-use slub_trace_reader::trace::{Item, Trace};
+use slub_trace::trace::{Item, Trace};
 use std::alloc::{AllocError, Global};
 
 /// The page frames of the machine of a load (profile).

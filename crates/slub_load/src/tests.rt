@@ -6,8 +6,8 @@ use slub_edges::memory::MemSource;
 use slub_events::event::{Act, Event, Round};
 use slub_object_layout::layout::Flags;
 use slub_object_layout::name::Name;
+use slub_trace::trace::{Item, Trace};
 use slub_trace_reader::reading::read_trace;
-use slub_trace_reader::trace::{Item, Trace};
 use std::alloc::Global;
 use std::test::Fail;
 

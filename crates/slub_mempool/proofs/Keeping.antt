@@ -10,7 +10,7 @@ use Rattle.slub_common.proofs.Times.{times-cons, times-contained, times-filter_f
 use Rattle.slub_lists.specs.declared.lists.Held.{Held}
 use Rattle.slub_lists.specs.State.{State}
 use Rattle.slub_lists.specs.Coherent.{held_under}
-use Rattle.slub_trace_reader.specs.declared.trace.Trace.{Trace}
+use Rattle.slub_trace.specs.declared.trace.Trace.{Trace}
 use Rattle.slub_common.proofs.Writes.{inside-of}
 use Rattle.slub_clients.proofs.Staying.{held-or-none}
 use Rattle.slub_mempool.specs.Serving.{AreKnown, IsUsable}

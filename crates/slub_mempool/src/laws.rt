@@ -1,8 +1,8 @@
 //! What lines of reserves leave. It does nothing.
 
 ghost use Rattle.std.specs.Prelude.{List};
-ghost use Rattle.slub_trace_reader.specs.declared.trace.Client.{Client as Asked};
-ghost use Rattle.slub_trace_reader.specs.declared.trace.Trace.{Trace as Read};
+ghost use Rattle.slub_trace.specs.declared.trace.Client.{Client as Asked};
+ghost use Rattle.slub_trace.specs.declared.trace.Trace.{Trace as Read};
 ghost use Rattle.slub_journal.specs.declared.client.ClientDone.{ClientDone as Done};
 ghost use Rattle.slub_by_text.specs.Heap.{HeapState};
 ghost use Rattle.slub_clients.specs.Asked.{IsServable};

@@ -4,8 +4,8 @@ ghost use Rattle.std.specs.Prelude.{◌≡◌, ◌+◌, ◌^◌, ◌<◌, ◌≤
 ghost use Rattle.std.specs.List.{list_any, range_with_len};
 ghost use Rattle.slub_events.specs.declared.event.Act.TheVariants.{Alloc, Free};
 ghost use Rattle.slub_lists.specs.Coherent.{IsCoherent, held_under};
-ghost use Rattle.slub_trace_reader.specs.declared.trace.Trace.{Trace as Read};
-ghost use Rattle.slub_trace_reader.specs.Sound.{asked_objects};
+ghost use Rattle.slub_trace.specs.declared.trace.Trace.{Trace as Read};
+ghost use Rattle.slub_trace.specs.Sound.{asked_objects};
 ghost use Rattle.slub_journal.specs.Lawful.{IsUnheld};
 ghost use Rattle.slub_engine.specs.Steps.{KeepsUnheld};
 ghost use Rattle.slub_clients.specs.Asked.{IsOpenTo, IsServable, SpendsAsked, StaysOpen};
@@ -29,7 +29,7 @@ use slub_journal::client::{CacheRefusal, ClientAnswer, ClientDone, ClientRound};
 use slub_list_machine::lists::Lists;
 use slub_object_layout::layout::address;
 use slub_object_layout::name::Name;
-use slub_trace_reader::trace::{Client, Trace};
+use slub_trace::trace::{Client, Trace};
 use std::alloc::Global;
 use std::marker::Model;
 

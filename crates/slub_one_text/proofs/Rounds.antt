@@ -5,7 +5,7 @@ use Rattle.slub_events.specs.declared.event.Event.{Event}
 use Rattle.slub_events.specs.declared.event.Round.{Round}
 use Rattle.slub_answers.specs.declared.ledger.Ledger.{Ledger}
 use Rattle.slub_answers.specs.declared.reply.Reply.{Reply}
-use Rattle.slub_trace_reader.specs.declared.trace.Item.TheVariants as item
+use Rattle.slub_trace.specs.declared.trace.Item.TheVariants as item
 use Rattle.slub_lists.specs.State.{State}
 use Rattle.slub_core.specs.Run.{System, Pick, run}
 use Rattle.slub_core.specs.Setup.{Setup}

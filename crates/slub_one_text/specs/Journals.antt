@@ -1,6 +1,6 @@
 -- A trace has one journal and one text, by every way and seed.
 use Rattle.std.specs.Prelude.{◌≡◌, Bool, length, is_some, All, ⊤}
-use Rattle.slub_trace_reader.specs.declared.trace.Trace.{Trace}
+use Rattle.slub_trace.specs.declared.trace.Trace.{Trace}
 use Rattle.slub_journal.specs.declared.journal.Done.{Done}
 use Rattle.slub_journal.specs.declared.journal.Done.TheVariants as done
 use Rattle.slub_journal.specs.declared.journal.Journal.{Journal}

@@ -1,7 +1,7 @@
 -- A client's line has one outcome.
 use Rattle.std.specs.Prelude.{◌≡◌, List, All}
-use Rattle.slub_trace_reader.specs.declared.trace.Client.{Client as Asked}
-use Rattle.slub_trace_reader.specs.declared.trace.Trace.{Trace}
+use Rattle.slub_trace.specs.declared.trace.Client.{Client as Asked}
+use Rattle.slub_trace.specs.declared.trace.Trace.{Trace}
 use Rattle.slub_journal.specs.declared.client.ClientDone.{ClientDone}
 use Rattle.slub_journal.specs.declared.client.ClientRound.{ClientRound}
 use Rattle.slub_outcomes.specs.Rounds.{HasOrders}

@@ -1,8 +1,8 @@
 -- A round has one outcome, by every way but threads.
 use Rattle.std.specs.Prelude.{◌≡◌, ℕ, List, Option, All, ⊤}
 use Rattle.slub_events.specs.declared.event.Round.{Round}
-use Rattle.slub_trace_reader.specs.declared.trace.Item.{Item}
-use Rattle.slub_trace_reader.specs.declared.trace.Item.TheVariants as item
+use Rattle.slub_trace.specs.declared.trace.Item.{Item}
+use Rattle.slub_trace.specs.declared.trace.Item.TheVariants as item
 use Rattle.slub_lists.specs.State.{State}
 use Rattle.slub_journal.specs.declared.journal.RoundResult.{RoundResult}
 use Rattle.slub_outcomes.specs.Rounds.{HasMemory, HasOrders}

@@ -13,9 +13,9 @@ use Rattle.slub_lists.specs.State.{State}
 use Rattle.slub_lists.specs.Shrink.{Shrinks}
 use Rattle.slub_lists.specs.Destroy.{Destroys}
 use Rattle.slub_lists.specs.Tune.{Tunes}
-use Rattle.slub_trace_reader.specs.declared.trace.Item.{Item}
-use Rattle.slub_trace_reader.specs.declared.trace.Item.TheVariants as item
-use Rattle.slub_trace_reader.specs.declared.trace.Trace.{Trace}
+use Rattle.slub_trace.specs.declared.trace.Item.{Item}
+use Rattle.slub_trace.specs.declared.trace.Item.TheVariants as item
+use Rattle.slub_trace.specs.declared.trace.Trace.{Trace}
 use Rattle.slub_journal.specs.declared.journal.Done.{Done}
 use Rattle.slub_journal.specs.declared.journal.Done.TheVariants as done
 use Rattle.slub_journal.specs.Lawful.{CreatesName, DoesPlain, DoesRound}

@@ -13,8 +13,8 @@ use Rattle.slub_object_layout.specs.Layout.{address_of}
 use Rattle.slub_red_zone.specs.declared.zones.Report.{Report}
 use Rattle.slub_red_zone.specs.State.{CheckedState}
 use Rattle.slub_words.specs.declared.board.BoardWord.{BoardWord}
-use Rattle.slub_trace_reader.specs.declared.trace.Trace.{Trace}
-use Rattle.slub_trace_reader.specs.Sound.{IsSoundEvent}
+use Rattle.slub_trace.specs.declared.trace.Trace.{Trace}
+use Rattle.slub_trace.specs.Sound.{IsSoundEvent}
 use Rattle.slub_lists.specs.declared.lists.Held.{Held}
 use Rattle.slub_lists.specs.State.{State}
 use Rattle.slub_lists.specs.Alloc.{cache_of, checked_of, node_of}

@@ -8,8 +8,8 @@ use Rattle.std.proofs.lemmas.List.{length-map, length-append}
 use Rattle.std.proofs.lemmas.List.Elements.{All-head, All-tail, All-weaker}
 use Rattle.slub_events.specs.declared.event.Event.{Event}
 use Rattle.slub_events.specs.declared.event.Round.{Round}
-use Rattle.slub_trace_reader.specs.declared.trace.Trace.{Trace}
-use Rattle.slub_trace_reader.specs.Sound.{IsSoundEvent}
+use Rattle.slub_trace.specs.declared.trace.Trace.{Trace}
+use Rattle.slub_trace.specs.Sound.{IsSoundEvent}
 use Rattle.slub_lists.specs.declared.lists.Held.{Held}
 use Rattle.slub_lists.specs.State.{State}
 use Rattle.slub_lists.specs.Coherent.{IsCoherent, all_on_board, held_under, laid_down}

@@ -11,7 +11,7 @@ use Rattle.slub_lists.specs.declared.lists.Held.{Held}
 use Rattle.slub_answers.specs.declared.reply.Reply.{Reply}
 use Rattle.slub_lists.specs.State.{State}
 use Rattle.slub_lists.specs.Coherent.{IsCoherent, held_under}
-use Rattle.slub_trace_reader.specs.Sound.{objects_of}
+use Rattle.slub_trace.specs.Sound.{objects_of}
 use Rattle.slub_answers.specs.Kinds.{is_given}
 use Rattle.slub_journal.specs.Lawful.{Answers, RunsEvents}
 use Rattle.slub_round_law.specs.Answered.{Answered, is_alloc_of, gave, times_freed, times_given}

@@ -9,7 +9,7 @@ use Rattle.slub_events.specs.declared.event.Act.TheVariants.{Alloc, Free, Write,
 use Rattle.slub_events.specs.declared.event.Event.{Event}
 use Rattle.slub_common.specs.Times.{times}
 use Rattle.slub_answers.specs.declared.reply.Reply.{Reply}
-use Rattle.slub_trace_reader.specs.Sound.{objects_of}
+use Rattle.slub_trace.specs.Sound.{objects_of}
 use Rattle.slub_answers.specs.Kinds.{is_given}
 use Rattle.slub_round_law.specs.Answered.{gave, is_alloc_of}
 

@@ -16,7 +16,7 @@ use Rattle.slub_lists.proofs.Kept.{coherent-of, consistent-of}
 use Rattle.slub_lists.specs.Words.{held_by, is_worker}
 use Rattle.slub_lists.proofs.CheckedSlabs.{at_some}
 use Rattle.slub_red_zone.proofs.Comings.{counted-there}
-use Rattle.slub_trace_reader.specs.Sound.{objects_of}
+use Rattle.slub_trace.specs.Sound.{objects_of}
 use Rattle.slub_common.specs.Times.{times}
 use Rattle.slub_journal.specs.declared.journal.Found.{Found}
 use Rattle.slub_journal.specs.declared.journal.RoundResult.{RoundResult}

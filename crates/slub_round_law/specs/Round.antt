@@ -18,7 +18,7 @@ use Rattle.slub_lists.specs.State.{State}
 use Rattle.slub_lists.specs.Alloc.{cache_of, checked_of, named}
 use Rattle.slub_lists.specs.Coherent.{IsCoherent, held_under}
 use Rattle.slub_lists.specs.Words.{is_word}
-use Rattle.slub_trace_reader.specs.Sound.{objects_of}
+use Rattle.slub_trace.specs.Sound.{objects_of}
 use Rattle.slub_journal.specs.declared.journal.Found.{Found}
 use Rattle.slub_journal.specs.declared.journal.RoundResult.{RoundResult}
 use Rattle.slub_journal.specs.Lawful.{AreLedgers, IsAtRest, IsUnheld, lacks}

@@ -14,7 +14,7 @@ use mir.Val.{Fits}
 use Rattle.slub_common.proofs.Writes.{get_or-replicate_any}
 use Rattle.slub_events.specs.declared.event.Event.{Event}
 use Rattle.slub_events.specs.declared.event.Round.{Round}
-use Rattle.slub_trace_reader.specs.declared.trace.Trace.{Trace}
+use Rattle.slub_trace.specs.declared.trace.Trace.{Trace}
 use Rattle.slub_cache_create.specs.Table.{Table}
 use Rattle.slub_lists.specs.State.{State}
 use Rattle.slub_core.specs.declared.call.Call.{Call}

@@ -8,8 +8,8 @@ use Rattle.slub_common.specs.Times.{times}
 use Rattle.slub_events.specs.declared.event.Round.{Round}
 use Rattle.slub_cache_create.specs.Table.{Table}
 use Rattle.slub_red_zone.proofs.Comings.{counted-there}
-use Rattle.slub_trace_reader.specs.declared.trace.Trace.{Trace}
-use Rattle.slub_trace_reader.specs.Sound.{objects_of}
+use Rattle.slub_trace.specs.declared.trace.Trace.{Trace}
+use Rattle.slub_trace.specs.Sound.{objects_of}
 use Rattle.slub_lists.specs.declared.lists.Held.{Held}
 use Rattle.slub_lists.specs.State.{State}
 use Rattle.slub_lists.specs.Coherent.{held_under}

@@ -17,8 +17,8 @@ use Rattle.slub_cache_create.specs.Table.{Table}
 use Rattle.slub_red_zone.specs.State.{CheckedState}
 use Rattle.slub_red_zone.specs.Objects.{findable}
 use Rattle.slub_red_zone.specs.declared.zones.Report.{Report}
-use Rattle.slub_trace_reader.specs.declared.trace.Trace.{Trace}
-use Rattle.slub_trace_reader.specs.Sound.{IsSoundAct, IsSoundEvent}
+use Rattle.slub_trace.specs.declared.trace.Trace.{Trace}
+use Rattle.slub_trace.specs.Sound.{IsSoundAct, IsSoundEvent}
 use Rattle.slub_lists.specs.State.{State}
 use Rattle.std.proofs.lemmas.Option.{none-some}
 use Rattle.slub_lists.specs.Alloc.{cache_of, checked_of, node_of}

@@ -1,7 +1,7 @@
 //! The memory of a round, taken before its first turn.
 
 ghost use Rattle.std.specs.Prelude.{◌≡◌, ◌*◌, ◌^◌, ◌≤◌, IfOk, length, replicate};
-ghost use Rattle.slub_trace_reader.specs.declared.trace.Trace.{Trace};
+ghost use Rattle.slub_trace.specs.declared.trace.Trace.{Trace};
 ghost use Rattle.slub_lists.specs.Coherent.{IsCoherent};
 ghost use Rattle.slub_schedule.specs.Schedule.{marks_of, places_of};
 ghost use Rattle.slub_calls.specs.Laws.{MayDo};

@@ -1,7 +1,7 @@
 //! A round of several workers by threads.
 
 ghost use Rattle.std.specs.Prelude.{◌≡◌, ◌≤◌, ℕ, List, IfErr, IfOk, MatchResult, length};
-ghost use Rattle.slub_trace_reader.specs.declared.trace.Trace.{Trace};
+ghost use Rattle.slub_trace.specs.declared.trace.Trace.{Trace};
 ghost use Rattle.slub_lists.specs.State.{State};
 ghost use Rattle.slub_lists.specs.Coherent.{IsCoherent};
 ghost use Rattle.slub_opening.specs.Opening.{IsLaidDown};

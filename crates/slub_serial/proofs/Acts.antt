@@ -13,7 +13,7 @@ use Rattle.slub_events.specs.declared.event.Act.{Act}
 use Rattle.slub_events.specs.declared.event.Act.TheVariants as act
 use Rattle.slub_events.specs.declared.event.Event.{Event}
 use Rattle.slub_events.specs.declared.event.Round.{Round}
-use Rattle.slub_trace_reader.specs.Sound.{allocated, is_written}
+use Rattle.slub_trace.specs.Sound.{allocated, is_written}
 use Rattle.slub_lists.specs.declared.lists.Held.{Held}
 use Rattle.slub_lists.proofs.Kept.{consistent-of}
 use Rattle.slub_lists.proofs.ObjectWords.{held-cache}

@@ -17,8 +17,8 @@ use Rattle.slub_events.specs.declared.event.Act.{Act}
 use Rattle.slub_events.specs.declared.event.Act.TheVariants as act
 use Rattle.slub_events.specs.declared.event.Event.{Event}
 use Rattle.slub_events.specs.declared.event.Round.{Round}
-use Rattle.slub_trace_reader.specs.declared.trace.Trace.{Trace}
-use Rattle.slub_trace_reader.specs.Sound.{AreReadable, IsReadable, IsSoundEvent, objects_of}
+use Rattle.slub_trace.specs.declared.trace.Trace.{Trace}
+use Rattle.slub_trace.specs.Sound.{AreReadable, IsReadable, IsSoundEvent, objects_of}
 use Rattle.slub_lists.specs.declared.lists.Held.{Held}
 use Rattle.slub_lists.specs.Coherent.{held_under}
 use Rattle.slub_lists.specs.Words.{own as own_held}

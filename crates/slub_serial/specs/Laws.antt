@@ -4,7 +4,7 @@ use Rattle.slub_events.specs.declared.event.Event.{Event}
 use Rattle.slub_events.specs.declared.event.Round.{Round}
 use Rattle.slub_answers.specs.declared.reply.Reply.{Reply}
 use Rattle.slub_answers.specs.Kinds.{is_no_memory}
-use Rattle.slub_trace_reader.specs.declared.trace.Trace.{Trace}
+use Rattle.slub_trace.specs.declared.trace.Trace.{Trace}
 use Rattle.slub_lists.specs.State.{State}
 use Rattle.slub_lists.specs.Alloc.{cache_of, checked_of}
 use Rattle.slub_core.specs.Setup.{cpu_number}

@@ -3,7 +3,7 @@ use Rattle.std.specs.Prelude.{◌≡◌, false, List, All}
 use Rattle.slub_events.specs.declared.event.Round.{Round}
 use Rattle.slub_answers.specs.declared.reply.Reply.{Reply}
 use Rattle.slub_answers.specs.Kinds.{is_no_memory}
-use Rattle.slub_trace_reader.specs.declared.trace.Trace.{Trace}
+use Rattle.slub_trace.specs.declared.trace.Trace.{Trace}
 use Rattle.slub_lists.specs.State.{State}
 use Rattle.slub_opening.specs.Laws.{MayOpen}
 use Rattle.slub_opening.specs.Opening.{Beside}

@@ -6,7 +6,7 @@ use Rattle.slub_events.specs.declared.event.Event.{Event}
 use Rattle.slub_events.specs.declared.event.Round.{Round}
 use Rattle.slub_answers.specs.declared.reply.Reply.{Reply}
 use Rattle.slub_cache_create.specs.Table.{Table}
-use Rattle.slub_trace_reader.specs.Sound.{allocated, is_written}
+use Rattle.slub_trace.specs.Sound.{allocated, is_written}
 use Rattle.slub_lists.specs.declared.lists.Held.{Held}
 use Rattle.slub_lists.specs.State.{State}
 use Rattle.slub_lists.specs.Coherent.{held_under}

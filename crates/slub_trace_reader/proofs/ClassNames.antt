@@ -8,9 +8,9 @@ use Rattle.slub_object_layout.specs.Name.{IsName}
 use Rattle.slub_trace_reader.specs.declared.client.ClientLine.{ClientLine}
 use Rattle.slub_trace_reader.specs.declared.client.ClientLine.TheVariants.{Kmalloc, Kget, Krealloc, Bulk, Bulkfree, Mempool, Mget, Mput}
 use Rattle.slub_trace_reader.specs.Above.{names_below, with_name, with_names}
-use Rattle.slub_trace_reader.specs.Classes.{class_names}
-use Rattle.slub_trace_reader.specs.Forms.{is_name}
-use Rattle.slub_trace_reader.proofs.Fields.{name_tells}
+use Rattle.slub_trace.specs.Classes.{class_names}
+use Rattle.slub_trace.specs.Names.{is_name}
+use Rattle.slub_trace.proofs.Names.{name_tells}
 
 all_names : (names : List (List ℕ)) → list_all is_name names ≡ true → All IsName names
 all_names [] is = All-nil IsName

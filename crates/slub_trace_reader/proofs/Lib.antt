@@ -13,4 +13,5 @@ pub mod Readings
 pub mod Reasons
 pub mod Soundness
 pub mod Texts
+mod Windows
 pub mod WordTexts

@@ -9,13 +9,14 @@ use Rattle.slub_trace_reader.specs.declared.reading.TraceFault.{TraceFault}
 use Rattle.slub_trace_reader.specs.declared.reading.TraceFault.TheVariants.{ReadFault, TooLong, BadLine, NoMemory}
 use Rattle.slub_trace_reader.specs.declared.reading.Why.{Why}
 use Rattle.slub_trace_reader.specs.declared.reading.Why.TheVariants.{Unfinished, AfterEnd, Form, Range, TooManyRounds, UnknownCache, ObjectTwice, UnknownObject, ReadBeforeWrite, NoEnd}
-use Rattle.slub_trace_reader.specs.declared.trace.Trace.{Trace}
+use Rattle.slub_trace.specs.declared.trace.Trace.{Trace}
 use Rattle.slub_trace_reader.specs.Above.{Above, start, after, after_all, trace_of}
 use Rattle.slub_trace_reader.specs.Faults.{Next, Finished, Cut, Nothing, GoesOn, HasReason, IsFirstReason, IsFirstBad, rank}
 use Rattle.slub_trace_reader.specs.Grammar.{IsLine, IsOneLine, AreLines, IsTrace}
-use Rattle.slub_trace_reader.specs.Parsing.{Refuses, StopsAt, Takes, Tells}
+use Rattle.slub_trace_reader.specs.Parsing.{Takes, Tells}
 use Rattle.slub_trace_reader.specs.Reads.{IsBadAt}
 use Rattle.slub_trace_reader.specs.State.{IsModest}
+use Rattle.slub_trace_reader.specs.Window.{Leads}
 use Rattle.slub_trace_reader.proofs.Reasons.{one_line, kept_line, good_not_bad}
 use Rattle.slub_trace_reader.proofs.LineTexts.{line_again}
 
@@ -327,28 +328,27 @@ bad_at bytes number why short bad = record {
 -- ---- what reading keeps
 
 -- the lines that were taken, and what is left
-pub record Went (bytes rest : List ℕ) (a : Above) : Type 0 where
-  pub lines : List Line
-  pub front : List ℕ
-  pub whole : bytes ≡ front ++ rest
-  pub are : AreLines start front lines
-  pub says : a ≡ after_all start lines
+abbrev pub Went : List ℕ → List ℕ → Above → Type 0
+Went bytes rest a = Leads start bytes rest a
 
 pub went_start : (bytes : List ℕ) (a : Above) → a ≡ start → Went bytes bytes a
 went_start bytes a is = record { lines = []; front = []; whole = refl; are = refl; says = is }
 
-pub went_modest : (bytes rest : List ℕ) (a : Above) → Went bytes rest a → IsModest a
-went_modest bytes rest a went = subst IsModest (sym went.says) (modest_all start went.front went.lines modest_start went.are)
+pub leads_modest : (s : Above) (bytes rest : List ℕ) (a : Above) → IsModest s → Leads s bytes rest a → IsModest a
+leads_modest s bytes rest a modest leads = subst IsModest (sym leads.says) (modest_all s leads.front leads.lines modest leads.are)
 
-pub went_more : (bytes rest text more : List ℕ) (a b : Above) → Went bytes rest a → rest ≡ text ++ 10 ∷ more → IsOneLine text → Takes a text b → Went bytes more b
-went_more bytes rest text more a b went goes one takes =
-    let good : IsLine (after_all start went.lines) text takes.0 = subst (λ (x : Above). IsLine x text takes.0) went.says takes.1 in
+pub went_modest : (bytes rest : List ℕ) (a : Above) → Went bytes rest a → IsModest a
+went_modest bytes rest a went = leads_modest start bytes rest a modest_start went
+
+pub leads_more : (s : Above) (bytes rest text more : List ℕ) (a b : Above) → Leads s bytes rest a → rest ≡ text ++ 10 ∷ more → IsOneLine text → Takes a text b → Leads s bytes more b
+leads_more s bytes rest text more a b leads goes one takes =
+    let good : IsLine (after_all s leads.lines) text takes.0 = subst (λ (x : Above). IsLine x text takes.0) leads.says takes.1 in
     record {
-      lines = went.lines ++ takes.0 ∷ [];
-      front = went.front ++ (text ++ 10 ∷ []);
-      whole = went.whole ∙ ap (λ r. went.front ++ r) (goes ∙ sym (append_assoc text (10 ∷ []) more)) ∙ sym (append_assoc went.front (text ++ 10 ∷ []) more);
-      are = lines_more start went.front went.lines text takes.0 went.are one good;
-      says = takes.2 ∙ ap (λ x. after x takes.0) went.says ∙ sym (after_more start went.lines takes.0);
+      lines = leads.lines ++ takes.0 ∷ [];
+      front = leads.front ++ (text ++ 10 ∷ []);
+      whole = leads.whole ∙ ap (λ r. leads.front ++ r) (goes ∙ sym (append_assoc text (10 ∷ []) more)) ∙ sym (append_assoc leads.front (text ++ 10 ∷ []) more);
+      are = lines_more s leads.front leads.lines text takes.0 leads.are one good;
+      says = takes.2 ∙ ap (λ x. after x takes.0) leads.says ∙ sym (after_more s leads.lines takes.0);
     }
 
 -- a line more is counted
@@ -368,13 +368,6 @@ went_bad bytes rest a next number why went on is reason = record {
   below = is ∙ ap (λ (x : Above). x.count + 1) went.says;
   reason = subst (λ (x : Above). IsFirstReason x next why) went.says reason;
 }
-
--- a line that stops is refused
-pub went_refused : (bytes rest text more : List ℕ) (a : Above) (fault : TraceFault) → Went bytes rest a → rest ≡ text ++ 10 ∷ more → IsOneLine text → StopsAt a (Finished text) fault → Refuses bytes fault
-went_refused bytes rest text more a (BadLine line why) went goes one stops = went_bad bytes rest a (Finished text) line why went (more, goes, one) stops.0 stops.1
-went_refused bytes rest text more a NoMemory went goes one stops = tt
-went_refused bytes rest text more a TooLong went goes one stops = stops
-went_refused bytes rest text more a ReadFault went goes one stops = stops
 
 -- last bytes without a line feed are refused
 pub went_unfinished : (bytes rest : List ℕ) (a : Above) (number : ℕ) → Went bytes rest a → IsOneLine rest → (rest ≡ [] → ⊥) → number ≡ a.count + 1 → IsFirstBad bytes number Unfinished

@@ -15,7 +15,7 @@ use Rattle.slub_trace_reader.specs.declared.place.Place.{Place}
 use Rattle.slub_trace_reader.specs.declared.place.Place.TheVariants.{First, Second, Between, Within, After}
 use Rattle.slub_trace_reader.specs.Above.{Above, after, is_spot, offset_of, place_of, with_one}
 use Rattle.slub_trace_reader.specs.Grammar.{IsInRound, IsLine}
-use Rattle.slub_trace_reader.specs.Sound.{AreReadable, IsReadable, is_written, written_after}
+use Rattle.slub_trace.specs.Sound.{AreReadable, IsReadable, is_written, written_after}
 
 -- ---- one event more
 

@@ -13,16 +13,17 @@ use Rattle.slub_trace_reader.specs.declared.place.Place.{Place}
 use Rattle.slub_trace_reader.specs.declared.place.Place.TheVariants.{First, Second, Between, Within, After}
 use Rattle.slub_trace_reader.specs.declared.reading.Why.{Why}
 use Rattle.slub_trace_reader.specs.declared.reading.Why.TheVariants.{Unfinished, AfterEnd, Form, Range, TooManyRounds, UnknownCache, ObjectTwice, UnknownObject, ReadBeforeWrite, NoEnd}
-use Rattle.slub_trace_reader.specs.declared.trace.Trace.{Trace}
+use Rattle.slub_trace.specs.declared.trace.Trace.{Trace}
 use Rattle.slub_trace_reader.specs.Above.{Above, start, after, workers_in}
 use Rattle.slub_trace_reader.specs.Faults.{Finished, IsBad, IsFirstReason, IsFirstBad, rank}
 use Rattle.slub_trace_reader.specs.Forms.{is_passed, line_of}
-use Rattle.slub_trace_reader.specs.Grammar.{MayStand, InRange, ClientInRange, IsTid, IsObject, AreObjects, IsOffset, IsInRound, HasRoom, HasCache, HasSource, IsFresh, IsKnown, IsWritten, IsLine, IsOneLine, IsTrace}
+use Rattle.slub_trace.specs.Ranges.{IsTid}
+use Rattle.slub_trace_reader.specs.Grammar.{MayStand, InRange, ClientInRange, IsObject, AreObjects, IsOffset, IsInRound, HasRoom, HasCache, HasSource, IsFresh, IsKnown, IsWritten, IsLine, IsOneLine, IsTrace}
 use Rattle.slub_trace_reader.specs.Lines.{IsPassed}
 use Rattle.slub_trace_reader.specs.Numbers.{allocates, needs}
 use Rattle.slub_trace_reader.specs.Reading.{cut_lines, with_byte, is_first, is_second, is_between, is_in_round, is_after, may_stand, is_tid, is_object, are_objects, is_offset, client_in_range, in_range, has_room, has_source, has_cache, are_fresh, are_known, is_written, first_of, lack_of, good_or, judged, judge, end_of, read_from, reading}
 use Rattle.slub_trace_reader.specs.State.{IsModest, Lacks}
-use Rattle.slub_trace_reader.proofs.LinesBelow.{Went, went_start, went_modest, went_more, went_bad, went_unfinished, went_no_end, went_all, tells_trace, trace_once, bad_no_trace, bad_once}
+use Rattle.slub_trace_reader.proofs.LinesBelow.{Went, went_start, went_modest, leads_more, went_bad, went_unfinished, went_no_end, went_all, tells_trace, trace_once, bad_no_trace, bad_once}
 use Rattle.slub_trace_reader.proofs.Reasons.{first_form, first_reason, fit_line, none_said}
 use Rattle.slub_trace_reader.proofs.Texts.{passed_test, test_passed}
 
@@ -368,7 +369,7 @@ read_step : (bytes : List ℕ) (a : Above) (text : List ℕ) (texts : List (List
     → ((line : Line) → Went bytes (spell texts rest) (after a line) → Agrees bytes (read_from (after a line) texts rest))
     → Agrees bytes (elim r [ Ok line ↦ read_from (after a line) texts rest | Err why ↦ Err (a.count + 1, why) ])
 read_step bytes a text texts rest (Ok line) went one judges more =
-    more line (went_more bytes (text ++ 10 ∷ spell texts rest) text (spell texts rest) a (after a line) went refl one (line, judges, refl))
+    more line (leads_more start bytes (text ++ 10 ∷ spell texts rest) text (spell texts rest) a (after a line) went refl one (line, judges, refl))
 read_step bytes a text texts rest (Err why) went one judges more =
     went_bad bytes (text ++ 10 ∷ spell texts rest) a (Finished text) (a.count + 1) why went (spell texts rest, refl, one) refl judges
 

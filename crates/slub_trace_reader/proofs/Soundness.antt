@@ -22,17 +22,18 @@ use Rattle.slub_trace_reader.specs.declared.line.Line.{Line}
 use Rattle.slub_trace_reader.specs.declared.line.Line.TheVariants.{Passed, Slubtrace, Machine, Cache, Shrink, Destroy, Tune, Slabinfo, Client, Round, Alloc, Free, Write, Read, Poke, Trim, Flush, Done, End}
 use Rattle.slub_trace_reader.specs.declared.place.Place.{Place}
 use Rattle.slub_trace_reader.specs.declared.place.Place.TheVariants.{First, Second, Between, Within, After}
-use Rattle.slub_trace_reader.specs.declared.trace.Client.{Client as Asked}
-use Rattle.slub_trace_reader.specs.declared.trace.Client.TheVariants as client
-use Rattle.slub_trace_reader.specs.declared.trace.Item.{Item}
-use Rattle.slub_trace_reader.specs.declared.trace.Item.TheVariants as item
-use Rattle.slub_trace_reader.specs.declared.trace.Trace.{Trace}
+use Rattle.slub_trace.specs.declared.trace.Client.{Client as Asked}
+use Rattle.slub_trace.specs.declared.trace.Client.TheVariants as client
+use Rattle.slub_trace.specs.declared.trace.Item.{Item}
+use Rattle.slub_trace.specs.declared.trace.Item.TheVariants as item
+use Rattle.slub_trace.specs.declared.trace.Trace.{Trace}
 use Rattle.slub_trace_reader.specs.Above.{Above, start, after, after_all, trace_of, workers_in, place_of, with_one, with_name, with_names, asked_of, names_below, setting_of, offset_of}
-use Rattle.slub_trace_reader.specs.Classes.{class_names}
-use Rattle.slub_trace_reader.specs.Grammar.{IsLine, AreLines, IsTrace, IsTid, IsInRound, IsOffset, ClientInRange, HasSource}
+use Rattle.slub_trace.specs.Classes.{class_names}
+use Rattle.slub_trace.specs.Ranges.{IsTid}
+use Rattle.slub_trace_reader.specs.Grammar.{IsLine, AreLines, IsTrace, IsInRound, IsOffset, ClientInRange, HasSource}
 use Rattle.slub_trace_reader.specs.Lines.{SaysClient}
 use Rattle.slub_trace_reader.specs.Numbers.{client_allocates, client_needs}
-use Rattle.slub_trace_reader.specs.Sound.{allocated, asked_objects, objects_of, objects_in, events_in, IsSoundAct, IsSoundEvent, IsSoundClient, IsSoundSetting, IsSoundObject, AreSoundObjects, IsSoundItem, IsSound, AreReadable}
+use Rattle.slub_trace.specs.Sound.{allocated, asked_objects, objects_of, objects_in, events_in, IsSoundAct, IsSoundEvent, IsSoundClient, IsSoundSetting, IsSoundObject, AreSoundObjects, IsSoundItem, IsSound, AreReadable}
 use Rattle.slub_trace_reader.proofs.LinesBelow.{count_after}
 use Rattle.slub_trace_reader.proofs.Readable.{IsRead, ReadAt, ended_read, read_after}
 use Rattle.slub_trace_reader.proofs.Runs.{from_first, any_within, greatest_more, greatest_from, greatest_within, distinct_run, each_run}

@@ -11,10 +11,12 @@ use Rattle.slub_object_layout.specs.declared.layout.Flags.{Flags}
 use Rattle.slub_object_layout.specs.Name.{IsName}
 use Rattle.slub_trace_reader.specs.declared.line.Knob.{Knob}
 use Rattle.slub_trace_reader.specs.declared.line.Knob.TheVariants.{MinPartial, CpuPartial}
-use Rattle.slub_trace_reader.specs.Forms.{field, offset_of, name_of, is_name, flags_of, byte_of, knob_of, version_of, number_at, name_at, offset_at, knob_at, ◌or_else◌}
+use Rattle.slub_trace.specs.Names.{is_name}
+use Rattle.slub_trace_reader.specs.Forms.{field, offset_of, name_of, flags_of, byte_of, knob_of, version_of, number_at, name_at, offset_at, knob_at, ◌or_else◌}
 use Rattle.slub_trace_reader.specs.Lines.{knob_word}
 use Rattle.slub_trace_reader.specs.Words.{WritesOffset, WritesFlags, WritesByte, are_flags, flags_in, is_hex, hex_value}
-use Rattle.slub_trace_reader.proofs.Fields.{IsWord, field_found, field_some, name_tells}
+use Rattle.slub_trace.proofs.Names.{name_tells}
+use Rattle.slub_trace_reader.proofs.Fields.{IsWord, field_found, field_some}
 
 -- ---- answers that are there
 

@@ -11,6 +11,7 @@ use Rattle.slub_trace_reader.specs.declared.line.Knob.{Knob}
 use Rattle.slub_trace_reader.specs.declared.line.Knob.TheVariants.{MinPartial, CpuPartial}
 use Rattle.slub_trace_reader.specs.declared.line.Line.{Line}
 use Rattle.slub_trace_reader.specs.declared.line.Line.TheVariants.{Passed, Slubtrace, Machine, Cache, Shrink, Destroy, Tune, Slabinfo, Client, Round, Alloc, Free, Write, Read, Poke, Trim, Flush, Done, End}
+use Rattle.slub_trace.specs.Names.{is_name}
 use Rattle.slub_trace_reader.specs.Words.{are_flags, flags_in, is_hex, hex_value}
 
 infixl 10 ◌>>=◌
@@ -41,17 +42,6 @@ offset_of [] = None
 offset_of (c ∷ cs) =
     if c == 45 then option_map (λ n. (true, n)) (number_of cs)
     else option_map (λ n. (false, n)) (number_of (c ∷ cs))
-
-abbrev pub is_letter_or_digit : ℕ → Bool
-is_letter_or_digit c = (nat_le 65 c && nat_le c 90) || (nat_le 97 c && nat_le c 122) || is_digit c
-
-abbrev pub is_name_byte : ℕ → Bool
-is_name_byte c = is_letter_or_digit c || c == 95 || c == 46 || c == 45
-
--- a letter or a digit, and at most 30 bytes more
-abbrev pub is_name : List ℕ → Bool
-is_name [] = false
-is_name (c ∷ cs) = is_letter_or_digit c && list_all is_name_byte cs && nat_le (length cs) 30
 
 unfoldable pub name_of : List ℕ → Option (List ℕ)
 name_of word = if is_name word then Some word else None

@@ -6,8 +6,9 @@ use Rattle.slub_trace_reader.specs.declared.line.Line.{Line}
 use Rattle.slub_trace_reader.specs.declared.line.Line.TheVariants.{Passed, Slubtrace, Machine, Cache, Shrink, Destroy, Tune, Slabinfo, Client, Round, Alloc, Free, Write, Read, Poke, Trim, Flush, Done, End}
 use Rattle.slub_trace_reader.specs.declared.place.Place.{Place}
 use Rattle.slub_trace_reader.specs.declared.place.Place.TheVariants.{First, Second, Between, Within, After}
-use Rattle.slub_trace_reader.specs.declared.trace.Trace.{Trace}
+use Rattle.slub_trace.specs.declared.trace.Trace.{Trace}
 use Rattle.slub_trace_reader.specs.Above.{Above, start, after, after_all, trace_of, workers_in, is_spot}
+use Rattle.slub_trace.specs.Ranges.{IsAskedSize, IsTid}
 use Rattle.std.specs.List.{list_any}
 use Rattle.std.specs.Str.{bytes_eq}
 use Rattle.slub_trace_reader.specs.Lines.{Says}
@@ -47,18 +48,6 @@ MayStand End version place = place ≡ Between
 
 -- ---- ranges
 
--- the least power of two that is not below 1 to 16 CPUs
-abbrev pub step_of : ℕ → ℕ
-step_of cpus =
-    if nat_le cpus 1 then 1
-    else (if nat_le cpus 2 then 2
-    else (if nat_le cpus 4 then 4 else (if nat_le cpus 8 then 8 else 16)))
-
--- a transaction id that the CPUs can start at: a multiple of the step, a step below 2 ^ 32
-abbrev pub IsTid : ℕ → Option ℕ → Type 0
-IsTid cpus None = ⊤
-IsTid cpus (Some tid) = (tid % step_of cpus ≡ 0) × (tid + step_of cpus ≤ 4294967296)
-
 abbrev pub IsObject : ℕ → Type 0
 IsObject object = (1 ≤ object) × (object ≤ 1048576)
 
@@ -75,10 +64,6 @@ IsOffset false size = size ≤ 32767
 abbrev pub AreObjects : ℕ → ℕ → ℕ → Type 0
 AreObjects most first count =
     IsObject first × (1 ≤ count) × (count ≤ most) × (first + count - 1 ≤ 1048576)
-
--- a size that a client asks for
-abbrev pub IsAskedSize : ℕ → Type 0
-IsAskedSize size = (1 ≤ size) × (size ≤ 4294967295)
 
 -- each number of the client's line is in its range
 abbrev pub ClientInRange : Above → ClientLine → Type 0

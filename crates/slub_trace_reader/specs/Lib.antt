@@ -1,5 +1,4 @@
 pub mod Above
-pub mod Classes
 pub mod Cut
 pub mod Digits
 pub mod Faults
@@ -10,6 +9,6 @@ pub mod Numbers
 pub mod Parsing
 pub mod Reading
 pub mod Reads
-pub mod Sound
 pub mod State
+pub mod Window
 pub mod Words

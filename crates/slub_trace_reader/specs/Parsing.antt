@@ -1,7 +1,5 @@
--- For proofs and private clauses: what comes of parsing, and of a fault of reading.
+-- For proofs and private clauses: what comes of parsing.
 use Rattle.std.specs.Prelude.{◌≡◌, ℕ, ◌+◌, List, ◌∷◌, ◌++◌, ⊤}
-use Rattle.slub_edges.specs.declared.reading.ReadAllFault.{ReadAllFault}
-use Rattle.slub_edges.specs.declared.reading.ReadAllFault.TheVariants.{Failed, TooLong as too_long, NoMemory as no_memory}
 use Rattle.slub_object_layout.specs.Name.{IsName}
 use Rattle.slub_trace_reader.specs.declared.line.Line.{Line}
 use Rattle.slub_trace_reader.specs.declared.line.Line.TheVariants.{Alloc, Free, Write, Read}
@@ -12,19 +10,6 @@ use Rattle.slub_trace_reader.specs.Above.{Above, start, after, after_all, place_
 use Rattle.slub_trace_reader.specs.Faults.{Next, Finished, IsFirstReason, IsFirstBad}
 use Rattle.slub_trace_reader.specs.Grammar.{IsLine, IsNamed, IsOneLine, AreLines}
 use Rattle.slub_trace_reader.specs.Lines.{Says}
-
--- what becomes of a fault of reading
-abbrev pub fault_of : ReadAllFault → TraceFault
-fault_of Failed = ReadFault
-fault_of too_long = TooLong
-fault_of no_memory = NoMemory
-
--- a fault names the first bad line of the bytes, or is want of memory
-abbrev pub Refuses : List ℕ → TraceFault → Type 0
-Refuses bytes (BadLine line why) = IsFirstBad bytes line why
-Refuses bytes NoMemory = ⊤
-Refuses bytes TooLong = ⊥
-Refuses bytes ReadFault = ⊥
 
 -- a fault names the next line, or is want of memory
 abbrev pub StopsAt : Above → Next → TraceFault → Type 0

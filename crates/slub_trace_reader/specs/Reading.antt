@@ -10,10 +10,10 @@ use Rattle.slub_trace_reader.specs.declared.place.Place.{Place}
 use Rattle.slub_trace_reader.specs.declared.place.Place.TheVariants.{First, Second, Between, Within, After}
 use Rattle.slub_trace_reader.specs.declared.reading.Why.{Why}
 use Rattle.slub_trace_reader.specs.declared.reading.Why.TheVariants.{Unfinished, AfterEnd, Form, Range, TooManyRounds, UnknownCache, ObjectTwice, UnknownObject, ReadBeforeWrite, NoEnd}
-use Rattle.slub_trace_reader.specs.declared.trace.Trace.{Trace}
+use Rattle.slub_trace.specs.declared.trace.Trace.{Trace}
 use Rattle.slub_trace_reader.specs.Above.{Above, start, after, trace_of, workers_in, is_spot}
 use Rattle.slub_trace_reader.specs.Forms.{is_passed, line_of}
-use Rattle.slub_trace_reader.specs.Grammar.{step_of}
+use Rattle.slub_trace.specs.Ranges.{step_of}
 use Rattle.slub_trace_reader.specs.Numbers.{allocates, needs}
 
 -- ---- lines

@@ -5,7 +5,8 @@ ghost use Rattle.std.specs.List.{list_any};
 ghost use Rattle.slub_trace_reader.specs.Above.{workers_in, is_spot};
 ghost use Rattle.slub_trace_reader.specs.Faults.{IsFirstReason, Finished};
 ghost use Rattle.slub_trace_reader.specs.Forms.{line_of};
-ghost use Rattle.slub_trace_reader.specs.Grammar.{InRange, ClientInRange, HasRoom, HasCache, HasSource, IsFresh, IsKnown, IsWritten, IsLine, IsObject, AreObjects, IsAskedSize, IsOffset, IsTid, step_of};
+ghost use Rattle.slub_trace_reader.specs.Grammar.{InRange, ClientInRange, HasRoom, HasCache, HasSource, IsFresh, IsKnown, IsWritten, IsLine, IsObject, AreObjects, IsOffset};
+ghost use Rattle.slub_trace.specs.Ranges.{IsAskedSize, IsTid, step_of};
 ghost use Rattle.slub_trace_reader.specs.Lines.{IsPassed};
 ghost use Rattle.slub_trace_reader.specs.State.{above, IsMarked, IsModest, Lacks};
 

@@ -2,7 +2,7 @@
 
 ghost use Rattle.std.specs.Prelude.{◌≡◌, ◌≤◌, ◌↔◌, ℕ, length};
 ghost use Rattle.slub_trace_reader.specs.declared.reading.Why.{Why};
-ghost use Rattle.slub_trace_reader.specs.declared.trace.Trace.{Trace};
+ghost use Rattle.slub_trace.specs.declared.trace.Trace.{Trace};
 ghost use Rattle.slub_trace_reader.specs.Faults.{IsFirstBad};
 ghost use Rattle.slub_trace_reader.specs.Grammar.{IsTrace};
 ghost use Rattle.slub_trace_reader.specs.Reading.{reading};

@@ -6,9 +6,15 @@
 //! `specs/` has the grammar. `Lines` says which text says which line, `Above` what the lines above a
 //! line say, and `Grammar` which lines may stand where, which numbers are in range and what has to
 //! stand above; `IsTrace` puts them together. `Faults` has the ten reasons and their order,
-//! `Reads` what a caller of `read_trace` is promised, and `Sound` what holds of every trace that is
+//! `Reads` what a caller of `read_trace` is promised; `Sound` of `slub_trace` is what holds of every trace that is
 //! read. `Forms` is the reading of one line as a function, which the code computes and `Lines` does
 //! not share, and `Reading` that of all bytes; `laws` says that it is the grammar, both ways.
+//!
+//! The text is never held whole. A source is read into a window of 64 KiB (`window`), from which
+//! lines are taken as long as a line feed is left; then the rest of the unfinished line goes to the
+//! front, and the source is read on behind it. A line that is longer than the window doubles it. A
+//! bad line is told only once the rest of the source was read and counted, since a read that fails
+//! and a source that is too long come before it. `specs/Window` has what a window holds.
 //!
 //! Each line costs steps in its length alone, and takes no memory but for what it adds: names and
 //! written words are looked up by their hashes (few names one by one), objects by marks, and
@@ -27,7 +33,7 @@
 #![tactic(auto)]
 
 mod check;
-pub mod classes;
+mod classes;
 pub mod client;
 mod digits;
 pub mod laws;
@@ -42,7 +48,7 @@ mod state;
 mod taking;
 #[cfg(test)]
 mod tests;
-pub mod trace;
 #[cfg(test)]
 mod version_tests;
+mod window;
 mod words;

@@ -4,22 +4,23 @@
 //! before the `slubtrace` line, and count as lines. A `cache` line above counts for its name,
 //! whatever it answers when it runs, and a `kmalloc` line for the names of its thirteen classes.
 
-ghost use Rattle.std.specs.Prelude.{◌≡◌, ◌-◌, ◌<◌, ◌≤◌, ◌^◌, ◌∷◌, ◌++◌, length, IfOk, IfErr, OnOk, IfSome, IfNone};
-ghost use Rattle.slub_trace_reader.specs.declared.reading.TraceFault.TheVariants.{NoMemory};
+ghost use Rattle.std.specs.Prelude.{◌≡◌, ◌+◌, ◌<◌, ◌≤◌, ◌^◌, [], length, IfOk, IfErr, OnOk, IfSome, IfNone};
+ghost use Rattle.slub_trace_reader.specs.declared.place.Place.TheVariants.{After};
+ghost use Rattle.slub_trace_reader.specs.declared.reading.TraceFault.TheVariants.{ReadFault, NoMemory};
 ghost use Rattle.slub_trace_reader.specs.Faults.{why_text, Finished};
-ghost use Rattle.slub_trace_reader.specs.Grammar.{IsTrace, IsOneLine};
-ghost use Rattle.slub_trace_reader.specs.Parsing.{fault_of, Refuses, Takes, TakesFront, StopsAt, StopsFront, Tells};
+ghost use Rattle.slub_trace_reader.specs.Grammar.{IsOneLine};
+ghost use Rattle.slub_trace_reader.specs.Parsing.{Takes, TakesFront, StopsAt, StopsFront};
 ghost use Rattle.slub_trace_reader.specs.State.{above, IsModest, Keeps};
 ghost use Rattle.slub_trace_reader.specs.Reads.{Reads};
-ghost use Rattle.slub_trace_reader.specs.Sound.{IsSound};
+ghost use Rattle.slub_trace_reader.specs.Window.{items, next_of, IsRead, Leads, StopsBehind, StopsLines};
+ghost use Rattle.slub_trace.specs.Sound.{IsSound};
 
 use crate::line::say;
 use crate::state::State;
-use crate::trace::Trace;
+use crate::window::Window;
 use crate::words::cut;
-use slub_common::limits::INPUT_MAX;
-use slub_edges::edges::Source;
-use slub_edges::reading::{ReadAllFault, read_all};
+use slub_edges::edges::{Failed, Source};
+use slub_trace::trace::Trace;
 use std::alloc::{AllocError, Global};
 
 /// Why a line is bad, in the order in which the reasons are tried.
@@ -80,15 +81,11 @@ pub enum TraceFault {
     NoMemory,
 }
 
-impl From<ReadAllFault> for TraceFault {
-    ghost from_gives = { λ fault e. e ≡ fault_of fault };
+impl From<Failed> for TraceFault {
+    ghost from_gives = { λ _ e. e ≡ ReadFault };
 
-    fn from(fault: ReadAllFault) -> TraceFault {
-        match fault {
-            ReadAllFault::Failed => TraceFault::ReadFault,
-            ReadAllFault::TooLong => TraceFault::TooLong,
-            ReadAllFault::NoMemory => TraceFault::NoMemory,
-        }
+    fn from(_e: Failed) -> TraceFault {
+        TraceFault::ReadFault
     }
 }
 
@@ -107,17 +104,7 @@ pub fn read_trace<S: Source>(alloc: Global, source: &mut S) -> Result<Trace, Tra
     ensures sound { IfOk result IsSound }
     ensures counts { S.faults source.old ≤ S.faults source.new }
 {
-    let bytes = read_all(alloc, source, INPUT_MAX)?;
-    parse(alloc, &bytes)
-}
-
-/// The trace that the bytes spell.
-fn parse(alloc: Global, bytes: &[u8]) -> Result<Trace, TraceFault>
-    requires { length bytes.now ≤ 16777216 }
-    ensures found { IfOk result (IsTrace bytes.now) }
-    ensures refused { IfErr result (Refuses bytes.now) }
-{
-    let state = read_lines(alloc, bytes)?;
+    let state = read_lines(alloc, source)?;
     let trace = state.into_trace(alloc)?;
     Ok(trace)
 }
@@ -168,18 +155,49 @@ fn take_next<'a>(
     Ok(Some(rest))
 }
 
-/// What all lines say.
-fn read_lines(alloc: Global, bytes: &[u8]) -> Result<State, TraceFault>
-    requires { length bytes.now ≤ 16777216 }
-    ensures found { IfOk result (λ state. Tells bytes.now (above state)) }
-    ensures keeps { IfOk result Keeps }
-    ensures refused { IfErr result (Refuses bytes.now) }
+/// Takes all finished lines in front, and answers what follows the last line feed.
+fn take_all<'a>(alloc: Global, state: &mut State, bytes: &'a [u8]) -> Result<&'a [u8], TraceFault>
+    requires room { state.old.count + length bytes.now ≤ 16777216 }
+    requires keeps { Keeps state.old }
+    requires modest { IsModest (above state.old) }
+    ensures taken { IfOk result (λ rest. Leads (above state.old) bytes.now rest.now (above state.new)) }
+    ensures none { IfOk result (λ rest. IsOneLine rest.now) }
+    ensures keeps { OnOk result (Keeps state.new) }
+    ensures room { IfOk result (λ rest. state.new.count + length rest.now ≤ state.old.count + length bytes.now) }
+    ensures refused { IfErr result (StopsBehind (above state.old) bytes.now) }
 {
-    let mut state = State::new(alloc);
     let mut rest = bytes;
-    while let Some(more) = take_next(alloc, &mut state, rest)? {
+    while let Some(more) = take_next(alloc, state, rest)? {
         rest = more;
     }
+    Ok(rest)
+}
+
+/// Takes all finished lines of a window. What follows the last line feed stays.
+fn take_lines(alloc: Global, state: &mut State, window: &mut Window) -> Result<(), TraceFault>
+    requires room { state.old.count + length (items window.old) ≤ 16777216 }
+    requires keeps { Keeps state.old }
+    requires modest { IsModest (above state.old) }
+    ensures taken { OnOk result (Leads (above state.old) (items window.old) (items window.new) (above state.new)) }
+    ensures none { OnOk result (IsOneLine (items window.new)) }
+    ensures keeps { OnOk result (Keeps state.new) }
+    ensures room { OnOk result (state.new.count + length (items window.new) ≤ state.old.count + length (items window.old)) }
+    ensures count { window.new.count ≡ window.old.count }
+    ensures refused { IfErr result (StopsBehind (above state.old) (items window.old)) }
+{
+    let rest = take_all(alloc, state, window.as_slice())?;
+    let left = rest.len();
+    window.keep(left);
+    Ok(())
+}
+
+/// Whether bytes may end behind these lines, with these bytes behind the last line feed.
+fn judge_end(state: &State, rest: &[u8]) -> Result<(), TraceFault>
+    requires room { state.now.count ≤ 16777216 }
+    requires none { IsOneLine rest.now }
+    ensures ended { OnOk result ((rest.now ≡ []) × (state.now.place ≡ After)) }
+    ensures refused { IfErr result (StopsAt (above state.now) (next_of rest.now)) }
+{
     let next = state.count + 1;
     if !rest.is_empty() {
         return Err(TraceFault::BadLine {
@@ -193,5 +211,31 @@ fn read_lines(alloc: Global, bytes: &[u8]) -> Result<State, TraceFault>
             why: Why::NoEnd,
         });
     }
-    Ok(state)
+    Ok(())
+}
+
+/// What all lines of a source say. Behind a bad line the rest of the source is still read, since a
+/// read that fails and a source that is too long are told before it.
+fn read_lines<S: Source>(alloc: Global, source: &mut S) -> Result<State, TraceFault>
+    ensures read { IfOk result (λ state. IsRead (S.rest source.old) (S.rest source.new) (above state)) }
+    ensures keeps { IfOk result Keeps }
+    ensures still { OnOk result (S.faults source.new ≡ S.faults source.old) }
+    ensures stops { IfErr result (StopsLines (S.rest source.old) (S.rest source.new) (S.faults source.old) (S.faults source.new)) }
+    ensures counts { S.faults source.old ≤ S.faults source.new }
+{
+    let mut window = Window::new(alloc)?;
+    let mut state = State::new(alloc);
+    loop {
+        let ended = window.fill(source)?;
+        if let Err(fault) = take_lines(alloc, &mut state, &mut window) {
+            if !ended {
+                window.pass_rest(source)?;
+            }
+            return Err(fault);
+        }
+        if ended {
+            judge_end(&state, window.as_slice())?;
+            return Ok(state);
+        }
+    }
 }

@@ -4,7 +4,7 @@ ghost use Rattle.std.specs.Prelude.{◌≡◌, ◌+◌, ◌-◌, ◌<◌, ◌≤
 ghost use Rattle.std.specs.List.{list_any};
 ghost use Rattle.std.specs.Str.{bytes_eq};
 ghost use Rattle.slub_events.specs.declared.event.Act.TheVariants as act;
-ghost use Rattle.slub_trace_reader.specs.declared.trace.Item.TheVariants as item;
+ghost use Rattle.slub_trace.specs.declared.trace.Item.TheVariants as item;
 ghost use Rattle.slub_trace_reader.specs.Above.{start, after, with_event, with_item, with_name, place_of, workers_in, trace_of, offset_of, setting_of};
 ghost use Rattle.slub_trace_reader.specs.Grammar.{InRange};
 ghost use Rattle.slub_trace_reader.specs.State.{above, with_alloc, Keeps, IsModest, IsFit, IsHead, IsItem, IsEvent};
@@ -13,12 +13,12 @@ use crate::line::{Knob, Line};
 use crate::names::place_among;
 use crate::objects::Objects;
 use crate::place::Place;
-use crate::trace::{Item, Trace};
 use indexmap::IndexSet;
 use slub_common::sequence::Sequence;
 use slub_events::event::{Act, Event, Round};
 use slub_object_layout::layout::{Flags, Setting, Spec};
 use slub_object_layout::name::Name;
+use slub_trace::trace::{Item, Trace};
 use std::alloc::{AllocError, Global};
 use std::mem;
 

@@ -13,9 +13,9 @@ use crate::line::Line;
 use crate::numbers::allocate;
 use crate::objects::Objects;
 use crate::state::State;
-use crate::trace::{Client, Item};
 use indexmap::IndexSet;
 use slub_object_layout::name::Name;
+use slub_trace::trace::{Client, Item};
 use std::alloc::AllocError;
 
 impl State {

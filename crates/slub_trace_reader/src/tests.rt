@@ -1,15 +1,15 @@
 //! Tests. The functions with clauses show what a caller knows from the contract alone.
 
 ghost use Rattle.std.specs.Prelude.{◌≡◌, IfOk, IfSome, None};
-ghost use Rattle.slub_trace_reader.specs.declared.trace.Trace.{Trace};
+ghost use Rattle.slub_trace.specs.declared.trace.Trace.{Trace};
 ghost use Rattle.slub_trace_reader.specs.Grammar.{IsTrace};
 ghost use Rattle.slub_trace_reader.specs.Reads.{IsBadAt};
 
 use crate::reading::{TraceFault, Why, read_trace};
-use crate::trace::{Item, Trace};
 use slub_edges::edges::{Failed, Source};
 use slub_edges::memory::MemSource;
 use slub_events::event::{Act, Event};
+use slub_trace::trace::{Item, Trace};
 use std::alloc::Global;
 use std::test::Fail;
 

@@ -1,10 +1,10 @@
 //! Tests of the lines of versions 2 to 4.
 
 use crate::reading::{TraceFault, Why, read_trace};
-use crate::trace::{Client, Item};
 use crate::words::cut;
 use slub_edges::memory::MemSource;
 use slub_numbers::numbers::number;
+use slub_trace::trace::{Client, Item};
 use std::alloc::Global;
 use std::test::Fail;
 

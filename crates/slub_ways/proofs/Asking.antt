@@ -11,8 +11,8 @@ use Rattle.slub_events.specs.declared.event.Act.{Act}
 use Rattle.slub_events.specs.declared.event.Act.TheVariants.{Alloc, Free}
 use Rattle.slub_events.specs.declared.event.Round.{Round}
 use Rattle.slub_lists.specs.State.{State}
-use Rattle.slub_trace_reader.specs.declared.trace.Trace.{Trace}
-use Rattle.slub_trace_reader.specs.Sound.{IsSoundEvent, IsSoundObject, IsSoundRound}
+use Rattle.slub_trace.specs.declared.trace.Trace.{Trace}
+use Rattle.slub_trace.specs.Sound.{IsSoundEvent, IsSoundObject, IsSoundRound}
 use Rattle.slub_journal.specs.Asked.{event_of, frees_of, round_of}
 use Rattle.slub_journal.specs.Bulk.{free_order, objects_of_slab, slabs_among}
 use Rattle.slub_clients.specs.BulkLines.{allocs_of, frame_under, places_under}

@@ -24,7 +24,7 @@ use Rattle.slub_lists.specs.Destroy.{Destroys, without}
 use Rattle.slub_lists.specs.Shrink.{ShrinksCache, Shrinks, flushed, flushed_below, min_partial_of}
 use Rattle.slub_lists.specs.Tune.{Tunes, tuned, with_setting}
 use Rattle.slub_lists.proofs.Flushing.{rest-flushed}
-use Rattle.slub_trace_reader.specs.declared.trace.Trace.{Trace}
+use Rattle.slub_trace.specs.declared.trace.Trace.{Trace}
 use Rattle.slub_journal.specs.Lawful.{CreatesName}
 use Rattle.slub_by_text.specs.Heap.{HeapState}
 use Rattle.slub_clients.specs.Kmalloc.{CreatesClasses}

@@ -1,7 +1,7 @@
 use Rattle.std.proofs.Common.{◌≡◌, ℕ, ◌+◌, ◌^◌, ◌<◌, ◌≤◌, ◌∙◌, List, length, get_or, take, IfSome, Option, ap, sym, subst, arith}
 use Rattle.slub_events.specs.declared.event.Act.TheVariants.{Alloc}
 use Rattle.slub_events.specs.declared.event.Event.{Event}
-use Rattle.slub_trace_reader.specs.Grammar.{step_of}
+use Rattle.slub_trace.specs.Ranges.{step_of}
 use Rattle.slub_into_words.specs.Ids.{id_at}
 use Rattle.slub_engine.specs.Running.{HasRun}
 use Rattle.slub_engine.proofs.Rounds.{own_default}

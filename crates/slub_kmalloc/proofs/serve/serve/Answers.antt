@@ -1,5 +1,5 @@
 use Rattle.std.proofs.Common.{◌≡◌, ℕ, List, [], ◌∷◌, length, refl, subst, All, arith}
-use Rattle.slub_trace_reader.specs.Sound.{asked_objects}
+use Rattle.slub_trace.specs.Sound.{asked_objects}
 use Rattle.slub_journal.specs.Lawful.{IsUnheld}
 use Rattle.slub_clients.specs.Asked.{IsOpenTo}
 use Rattle.slub_clients.proofs.Staying.{board_keeps}

@@ -1,6 +1,6 @@
 use Rattle.std.proofs.Common.{◌≡◌, ℕ, List, [], length, sym, ap, ◌∙◌, subst, arith, vec_len}
 use Rattle.std.proofs.lemmas.List.{length-replicate}
-use Rattle.slub_trace_reader.specs.Sound.{IsSound, objects_of}
+use Rattle.slub_trace.specs.Sound.{IsSound, objects_of}
 use Rattle.slub_load.specs.Load.{drawn_events, emptied, items_of, load_events}
 use Rattle.slub_load.proofs.Long.{drawn_long}
 use Rattle.slub_load.proofs.Made.{made, load_is}

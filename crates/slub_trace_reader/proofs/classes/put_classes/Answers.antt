@@ -1,7 +1,7 @@
 use Rattle.std.proofs.Common.{◌≡◌, ◌<◌, length, take, sym, ap, ◌∙◌, arith}
 use Rattle.std.proofs.lemmas.List.{take_all}
 use Rattle.slub_trace_reader.specs.Above.{with_name, with_names}
-use Rattle.slub_trace_reader.specs.Classes.{class_names}
+use Rattle.slub_trace.specs.Classes.{class_names}
 use Rattle.slub_trace_reader.proofs.ClassNames.{are_class_names, names_none, names_then}
 use Rattle.slub_trace_reader.proofs.classes.put_classes.Goals as goal
 

@@ -1,42 +1,68 @@
-use Rattle.std.proofs.Common.{◌≡◌, ◌+◌, ◌∷◌, length, refl, sym, ap, arith, length-append, subst}
-use Rattle.std.proofs.lemmas.Bool.{false≢true}
-use Rattle.slub_trace_reader.specs.Parsing.{TakesFront}
-use Rattle.slub_trace_reader.specs.declared.state.State.{State}
+use Rattle.std.proofs.Common.{◌≡◌, ℕ, List, [], length, length-append, refl, sym, ap, ◌∙◌, arith, subst}
+use Rattle.std.proofs.lemmas.Result.{err_from_is_err_and}
+use Rattle.slub_trace_reader.specs.Parsing.{StopsAt}
 use Rattle.slub_trace_reader.specs.State.{above}
-use Rattle.slub_trace_reader.proofs.LinesBelow.{Went, went_modest, went_more, went_unfinished, went_no_end, went_all, takes_counts}
-use Rattle.slub_trace_reader.proofs.Readings.{some_left, none_left}
+use Rattle.slub_trace_reader.specs.Window.{items, next_of, StopsLines}
+use Rattle.slub_trace_reader.proofs.Readings.{stands_grown, stands_on, stands_modest, counts_none, read_stops, line_stops, end_stops, all_read}
+use Rattle.slub_trace_reader.proofs.reading.read_lines.Goals.{then-not-ended+in_ok-pass_rest, else-not-ended}
 use Rattle.slub_trace_reader.proofs.reading.read_lines.Goals as goal
 
-pub take_next-requires-clause-modest : goal.take_next-requires-clause-modest
-take_next-requires-clause-modest c = went_modest c.args.bytes.now c.loop-state.rest.now (above c.loop-state.state) c.loop-state.invariant.went
+pub returns-in_err-ended-clause-stops : goal.returns-in_err-ended-clause-stops
+returns-in_err-ended-clause-stops g c =
+    let is = err_from_is_err_and c.from_residual-in_err-ended.result c.from_residual-in_err-ended.ensures.1 in
+    let kept = c.loop-state.invariant in
+    rw (is.1, is.2) (read_stops _ _ _ _ _ _ _ _ _ _ c.in_err-ended.field-0.0 kept.stands refl kept.still c.in_err-ended.ensures.stops)
+
+pub take_lines-requires-clause-modest : goal.take_lines-requires-clause-modest
+take_lines-requires-clause-modest g c = stands_modest _ _ _ _ _ c.loop-state.invariant.stands
+
+pub returns-in_err-pass_rest-clause-stops : goal.returns-in_err-pass_rest-clause-stops
+returns-in_err-pass_rest-clause-stops g c =
+    let is = err_from_is_err_and c.from_residual-in_err-pass_rest.result c.from_residual-in_err-pass_rest.ensures.1 in
+    let kept = c.loop-state.invariant in
+    let stands = stands_grown _ _ _ _ _ _ _ _ kept.stands c.in_ok-ended.ensures.grows in
+    rw (is.1, is.2) (read_stops _ _ _ _ _ _ _ _ _ _ c.in_err-pass_rest.field-0.0 stands c.take_lines.ensures.count (c.in_ok-ended.ensures.still ∙ kept.still) c.in_err-pass_rest.ensures.stops)
+
+pub returns-in-Err-clause-stops : goal.returns-in-Err-clause-stops
+returns-in-Err-clause-stops g c =
+    let kept = c.loop-state.invariant in
+    let stands = stands_grown _ _ _ _ _ _ _ _ kept.stands c.in_ok-ended.ensures.grows in
+    let still = c.in_ok-ended.ensures.still ∙ kept.still in
+    elim c.if-not-ended.branch [
+      | then-not-ended+in_ok-pass_rest w ↦
+          (let passed = w.in_ok-pass_rest.ensures in
+          let stops = line_stops _ _ _ _ _ _ _ _ _ _ c.in-Err.fault stands c.in-Err.ensures.refused c.take_lines.ensures.count passed.passed passed.end w.pass_rest.new.self.few (passed.still ∙ still) in
+          rw w.source-is stops)
+      | else-not-ended w ↦
+          (let ended = c.in_ok-ended.ensures.end w.if-not-ended.false in
+          let stops = line_stops _ _ _ _ _ _ _ _ _ _ c.in-Err.fault stands c.in-Err.ensures.refused refl (counts_none _ _) ended c.fill.new.self.few still in
+          rw w.source-is stops)
+    ]
+
+pub returns-in_err-judge_end-clause-stops : goal.returns-in_err-judge_end-clause-stops
+returns-in_err-judge_end-clause-stops g c =
+    let is = err_from_is_err_and c.from_residual-in_err-judge_end.result c.from_residual-in_err-judge_end.ensures.1 in
+    let kept = c.loop-state.invariant in
+    let grown = stands_grown _ _ _ _ _ _ _ _ kept.stands c.in_ok-ended.ensures.grows in
+    let stands = stands_on _ _ _ _ _ _ _ _ grown c.in_default.ensures.taken c.take_lines.ensures.count in
+    let fault = c.in_err-judge_end.field-0.0 in
+    let stops = subst (λ (rest : List ℕ). StopsAt (above c.take_lines.new.state) (next_of rest) fault) c.as_slice.ensures c.in_err-judge_end.ensures.refused in
+    rw (is.1, is.2) (end_stops _ _ _ _ _ _ _ fault stands c.in_default.ensures.none stops (c.in_ok-ended.ensures.end c.if-ended.true) c.take_lines.new.window.few (c.in_ok-ended.ensures.still ∙ kept.still))
+
+pub returns-then-ended-clause-read : goal.returns-then-ended-clause-read
+returns-then-ended-clause-read g c =
+    let kept = c.loop-state.invariant in
+    let grown = stands_grown _ _ _ _ _ _ _ _ kept.stands c.in_ok-ended.ensures.grows in
+    let stands = stands_on _ _ _ _ _ _ _ _ grown c.in_default.ensures.taken c.take_lines.ensures.count in
+    all_read _ _ _ _ _ stands (sym c.as_slice.ensures ∙ c.in_ok-judge_end.ensures.ended.0) c.in_ok-judge_end.ensures.ended.1 (c.in_ok-ended.ensures.end c.if-ended.true) c.take_lines.new.window.few
 
 pub loop-state-preserved : goal.loop-state-preserved
-loop-state-preserved c =
-    let old = above c.loop-state.state in
-    let new = above c.take_next.new.state in
-    let takes : TakesFront old c.loop-state.rest.now c.in-Some.more.now new = rw c.in-Some.is at c.in_ok-more.ensures.taken in
-    let counts : c.take_next.new.state.count ≡ c.loop-state.state.count + 1 = takes_counts old new takes.0 takes.3 in
+loop-state-preserved g c =
+    let kept = c.loop-state.invariant in
+    let grown = stands_grown _ _ _ _ _ _ _ _ kept.stands c.in_ok-ended.ensures.grows in
     record {
-      went = went_more c.args.bytes.now c.loop-state.rest.now takes.0 c.in-Some.more.now old new c.loop-state.invariant.went takes.1 takes.2 takes.3;
-      keeps = c.in_ok-more.ensures.keeps;
-      room = omega (arith, counts, ap length takes.1, length-append takes.0 (10 ∷ c.in-Some.more.now), c.loop-state.invariant.room);
+      stands = stands_on _ _ _ _ _ _ _ _ grown c.in_default.ensures.taken c.take_lines.ensures.count;
+      keeps = c.in_default.ensures.keeps;
+      room = omega (arith, kept.room, c.in_ok-ended.ensures.grows.counted, ap length c.in_ok-ended.ensures.grows.behind, length-append (items c.loop-state.window) c.in_ok-ended.ensures.grows.more, c.in_default.ensures.room, c.take_lines.ensures.count);
+      still = c.in_ok-ended.ensures.still ∙ kept.still;
     }
-
-pub returns-then-not-is_empty-clause-refused : goal.returns-then-not-is_empty-clause-refused
-returns-then-not-is_empty-clause-refused c =
-    let none = rw c.in_default.is at c.in_ok-more.ensures.none in
-    let went : Went c.args.bytes.now c.loop-state.rest.now (above c.take_next.new.state) = subst (λ (s : State). Went c.args.bytes.now c.loop-state.rest.now (above s)) (sym none.0) c.loop-state.invariant.went in
-    went_unfinished c.args.bytes.now c.loop-state.rest.now (above c.take_next.new.state) _ went none.1 (some_left c.loop-state.rest.now c.if-not-is_empty.ensures) refl
-
-pub returns-then-not-is_after-clause-refused : goal.returns-then-not-is_after-clause-refused
-returns-then-not-is_after-clause-refused c =
-    let none = rw c.in_default.is at c.in_ok-more.ensures.none in
-    let went : Went c.args.bytes.now c.loop-state.rest.now (above c.take_next.new.state) = subst (λ (s : State). Went c.args.bytes.now c.loop-state.rest.now (above s)) (sym none.0) c.loop-state.invariant.went in
-    went_no_end c.args.bytes.now c.loop-state.rest.now (above c.take_next.new.state) _ went (none_left c.loop-state.rest.now c.if-not-is_empty.ensures)
-    (λ after. false≢true (c.if-not-is_after.ensures.1 after)) refl
-
-pub returns-clause-found : goal.returns-clause-found
-returns-clause-found c =
-    let none = rw c.in_default.is at c.in_ok-more.ensures.none in
-    let went : Went c.args.bytes.now c.loop-state.rest.now (above c.take_next.new.state) = subst (λ (s : State). Went c.args.bytes.now c.loop-state.rest.now (above s)) (sym none.0) c.loop-state.invariant.went in
-    went_all c.args.bytes.now c.loop-state.rest.now (above c.take_next.new.state) went (none_left c.loop-state.rest.now c.if-not-is_empty.ensures) (c.if-not-is_after.ensures.0 refl)

@@ -1,14 +1,15 @@
-use Rattle.std.proofs.Common.{◌+◌, ◌≤◌, length}
+use Rattle.std.proofs.Common.{◌≡◌, ◌+◌, ◌-◌, ◌≤◌, length}
 use Rattle.slub_trace_reader.specs.State.{above, Keeps}
-use Rattle.slub_trace_reader.proofs.LinesBelow.{Went}
+use Rattle.slub_trace_reader.specs.Window.{items, Stands}
 use Rattle.slub_trace_reader.proofs.reading.read_lines.Given as goal
 
 abbrev pub invariant-loop-state : goal.invariant-loop-state
-invariant-loop-state l = record {
-  went : Went l.fn.bytes l.rest (above l.state);
+invariant-loop-state g l = record {
+  stands : Stands (g.S.Source.rest l.fn.source) (g.S.Source.rest l.source) (items l.window) l.window.count (above l.state);
   keeps : Keeps l.state;
-  room : l.state.count + length l.rest ≤ length l.fn.bytes;
+  room : l.state.count + length (items l.window) ≤ l.window.count;
+  still : g.S.Source.faults l.source ≡ g.S.Source.faults l.fn.source;
 }
 
 abbrev pub decreases-loop-state : goal.decreases-loop-state
-decreases-loop-state l = length l.rest
+decreases-loop-state g l = 16777216 - l.window.count

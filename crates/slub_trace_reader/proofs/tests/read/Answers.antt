@@ -1,7 +1,7 @@
 use Rattle.std.proofs.Common.{◌≡◌, ℕ, Result, Ok, Err, Option, Some, List, refl, subst}
 use Rattle.std.specs.Prelude.{IfOk}
 use Rattle.slub_trace_reader.specs.declared.reading.TraceFault.{TraceFault}
-use Rattle.slub_trace_reader.specs.declared.trace.Trace.{Trace}
+use Rattle.slub_trace.specs.declared.trace.Trace.{Trace}
 use Rattle.slub_trace_reader.specs.Grammar.{IsTrace}
 use Rattle.slub_trace_reader.specs.Reads.{Reads}
 use Rattle.slub_trace_reader.proofs.tests.read.Goals as goal

@@ -1,6 +1,6 @@
 use Rattle.std.proofs.Common.{length, subst}
 use Rattle.std.proofs.lemmas.Result.{err_from_is_err_and}
-use Rattle.slub_trace_reader.specs.Sound.{asked_objects}
+use Rattle.slub_trace.specs.Sound.{asked_objects}
 use Rattle.slub_engine.specs.Steps.{KeepsUnheld}
 use Rattle.slub_clients.specs.Asked.{StaysOpen}
 use Rattle.slub_clients.specs.Stopped.{IsStoppedWhere}

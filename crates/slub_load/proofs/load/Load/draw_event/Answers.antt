@@ -2,7 +2,7 @@ use Rattle.std.proofs.Common.{◌≡◌, ◌+◌, ◌%◌, ◌<◌, List, [], �
 use Rattle.std.proofs.lemmas.List.{length-append, get_or_default}
 use Rattle.std.proofs.Math.Nat.{mod-lt}
 use Rattle.slub_events.specs.declared.event.Event.{Event}
-use Rattle.slub_trace_reader.specs.Sound.{objects_of}
+use Rattle.slub_trace.specs.Sound.{objects_of}
 use Rattle.slub_load.specs.Generator.{drawn, next}
 use Rattle.slub_load.specs.Kept.{AreHeld}
 use Rattle.slub_load.specs.Load.{freed_of, held_by}

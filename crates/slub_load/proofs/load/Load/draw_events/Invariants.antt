@@ -1,5 +1,5 @@
 use Rattle.std.proofs.Common.{◌≡◌, ◌*◌, length, vec_len, vec_capacity}
-use Rattle.slub_trace_reader.specs.Sound.{objects_of}
+use Rattle.slub_trace.specs.Sound.{objects_of}
 use Rattle.slub_load.specs.Generator.{state_after}
 use Rattle.slub_load.specs.Kept.{AreHeld}
 use Rattle.slub_load.specs.Load.{drawn_events}

@@ -1,7 +1,7 @@
 //! Lists of small numbers, front first, whose room is taken once.
 
 ghost use Rattle.std.specs.List.{range_with_len};
-ghost use Rattle.std.specs.Prelude.{slice_get, ◌≡◌, ◌+◌, ◌<◌, ◌≤◌, ◌==◌, ◌++◌, [], ◌∷◌, length, take, drop, filter, reverse, nat_lt, not, IfOk, MatchOption};
+ghost use Rattle.std.specs.Prelude.{slice_get, ◌≡◌, ◌<◌, ◌≤◌, ◌==◌, ◌++◌, [], ◌∷◌, length, take, drop, filter, reverse, nat_lt, not, IfOk, MatchOption};
 ghost use Rattle.slub_common.specs.Times.{times};
 
 use std::alloc::{AllocError, Global};
@@ -83,24 +83,6 @@ impl<const ROOM: usize> FrontList<ROOM> {
         let before = self.items.len();
         self.items.retain(|other| *other != item);
         self.items.len() < before
-    }
-
-    /// Puts those of another list before these, in their order, and leaves that list empty.
-    pub fn take_before(&mut self, front: &mut FrontList<ROOM>)
-        requires { length front.old + length self.old ≤ ROOM }
-        ensures joined { self.new ≡ front.old ++ self.old }
-        ensures emptied { front.new ≡ [] }
-    {
-        while let Some(last) = front.pop_back() {
-            self.push(last);
-        }
-    }
-
-    /// Takes the last off, if there is one.
-    fn pop_back(&mut self) -> Option<u16>
-        ensures { MatchOption result ((self.old ≡ []) × (self.new ≡ [])) (λ item. self.old ≡ self.new ++ item ∷ []) }
-    {
-        self.items.pop_back()
     }
 
     /// Takes all out.

@@ -172,6 +172,7 @@ impl Local {
     }
 
     /// Its number.
+    #[inline(always)]
     pub fn worker(&self) -> u8
         ensures { result ≡ self.now.worker }
     {
@@ -179,6 +180,7 @@ impl Local {
     }
 
     /// Its next step.
+    #[inline(always)]
     pub fn spot(&self) -> Spot
         ensures { result ≡ self.now.spot }
     {
@@ -186,6 +188,7 @@ impl Local {
     }
 
     /// The cache of its call, or that it has come to.
+    #[inline(always)]
     pub fn cache(&self) -> u8
         ensures { result ≡ self.now.cache }
     {
@@ -193,6 +196,7 @@ impl Local {
     }
 
     /// The CPU of its call, or that it has come to.
+    #[inline(always)]
     pub fn cpu(&self) -> u8
         ensures { result ≡ self.now.cpu }
     {
@@ -200,6 +204,7 @@ impl Local {
     }
 
     /// Whether its call is a try.
+    #[inline(always)]
     pub fn is_fast(&self) -> bool
         ensures { result ≡ self.now.fast }
     {
@@ -207,6 +212,7 @@ impl Local {
     }
 
     /// The word of a CPU that it loaded last.
+    #[inline(always)]
     pub fn cpu_word(&self) -> CpuWord
         ensures { result ≡ self.now.cpu_word }
     {
@@ -214,6 +220,7 @@ impl Local {
     }
 
     /// The word of a slab that it loaded last.
+    #[inline(always)]
     pub fn slab_word(&self) -> SlabWord
         ensures { result ≡ self.now.slab_word }
     {
@@ -221,6 +228,7 @@ impl Local {
     }
 
     /// The word of a partial list that it loaded last.
+    #[inline(always)]
     pub fn list_word(&self) -> ListWord
         ensures { result ≡ self.now.list_word }
     {
@@ -228,6 +236,7 @@ impl Local {
     }
 
     /// The index plus one that a free pointer had.
+    #[inline(always)]
     pub fn next(&self) -> u16
         ensures { result ≡ self.now.next }
     {
@@ -235,6 +244,7 @@ impl Local {
     }
 
     /// The object of its call, as far as it knows it.
+    #[inline(always)]
     pub fn here(&self) -> Known
         ensures { result ≡ local.here self.now }
     {
@@ -242,6 +252,7 @@ impl Local {
     }
 
     /// What it knows of the object at a place.
+    #[inline(always)]
     pub fn known_at(&self, place: usize) -> Known
         ensures { result ≡ slice_index_or self.now.known place local.nobody }
     {
@@ -252,6 +263,7 @@ impl Local {
     }
 
     /// The slab that it works on.
+    #[inline(always)]
     pub fn hand(&self) -> Hand
         ensures { result ≡ local.hand_of self.now }
     {
@@ -328,6 +340,7 @@ impl Local {
     }
 
     /// Its call; a flush where it has none.
+    #[inline(always)]
     pub fn call(&self) -> Call
         ensures { result ≡ local.call_of self.now }
     {
@@ -338,6 +351,7 @@ impl Local {
     }
 
     /// Whether a call has no reply yet.
+    #[inline(always)]
     pub fn has_call(&self) -> bool
         ensures { result ≡ nat_lt 0 (length self.now.todo) }
     {
@@ -345,6 +359,7 @@ impl Local {
     }
 
     /// Its calls that have a reply, the first one first.
+    #[inline(always)]
     pub fn answers(&self) -> &[Answered]
         ensures { reverse result.now ≡ self.now.done }
     {
@@ -354,6 +369,7 @@ impl Local {
 
 impl Local {
     /// It goes to a spot.
+    #[inline(always)]
     pub fn at(&mut self, spot: Spot)
         ensures { self.new ≡ local.at self.old spot }
     {
@@ -361,6 +377,7 @@ impl Local {
     }
 
     /// It begins a call at this spot.
+    #[inline(always)]
     pub fn begin(&mut self, spot: Spot, cache: u8, cpu: u8, place: usize, fast: bool)
         ensures { self.new ≡ record self.old { spot = spot; cache = cache; cpu = cpu; place = place; fast = fast; turn = 0; count = 0 } }
     {
@@ -388,6 +405,7 @@ impl Local {
     }
 
     /// It notes the word of a CPU.
+    #[inline(always)]
     pub fn set_cpu_word(&mut self, word: CpuWord)
         ensures { self.new ≡ record self.old { cpu_word = word } }
     {
@@ -395,6 +413,7 @@ impl Local {
     }
 
     /// It notes the word of a slab.
+    #[inline(always)]
     pub fn set_slab_word(&mut self, word: SlabWord)
         ensures { self.new ≡ record self.old { slab_word = word } }
     {
@@ -402,6 +421,7 @@ impl Local {
     }
 
     /// It notes the word of a partial list.
+    #[inline(always)]
     pub fn set_list_word(&mut self, word: ListWord)
         ensures { self.new ≡ record self.old { list_word = word } }
     {
@@ -409,6 +429,7 @@ impl Local {
     }
 
     /// It notes the index plus one that a free pointer had.
+    #[inline(always)]
     pub fn set_next(&mut self, next: u16)
         ensures { self.new ≡ record self.old { next = next } }
     {
@@ -466,6 +487,7 @@ impl Local {
     }
 
     /// It holds the object of this slot.
+    #[inline(always)]
     pub fn gets(&mut self, cache: u8, frame: u16, index: u16)
         ensures { self.new ≡ local.gets self.old cache frame index }
     {
@@ -478,6 +500,7 @@ impl Local {
     }
 
     /// It holds the object of its call no more.
+    #[inline(always)]
     pub fn loses(&mut self)
         ensures { self.new ≡ local.loses self.old }
     {
@@ -509,6 +532,7 @@ impl Local {
     }
 
     /// The call that it is in has a reply.
+    #[inline(always)]
     pub fn answered(&mut self, reply: Reply)
         requires { 0 < length self.old.todo }
         ensures { self.new ≡ local.answered self.old reply }
@@ -519,6 +543,7 @@ impl Local {
     }
 
     /// The call that it is in has this reply, if it is one.
+    #[inline(always)]
     pub fn noted(&mut self, reply: Option<Reply>)
         requires { IfSome reply (λ r. 0 < length self.old.todo) }
         ensures { self.new ≡ local.noted self.old reply }

@@ -12,6 +12,7 @@ use slub_words::cpu::CpuWord;
 use slub_words::slab::SlabWord;
 
 /// Of a spot that calls for no step.
+#[inline(always)]
 pub fn no_step() -> Step
     ensures { result ≡ made.no_step }
 {
@@ -22,6 +23,7 @@ pub fn no_step() -> Step
 }
 
 /// The number of the CPU word and the list word of the call's cache and CPU.
+#[inline(always)]
 fn own_cpu(local: &Local) -> u32
     ensures { result ≡ made.own_cpu local.now }
 {
@@ -29,6 +31,7 @@ fn own_cpu(local: &Local) -> u32
 }
 
 /// Loads the CPU word.
+#[inline(always)]
 pub fn load_cpu(local: &Local) -> Step
     ensures { result ≡ made.load_cpu local.now }
 {
@@ -39,6 +42,7 @@ pub fn load_cpu(local: &Local) -> Step
 }
 
 /// Changes the CPU word, from the noted one (`this_cpu_cmpxchg_double`).
+#[inline(always)]
 pub fn change_cpu(local: &Local, to: CpuWord) -> Step
     ensures { result ≡ made.change_cpu local.now to }
 {
@@ -52,6 +56,7 @@ pub fn change_cpu(local: &Local, to: CpuWord) -> Step
 }
 
 /// Loads the word of a slab.
+#[inline(always)]
 pub fn load_slab(frame: u16) -> Step
     ensures { result ≡ made.load_slab frame }
 {
@@ -62,6 +67,7 @@ pub fn load_slab(frame: u16) -> Step
 }
 
 /// Changes the word of a slab, from the noted one (`__cmpxchg_double_slab`).
+#[inline(always)]
 pub fn change_slab(local: &Local, frame: u16, to: SlabWord) -> Step
     ensures { result ≡ made.change_slab local.now frame to }
 {
@@ -85,6 +91,7 @@ pub fn store_slab(frame: u16, to: SlabWord) -> Step
 }
 
 /// Loads the free pointer of an object (`get_freepointer`).
+#[inline(always)]
 pub fn load_pointer(setup: &Setup, cache: u8, frame: u16, index: u16) -> Step
     ensures { result ≡ placed.load_pointer setup.now cache frame index }
 {
@@ -95,6 +102,7 @@ pub fn load_pointer(setup: &Setup, cache: u8, frame: u16, index: u16) -> Step
 }
 
 /// Stores the free pointer of an object, hardened (`set_freepointer`).
+#[inline(always)]
 pub fn store_pointer(setup: &Setup, cache: u8, frame: u16, index: u16, to: u16) -> Step
     ensures { result ≡ placed.store_pointer setup.now cache frame index to }
 {
@@ -106,6 +114,7 @@ pub fn store_pointer(setup: &Setup, cache: u8, frame: u16, index: u16, to: u16) 
 }
 
 /// Stores the free pointer of the object of the call.
+#[inline(always)]
 pub fn link_object(setup: &Setup, local: &Local, to: u16) -> Step
     ensures { result ≡ placed.link_object setup.now local.now to }
 {

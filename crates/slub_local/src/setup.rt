@@ -87,6 +87,7 @@ impl Setup {
     }
 
     /// What each change adds to a transaction id.
+    #[inline(always)]
     pub fn step(&self) -> u32
         ensures step { result ≡ self.now.step }
         ensures few { result ≤ 16 }
@@ -95,6 +96,7 @@ impl Setup {
     }
 
     /// How many CPUs there are.
+    #[inline(always)]
     pub fn cpus(&self) -> u32
         ensures cpus { result ≡ self.now.cpus }
         ensures few { result ≤ 16 }
@@ -110,6 +112,7 @@ impl Setup {
     }
 
     /// The layout of a cache.
+    #[inline(always)]
     pub fn layout(&self, cache: u8) -> Layout
         ensures layout { result ≡ (cache_of self.now cache).layout }
         ensures small { IsSmall result }
@@ -121,6 +124,7 @@ impl Setup {
     }
 
     /// Whether a cache is checked.
+    #[inline(always)]
     pub fn checks(&self, cache: u8) -> bool
         ensures { result ≡ (cache_of self.now cache).checks }
     {
@@ -131,6 +135,7 @@ impl Setup {
     }
 
     /// The random number of a cache, with which its free pointers are hardened.
+    #[inline(always)]
     fn random(&self, cache: u8) -> u64
         ensures { result ≡ steps_from_one (cache + 1) }
     {
@@ -141,6 +146,7 @@ impl Setup {
     }
 
     /// The address of an object, in bytes.
+    #[inline(always)]
     pub fn address(&self, cache: u8, frame: u16, index: u16) -> u32
         ensures address { result ≡ address_of frame index (cache_of self.now cache).layout }
         ensures below { result < 2 ^ 31 }
@@ -150,6 +156,7 @@ impl Setup {
     }
 
     /// The memory word of an object's free pointer.
+    #[inline(always)]
     pub fn pointer_at(&self, cache: u8, frame: u16, index: u16) -> u32
         ensures place { result ≡ pointer_in self.now cache frame index }
         ensures below { result < 2 ^ 29 }
@@ -158,6 +165,7 @@ impl Setup {
     }
 
     /// One of an object's own words, of which the first is 0 and the last one 4095 at most (profile).
+    #[inline(always)]
     pub fn word_at(&self, cache: u8, frame: u16, index: u16, word: u32) -> u32
         requires { word ≤ 4095 }
         ensures { result ≡ word_in self.now cache frame index word }
@@ -166,6 +174,7 @@ impl Setup {
     }
 
     /// A free pointer as it is stored at a memory word (`freelist_ptr`).
+    #[inline(always)]
     pub fn hardened(&self, cache: u8, place: u32, pointer: u16) -> u64
         requires { place < 2 ^ 29 }
         ensures { result ≡ hardened cache place pointer }
@@ -174,6 +183,7 @@ impl Setup {
     }
 
     /// What was loaded of an object's free pointer.
+    #[inline(always)]
     pub fn found_at(&self, cache: u8, frame: u16, index: u16, word: u64) -> u16
         ensures { result ≡ found_in self.now cache frame index word }
     {

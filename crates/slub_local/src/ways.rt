@@ -18,6 +18,7 @@ use slub_core::spot::{Away, PutAwaySpot, Spot};
 use slub_words::cpu::CpuWord;
 
 /// Whether no object is taken or put under the word's transaction id any more (profile).
+#[inline(always)]
 pub fn is_spent(setup: &Setup, word: CpuWord) -> bool
     ensures { result ≡ is_spent_by setup.now.step word }
 {
@@ -25,6 +26,7 @@ pub fn is_spent(setup: &Setup, word: CpuWord) -> bool
 }
 
 /// The noted word of a CPU with its transaction id raised (`next_tid`) and this slab.
+#[inline(always)]
 pub fn raised_word(setup: &Setup, local: &Local, frame: u16, head: u16) -> CpuWord
     requires { HasTid setup.now.step local.now }
     ensures { result ≡ raised_word setup.now.step local.now frame head }

@@ -9,6 +9,7 @@ use slub_words::cpu::CpuWord;
 use slub_words::slab::SlabWord;
 
 /// The sixteen bits from bit `at` on.
+#[inline(always)]
 fn part(word: u64, at: u32) -> u16
     requires { at ≤ 48 }
     ensures { result ≡ word / 2 ^ at % 2 ^ 16 }
@@ -34,6 +35,7 @@ fn bit(word: u64, at: u32) -> bool
 
 /// What the word of a cache and a CPU says.
 #[tactic(auto, unfolding(slub_core::specs::Words::cpu_in))]
+#[inline(always)]
 pub fn cpu_in(word: u64) -> CpuWord
     ensures { result ≡ says.cpu_in word }
 {

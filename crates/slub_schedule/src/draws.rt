@@ -28,6 +28,7 @@ impl Draws {
     }
 
     /// Goes on to the next number, and draws it.
+    #[inline(always)]
     pub fn draw(&mut self) -> u32
         ensures next { self.new ≡ next self.old }
         ensures number { result ≡ number_from self.old }

@@ -36,6 +36,7 @@ impl Order {
     }
 
     /// Whether each worker is finished.
+    #[inline(always)]
     pub fn is_empty(&self) -> bool
         ensures { result ≡ (length self.now == 0) }
     {
@@ -43,6 +44,7 @@ impl Order {
     }
 
     /// The place among the unfinished workers that a number chooses.
+    #[inline(always)]
     pub fn place(&self, number: u32) -> usize
         requires { 1 ≤ length self.now }
         ensures place { result ≡ number % length self.now }
@@ -52,6 +54,7 @@ impl Order {
     }
 
     /// The worker at a place.
+    #[inline(always)]
     pub fn worker(&self, place: usize) -> usize
         requires { place < length self.now }
         ensures { result ≡ slice_index self.now place }

@@ -59,6 +59,7 @@ impl Table {
     }
 
     /// One step on its word. Outside of the table a word is 0, and stays so.
+    #[inline(always)]
     pub fn apply(&mut self, step: Step) -> Answer
         ensures frames { self.new.frames ≡ self.old.frames }
         ensures objects { self.new.objects ≡ self.old.objects }
@@ -76,6 +77,7 @@ impl Table {
 }
 
 /// The number of a word in the table of a machine with so many frames and object numbers.
+#[inline(always)]
 fn number(frames: u32, objects: u32, place: Place) -> usize
     ensures { (m : Setup) → m.frames ≡ frames → m.objects ≡ objects → result ≡ number_of m place }
 {
@@ -93,6 +95,7 @@ fn number(frames: u32, objects: u32, place: Place) -> usize
 }
 
 /// What a step leaves in its word.
+#[inline(always)]
 fn after(op: Op, word: u64) -> u64
     ensures { result ≡ after_op op word }
 {
@@ -106,6 +109,7 @@ fn after(op: Op, word: u64) -> u64
 }
 
 /// What a step answers that finds this word.
+#[inline(always)]
 fn answer(op: Op, word: u64) -> Answer
     ensures { result ≡ answer_of op word }
 {

@@ -1,5 +1,6 @@
 pub mod Rested
 pub mod Stays
+pub mod AtFast
 pub mod Settled
 pub mod Twice
 pub mod Turned

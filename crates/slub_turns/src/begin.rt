@@ -52,6 +52,7 @@ fn told_of_poke(setup: &Setup, known: Known) -> Option<Reply>
 }
 
 /// The reply to an allocation that takes no step.
+#[inline(always)]
 fn told_of_alloc(cache: Option<u8>) -> Option<Reply>
     ensures { result ≡ core.told_of_alloc cache }
 {
@@ -84,6 +85,7 @@ fn told_of_flush(setup: &Setup) -> Option<Reply>
 }
 
 /// The reply of a call that takes no step; None where it takes one.
+#[inline(always)]
 fn told_at_once(setup: &Setup, known: Known, call: &Call) -> Option<Reply>
     ensures { (means : Means) → result ≡ core.told_at_once (setup_of setup.now means) known call.now call.now.kind }
 {
@@ -99,6 +101,7 @@ fn told_at_once(setup: &Setup, known: Known, call: &Call) -> Option<Reply>
 }
 
 /// A worker between two calls has the replies that take no step.
+#[inline(always)]
 pub fn rest(setup: &Setup, local: &mut Local)
     ensures { (means : Means) → local.new ≡ core.rested (setup_of setup.now means) local.old }
 {
@@ -108,6 +111,7 @@ pub fn rest(setup: &Setup, local: &mut Local)
 }
 
 /// The calls come to one that takes a step, or to their end.
+#[inline(always)]
 fn rest_with(setup: &Setup, local: &mut Local)
     ensures { (means : Means) → local.new ≡ core.rested_with (setup_of setup.now means) local.old.todo local.old }
 {
@@ -122,6 +126,7 @@ fn rest_with(setup: &Setup, local: &mut Local)
 }
 
 /// The cache of a call: the one that it names, or that of its object; a flush begins with the oldest.
+#[inline(always)]
 fn cache_for(setup: &Setup, known: Known, call: &Call) -> u8
     ensures { (means : Means) → result ≡ core.cache_for (setup_of setup.now means) known call.now.cache call.now.kind }
 {
@@ -143,6 +148,7 @@ fn oldest(setup: &Setup) -> u8
 }
 
 /// The first spot of a call, by whether its cache is checked and whether the worker holds its object.
+#[inline(always)]
 fn first_spot(kind: CallKind, checked: bool, held: bool) -> Spot
     ensures { result ≡ core.first_spot kind checked held }
 {
@@ -159,6 +165,7 @@ fn first_spot(kind: CallKind, checked: bool, held: bool) -> Spot
 }
 
 /// The CPU that a call begins with, which for a trim is CPU 0.
+#[inline(always)]
 fn first_cpu(kind: CallKind, cpu: u32) -> u8
     requires { cpu < 256 }
     ensures { result ≡ core.first_cpu kind cpu }
@@ -170,6 +177,7 @@ fn first_cpu(kind: CallKind, cpu: u32) -> u8
 }
 
 /// A worker begins this call; as a try, where `tries` says so.
+#[inline(always)]
 fn begin_call(setup: &Setup, local: &mut Local, call: &Call, tries: bool)
     requires { call.now.cpu < 256 }
     ensures { (means : Means) → local.new ≡ core.begun_call (setup_of setup.now means) tries local.old call.now }
@@ -182,6 +190,7 @@ fn begin_call(setup: &Setup, local: &mut Local, call: &Call, tries: bool)
 }
 
 /// A worker between two calls begins its next one; as a try, where `tries` says so.
+#[inline(always)]
 pub fn begin(setup: &Setup, local: &mut Local, tries: bool)
     requires { BeginFits local.old local.old.spot }
     ensures { (means : Means) → local.new ≡ core.begun (setup_of setup.now means) tries local.old }
@@ -195,6 +204,7 @@ pub fn begin(setup: &Setup, local: &mut Local, tries: bool)
 }
 
 /// Whether the worker is in no call and each of its calls has a reply.
+#[inline(always)]
 pub fn is_finished(local: &Local) -> bool
     ensures { result ≡ schedule.is_finished local.now }
 {

@@ -1,25 +1,65 @@
 //! The turn of one worker.
 
-ghost use Rattle.std.specs.Prelude.{◌≡◌};
+ghost use Rattle.std.specs.Prelude.{◌≡◌, Bool, List, false};
 ghost use Rattle.slub_core.specs.Setup.{Means};
-ghost use Rattle.slub_core.specs.Run.{turn};
+ghost use Rattle.slub_core.specs.Run.{after_step, turn};
+ghost use Rattle.slub_local.specs.declared.guarded.Guarded.{Guarded};
 ghost use Rattle.slub_local.specs.Facts.{setup_of};
 ghost use Rattle.slub_local.specs.Values.{rooms_of};
-ghost use Rattle.slub_fits.specs.Fits.{PickFits, HasRooms};
+ghost use Rattle.slub_fits.specs.Fits.{PickFits, HasRooms, TurnFits};
+ghost use Rattle.slub_turns.specs.Quick.{spot_of};
 ghost use Rattle.slub_turns.specs.System.{alone, picked_alone, IsTableFor};
 
 use crate::advance::advance_at;
 use crate::at_once::settle;
 use crate::begin::{begin, rest};
+use crate::quick::{Quick, lead, quick_step};
 use crate::step::step_at;
+use slub_core::spot::{AllocSpot, FreeSpot, Spot};
 use slub_local::guarded::Guarded;
 use slub_local::local::Local;
 use slub_local::setup::Setup;
 use slub_schedule::table::Table;
 
+/// The turn of a worker at this spot of a fast path, which has begun its call, whatever the locks guard. Memory isn't
+/// refused in it.
+#[inline(always)]
+fn quick_turn(setup: &Setup, table: &mut Table, local: &mut Local, spot: Quick) -> bool
+    requires table { IsTableFor setup.now table.old }
+    requires fits { (means : Means) × (values : List Guarded) × TurnFits (setup_of setup.now means) false (alone table.old values local.old) local.old }
+    requires spot { local.old.spot ≡ spot_of spot }
+    ensures refused { result ≡ false }
+    ensures turned { (means : Means) → (values : List Guarded) → alone table.new values local.new ≡ after_step (setup_of setup.now means) result (alone table.old values local.old) 0 local.old }
+    ensures table { IsTableFor setup.now table.new }
+{
+    let step = quick_step(setup, local, spot);
+    let heard = table.apply(step);
+    lead(setup, local, spot, heard);
+    false
+}
+
+/// The turn of a worker at any spot, which has begun its call. Whether memory was refused in it.
+#[inline(never)]
+fn turn_at(setup: &Setup, table: &mut Table, values: &mut [Guarded], local: &mut Local) -> bool
+    requires table { IsTableFor setup.now table.old }
+    requires fits { (means : Means) × HasRooms (setup_of setup.now means) (rooms_of values.old) × ((refused : Bool) → TurnFits (setup_of setup.now means) refused (alone table.old values.old local.old) local.old) }
+    ensures turned { (means : Means) → alone table.new values.new local.new ≡ after_step (setup_of setup.now means) result (alone table.old values.old local.old) 0 local.old }
+    ensures table { IsTableFor setup.now table.new }
+    ensures rooms { rooms_of values.new ≡ rooms_of values.old }
+{
+    let spot = local.spot();
+    let step = step_at(setup, values, local, spot);
+    let answer = table.apply(step);
+    let reply = advance_at(setup, values, local, spot, answer);
+    let refused = settle(setup, values, local, reply);
+    rest(setup, local);
+    refused
+}
+
 /// The turn of a worker: it begins a call where it is in none (as a try, where `tries` says so), makes a step, and goes
 /// where the answer leads, with what is done at once after it and the replies that take no step. Whether memory was
-/// refused in it.
+/// refused in it. The spots of the fast paths have turns of their own.
+#[inline(always)]
 pub fn turn_of(
     setup: &Setup,
     table: &mut Table,
@@ -34,11 +74,13 @@ pub fn turn_of(
     ensures rooms { rooms_of values.new ≡ rooms_of values.old }
 {
     begin(setup, local, tries);
-    let spot = local.spot();
-    let step = step_at(setup, values, local, spot);
-    let answer = table.apply(step);
-    let reply = advance_at(setup, values, local, spot, answer);
-    let refused = settle(setup, values, local, reply);
-    rest(setup, local);
-    refused
+    match local.spot() {
+        Spot::InAlloc(AllocSpot::LoadCpu) => quick_turn(setup, table, local, Quick::LoadCpu),
+        Spot::InAlloc(AllocSpot::LoadNext) => quick_turn(setup, table, local, Quick::LoadNext),
+        Spot::InAlloc(AllocSpot::Pop) => quick_turn(setup, table, local, Quick::Pop),
+        Spot::InFree(FreeSpot::LoadOwn) => quick_turn(setup, table, local, Quick::LoadOwn),
+        Spot::InFree(FreeSpot::LinkOwn) => quick_turn(setup, table, local, Quick::LinkOwn),
+        Spot::InFree(FreeSpot::Push) => quick_turn(setup, table, local, Quick::Push),
+        _ => turn_at(setup, table, values, local),
+    }
 }

@@ -6,7 +6,6 @@ pub mod Seats
 pub mod Cells
 pub mod Rule
 pub mod Sits
-pub mod Quick
 pub mod Workers
 pub mod Round
 pub mod Ranks

@@ -16,6 +16,7 @@ use slub_local::local::Local;
 use std::sync::Wait;
 
 /// The reply to the call that came after so many replies, where that call is over.
+#[inline(always)]
 fn reply_after(local: &Local, told: usize) -> Option<Reply>
     ensures over { IfSome result (λ reply. IsOver told local.now × ((d : Answered) → (slice_index_or (reverse local.now.done) told d).reply ≡ reply)) }
     ensures none { result ≡ None → ¬ IsOver told local.now }
@@ -31,6 +32,7 @@ fn reply_after(local: &Local, told: usize) -> Option<Reply>
 
 impl Worker {
     /// Whether the worker is between two calls and has a next one.
+    #[inline(always)]
     pub fn has_next(&self) -> bool
         ensures yes { result ≡ true → HasNext self.now.1.local }
         ensures no { result ≡ false → ¬ HasNext self.now.1.local }

@@ -7,7 +7,6 @@ ghost use Rattle.slub_workers.specs.Rule.{setup_in};
 ghost use Rattle.slub_workers.specs.Tables.{begun_at, table_of};
 ghost use Rattle.slub_workers.specs.Workers.{MayTurnAt, worker_in};
 
-use crate::quick::Quick;
 use crate::shared::Shared;
 use crate::worker::Worker;
 use slub_core::call::{Call, CallKind};
@@ -15,6 +14,7 @@ use slub_core::spot::Spot;
 use slub_core::step::Answer;
 use slub_local::setup::Setup;
 use slub_local::ways::is_spent;
+use slub_turns::quick::Quick;
 
 /// What a try of the fast path answers.
 #[derive(Clone, Copy, Debug, PartialEq, Eq)]
@@ -30,6 +30,7 @@ pub enum Fast {
 }
 
 /// Whether the call allocates an object of a cache that isn't checked.
+#[inline(always)]
 fn is_plain_alloc(setup: &Setup, call: Call) -> bool
     ensures yes { result ≡ true → (cache : ℕ) × (call.kind ≡ Alloc) × (call.cache ≡ Some cache) × ((cache_of setup.now cache).checks ≡ false) }
     ensures no { result ≡ false → (cache : ℕ) → call.kind ≡ Alloc → call.cache ≡ Some cache → (cache_of setup.now cache).checks ≡ true }
@@ -44,6 +45,7 @@ impl Worker {
     ghost use Rattle.slub_workers.specs.Try.{MayTry, HasTried};
 
     /// Whether the worker's next call is one that it may try.
+    #[inline(always)]
     pub fn may_try(&self, shared: &Shared) -> bool
         ensures yes { result ≡ true → MayTry (setup_in (begun_at shared.now)) self.now.1.local }
         ensures no { result ≡ false → ¬ MayTry (setup_in (begun_at shared.now)) self.now.1.local }

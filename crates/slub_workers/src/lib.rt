@@ -12,8 +12,8 @@
 //!
 //! `round` does a round: it opens the table (`shared`), gives each worker a seat (`worker`), lets them make their turns
 //! until each event has its reply, and closes the table. `step` makes one step on it. The six spots of the two fast paths
-//! have turns of their own (`quick`), in which nothing is left to choose; each is the turn of the step machine all the
-//! same. A try is made of three of them (`try_turns`).
+//! have turns of their own (`quick`), made of the parts in `quick` of `slub_turns`, in which nothing is left to choose;
+//! each is the turn of the step machine all the same. A try is made of three of them (`try_turns`).
 //!
 //! The same, call by call: `round::open` gives the table and its `workers`; a worker makes its next call by `call`,
 //! which may wait for a lock, or tries it by `fast`, the fast path alone, which never waits; `Workers::end` takes the

@@ -9,6 +9,7 @@ use crate::cell::rearrange;
 use crate::rule::{Key, Ruled, View};
 use crate::workers::Ended;
 use atomic_table::{Closed, Refused, Seat};
+use crossbeam_utils::CachePadded;
 use slub_local::guarded::Guarded;
 use slub_local::local::Local;
 use slub_local::setup::Setup;
@@ -31,8 +32,8 @@ pub struct Shared {
     pub(crate) frames: u32,
     /// Object numbers are below this one; 0 is none.
     pub(crate) objects: u32,
-    /// How many sleep, or are about to look whether they are to.
-    pub(crate) asleep: AtomicU64,
+    /// How many sleep, or are about to look whether they are to; apart from what every step reads.
+    pub(crate) asleep: CachePadded<AtomicU64>,
     ghost sizes: { (setup.frames ≡ frames) × (setup.objects ≡ objects) },
     ghost words_are: { words.shared.table_id.words ≡ 1056 + 514 * frames + objects },
     ghost slots: { words.shared.table_id.slots ≡ 33 },
@@ -89,7 +90,7 @@ impl Shared {
                     setup,
                     frames,
                     objects,
-                    asleep: AtomicU64::new(0),
+                    asleep: CachePadded::new(AtomicU64::new(0)),
                 },
                 root,
                 locals,

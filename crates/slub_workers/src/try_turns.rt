@@ -4,14 +4,14 @@ ghost use Rattle.std.specs.Prelude.{◌≡◌, true};
 ghost use Rattle.slub_core.specs.Setup.{Setup};
 ghost use Rattle.slub_core.specs.Steps.{begun};
 ghost use Rattle.slub_fits.specs.Fits.{BeginFits};
+ghost use Rattle.slub_turns.specs.Quick.{spot_of};
 ghost use Rattle.slub_workers.specs.Rule.{setup_in};
 ghost use Rattle.slub_workers.specs.Sits.{Sits, MayStand, HasTurned};
-ghost use Rattle.slub_workers.specs.Quick.{spot_of};
 ghost use Rattle.slub_workers.specs.Tables.{begun_at, table_of};
 ghost use Rattle.slub_workers.specs.Try.{MayTry};
 ghost use Rattle.slub_workers.specs.Workers.{MayTurnAt, worker_in};
 
-use crate::quick::{Quick, quick_turn};
+use crate::quick::quick_turn;
 use crate::rule::Naming;
 use crate::shared::{Shared, WorkerSeat};
 use crate::standing::Standing;
@@ -20,6 +20,7 @@ use slub_core::spot::{AllocSpot, Spot};
 use slub_core::step::{Answer, Step};
 use slub_local::local::Local;
 use slub_turns::laws::{picks_fit, turns_keep_ready};
+use slub_turns::quick::Quick;
 use std::marker::Brand;
 
 /// A worker that may try its next call begins it, as a try.

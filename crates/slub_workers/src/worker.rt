@@ -9,7 +9,7 @@ ghost use Rattle.slub_workers.specs.Sits.{Sits, MayStand, HasTurned, HasBegun, H
 ghost use Rattle.slub_workers.specs.Standing.{counted};
 ghost use Rattle.slub_workers.specs.Workers.{HasWorkedAt, MayTurnAt, MayWorkAt, worker_in};
 
-use crate::quick::{Quick, quick_turn};
+use crate::quick::quick_turn;
 use crate::rule::Naming;
 use crate::shared::{Shared, WorkerSeat};
 use crate::standing::Standing;
@@ -24,6 +24,7 @@ use slub_turns::advance::advance_at;
 use slub_turns::at_once::settle;
 use slub_turns::begin::{begin, is_finished, rest};
 use slub_turns::laws::{picks_fit, turns_keep_ready};
+use slub_turns::quick::Quick;
 use slub_turns::step::step_at;
 use std::marker::{Brand, Model};
 use std::sync::Wait;
@@ -59,6 +60,7 @@ struct Waits {
 
 impl Waits {
     /// Counts what comes after a step.
+    #[inline(always)]
     fn count(&mut self, step: Step, answer: Answer) {
         match (step.place, answer) {
             (Place::LockOf(_), Answer::Lost(_)) => self.parked = self.parked.saturating_add(1),
@@ -69,6 +71,7 @@ impl Waits {
 }
 
 /// Whether a worker has tried, once it makes a turn more.
+#[inline(always)]
 fn tried_with(tried: bool, tries: bool) -> bool
     ensures { result ≡ (tried || tries) }
 {
@@ -76,6 +79,7 @@ fn tried_with(tried: bool, tries: bool) -> bool
 }
 
 /// A count of steps, with one step more.
+#[inline(always)]
 pub(crate) fn one_more(steps: u64) -> u64
     ensures { result ≡ counted steps 1 }
 {
@@ -96,7 +100,7 @@ fn begin_next(setup: &Setup, local: &mut Local, tries: bool)
 /// The turn of a worker: it begins a call where it is in none (as a try, where `tries` says so), makes a step on the
 /// table, and goes where the answer leads, with what is done at once after it and the replies that take no step. The
 /// step, and what it answered.
-#[inline]
+#[inline(always)]
 fn turn_of<N: Naming>(
     shared: &Shared,
     seat: &mut WorkerSeat,
@@ -124,7 +128,7 @@ fn turn_of<N: Naming>(
 }
 
 /// The turn of a worker that has begun its call: the spots of the fast paths have quick turns.
-#[inline]
+#[inline(always)]
 fn turn_here<N: Naming>(
     shared: &Shared,
     seat: &mut WorkerSeat,
@@ -193,7 +197,7 @@ fn turn_at<N: Naming>(
 
 impl Worker {
     /// Makes a turn; a call that begins with it is a try, where `tries` says so. The step of it, and what it answered.
-    #[inline]
+    #[inline(always)]
     pub(crate) fn turn(&mut self, shared: &Shared, tries: bool) -> (Step, Answer)
         requires { MayTurnAt shared.now.words.shared.key shared.now.words.shared.table_id self.old }
         ensures may { MayTurnAt shared.now.words.shared.key shared.now.words.shared.table_id self.new }
@@ -254,6 +258,7 @@ fn number_of(event: usize) -> u32 {
 
 /// After a step: where a lock is lost the worker sleeps until the word changes, and where it is given back one that
 /// sleeps is woken. After another exchange that is lost the worker waits a little.
+#[inline(always)]
 pub(crate) fn pause<W: Wait>(
     wait: &W,
     shared: &Shared,
@@ -270,6 +275,8 @@ pub(crate) fn pause<W: Wait>(
 }
 
 /// Sleeps while the word is this one. It is counted before it looks at the word.
+#[cold]
+#[inline(never)]
 fn sleep<W: Wait>(wait: &W, shared: &Shared, word: usize, found: u64) {
     if word < shared.words.word_count() {
         let low = (found & 0xffff_ffff) as u32;
@@ -281,6 +288,7 @@ fn sleep<W: Wait>(wait: &W, shared: &Shared, word: usize, found: u64) {
 
 /// Wakes one that sleeps on the word, which was changed before. Where nobody is counted now, whoever comes to sleep on
 /// the word finds it changed.
+#[inline(never)]
 fn wake(shared: &Shared, word: usize) {
     if shared.asleep.load(Ordering::SeqCst) == 0 {
         return;

@@ -1,43 +1,52 @@
 use Rattle.std.proofs.Common.{false}
 use Rattle.slub_core.specs.Setup.{Setup}
-use Rattle.slub_core.specs.Steps.{begun}
 use Rattle.slub_local.specs.Facts.{setup_of}
-use Rattle.slub_local.specs.Ways as ways
-use Rattle.slub_schedule.specs.Table.{IsTableOf}
-use Rattle.slub_turns.specs.System.{alone}
-use Rattle.slub_turns.proofs.Turned.{step_fits, step_is, answer_is, settled_fits, turn_is}
+use Rattle.slub_turns.proofs.Turned.{begun_fits, begun_turn}
 use Rattle.slub_turns.proofs.turn.turn_of.Goals as goal
 
-pub step_at-step-requires : goal.step_at-step-requires
-step_at-step-requires c =
-    let (means, rooms, fits) = c.requires.fits in
-    step_fits c.args.setup.now.step (begun (setup_of c.args.setup.now means) c.args.tries c.args.local.now) c.begin.new.local c.spot-spot.result (c.begin.ensures means) c.spot-spot.ensures (fits.turn false).step
-
-pub advance_at-reply-requires : goal.advance_at-reply-requires
-advance_at-reply-requires c =
-    let (means, rooms, fits) = c.requires.fits in
-    step_fits c.args.setup.now.step (begun (setup_of c.args.setup.now means) c.args.tries c.args.local.now) c.begin.new.local c.spot-spot.result (c.begin.ensures means) c.spot-spot.ensures (fits.turn false).step
-
-pub settle-refused-requires : goal.settle-refused-requires
-settle-refused-requires c =
+pub quick_turn-requires-clause-fits : goal.quick_turn-requires-clause-fits
+quick_turn-requires-clause-fits c =
     let (means, rooms, fits) = c.requires.fits in
     let m : Setup = setup_of c.args.setup.now means in
-    let told = c.apply-answer.ensures.answer m (record { frames = c.requires.table.frames; objects = c.requires.table.objects }) in
-    let is = answer_is m c.args.tries c.args.table.now c.args.values.now c.args.local.now c.begin.new.local c.spot-spot.result c.step_at-step.result (c.begin.ensures means) c.spot-spot.ensures (c.step_at-step.ensures means)
-    c.apply-answer.result c.advance_at-reply.new.local c.advance_at-reply.result told (c.advance_at-reply.ensures means) in (
-      means,
-      settled_fits m c.args.values.now (alone c.args.table.now c.args.values.now c.args.local.now) (begun m c.args.tries c.args.local.now)
-          c.advance_at-reply.new.local c.advance_at-reply.result fits.turn rooms is,
-    )
+    (means, c.args.values.now, begun_fits m c.args.tries c.args.table.now c.args.values.now c.args.local.now c.begin.new.local (c.begin.ensures means) fits false)
 
-pub returns-clause-turned : goal.returns-clause-turned
-returns-clause-turned c = λ means.
+pub quick_turn-requires-in-InAlloc-LoadNext-clause-fits : goal.quick_turn-requires-in-InAlloc-LoadNext-clause-fits
+quick_turn-requires-in-InAlloc-LoadNext-clause-fits c =
+    let (means, rooms, fits) = c.requires.fits in
     let m : Setup = setup_of c.args.setup.now means in
-    let of_table : IsTableOf m c.args.table.now = record { frames = c.requires.table.frames; objects = c.requires.table.objects } in
-    let told = c.apply-answer.ensures.answer m of_table in
-    let made = step_is m c.args.tries c.args.table.now c.args.values.now c.args.local.now c.begin.new.local c.spot-spot.result c.step_at-step.result (c.begin.ensures means) c.spot-spot.ensures (c.step_at-step.ensures means) in
-    let is = answer_is m c.args.tries c.args.table.now c.args.values.now c.args.local.now c.begin.new.local c.spot-spot.result c.step_at-step.result (c.begin.ensures means) c.spot-spot.ensures (c.step_at-step.ensures means)
-    c.apply-answer.result c.advance_at-reply.new.local c.advance_at-reply.result told (c.advance_at-reply.ensures means) in
-    let change = c.settle-refused.ensures.change means in
-    turn_is m c.args.tries c.args.table.now c.apply-answer.new.self c.args.values.now c.settle-refused.new.values c.args.local.now c.settle-refused.new.local c.rest.new.local c.step_at-step.result
-    (ways.changed c.args.values.now c.advance_at-reply.new.local c.advance_at-reply.result) c.settle-refused.result made (c.apply-answer.ensures.words m of_table) is change.0 change.1 (c.rest.ensures means)
+    (means, c.args.values.now, begun_fits m c.args.tries c.args.table.now c.args.values.now c.args.local.now c.begin.new.local (c.begin.ensures means) fits false)
+
+pub quick_turn-requires-in-InAlloc-Pop-clause-fits : goal.quick_turn-requires-in-InAlloc-Pop-clause-fits
+quick_turn-requires-in-InAlloc-Pop-clause-fits c =
+    let (means, rooms, fits) = c.requires.fits in
+    let m : Setup = setup_of c.args.setup.now means in
+    (means, c.args.values.now, begun_fits m c.args.tries c.args.table.now c.args.values.now c.args.local.now c.begin.new.local (c.begin.ensures means) fits false)
+
+pub quick_turn-requires-in-InFree-LoadOwn-clause-fits : goal.quick_turn-requires-in-InFree-LoadOwn-clause-fits
+quick_turn-requires-in-InFree-LoadOwn-clause-fits c =
+    let (means, rooms, fits) = c.requires.fits in
+    let m : Setup = setup_of c.args.setup.now means in
+    (means, c.args.values.now, begun_fits m c.args.tries c.args.table.now c.args.values.now c.args.local.now c.begin.new.local (c.begin.ensures means) fits false)
+
+pub quick_turn-requires-in-InFree-LinkOwn-clause-fits : goal.quick_turn-requires-in-InFree-LinkOwn-clause-fits
+quick_turn-requires-in-InFree-LinkOwn-clause-fits c =
+    let (means, rooms, fits) = c.requires.fits in
+    let m : Setup = setup_of c.args.setup.now means in
+    (means, c.args.values.now, begun_fits m c.args.tries c.args.table.now c.args.values.now c.args.local.now c.begin.new.local (c.begin.ensures means) fits false)
+
+pub quick_turn-requires-in-InFree-Push-clause-fits : goal.quick_turn-requires-in-InFree-Push-clause-fits
+quick_turn-requires-in-InFree-Push-clause-fits c =
+    let (means, rooms, fits) = c.requires.fits in
+    let m : Setup = setup_of c.args.setup.now means in
+    (means, c.args.values.now, begun_fits m c.args.tries c.args.table.now c.args.values.now c.args.local.now c.begin.new.local (c.begin.ensures means) fits false)
+
+pub turn_at-requires-clause-fits : goal.turn_at-requires-clause-fits
+turn_at-requires-clause-fits c =
+    let (means, rooms, fits) = c.requires.fits in
+    let m : Setup = setup_of c.args.setup.now means in
+    (means, rooms, begun_fits m c.args.tries c.args.table.now c.args.values.now c.args.local.now c.begin.new.local (c.begin.ensures means) fits)
+
+pub returns-in_default-clause-turned : goal.returns-in_default-clause-turned
+returns-in_default-clause-turned c = λ means.
+    let m : Setup = setup_of c.args.setup.now means in
+    begun_turn m c.args.tries c.turn_at.result c.args.table.now c.turn_at.new.table c.args.values.now c.turn_at.new.values c.args.local.now c.begin.new.local c.turn_at.new.local (c.begin.ensures means) (c.turn_at.ensures.turned means)

@@ -7,7 +7,7 @@ use Rattle.slub_workers.specs.Begun.{Begun}
 use Rattle.slub_workers.specs.Standing.{Standing, counted, begun_in}
 use Rattle.slub_workers.specs.Rule.{setup_in}
 use Rattle.slub_workers.specs.Sits.{HasMade}
-use Rattle.slub_workers.specs.Quick.{spot_of}
+use Rattle.slub_turns.specs.Quick.{spot_of}
 use Rattle.slub_workers.proofs.StepGoesOn.{may_begin}
 use Rattle.slub_workers.proofs.Turning.{may_step, steps_so, lent_whole}
 use Rattle.slub_workers.proofs.AtFast.{hears, led_so, quickly}

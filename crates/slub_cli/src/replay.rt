@@ -1,8 +1,9 @@
-//! Replaying a trace: each item is done, its text made, put into the journal, and written.
+//! Replaying a trace: each item is done, put into the journal, and its text is written.
 //!
-//! `way` says how the rounds are done, and `replies` whether the lines are written that `--replies` asks for. The
-//! text of each item is made in one buffer, which is emptied before and used again. `rt` starts the threads of rounds
-//! by threads, and their workers pass `gate`.
+//! `way` says how the rounds are done, and `replies` whether the lines are written that `--replies` asks for. What takes
+//! memory of an item's text is made before the item is put into the journal; the lines of a round's replies are made
+//! as they are written, in one buffer that is used again. `rt` starts the threads of rounds by threads, and their
+//! workers pass `gate`.
 
 ghost use Rattle.std.specs.Prelude.{Bool, ◌≡◌, ◌<◌, ◌≤◌, [], None, Some, length, IfErr, IfOk, OnOk, IsSome};
 ghost use Rattle.slub_lists.specs.Coherent.{IsCoherent};
@@ -16,23 +17,25 @@ use crate::stop::Stop;
 use slub_edges::edges::Sink;
 use slub_edges::gate::Gate;
 use slub_edges::pieces::write_lines;
+use slub_item_text::item::ItemText;
 use slub_items::machine::Machine;
 use slub_journal::journal::{Done, Journal};
-use slub_journal::text::{push_item, push_sums};
+use slub_journal::text::push_sums;
 use slub_trace::trace::Trace;
 use slub_ways::way::Way;
 use std::alloc::Global;
 use std::sync::Wait;
 use std::thread::Threads;
 
-/// Puts an item that was done into the journal. Its text is made before, and written after.
+/// Puts an item that was done into the journal. What takes memory of its text is made before, and the text is
+/// written after.
 fn put_item<K: Sink>(
     alloc: Global,
     replies: bool,
     trace: &Trace,
     number: usize,
     done: Done,
-    text: &mut Vec<u8>,
+    text: &mut ItemText,
     sink: &mut K,
     journal: &mut Journal,
 ) -> Result<(), Stop>
@@ -47,10 +50,15 @@ fn put_item<K: Sink>(
     ensures write_faults { StopsAtWriteFault (K.faults sink.old) (K.faults sink.new) result }
     ensures counts { K.faults sink.old ≤ K.faults sink.new }
 {
-    text.clear();
-    push_item(alloc, text, trace, number, &done, replies)?;
+    text.make(alloc, trace, number, &done, replies)?;
     journal.items.push(done)?;
-    write_lines(sink, text)?;
+    text.write(
+        sink,
+        trace,
+        number,
+        &journal.items.as_slice()[number],
+        replies,
+    )?;
     Ok(())
 }
 
@@ -64,7 +72,7 @@ fn do_item<R: Threads + Wait + Sync, K: Sink, G: Gate + Sync>(
     trace: &Trace,
     number: usize,
     machine: Machine,
-    text: &mut Vec<u8>,
+    text: &mut ItemText,
     sink: &mut K,
     journal: &mut Journal,
 ) -> Result<Machine, Stop>
@@ -94,7 +102,7 @@ fn do_items<R: Threads + Wait + Sync, K: Sink, G: Gate + Sync>(
     replies: bool,
     trace: &Trace,
     opened: Machine,
-    text: &mut Vec<u8>,
+    text: &mut ItemText,
     sink: &mut K,
     journal: &mut Journal,
 ) -> Result<Machine, Stop>
@@ -188,7 +196,7 @@ pub fn do_trace<R: Threads + Wait + Sync, K: Sink, G: Gate + Sync>(
 {
     begin(trace, journal);
     let opened = Machine::open(alloc, trace)?;
-    let mut text = Vec::new(alloc);
+    let mut text = ItemText::new(alloc);
     let machine = do_items(
         rt, gate, alloc, way, replies, trace, opened, &mut text, sink, journal,
     )?;

@@ -32,7 +32,7 @@ pub fn client_text(
 }
 
 /// These lines are put behind a text.
-pub(crate) fn push_client(
+pub fn push_client(
     alloc: Global,
     text: &mut Vec<u8>,
     client: &Client,

@@ -4,7 +4,8 @@
 //! `journal` has the types. `specs/Lawful.antt` says what is done on the lists: a creation, a round in the
 //! order of the text, each item that isn't a client's line; and where the lists stand before an item. `slub_ways`
 //! says which journals are lawful for a trace.
-//! `specs/Text.antt` says which text a journal has, and `text` makes it, an item at a time. Nothing here
+//! `specs/Text.antt` says which text a journal has. `text` makes the lines of items, of damages and of the
+//! total, and `slub_item_text` writes an item's whole text, a round's replies among it. Nothing here
 //! knows a machine's bodies: an answer is made into text whoever gave it.
 //!
 //! `client` has what the lines of clients are answered, and `client_text` their text.
@@ -13,7 +14,8 @@
 //!
 //! # What it promises
 //!
-//! The text of what was done, with or without the lines that `--replies` asks for, clients' lines among it.
+//! The lines of what items, damages and the total say, with or without those that `--replies` asks for,
+//! clients' lines among them.
 #![tactic(auto)]
 
 pub mod client;

@@ -1,8 +1,14 @@
 -- Lemmas on lines and numbers in columns.
-use Rattle.std.proofs.Common.{◌≡◌, ℕ, List, [], ◌∷◌, ◌++◌, refl, append_assoc}
+use Rattle.std.proofs.Common.{◌≡◌, ℕ, ◌≤◌, List, [], ◌∷◌, ◌++◌, length, refl, append_assoc, arith}
 use Rattle.std.specs.Prelude.{codes}
 use Rattle.std.specs.Fmt.{digits}
+use Rattle.slub_object_layout.specs.Name.{IsName}
 use Rattle.slub_slabinfo_text.specs.Texts.{column}
+
+-- a name has at most 31 bytes
+pub name_is_short : (name : List ℕ) → IsName name → length name ≤ 31
+name_is_short [] is = absurd is
+name_is_short (c ∷ cs) is = omega (arith, is.2)
 
 -- what stands between the columns is constant
 pub tunables : codes " : tunables    0    0    0 : slabdata" ≡ codes " : tunables" ++ column 4 0 ++ column 4 0 ++ column 4 0 ++ codes " : slabdata"

@@ -2,7 +2,8 @@
 
 use crate::counts::{Counts, InfoRow};
 use crate::text::{
-    ItemAnswer, ItemWord, push_damage_line, push_item_line, push_reply_line, push_slabinfo,
+    ItemAnswer, ItemWord, LINE_MAX, push_damage_line, push_item_line, push_reply_line,
+    push_slabinfo,
 };
 use slub_answers::reply::Reply;
 use slub_events::event::{Act, Event};
@@ -22,9 +23,10 @@ fn replies_of_no_short_run(rt: HostRuntime) -> Result<(), Fail> {
         cpu: 0,
         act,
     };
-    let mut text = Vec::new(rt.alloc());
-    push_reply_line(&mut text, &[], &event, &Reply::NoMemory)?;
-    push_reply_line(&mut text, &[], &event, &Reply::IdsSpent(4294967240))?;
+    let mut text = Vec::with_capacity(rt.alloc(), LINE_MAX)?;
+    push_reply_line(&mut text, &[], &event, &Reply::NoMemory);
+    text.reserve(LINE_MAX)?;
+    push_reply_line(&mut text, &[], &event, &Reply::IdsSpent(4294967240));
     assert_eq!(rt;
         text.as_slice(),
         b"alloc 1048576: no memory\nalloc 1048576: ids spent 4294967240\n".as_slice()
@@ -45,8 +47,8 @@ fn a_damaged_end(rt: HostRuntime) -> Result<(), Fail> {
             wanted: 0xa5,
         },
     };
-    let mut line = Vec::new(rt.alloc());
-    push_damage_line(&mut line, &title, &report)?;
+    let mut line = Vec::with_capacity(rt.alloc(), LINE_MAX)?;
+    push_damage_line(&mut line, &title, &report);
     let want = b"damage node 4104: end offset 23 found 0b wanted a5\n";
     assert_eq!(rt; line.as_slice(), want.as_slice());
     Ok(())

@@ -1,8 +1,8 @@
 //! Replies, items, slabinfo and the total as lines.
 
-ghost use Rattle.std.specs.Prelude.{◌≡◌, ℕ, ◌∷◌, ◌++◌, Err, IfOk, OnOk, codes, flat_map, replicate, slice_index};
+ghost use Rattle.std.specs.Prelude.{◌≡◌, ℕ, ◌+◌, ◌<◌, ◌≤◌, ◌∷◌, ◌++◌, Err, IfOk, OnOk, codes, flat_map, length, replicate, slice_index, vec_capacity};
 ghost use Rattle.std.specs.Fmt.{decimal, signed_decimal};
-ghost use Rattle.slub_slabinfo_text.specs.Texts.{IsNamed, act_words, answer_text, column, damage_line, damage_words, header_text, hex_byte, info_text, is_ok_answer, item_line, layout_lines, left, number_line, reply_answer, reply_text, row_numbers, row_objects, row_slabs, row_text, slab_lines, slot_lines, total_line, word_text, zone_text};
+ghost use Rattle.slub_slabinfo_text.specs.Texts.{IsNamed, act_words, answer_text, column, damage_line, damage_words, header_text, hex_byte, hex_digit, info_text, is_ok_answer, item_line, layout_lines, left, number_line, reply_answer, reply_text, row_numbers, row_objects, row_slabs, row_text, slab_lines, slot_lines, total_line, word_text, zone_text};
 
 use crate::counts::{Counts, InfoRow};
 use itoa::Buffer;
@@ -46,121 +46,174 @@ pub enum ItemAnswer {
     Checked,
 }
 
-/// The line that answers an event, with its line feed, is put behind a text. The cache of a trim is
-/// named by its place in `names`.
-pub fn push_reply_line(
-    text: &mut Vec<u8>,
-    names: &[Name],
-    event: &Event,
-    reply: &Reply,
-) -> Result<(), NoMemory>
-    requires { IsNamed names.now event.now.act }
-    ensures { OnOk result (text.new.items ≡
-        text.old.items ++ reply_text names.now event.now reply.now) }
+/// The most bytes that a line of a reply or of a damage has, with its line feed.
+pub const LINE_MAX: usize = 128;
+
+/// The line that answers an event, with its line feed, is put behind a text that has room for it. The
+/// cache of a trim is named by its place in `names`.
+#[inline]
+pub fn push_reply_line(text: &mut Vec<u8>, names: &[Name], event: &Event, reply: &Reply)
+    requires named { IsNamed names.now event.now.act }
+    requires room { length text.old.items + 128 ≤ vec_capacity text.old }
+    ensures line { text.new.items ≡
+        text.old.items ++ reply_text names.now event.now reply.now }
+    ensures capacity { vec_capacity text.old ≤ vec_capacity text.new }
 {
-    push_event(text, names, event)?;
-    push_words(text, b": ")?;
-    push_reply(text, reply)?;
-    push_words(text, b"\n")
+    put_event(text, names, event);
+    put(text, b": ");
+    put_reply(text, reply);
+    put(text, b"\n");
 }
 
 /// What the line of an event says before the answer.
-fn push_event(text: &mut Vec<u8>, names: &[Name], event: &Event) -> Result<(), NoMemory>
-    requires { IsNamed names.now event.now.act }
-    ensures { OnOk result (text.new.items ≡
-        text.old.items ++ act_words names.now event.now.cpu event.now.act) }
+#[inline]
+fn put_event(text: &mut Vec<u8>, names: &[Name], event: &Event)
+    requires named { IsNamed names.now event.now.act }
+    requires room { length text.old.items + 47 ≤ vec_capacity text.old }
+    ensures items { text.new.items ≡
+        text.old.items ++ act_words names.now event.now.cpu event.now.act }
+    ensures short { length text.new.items ≤ length text.old.items + 47 }
+    ensures capacity { vec_capacity text.old ≤ vec_capacity text.new }
 {
     match &event.act {
-        Act::Alloc { cache: _, object } => push_numbered(text, b"alloc ", u64::from(*object)),
-        Act::Free { object } => push_numbered(text, b"free ", u64::from(*object)),
+        Act::Alloc { cache: _, object } => put_numbered(text, b"alloc ", u64::from(*object)),
+        Act::Free { object } => put_numbered(text, b"free ", u64::from(*object)),
         Act::Write {
             word,
             object,
             value: _,
-        } => push_word_of(text, b"write ", *object, *word),
-        Act::Read { word, object } => push_word_of(text, b"read ", *object, *word),
+        } => put_word_of(text, b"write ", *object, *word),
+        Act::Read { word, object } => put_word_of(text, b"read ", *object, *word),
         Act::Poke {
             object,
             offset,
             byte: _,
-        } => push_poke(text, *object, *offset),
-        Act::Trim { cache } => push_trim(text, &names[*cache as usize]),
-        Act::Flush => push_numbered(text, b"flush ", u64::from(event.cpu)),
+        } => put_poke(text, *object, *offset),
+        Act::Trim { cache } => put_trim(text, &names[*cache as usize]),
+        Act::Flush => put_numbered(text, b"flush ", u64::from(event.cpu)),
     }
 }
 
 /// Words and a number.
-fn push_numbered(text: &mut Vec<u8>, words: &[u8], n: u64) -> Result<(), NoMemory>
-    ensures { OnOk result (text.new.items ≡ text.old.items ++ words.now ++ decimal n) }
+#[inline(always)]
+fn put_numbered(text: &mut Vec<u8>, words: &[u8], n: u64)
+    requires { length text.old.items + length words.now + 20 ≤ vec_capacity text.old }
+    ensures items { text.new.items ≡ text.old.items ++ words.now ++ decimal n }
+    ensures short { length text.new.items ≤ length text.old.items + length words.now + 20 }
+    ensures capacity { vec_capacity text.old ≤ vec_capacity text.new }
 {
-    push_words(text, words)?;
-    push_words(text, Buffer::new().format(n).as_bytes())
+    put(text, words);
+    put(text, Buffer::new().format(n).as_bytes());
 }
 
 /// What the line of a write or a read says before the answer.
-fn push_word_of(text: &mut Vec<u8>, words: &[u8], object: u32, word: u16) -> Result<(), NoMemory>
-    ensures { OnOk result (text.new.items ≡
-        text.old.items ++ words.now ++ decimal object ++ 32 ∷ decimal word) }
+fn put_word_of(text: &mut Vec<u8>, words: &[u8], object: u32, word: u16)
+    requires { length text.old.items + length words.now + 41 ≤ vec_capacity text.old }
+    ensures items { text.new.items ≡
+        text.old.items ++ words.now ++ decimal object ++ 32 ∷ decimal word }
+    ensures short { length text.new.items ≤ length text.old.items + length words.now + 41 }
+    ensures capacity { vec_capacity text.old ≤ vec_capacity text.new }
 {
-    push_numbered(text, words, u64::from(object))?;
-    push_numbered(text, b" ", u64::from(word))
+    put_numbered(text, words, u64::from(object));
+    put_numbered(text, b" ", u64::from(word));
 }
 
 /// What the line of a poke says before the answer.
-fn push_poke(text: &mut Vec<u8>, object: u32, offset: i32) -> Result<(), NoMemory>
-    ensures { OnOk result (text.new.items ≡
-        text.old.items ++ codes "poke " ++ decimal object ++ 32 ∷ signed_decimal offset) }
+fn put_poke(text: &mut Vec<u8>, object: u32, offset: i32)
+    requires { length text.old.items + 37 ≤ vec_capacity text.old }
+    ensures items { text.new.items ≡
+        text.old.items ++ codes "poke " ++ decimal object ++ 32 ∷ signed_decimal offset }
+    ensures short { length text.new.items ≤ length text.old.items + 37 }
+    ensures capacity { vec_capacity text.old ≤ vec_capacity text.new }
 {
-    push_numbered(text, b"poke ", u64::from(object))?;
-    push_signed(text, b" ", offset)
+    put_numbered(text, b"poke ", u64::from(object));
+    put_signed(text, b" ", offset);
 }
 
 /// Words and a number with its sign, if it is below 0.
-fn push_signed(text: &mut Vec<u8>, words: &[u8], n: i32) -> Result<(), NoMemory>
-    ensures { OnOk result (text.new.items ≡ text.old.items ++ words.now ++ signed_decimal n) }
+fn put_signed(text: &mut Vec<u8>, words: &[u8], n: i32)
+    requires { length text.old.items + length words.now + 11 ≤ vec_capacity text.old }
+    ensures items { text.new.items ≡ text.old.items ++ words.now ++ signed_decimal n }
+    ensures short { length text.new.items ≤ length text.old.items + length words.now + 11 }
+    ensures capacity { vec_capacity text.old ≤ vec_capacity text.new }
 {
-    push_words(text, words)?;
-    push_words(text, Buffer::new().format(n).as_bytes())
+    put(text, words);
+    put(text, Buffer::new().format(n).as_bytes());
 }
 
 /// What the line of a trim says before the answer.
-fn push_trim(text: &mut Vec<u8>, name: &Name) -> Result<(), NoMemory>
-    ensures { OnOk result (text.new.items ≡ text.old.items ++ codes "trim " ++ name.now) }
+fn put_trim(text: &mut Vec<u8>, name: &Name)
+    requires { length text.old.items + 36 ≤ vec_capacity text.old }
+    ensures items { text.new.items ≡ text.old.items ++ codes "trim " ++ name.now }
+    ensures short { length text.new.items ≤ length text.old.items + 36 }
+    ensures capacity { vec_capacity text.old ≤ vec_capacity text.new }
 {
-    push_words(text, b"trim ")?;
-    push_words(text, name.as_bytes())
+    put(text, b"trim ");
+    put_name(text, name);
 }
 
-fn push_reply(text: &mut Vec<u8>, reply: &Reply) -> Result<(), NoMemory>
-    ensures { OnOk result (text.new.items ≡ text.old.items ++ reply_answer reply.now) }
+/// A name.
+#[tactic(auto, using(crate::proofs::Lines::name_is_short))]
+fn put_name(text: &mut Vec<u8>, name: &Name)
+    requires { length text.old.items + 31 ≤ vec_capacity text.old }
+    ensures items { text.new.items ≡ text.old.items ++ name.now }
+    ensures short { length text.new.items ≤ length text.old.items + 31 }
+    ensures capacity { vec_capacity text.old ≤ vec_capacity text.new }
+{
+    put(text, name.as_bytes());
+}
+
+#[inline]
+fn put_reply(text: &mut Vec<u8>, reply: &Reply)
+    requires { length text.old.items + 53 ≤ vec_capacity text.old }
+    ensures items { text.new.items ≡ text.old.items ++ reply_answer reply.now }
+    ensures short { length text.new.items ≤ length text.old.items + 53 }
+    ensures capacity { vec_capacity text.old ≤ vec_capacity text.new }
 {
     match reply {
-        Reply::Given(address) => push_numbered(text, b"given ", u64::from(*address)),
-        Reply::NoFrames => push_words(text, b"no frames"),
-        Reply::NoSuchCache => push_words(text, b"no such cache"),
-        Reply::NoMemory => push_words(text, b"no memory"),
-        Reply::Freed(address) => push_numbered(text, b"freed ", u64::from(*address)),
-        Reply::NotHeld => push_words(text, b"not held"),
-        Reply::Corrupt(damage) => push_corrupt(text, damage),
-        Reply::Wrote => push_words(text, b"wrote"),
-        Reply::Value(value) => push_numbered(text, b"value ", *value),
-        Reply::OutOfObject => push_words(text, b"out of object"),
-        Reply::Poked => push_words(text, b"poked"),
-        Reply::OutOfSlot => push_words(text, b"out of slot"),
-        Reply::NotChecked => push_words(text, b"not checked"),
-        Reply::IdsSpent(tid) => push_numbered(text, b"ids spent ", u64::from(*tid)),
-        Reply::Trimmed(slabs) => push_numbered(text, b"discarded ", u64::from(*slabs)),
-        Reply::Checked => push_words(text, b"checked"),
-        Reply::Flushed(slabs) => push_numbered(text, b"moved ", u64::from(*slabs)),
+        Reply::Given(address) => put_numbered(text, b"given ", u64::from(*address)),
+        Reply::NoFrames => put(text, b"no frames"),
+        Reply::NoSuchCache => put(text, b"no such cache"),
+        Reply::NoMemory => put(text, b"no memory"),
+        Reply::Freed(address) => put_numbered(text, b"freed ", u64::from(*address)),
+        Reply::NotHeld => put(text, b"not held"),
+        Reply::Corrupt(damage) => put_corrupt(text, damage),
+        Reply::Wrote => put(text, b"wrote"),
+        Reply::Value(value) => put_numbered(text, b"value ", *value),
+        Reply::OutOfObject => put(text, b"out of object"),
+        Reply::Poked => put(text, b"poked"),
+        Reply::OutOfSlot => put(text, b"out of slot"),
+        Reply::NotChecked => put(text, b"not checked"),
+        Reply::IdsSpent(tid) => put_numbered(text, b"ids spent ", u64::from(*tid)),
+        Reply::Trimmed(slabs) => put_numbered(text, b"discarded ", u64::from(*slabs)),
+        Reply::Checked => put(text, b"checked"),
+        Reply::Flushed(slabs) => put_numbered(text, b"moved ", u64::from(*slabs)),
     }
 }
 
-fn push_corrupt(text: &mut Vec<u8>, damage: &Damage) -> Result<(), NoMemory>
-    ensures { OnOk result (text.new.items ≡
-        text.old.items ++ reply_answer (Reply.Corrupt damage.now)) }
+fn put_corrupt(text: &mut Vec<u8>, damage: &Damage)
+    requires { length text.old.items + 53 ≤ vec_capacity text.old }
+    ensures items { text.new.items ≡
+        text.old.items ++ reply_answer (Reply.Corrupt damage.now) }
+    ensures short { length text.new.items ≤ length text.old.items + 53 }
+    ensures capacity { vec_capacity text.old ≤ vec_capacity text.new }
 {
-    push_words(text, b"corrupt ")?;
-    push_damage(text, damage)
+    put(text, b"corrupt ");
+    put_damage(text, damage);
+}
+
+/// Words, where there is room for them.
+#[inline(always)]
+fn put(text: &mut Vec<u8>, words: &[u8])
+    requires { length text.old.items + length words.now ≤ vec_capacity text.old }
+    ensures items { text.new.items ≡ text.old.items ++ words.now }
+    ensures length { length text.new.items ≡ length text.old.items + length words.now }
+    ensures capacity { vec_capacity text.old ≤ vec_capacity text.new }
+{
+    match text.extend_from_slice(words) {
+        Ok(()) => {}
+        Err(_) => unreachable!(),
+    }
 }
 
 /// Whether an answer is no refusal: its line is written with `--replies` alone.
@@ -179,28 +232,34 @@ pub fn is_ok_answer(answer: &ItemAnswer) -> bool
     )
 }
 
-/// The line of a damage, with the title of its cache, is put behind a text.
-pub fn push_damage_line(text: &mut Vec<u8>, title: &Name, report: &Report) -> Result<(), NoMemory>
-    ensures { OnOk result (text.new.items ≡ text.old.items ++ damage_line title.now report.now) }
+/// The line of a damage, with the title of its cache, is put behind a text that has room for it.
+pub fn push_damage_line(text: &mut Vec<u8>, title: &Name, report: &Report)
+    requires room { length text.old.items + 128 ≤ vec_capacity text.old }
+    ensures line { text.new.items ≡ text.old.items ++ damage_line title.now report.now }
+    ensures capacity { vec_capacity text.old ≤ vec_capacity text.new }
 {
-    push_words(text, b"damage ")?;
-    push_words(text, title.as_bytes())?;
-    push_numbered(text, b" ", u64::from(report.address))?;
-    push_words(text, b": ")?;
-    push_damage(text, &report.damage)?;
-    push_words(text, b"\n")
+    put(text, b"damage ");
+    put_name(text, title);
+    put_numbered(text, b" ", u64::from(report.address));
+    put(text, b": ");
+    put_damage(text, &report.damage);
+    put(text, b"\n");
 }
 
 /// What was found: the zone, where the byte is from the object's address, the byte and the wanted one.
-fn push_damage(text: &mut Vec<u8>, damage: &Damage) -> Result<(), NoMemory>
-    ensures { OnOk result (text.new.items ≡ text.old.items ++ damage_words damage.now) }
+fn put_damage(text: &mut Vec<u8>, damage: &Damage)
+    requires { length text.old.items + 45 ≤ vec_capacity text.old }
+    ensures items { text.new.items ≡ text.old.items ++ damage_words damage.now }
+    ensures short { length text.new.items ≤ length text.old.items + 45 }
+    ensures capacity { vec_capacity text.old ≤ vec_capacity text.new }
 {
-    push_words(text, zone_bytes(damage.zone))?;
-    push_bytes(text, damage.offset, damage.found, damage.wanted)
+    put(text, zone_bytes(damage.zone));
+    put_bytes(text, damage.offset, damage.found, damage.wanted);
 }
 
 fn zone_bytes(zone: Zone) -> &'static [u8]
-    ensures { result.now ≡ zone_text zone }
+    ensures text { result.now ≡ zone_text zone }
+    ensures short { length result.now ≤ 7 }
 {
     match zone {
         Zone::Left => b"left",
@@ -212,24 +271,37 @@ fn zone_bytes(zone: Zone) -> &'static [u8]
 }
 
 /// The offset in decimal with its sign, and the two bytes.
-fn push_bytes(text: &mut Vec<u8>, offset: i32, found: u8, wanted: u8) -> Result<(), NoMemory>
-    ensures { OnOk result (text.new.items ≡ text.old.items ++ codes " offset " ++ signed_decimal offset
-        ++ codes " found " ++ hex_byte found ++ codes " wanted " ++ hex_byte wanted) }
+fn put_bytes(text: &mut Vec<u8>, offset: i32, found: u8, wanted: u8)
+    requires { length text.old.items + 38 ≤ vec_capacity text.old }
+    ensures items { text.new.items ≡ text.old.items ++ codes " offset " ++ signed_decimal offset
+        ++ codes " found " ++ hex_byte found ++ codes " wanted " ++ hex_byte wanted }
+    ensures short { length text.new.items ≤ length text.old.items + 38 }
+    ensures capacity { vec_capacity text.old ≤ vec_capacity text.new }
 {
-    push_signed(text, b" offset ", offset)?;
-    push_words(text, b" found ")?;
-    push_hex(text, found)?;
-    push_words(text, b" wanted ")?;
-    push_hex(text, wanted)
+    put_signed(text, b" offset ", offset);
+    put(text, b" found ");
+    put_hex(text, found);
+    put(text, b" wanted ");
+    put_hex(text, wanted);
 }
 
 /// A byte as two hexadecimal digits in lower case.
-#[tactic(auto, using(std::proofs::lemmas::Fmt::hex_byte))]
-fn push_hex(text: &mut Vec<u8>, byte: u8) -> Result<(), NoMemory>
-    ensures { OnOk result (text.new.items ≡ text.old.items ++ hex_byte byte) }
+fn put_hex(text: &mut Vec<u8>, byte: u8)
+    requires { length text.old.items + 2 ≤ vec_capacity text.old }
+    ensures items { text.new.items ≡ text.old.items ++ hex_byte byte }
+    ensures length { length text.new.items ≡ length text.old.items + 2 }
+    ensures capacity { vec_capacity text.old ≤ vec_capacity text.new }
 {
-    let digits = format!(in *text.allocator(); "{byte:02x}")?;
-    push_words(text, digits.as_bytes())
+    put(text, &[hex_digit(byte / 16), hex_digit(byte % 16)]);
+}
+
+/// A hexadecimal digit in lower case.
+#[inline(always)]
+fn hex_digit(n: u8) -> u8
+    requires { n < 16 }
+    ensures { result ≡ hex_digit n }
+{
+    if n < 10 { b'0' + n } else { b'a' - 10 + n }
 }
 
 /// The twelve lines of a layout, or the line of its refusal, are put behind a text.
@@ -271,6 +343,14 @@ fn push_slab(text: &mut Vec<u8>, layout: &Layout) -> Result<(), NoMemory>
     push_number(text, b"min_objects", layout.min_objects_slab)?;
     push_number(text, b"min_partial", layout.min_partial)?;
     push_number(text, b"cpu_partial_slabs", layout.cpu_partial_slabs)
+}
+
+/// Words and a number.
+fn push_numbered(text: &mut Vec<u8>, words: &[u8], n: u64) -> Result<(), NoMemory>
+    ensures { OnOk result (text.new.items ≡ text.old.items ++ words.now ++ decimal n) }
+{
+    push_words(text, words)?;
+    push_words(text, Buffer::new().format(n).as_bytes())
 }
 
 /// A line of a name and a number.
@@ -344,6 +424,7 @@ fn push_answer(text: &mut Vec<u8>, answer: &ItemAnswer) -> Result<(), NoMemory>
     }
 }
 
+#[inline(always)]
 fn push_words(text: &mut Vec<u8>, words: &[u8]) -> Result<(), NoMemory>
     ensures { OnOk result (text.new.items ≡ text.old.items ++ words.now) }
 {

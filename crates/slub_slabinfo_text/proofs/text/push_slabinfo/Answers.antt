@@ -1,4 +1,4 @@
-use Rattle.std.proofs.Common.{◌≡◌, append_assoc, sym, ◌∙◌}
+use Rattle.std.proofs.Common.{append_assoc}
 use Rattle.std.specs.Prelude.{flat_map}
 use Rattle.slub_slabinfo_text.specs.Texts.{header_text, row_text}
 use Rattle.slub_slabinfo_text.proofs.text.push_slabinfo.Goals as goal

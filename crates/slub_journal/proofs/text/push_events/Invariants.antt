@@ -1,7 +1,0 @@
-use Rattle.std.proofs.Common.{◌≡◌, ◌++◌, length, take, flat_map}
-use Rattle.std.specs.List.{zip}
-use Rattle.slub_journal.specs.Lines.{event_text}
-use Rattle.slub_journal.proofs.text.push_events.Given as goal
-
-abbrev pub invariant-loop-event : goal.invariant-loop-event
-invariant-loop-event l = l.text.items ≡ l.fn.text.items ++ flat_map (event_text l.replies l.names) (take (length l.yielded) (zip l.events l.answers))

@@ -1,4 +1,5 @@
 pub mod Numbers
+pub mod Hashes
 pub mod Shares
 pub mod Fitting
 pub mod Reading

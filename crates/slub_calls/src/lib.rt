@@ -13,6 +13,7 @@
 #![tactic(auto)]
 
 pub mod laws;
+mod number_hasher;
 mod share;
 #[cfg(test)]
 mod tests;

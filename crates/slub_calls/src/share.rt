@@ -6,6 +6,7 @@ ghost use Rattle.slub_core.specs.Run.{idle};
 ghost use Rattle.slub_calls.specs.Calls.{IsNamedEvent, call_for, object_named, room_for, worker_with};
 ghost use Rattle.slub_calls.specs.Share.{gathered};
 
+use crate::number_hasher::NumberHasher;
 use indexmap::IndexSet;
 use slub_answers::reply::Reply;
 use slub_cache_create::caches::Caches;
@@ -15,6 +16,7 @@ use slub_core::local::{Answered, Known};
 use slub_events::event::{Act, Event};
 use slub_local::local::Local;
 use std::alloc::Global;
+use std::hash::BuildHasherDefault;
 
 /// What a call has that its kind doesn't ask for.
 const NO_CALL: Call = Call {
@@ -34,7 +36,7 @@ const NO_CALL: Call = Call {
 pub struct Share {
     worker: u8,
     /// The object numbers that its events name, each once, in the order in which they come.
-    numbers: IndexSet<u32>,
+    numbers: IndexSet<u32, BuildHasherDefault<NumberHasher>>,
     /// The calls of its events, with room for their replies.
     script: Vec<Answered>,
 }
@@ -45,9 +47,15 @@ impl Share {
         ensures { IfOk result (λ share. gathered share ≡ record idle { worker = worker }) }
     {
         let script = Vec::with_capacity(alloc, events)?;
+        // most objects are named twice and more: where they are given and where they are freed
+        let numbers = IndexSet::with_capacity_and_hasher(
+            alloc,
+            events / 2,
+            BuildHasherDefault::new(),
+        )?;
         Ok(Share {
             worker,
-            numbers: IndexSet::new(alloc),
+            numbers,
             script,
         })
     }
@@ -156,7 +164,10 @@ fn call_at(table: &Caches, place: usize, event: &Event) -> Call
 }
 
 /// Room for what a worker will know of each of these objects.
-fn rooms(alloc: Global, numbers: &IndexSet<u32>) -> Result<Vec<Known>, NoMemory>
+fn rooms(
+    alloc: Global,
+    numbers: &IndexSet<u32, BuildHasherDefault<NumberHasher>>,
+) -> Result<Vec<Known>, NoMemory>
     ensures { IfOk result (λ rooms. rooms.items ≡ map room_for numbers.now.keys) }
 {
     let mut rooms = Vec::with_capacity(alloc, numbers.len())?;

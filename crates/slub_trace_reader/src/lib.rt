@@ -51,4 +51,6 @@ mod tests;
 #[cfg(test)]
 mod version_tests;
 mod window;
+#[cfg(test)]
+mod window_tests;
 mod words;

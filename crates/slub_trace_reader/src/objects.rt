@@ -1,6 +1,6 @@
 //! The object numbers that lines may allocate.
 
-ghost use Rattle.std.specs.Prelude.{◌≡◌, ◌^◌, ◌<◌, ◌∷◌, ◌++◌, [], OnOk, nat_eq, false};
+ghost use Rattle.std.specs.Prelude.{◌≡◌, ◌<◌, ◌∷◌, ◌++◌, [], OnOk, nat_eq, false};
 ghost use Rattle.std.specs.List.{list_any};
 ghost use Rattle.slub_trace_reader.specs.Above.{with_one};
 ghost use Rattle.slub_trace_reader.specs.State.{IsMarked};

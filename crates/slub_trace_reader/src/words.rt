@@ -3,7 +3,7 @@
 ghost use Rattle.std.specs.Prelude.{◌≡◌, ◌≢◌, ◌∷◌, ◌++◌, All, IfSome, IfNone, true};
 ghost use Rattle.std.specs.List.{list_all};
 ghost use Rattle.slub_trace_reader.specs.Forms.{Gives, strip, field, offset_of, name_of, flags_of, byte_of, knob_of, version_of, name_at, offset_at, knob_at};
-ghost use Rattle.slub_trace_reader.specs.Words.{is_letter, stands_in, are_distinct, are_flags, flags_in, is_hex, hex_value};
+ghost use Rattle.slub_trace_reader.specs.Words.{is_letter, stands_in, are_distinct, are_flags, is_hex, hex_value};
 
 use crate::digits::number;
 use crate::line::Knob;

@@ -2,7 +2,6 @@
 
 ghost use Rattle.std.specs.Prelude.{◌≡◌, IfOk, IfSome};
 ghost use Rattle.slub_trace.specs.Sound.{IsSound};
-ghost use Rattle.slub_into_words.specs.Ids.{first_ids};
 ghost use Rattle.slub_tries.specs.Fresh.{BeginsTrace, IsFresh, IsRoundOf, PlaysTrace};
 
 use crate::lone::LoneWorker;

@@ -37,6 +37,20 @@ fn lines_and_words(text: &[u8]) -> (usize, usize) {
     (lines, lines.saturating_add(spaces))
 }
 
+/// The least nanoseconds of three countings of the lines and words of a text.
+pub(crate) fn best_count(rt: &impl Clock, text: &[u8]) -> io::Result<u64> {
+    let mut best = u64::MAX;
+    for _ in 0..3 {
+        let start = Instant::now(rt)?;
+        let (lines, words) = lines_and_words(text);
+        best = best.min(nanos_since(rt, &start)?);
+        if lines > words {
+            return Err(io::Error::from(io::ErrorKind::InvalidData));
+        }
+    }
+    Ok(best)
+}
+
 /// The nanoseconds that one way of going over the text takes.
 #[derive(Clone, Copy, Debug)]
 struct Spent {

@@ -1,4 +1,4 @@
-//! Rounds of several workers by schedule, against the order of the text.
+//! Rounds of several workers by schedule, against the order of the text: an event, a turn, a load, and small rounds.
 
 use crate::runs::{HEAD, best_read, best_run, one_round};
 use std::alloc::{AllocError, Global};
@@ -12,6 +12,12 @@ const WORKERS: u32 = 8;
 
 /// The events of the load that is measured.
 const LOADED: u32 = 200_000;
+
+/// The events of each worker where a turn is measured.
+const EACH: u32 = 100_000;
+
+/// How many turns a fast path takes.
+const TURNS: u64 = 3;
 
 /// How many small rounds stand in a trace, which is as many as there may be.
 const ROUNDS: u32 = 256;
@@ -80,6 +86,47 @@ fn measure_one(
     Ok(drawn)
 }
 
+/// A round of four workers, each on a CPU of its own, that free each object before they allocate the next one: every
+/// event is a fast path of three turns, but for the first.
+fn pairs(alloc: Global, each: u32) -> Result<Vec<u8>, AllocError> {
+    let mut text = Vec::from_slice(alloc, HEAD)?;
+    text.extend_from_slice(b"round 4\n")?;
+    for worker in 0..4u32 {
+        for nth in 1..=each / 2 {
+            let object = worker * (EACH / 2) + nth;
+            let lines = format!(in alloc;
+                "alloc {worker} {worker} dentry {object}\nfree {worker} {worker} {object}\n"
+            )?;
+            text.extend_from_slice(lines.as_bytes())?;
+        }
+    }
+    text.extend_from_slice(b"done\nend\n")?;
+    Ok(text)
+}
+
+/// The picoseconds that an event of pairs costs, by the difference of a round and one of half as many.
+fn pair_cost(
+    rt: &(impl Clock + AllocGlobal + Threads + Wait + Sync),
+    words: &[&str],
+) -> io::Result<u64> {
+    let half = pairs(rt.alloc(), EACH / 2)?;
+    let all = pairs(rt.alloc(), EACH)?;
+    let less = best_run(rt, &half, words)?.saturating_sub(best_read(rt, &half)?);
+    let more = best_run(rt, &all, words)?.saturating_sub(best_read(rt, &all)?);
+    Ok(more.saturating_sub(less).saturating_mul(1000) / u64::from(2 * EACH))
+}
+
+/// What a turn of a fast path costs against an event in the order of the text.
+fn measure_turn(rt: &(impl Clock + AllocGlobal + Threads + Wait + Sync + Print)) -> io::Result<()> {
+    let drawn = pair_cost(rt, SCHEDULE)? / 1000;
+    let serial = pair_cost(rt, SERIAL)? / 1000;
+    let turn = drawn / TURNS;
+    let ratio = turn.saturating_mul(100) / serial.max(1);
+    println!(rt;
+        "fast paths of 4 workers: by schedule {drawn} ns an event of {TURNS} turns; in the order of the text {serial} ns; a turn {turn} ns: {ratio} %"
+    )
+}
+
 /// What a load costs, against reading a trace of as many events.
 fn measure_load(rt: &(impl Clock + AllocGlobal + Threads + Wait + Sync + Print)) -> io::Result<()> {
     let text = one_round(rt.alloc(), WORKERS, LOADED)?;
@@ -107,6 +154,7 @@ pub(crate) fn measure(
     let first = measure_one(rt, 50_000, openings, None)?;
     measure_one(rt, 200_000, openings, Some(first))?;
     measure_one(rt, 500_000, openings, Some(first))?;
+    measure_turn(rt)?;
     measure_load(rt)?;
     measure_rounds(rt)
 }

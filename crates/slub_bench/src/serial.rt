@@ -1,8 +1,10 @@
 //! Replays of generated traces.
 
-use crate::runs::{one_round, read_nanos, run_nanos};
+use crate::reader::best_count;
+use crate::runs::{best_run, one_round, read_nanos, run_nanos};
 use slub_edges::adapters::WriteSink;
 use slub_edges::faultless::FaultlessSink;
+use std::alloc::{AllocError, Global};
 use std::io::BufWriter;
 use std::rt::{Clock, Files};
 use std::sync::Wait;
@@ -102,6 +104,52 @@ fn measure_one(
     Ok(each)
 }
 
+/// The objects of the trace of a checked cache.
+const CHECKED: u32 = 100_000;
+
+/// A round that allocates objects with every zone, writes and reads each, and frees it when 64 more were allocated.
+fn checked_round(alloc: Global) -> Result<Vec<u8>, AllocError> {
+    let mut text = Vec::from_slice(
+        alloc,
+        b"slubtrace 1\nmachine 4096 4\ncache c 64 8 HRFZP\nround 1\n",
+    )?;
+    for object in 1..=CHECKED {
+        let lines = format!(in alloc;
+            "alloc 0 0 c {object}\nwrite 0 {object} 1 {object}\nread 0 {object} 1\n"
+        )?;
+        text.extend_from_slice(lines.as_bytes())?;
+        if object > 64 {
+            let freed = object - 64;
+            text.extend_from_slice(format!(in alloc; "free 0 0 {freed}\n")?.as_bytes())?;
+        }
+    }
+    text.extend_from_slice(b"done\nend\n")?;
+    Ok(text)
+}
+
+/// What a whole replay of a text takes against counting its lines and words, in tenths.
+fn tenths_of_counting(
+    rt: &(impl Clock + AllocGlobal + Threads + Wait + Sync),
+    text: &[u8],
+) -> io::Result<u64> {
+    let counting = best_count(rt, text)?;
+    Ok(best_run(rt, text, PLAIN)?.saturating_mul(10) / counting.max(1))
+}
+
+/// Measures whole replays against counting the lines and words of the same bytes: of 500,000 events, and of a checked
+/// cache.
+fn measure_whole(
+    rt: &(impl Clock + AllocGlobal + Threads + Wait + Sync + Print),
+) -> io::Result<()> {
+    let plain = tenths_of_counting(rt, &one_round(rt.alloc(), 1, 500_000)?)?;
+    let checked = tenths_of_counting(rt, &checked_round(rt.alloc())?)?;
+    let (whole, tenth) = (plain / 10, plain % 10);
+    let (checked_whole, checked_tenth) = (checked / 10, checked % 10);
+    println!(rt;
+        "a whole replay takes {whole}.{tenth} times as long as counting the lines and words of its bytes; with objects of every zone {checked_whole}.{checked_tenth} times"
+    )
+}
+
 /// Measures three lengths; the cost of an event doesn't grow with the length.
 pub(crate) fn measure(
     rt: &(impl Clock + Files + AllocGlobal + Threads + Wait + Sync + Print),
@@ -112,5 +160,6 @@ pub(crate) fn measure(
     let first = measure_one(rt, 10_000, opening, None)?;
     measure_one(rt, 100_000, opening, Some(first))?;
     measure_one(rt, 500_000, opening, Some(first))?;
+    measure_whole(rt)?;
     fs::remove_file(rt, WRITTEN)
 }

@@ -2,5 +2,4 @@ pub mod Gathering
 pub mod Laying
 pub mod Opening
 pub mod Places
-pub mod Stored
 pub mod Undoing

@@ -6,8 +6,9 @@
 //! have their steps.
 //!
 //! After `Lists::open` only checked caches take memory: at their creation, and for each new slab. What is never
-//! used is not touched: the words of the frames (`memory`) and the places of the slabs' own freelists
-//! (`own_lists`) are stored as far as they were written.
+//! used is not touched: the words of the frames (`slub_memory`) and the places of the slabs' own freelists
+//! (`own_lists`) are stored as far as they were written. A round by threads copies all words of the frames into the
+//! table that its threads share, and back.
 //!
 //! # What it promises
 //!
@@ -27,7 +28,6 @@ mod flush;
 pub mod flush_cpu;
 pub mod free;
 pub mod lists;
-mod memory;
 pub mod node;
 pub mod own_lists;
 mod partial;

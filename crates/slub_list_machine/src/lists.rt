@@ -6,7 +6,6 @@ ghost use Rattle.slub_lists.specs.Alloc.{no_lists};
 ghost use Rattle.slub_lists.specs.Coherent.{IsCoherent, all_on_board, opening};
 ghost use Rattle.slub_lists.specs.Shrink.{is_slab_of};
 
-use crate::memory::Memory;
 use crate::node::Node;
 use crate::own_lists::OwnLists;
 use slub_cache_create::caches::Caches;
@@ -14,6 +13,7 @@ use slub_common::front_list::FrontList;
 use slub_common::limits::{CACHES_MAX, FRAME_WORDS};
 use slub_common::no_memory::NoMemory;
 use slub_lists::lists::{CpuLists, Held, Slab};
+use slub_memory::memory::Memory;
 use slub_object_layout::name::Name;
 use slub_page_pool::Pool;
 use slub_red_zone::checked::CheckedSlabs;

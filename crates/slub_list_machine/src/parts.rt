@@ -4,11 +4,11 @@ ghost use Rattle.std.specs.Prelude.{◌≡◌};
 ghost use Rattle.slub_list_machine.specs.Parts.{state_of};
 
 use crate::lists::Lists;
-use crate::memory::Memory;
 use crate::node::Node;
 use crate::own_lists::OwnLists;
 use slub_cache_create::caches::Caches;
 use slub_lists::lists::{CpuLists, Held, Slab};
+use slub_memory::memory::Memory;
 use slub_page_pool::Pool;
 use slub_red_zone::checked::CheckedSlabs;
 
@@ -33,7 +33,7 @@ pub struct Parts {
     /// By cache number: the slabs of a live checked cache.
     pub checked: Vec<Option<CheckedSlabs>>,
     /// The words of the frames.
-    pub memory: Vec<u64>,
+    pub memory: Memory,
     /// By object number: what was given and not freed.
     pub board: Vec<Option<Held>>,
     /// By object number: what was freed in this round.
@@ -43,7 +43,7 @@ pub struct Parts {
 }
 
 impl Lists {
-    /// The machine taken apart; it takes no memory, and copies nothing but words that are 0.
+    /// The machine taken apart; it takes no memory, and copies nothing.
     pub fn into_parts(self) -> Parts
         ensures { state_of result ≡ self }
     {
@@ -72,7 +72,7 @@ impl Lists {
             cpu_lists,
             nodes,
             checked,
-            memory: memory.into_words(),
+            memory,
             board,
             gone,
             live,
@@ -93,7 +93,7 @@ impl Lists {
             cpu_lists: parts.cpu_lists,
             nodes: parts.nodes,
             checked: parts.checked,
-            memory: Memory::from_words(parts.memory),
+            memory: parts.memory,
             board: parts.board,
             gone: parts.gone,
             live: parts.live,

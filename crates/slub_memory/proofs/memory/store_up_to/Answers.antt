@@ -1,6 +1,6 @@
 use Rattle.std.proofs.Common.{◌∙◌, arith}
-use Rattle.slub_list_machine.proofs.Stored.{stored-next}
-use Rattle.slub_list_machine.proofs.memory.store_up_to.Goals as goal
+use Rattle.slub_memory.proofs.Stored.{stored-next}
+use Rattle.slub_memory.proofs.memory.store_up_to.Goals as goal
 
 pub loop-preserved : goal.loop-preserved
 loop-preserved g c =

@@ -1,5 +1,5 @@
 use Rattle.std.proofs.Common.{◌≡◌, ◌+◌, ◌++◌, replicate, vec_len, vec_capacity}
-use Rattle.slub_list_machine.proofs.memory.store_up_to.Given as goal
+use Rattle.slub_memory.proofs.memory.store_up_to.Given as goal
 
 -- so many are stored
 abbrev pub invariant-loop : goal.invariant-loop

@@ -1,4 +1,5 @@
 pub mod Marked
+pub mod Parted
 pub mod Picks
 pub mod Places
 pub mod Finished

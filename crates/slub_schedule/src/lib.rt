@@ -1,12 +1,14 @@
 //! Rounds by schedule: a seed draws whose turn it is, the same at each run.
 //!
 //! `Draws` is the generator, `Order` the workers that are unfinished, `Table` the words of the
-//! machine, on which a step is applied, and `turns` says how many turns a round may take. `scheduled`
-//! runs a round by these, on any `Machine` whose workers make turns of the step machine. `specs/`
-//! says which picks a seed draws (`AreDrawn`), when a round ends and when its turns are spent
-//! (`Ends`, `IsSpent`), what a round leaves in which each worker is finished (`IsQuiet`,
-//! `AreHolders`), and what the machine is once it is closed (`closed`, `IsBoardAfter`). No step of a
-//! path stands here: this crate knows where steps lead by the definitions of `slub_core` alone.
+//! machine, on which a step is applied, and `turns` says how many turns a round may take. A `Table`
+//! has the words of the frames as a `Memory` of its own (`slub_memory`), which `into_memory` gives
+//! back: they are moved in and out, and not copied. `scheduled` runs a round by these, on any
+//! `Machine` whose workers make turns of the step machine. `specs/` says which picks a seed draws
+//! (`AreDrawn`), when a round ends and when its turns are spent (`Ends`, `IsSpent`), what a round
+//! leaves in which each worker is finished (`IsQuiet`, `AreHolders`), and what the machine is once it
+//! is closed (`closed`, `IsBoardAfter`). No step of a path stands here: this crate knows where steps
+//! lead by the definitions of `slub_core` alone.
 //!
 //! # What it promises
 //!

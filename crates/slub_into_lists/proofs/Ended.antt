@@ -35,7 +35,7 @@ use Rattle.slub_into_words.specs.Opened.{room_of}
 use Rattle.slub_into_words.specs.Values.{IsKeptOf}
 use Rattle.slub_into_lists.specs.Joins.{Joins}
 use Rattle.slub_into_lists.specs.Reads.{lists_at, own_at, on_board}
-use Rattle.slub_into_lists.specs.Closing.{IsEnded, IsClosed, HasSizes, IsWritten, MayTakeBack, IsPutTogether, AreKnown, system_of, links_at, memory_at}
+use Rattle.slub_into_lists.specs.Closing.{IsEnded, IsClosed, HasSizes, IsWritten, MayTakeBack, IsPutTogether, AreKnown, system_of, links_at}
 use Rattle.slub_into_lists.proofs.Made.{IsRead, closes, keeps}
 
 -- ---- what is behind a lock, and what was kept of its node list
@@ -115,7 +115,6 @@ module _ (facts : Facts) (table : WordTable) (values : List Guarded) (rest : Res
     slabs = ended.waiting.slabs ∙ sym ended.waiting.frames;
     frees = ended.waiting.frees ∙ sym ended.waiting.frames;
     cpu_lists = ended.waiting.cpu_lists ∙ ap (λ n. 32 * n) (sym ended.waiting.cpus);
-    memory = ended.waiting.memory ∙ ap (λ n. 512 * n) (sym ended.waiting.frames);
     board = omega (arith, ended.waiting.board, ended.may_open.beside.objects.1);
     gone = ended.waiting.gone ∙ sym ended.waiting.board;
     live = ended.waiting.live;
@@ -153,11 +152,15 @@ module _ (facts : Facts) (table : WordTable) (values : List Guarded) (rest : Res
 
   -- ---- the machine that is put together
 
-  module _ (new : Rest) (t : State) (beside : Beside) (written : IsWritten facts table.words (values_of values) locals rest new) (put : IsPutTogether facts.step (values_of values) new t beside) where
-    bases : (links_at rest ≡ link_base (setup_of s b)) × (memory_at rest ≡ memory_base (setup_of s b))
-    bases = (omega (arith, ended.waiting.frames, ended.waiting.board), omega (arith, ended.waiting.frames, ended.waiting.board))
+  module _ (new : Rest) (memory : List ℕ) (t : State) (beside : Beside) (count : length memory ≡ 512 * table.frames) (words : (at : ℕ) → at < 512 * table.frames → get_or memory at 0 ≡ get_or table.words (1056 + table.frames + table.objects + at) 0)
+      (written : IsWritten facts table.words memory (values_of values) locals rest new) (put : IsPutTogether facts.step (values_of values) new memory t beside) where
+    links-base : links_at rest ≡ link_base (setup_of s b)
+    links-base = omega (arith, ended.waiting.frames, ended.waiting.board)
 
-    memory-same : t.memory ≡ new.memory.items
+    memory-base : 1056 + table.frames + table.objects ≡ memory_base (setup_of s b)
+    memory-base = omega (arith, ended.sizes.frames, ended.sizes.objects)
+
+    memory-same : t.memory ≡ memory
     memory-same = ap (λ (z : State). z.memory) put.lists
 
     board-same : t.board ≡ new.board.items
@@ -178,14 +181,14 @@ module _ (facts : Facts) (table : WordTable) (values : List Guarded) (rest : Res
           ap (λ (z : State). get_or z.cpu_lists p no_lists) put.lists
           ∙ written.lists p (omega (arith, below, ended.waiting.cpus))
           ∙ ap (λ m. lists_at facts table.words m (links_at rest) (p / rest.cpus * 16 + p % rest.cpus)) (sym memory-same)
-          ∙ ap (λ l. lists_at facts table.words t.memory l (p / rest.cpus * 16 + p % rest.cpus)) bases.0
+          ∙ ap (λ l. lists_at facts table.words t.memory l (p / rest.cpus * 16 + p % rest.cpus)) links-base
           ∙ ap (λ n. lists_at facts table.words t.memory (link_base (setup_of s b)) (p / n * 16 + p % n)) ended.waiting.cpus;
       node_count = put.node_count;
       nodes = put.nodes;
       checked_count = put.checked_count;
       checked = put.checked;
-      word_count = ap length memory-same ∙ written.sizes.memory ∙ ap (λ (r : Rest). 512 * r.frames) written.rest ∙ ap (λ n. 512 * n) ended.waiting.frames;
-      memory = λ p below. ap (λ m. get_or m p 0) memory-same ∙ written.memory p (omega (arith, below, ended.waiting.frames)) ∙ ap (λ n. get_or table.words (n + p) 0) bases.1;
+      word_count = ap length memory-same ∙ count ∙ ap (λ n. 512 * n) (sym ended.sizes.frames);
+      memory = λ p below. ap (λ m. get_or m p 0) memory-same ∙ words p (omega (arith, below, ended.sizes.frames)) ∙ ap (λ n. get_or table.words (n + p) 0) memory-base;
       object_count = ap length board-same ∙ written.objects ∙ ended.waiting.board;
       board = λ o below.
           ap (λ h. get_or h o None) board-same

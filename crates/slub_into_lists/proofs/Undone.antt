@@ -1,5 +1,5 @@
 -- What was moved behind the locks goes back to the lists that it was taken from.
-use Rattle.std.proofs.Common.{◌≡◌, ℕ, suc, ◌<◌, ◌≤◌, ◌&&◌, cond, Bool, true, false, List, [], length, get_or, vec_capacity, Option, Some, None, refl, ap, sym, ◌∙◌, subst, arith}
+use Rattle.std.proofs.Common.{◌≡◌, ℕ, suc, ◌<◌, ◌&&◌, cond, Bool, true, false, List, [], length, get_or, Option, Some, None, refl, ap, sym, ◌∙◌, arith}
 use Rattle.std.specs.Prelude.{is_some, not}
 use Rattle.std.proofs.lemmas.Bool.{false≢true}
 use Rattle.std.proofs.lemmas.List.{ext_get_or}
@@ -8,7 +8,7 @@ use Rattle.slub_red_zone.specs.State.{CheckedState}
 use Rattle.slub_lists.specs.State.{State}
 use Rattle.slub_lists.specs.Alloc.{cache_of, checked_of, node_of}
 use Rattle.slub_lists.proofs.Kept.{consistent-of}
-use Rattle.slub_core.specs.World.{LockValue, frames_in, pool_in}
+use Rattle.slub_core.specs.World.{LockValue, frames_in}
 use Rattle.slub_core.specs.World as value
 use Rattle.slub_local.specs.declared.guarded.Guarded.{Guarded}
 use Rattle.slub_local.specs.declared.guarded.Guarded.TheVariants.{Nothing, Node, Checked, Pool}
@@ -96,14 +96,14 @@ module _ (s : State) (values : List Guarded) (rest : Rest) (memory : List ℕ) (
       (ap is_node (at (suc cache)) ∙ node-there lives (checked_of s cache) (node_of s cache)) (ap is_pool (at (suc cache)) ∙ no-pool lives (checked_of s cache) (node_of s cache))
       room (was.waiting.kept_node cache otherwise below)
 
-  pub may-put : (new : Rest) → new.nodes ≡ rest.nodes → new.kept ≡ rest.kept → new.checked ≡ rest.checked → MayTakeBack values new
-  may-put new nodes kept checked = record {
+  pub may-put : MayTakeBack values rest
+  may-put = record {
     count = count;
     pool = pool-there (get_or values 0 Nothing) (ap is_pool (at 0));
-    kept = ap (λ k. length k.items) kept ∙ was.waiting.kept;
-    joins = λ cache otherwise below. subst (λ k. Joins (get_or values (suc cache) Nothing) (get_or k.items cache otherwise)) (sym kept) (joins cache otherwise below);
-    nodes = (ap (λ n. n.items) nodes ∙ was.waiting.nodes.0, subst (λ n. 32 ≤ vec_capacity n) (sym nodes) was.waiting.nodes.1);
-    checked = ap (λ k. length k.items) checked ∙ was.waiting.checked;
+    kept = was.waiting.kept;
+    joins = joins;
+    nodes = was.waiting.nodes;
+    checked = was.waiting.checked;
   }
 
   -- ---- the lists

@@ -16,7 +16,7 @@ use Rattle.slub_local.specs.declared.guarded.Guarded.TheVariants.{Nothing}
 use Rattle.slub_local.specs.Facts.{Facts}
 use Rattle.slub_local.specs.Facts as local
 use Rattle.slub_local.specs.Values.{values_of, rooms_of, HasPool}
-use Rattle.slub_schedule.specs.Table.{WordTable}
+use Rattle.slub_schedule.specs.Table.{WordTable, IsTableOf}
 use Rattle.slub_opening.specs.Opening.{setup_of}
 use Rattle.slub_opening.specs.Opening as opening
 use Rattle.slub_opening.specs.Rests.{held_among}
@@ -37,11 +37,12 @@ system_of table values locals =
     record { words = table.words; value = values_of values; locals = locals }
 
 -- the machine was opened from s and b, has been coherent since then, and no worker is in a call;
--- each node list has the room that it had
+-- its table has the sizes that it had, and each node list the room
 pub record IsEnded (facts : Facts) (table : WordTable) (values : List Guarded) (rest : Rest)
     (locals : List Local) (s : State) (b : opening.Beside) (world : World) : Type 0 where
   pub setup : local.setup_of facts b.means ≡ setup_of s b
   pub may_open : MayOpen s b
+  pub sizes : IsTableOf (setup_of s b) table
   pub waiting : IsRestOf s rest
   pub rooms : rooms_of values ≡ map (room_of s) (range_with_len 0 33)
   pub coherent : IsCoherentSystem (setup_of s b) world (system_of table values locals)
@@ -74,19 +75,15 @@ pub record HasSizes (rest : Rest) : Type 0 where
   pub slabs : length rest.slabs.items ≡ rest.frames
   pub frees : length rest.frees ≡ rest.frames
   pub cpu_lists : length rest.cpu_lists.items ≡ 32 * rest.cpus
-  pub memory : length rest.memory.items ≡ 512 * rest.frames
   pub board : length rest.board.items ≤ 1048577
   pub gone : length rest.gone.items ≡ length rest.board.items
   pub live : length rest.live.items ≡ 32
   pub tids : length rest.tids.items ≡ 512
   pub links : length rest.links.items ≡ rest.frames
 
--- where words of the table begin: of object number 0, of the memory, and links
+-- where words of the table begin: of object number 0, and links
 abbrev pub board_at : Rest → ℕ
 board_at rest = 1056 + rest.frames
-
-abbrev pub memory_at : Rest → ℕ
-memory_at rest = 1056 + rest.frames + length rest.board.items
 
 abbrev pub links_at : Rest → ℕ
 links_at rest = 1056 + rest.frames + length rest.board.items + 512 * rest.frames
@@ -96,8 +93,9 @@ abbrev pub AreKnown : ℕ → List Local → Type 0
 AreKnown objects locals = All (λ (l : Local). AreDistinct l.known
     × All (λ (k : Known). k.object < objects) l.known) locals
 
--- the vectors say what the words say, and the others are as they were
-pub record IsWritten (facts : Facts) (words : List ℕ) (value : ℕ → LockValue)
+-- the vectors say what the words of the table and those of the frames say, and the others are as
+-- they were
+pub record IsWritten (facts : Facts) (words memory : List ℕ) (value : ℕ → LockValue)
     (locals : List Local) (old new : Rest) : Type 0 where
   pub sizes : HasSizes new
   pub objects : length new.board.items ≡ length old.board.items
@@ -105,7 +103,6 @@ pub record IsWritten (facts : Facts) (words : List ℕ) (value : ℕ → LockVal
     slabs = new.slabs;
     frees = new.frees;
     cpu_lists = new.cpu_lists;
-    memory = new.memory;
     board = new.board;
     gone = new.gone;
     live = new.live;
@@ -115,13 +112,11 @@ pub record IsWritten (facts : Facts) (words : List ℕ) (value : ℕ → LockVal
   pub slabs : (frame : ℕ) → frame < old.frames
       → slice_index_or new.slabs.items frame None ≡ slab_at facts words value frame
   pub frees : (frame : ℕ) → frame < old.frames
-      → slice_index_or new.frees frame [] ≡ own_at facts words new.memory.items frame
+      → slice_index_or new.frees frame [] ≡ own_at facts words memory frame
   pub lists : (place : ℕ) → place < 32 * old.cpus
       → slice_index_or new.cpu_lists.items place no_lists
-      ≡ lists_at facts words new.memory.items (links_at old)
+      ≡ lists_at facts words memory (links_at old)
       (place / old.cpus * 16 + place % old.cpus)
-  pub memory : (at : ℕ) → at < 512 * old.frames
-      → slice_index_or new.memory.items at 0 ≡ slice_index_or words (memory_at old + at) 0
   pub board : AreKnown (length old.board.items) locals
       → (object : ℕ) → object < length old.board.items
       → slice_index_or new.board.items object None
@@ -144,9 +139,10 @@ pub record MayTakeBack (values : List Guarded) (rest : Rest) : Type 0 where
   pub nodes : (rest.nodes.items ≡ []) × (32 ≤ vec_capacity rest.nodes)
   pub checked : length rest.checked.items ≡ 32
 
--- the machine that is put together has what was written, and what the locks guarded
-pub record IsPutTogether (step : ℕ) (value : ℕ → LockValue) (rest : Rest) (t : State)
-    (beside : Beside) : Type 0 where
+-- the machine that is put together has what was written, what the locks guarded, and these words of
+-- the frames
+pub record IsPutTogether (step : ℕ) (value : ℕ → LockValue) (rest : Rest) (memory : List ℕ)
+    (t : State) (beside : Beside) : Type 0 where
   pub lists : t ≡ record {
     frames = rest.frames;
     cpus = rest.cpus;
@@ -157,7 +153,7 @@ pub record IsPutTogether (step : ℕ) (value : ℕ → LockValue) (rest : Rest) 
     cpu_lists = rest.cpu_lists.items;
     nodes = t.nodes;
     checked = t.checked;
-    memory = rest.memory.items;
+    memory = memory;
     board = rest.board.items;
     gone = rest.gone.items;
     live = rest.live.items;

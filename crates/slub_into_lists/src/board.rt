@@ -1,6 +1,6 @@
 //! What object numbers name: objects on the board and with workers, and how many there are of each cache.
 
-ghost use Rattle.std.specs.Prelude.{◌≡◌, ℕ, ◌+◌, ◌*◌, ◌^◌, ◌<◌, ◌≤◌, All, List, [], ◌∷◌, length, sum_by, None, slice_index_or};
+ghost use Rattle.std.specs.Prelude.{◌≡◌, ℕ, ◌+◌, ◌*◌, ◌^◌, ◌<◌, ◌≤◌, All, [], ◌∷◌, length, sum_by, None, slice_index_or};
 ghost use Rattle.std.specs.Option.{option_or};
 ghost use Rattle.slub_core.specs.Accounted.{AreDistinct};
 ghost use Rattle.slub_core.specs.Local.{Local as Worker};
@@ -9,46 +9,46 @@ ghost use Rattle.slub_lists.specs.Coherent.{held_of};
 ghost use Rattle.slub_opening.specs.Rests.{held_in, held_among};
 ghost use Rattle.slub_into_lists.specs.Reads.{on_board};
 
-use crate::walks::word;
 use slub_core::local::Known;
 use slub_lists::lists::Held;
 use slub_local::local::Local;
 use slub_local::words::board_in;
+use slub_schedule::table::Table;
 
 /// Writes what each number names, by the words of the board, which begin at a word of the table, and
 /// by what the workers hold.
-pub fn close_board(words: &[u64], base: usize, locals: &[Local], board: &mut [Option<Held>])
+pub fn close_board(table: &Table, base: usize, locals: &[Local], board: &mut [Option<Held>])
     requires base { base < 2 ^ 32 }
     requires few { length board.old ≤ 1048577 }
-    ensures { All (λ (l : Worker). AreDistinct l.known × All (λ (k : Object). k.object < length board.old) l.known) locals.now → (object : ℕ) → object < length board.old → slice_index_or board.new object None ≡ option_or (on_board words.now base object) (held_among locals.now object) }
+    ensures { All (λ (l : Worker). AreDistinct l.known × All (λ (k : Object). k.object < length board.old) l.known) locals.now → (object : ℕ) → object < length board.old → slice_index_or board.new object None ≡ option_or (on_board table.now.words base object) (held_among locals.now object) }
 {
-    lay_down(words, base, board);
+    lay_down(table, base, board);
     for local in locals {
         put_known(local, board);
     }
 }
 
 /// Writes what each number names on the board.
-fn lay_down(words: &[u64], base: usize, board: &mut [Option<Held>])
+fn lay_down(table: &Table, base: usize, board: &mut [Option<Held>])
     requires base { base < 2 ^ 32 }
     requires few { length board.old ≤ 1048577 }
-    ensures { (object : ℕ) → object < length board.old → slice_index_or board.new object None ≡ on_board words.now base object }
+    ensures { (object : ℕ) → object < length board.old → slice_index_or board.new object None ≡ on_board table.now.words base object }
 {
     for (object, entry) in board.iter_mut().enumerate() {
-        *entry = boarded(words, base, object);
+        *entry = boarded(table, base, object);
     }
 }
 
 /// What a number names on the board.
-fn boarded(words: &[u64], base: usize, object: usize) -> Option<Held>
+fn boarded(table: &Table, base: usize, object: usize) -> Option<Held>
     requires base { base < 2 ^ 32 }
     requires object { object ≤ 1048577 }
-    ensures { result ≡ on_board words.now base object }
+    ensures { result ≡ on_board table.now.words base object }
 {
     if object == 0 {
         return None;
     }
-    let on_board = board_in(word(words, base + object))?;
+    let on_board = board_in(table.word(base + object))?;
     Some(Held {
         frame: on_board.frame,
         index: on_board.index,

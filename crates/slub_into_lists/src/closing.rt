@@ -1,6 +1,5 @@
 //! A machine in words, no worker of which is in a call, closes into plain lists.
 
-ghost use Rattle.std.specs.Prelude.{◌≡◌};
 ghost use Rattle.slub_core.specs.World.{World};
 ghost use Rattle.slub_lists.specs.State.{State};
 ghost use Rattle.slub_local.specs.Values.{values_of};
@@ -12,7 +11,6 @@ use crate::board::{close_board, count_live};
 use crate::cpus::{close_cpus, close_tids};
 use crate::nodes::take_back;
 use crate::slabs::{close_frees, close_slabs};
-use crate::walks::copy_memory;
 use slub_into_words::beside::Beside;
 use slub_into_words::opened::Rest;
 use slub_list_machine::lists::Lists;
@@ -20,10 +18,12 @@ use slub_list_machine::parts::Parts;
 use slub_local::guarded::Guarded;
 use slub_local::local::Local;
 use slub_local::setup::Setup;
+use slub_memory::memory::Memory;
 use slub_schedule::table::Table;
 
 /// Closes a machine in words into plain lists and what stands beside them, once no worker is in a call. It takes no
-/// memory: all is written into the vectors that opening kept, and what the locks guarded is moved back.
+/// memory: all is written into the vectors that opening kept, and what the locks guarded and the words of the frames
+/// are moved back.
 pub fn close(
     setup: &Setup,
     table: Table,
@@ -35,34 +35,44 @@ pub fn close(
     ensures { (s : State) (b : opening.Beside) (world : World) → IsEnded setup.now table values.items rest locals.now s b world → IsClosed s b (system_of table values.items locals.now) result.0 (beside_of result.1 b.means) }
 {
     let mut rest = rest;
-    write_lists(setup, table.words(), &values, locals, &mut rest);
-    put_together(setup.step(), values, rest)
+    write_lists(setup, &table, table.memory(), &values, locals, &mut rest);
+    put_together(setup.step(), values, rest, table.into_memory())
 }
 
 /// Writes what the words say into the vectors that waited.
-fn write_lists(setup: &Setup, words: &[u64], values: &[Guarded], locals: &[Local], rest: &mut Rest)
+fn write_lists(
+    setup: &Setup,
+    table: &Table,
+    memory: &Memory,
+    values: &[Guarded],
+    locals: &[Local],
+    rest: &mut Rest,
+)
     requires { HasSizes rest.old }
-    ensures { IsWritten setup.now words.now (values_of values.now) locals.now rest.old rest.new }
+    ensures { IsWritten setup.now table.now.words memory.now (values_of values.now) locals.now rest.old rest.new }
 {
     let board = 1056 + rest.frames as usize;
-    let memory = board + rest.board.len();
-    let links = memory + 512 * rest.frames as usize;
-    copy_memory(words, memory, &mut rest.memory);
-    close_slabs(setup, words, values, &mut rest.slabs);
-    close_frees(setup, words, &rest.memory, rest.frames, &mut rest.frees);
+    let links = board + rest.board.len() + 512 * rest.frames as usize;
+    close_slabs(setup, table, values, &mut rest.slabs);
+    close_frees(setup, table, memory, rest.frames, &mut rest.frees);
     let cpus = rest.cpus as usize;
-    close_cpus(setup, words, &rest.memory, links, cpus, &mut rest.cpu_lists);
-    close_board(words, board, locals, &mut rest.board);
+    close_cpus(setup, table, memory, links, cpus, &mut rest.cpu_lists);
+    close_board(table, board, locals, &mut rest.board);
     rest.gone.fill(None);
     count_live(&rest.board, &mut rest.live);
-    close_tids(words, &mut rest.tids);
+    close_tids(table, &mut rest.tids);
     rest.links.fill(0);
 }
 
 /// Moves back what the locks guarded, and puts the machine together.
-pub(crate) fn put_together(step: u32, values: Vec<Guarded>, rest: Rest) -> (Lists, Beside)
+pub(crate) fn put_together(
+    step: u32,
+    values: Vec<Guarded>,
+    rest: Rest,
+    memory: Memory,
+) -> (Lists, Beside)
     requires { MayTakeBack values.items rest }
-    ensures { IsPutTogether step (values_of values.items) rest result.0 result.1 }
+    ensures { IsPutTogether step (values_of values.items) rest memory result.0 result.1 }
 {
     let Rest {
         frames,
@@ -74,7 +84,6 @@ pub(crate) fn put_together(step: u32, values: Vec<Guarded>, rest: Rest) -> (List
         mut nodes,
         kept,
         mut checked,
-        memory,
         board,
         gone,
         live,

@@ -4,37 +4,39 @@ ghost use Rattle.std.specs.Prelude.{◌≡◌, ℕ, ◌<◌, ◌≤◌, [], leng
 ghost use Rattle.slub_local.specs.Values.{value_in, values_of};
 ghost use Rattle.slub_into_lists.specs.Reads.{slab_at, slab_in_value, slab_in_values, slab_or, own_at};
 
-use crate::walks::{walk_own, word};
+use crate::walks::walk_own;
 use slub_list_machine::own_lists::OwnLists;
 use slub_lists::lists::Slab;
 use slub_local::guarded::Guarded;
 use slub_local::setup::Setup;
 use slub_local::words::slab_in;
+use slub_memory::memory::Memory;
+use slub_schedule::table::Table;
 use slub_words::slab::SlabWord;
 
 /// How many locks there are: the pool's, and one for each cache.
 const LOCKS: u8 = 33;
 
 /// Writes the slabs of a machine by frame: each by its word, or by the value of its checked cache.
-pub fn close_slabs(setup: &Setup, words: &[u64], values: &[Guarded], slabs: &mut [Option<Slab>])
+pub fn close_slabs(setup: &Setup, table: &Table, values: &[Guarded], slabs: &mut [Option<Slab>])
     requires { length slabs.old ≤ 4096 }
-    ensures { (frame : ℕ) → frame < length slabs.old → slice_index_or slabs.new frame None ≡ slab_at setup.now words.now (values_of values.now) frame }
+    ensures { (frame : ℕ) → frame < length slabs.old → slice_index_or slabs.new frame None ≡ slab_at setup.now table.now.words (values_of values.now) frame }
 {
     for (frame, slab) in slabs.iter_mut().enumerate() {
-        let by_word = slab_in(word(words, 1057 + frame));
+        let by_word = slab_in(table.word(1057 + frame));
         *slab = slab_or(setup, by_word, slab_in_values(values, frame as u16));
     }
 }
 
 /// Walks the own freelists of the slabs of so many frames.
-pub fn close_frees(setup: &Setup, words: &[u64], memory: &[u64], frames: u32, frees: &mut OwnLists)
+pub fn close_frees(setup: &Setup, table: &Table, memory: &Memory, frames: u32, frees: &mut OwnLists)
     requires few { frames ≤ 4096 }
     requires lists { length frees.old ≡ frames }
-    ensures walked { (frame : ℕ) → frame < frames → slice_index_or frees.new frame [] ≡ own_at setup.now words.now memory.now frame }
+    ensures walked { (frame : ℕ) → frame < frames → slice_index_or frees.new frame [] ≡ own_at setup.now table.now.words memory.now frame }
     ensures lists { length frees.new ≡ frames }
 {
     for frame in 0..frames {
-        let slab = slab_in(word(words, 1057 + frame as usize));
+        let slab = slab_in(table.word(1057 + frame as usize));
         walk_own(setup, memory, slab.cache, frame as u16, slab.head, frees);
     }
 }

@@ -8,15 +8,14 @@ use crate::closing::put_together;
 use slub_into_words::opened::Rest;
 use slub_list_machine::lists::Lists;
 use slub_local::guarded::Guarded;
+use slub_memory::memory::Memory;
 
 /// Puts the lists together again that were opened, and on whose words nothing was done: they are as they were.
 /// `memory` has the words of the frames from before the opening.
-pub fn put_back(values: Vec<Guarded>, rest: Rest, memory: Vec<u64>) -> Lists
-    requires { (s : State) × WasOpened s values.items rest memory.items }
-    ensures { (s : State) → WasOpened s values.items rest memory.items → result ≡ s }
+pub fn put_back(values: Vec<Guarded>, rest: Rest, memory: Memory) -> Lists
+    requires { (s : State) × WasOpened s values.items rest memory }
+    ensures { (s : State) → WasOpened s values.items rest memory → result ≡ s }
 {
-    let mut rest = rest;
-    rest.memory = memory;
-    let (lists, _beside) = put_together(1, values, rest);
+    let (lists, _beside) = put_together(1, values, rest, memory);
     lists
 }

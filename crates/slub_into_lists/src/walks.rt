@@ -1,32 +1,24 @@
 //! Walks along free pointers and links.
 
-ghost use Rattle.std.specs.Prelude.{◌≡◌, ℕ, ◌+◌, ◌%◌, ◌^◌, ◌<◌, ◌≤◌, length, slice_index_or, slice_set};
+ghost use Rattle.std.specs.Prelude.{◌≡◌, ◌+◌, ◌%◌, ◌^◌, ◌<◌, length, slice_index_or, slice_set};
 ghost use Rattle.slub_local.specs.Facts.{found_in, pointer_in};
 ghost use Rattle.slub_into_lists.specs.Reads.{chain_in, string_in};
 
 use slub_list_machine::own_lists::OwnLists;
 use slub_lists::lists::{FrameList, FreeList};
 use slub_local::setup::Setup;
+use slub_memory::memory::Memory;
+use slub_schedule::table::Table;
 
 /// A slab has so many objects at most, and a machine so many slabs.
 const OBJECTS_MAX: usize = 512;
 
 const SLABS_MAX: usize = 4095;
 
-/// A word of the table; 0 where there is none.
-pub fn word(words: &[u64], at: usize) -> u64
-    ensures { result ≡ slice_index_or words.now at 0 }
-{
-    match words.get(at) {
-        Some(word) => *word,
-        None => 0,
-    }
-}
-
 /// Walks along the free pointers of a slab from a head on, into a CPU's freelist.
 pub fn walk_chain(
     setup: &Setup,
-    memory: &[u64],
+    memory: &Memory,
     cache: u8,
     frame: u16,
     head: u16,
@@ -47,7 +39,7 @@ pub fn walk_chain(
 /// to the front of it one after the other, so it is turned around at the end.
 pub fn walk_own(
     setup: &Setup,
-    memory: &[u64],
+    memory: &Memory,
     cache: u8,
     frame: u16,
     head: u16,
@@ -67,24 +59,24 @@ pub fn walk_own(
 }
 
 /// The head of the objects behind this one (`get_freepointer`).
-fn behind(setup: &Setup, memory: &[u64], cache: u8, frame: u16, index: u16) -> u16
+fn behind(setup: &Setup, memory: &Memory, cache: u8, frame: u16, index: u16) -> u16
     ensures { result ≡ found_in setup.now cache frame index (slice_index_or memory.now (pointer_in setup.now cache frame index) 0) }
 {
     let place = setup.pointer_at(cache, frame, index);
-    setup.found_at(cache, frame, index, word(memory, place as usize))
+    setup.found_at(cache, frame, index, memory.read(place as usize))
 }
 
 /// Walks along the links of a CPU's partial list from its front on (`slab->next`). The links begin
 /// at a word of the table.
-pub fn walk_string(words: &[u64], links: usize, front: u16, partial: &mut FrameList)
+pub fn walk_string(table: &Table, links: usize, front: u16, partial: &mut FrameList)
     requires { links < 2 ^ 32 }
-    ensures { partial.new ≡ string_in words.now links front }
+    ensures { partial.new ≡ string_in table.now.words links front }
 {
     partial.clear();
     let mut next = front;
     while next > 0 && partial.len() < SLABS_MAX {
         partial.push_back(next);
-        next = low(word(words, links + usize::from(next)));
+        next = low(table.word(links + usize::from(next)));
     }
 }
 
@@ -93,15 +85,4 @@ fn low(word: u64) -> u16
     ensures { result ≡ word % 2 ^ 16 }
 {
     (word & 0xffff) as u16
-}
-
-/// Copies the words of the frames, which begin at a word of the table.
-pub fn copy_memory(words: &[u64], base: usize, memory: &mut [u64])
-    requires base { base < 2 ^ 32 }
-    requires few { length memory.old ≤ 2097152 }
-    ensures { (at : ℕ) → at < length memory.old → slice_index_or memory.new at 0 ≡ slice_index_or words.now (base + at) 0 }
-{
-    for (at, place) in memory.iter_mut().enumerate() {
-        *place = word(words, base + at);
-    }
 }

@@ -99,6 +99,10 @@ no-gap xs at inside some gone = omega (arith, at-none xs (at - 1) gone)
 
 -- ---- rows, one after the other
 
+-- it leaves the count
+pub row-count : (k : ℕ) (old now : List ℕ) (row : Row) → now ≡ laid row old → length old ≡ k → length now ≡ k
+row-count k old now row is count = ap length is ∙ laid-length row.place row.value row.items old ∙ count
+
 -- one row more is laid
 pub row-more : (rows : ℕ → Row) (k : ℕ) (old now : List ℕ) (words : ℕ → ℕ) (row : Row) → rows k ≡ row → now ≡ laid row old → All (λ x. (rows k).place x < length old) (rows k).items → read old ≡ lay_each rows k words → read now ≡ lay_each rows (k + 1) words
 row-more rows k old now words row is laid_now inside before =

@@ -167,7 +167,6 @@ rest-of s memory rest r = record {
   slabs = r.slabs;
   frees = r.frees;
   cpu_lists = r.cpu_lists;
-  memory = r.memory;
   board = r.board;
   gone = r.gone;
   live = r.live;

@@ -1,5 +1,5 @@
 -- A machine that is opened: what a round runs on is what the definitions of opening say.
-use Rattle.std.specs.Prelude.{◌≡◌, ℕ, zero, suc, ◌+◌, ◌*◌, ◌≤◌, false, [], length, map, replicate, vec_capacity}
+use Rattle.std.specs.Prelude.{◌≡◌, ℕ, zero, suc, ◌+◌, ◌≤◌, false, [], length, map, replicate, vec_capacity}
 use Rattle.std.specs.List.{range_with_len}
 use Rattle.slub_lists.specs.State.{State}
 use Rattle.slub_core.specs.Setup.{Means}
@@ -33,7 +33,8 @@ pub record IsOpened (s : State) (b : Beside) (o : Opened) : Type 0 where
 pub record IsRoomFor (s : State) (step : ℕ) (room : Room) : Type 0 where
   pub setup : room.setup ≡ facts_of s step
   pub words : (room.words.items ≡ [])
-      × (1056 + 514 * s.frames + length s.board ≤ vec_capacity room.words)
+      × (1056 + s.frames + length s.board ≤ vec_capacity room.words)
+  pub links : (room.links.items ≡ []) × (s.frames ≤ vec_capacity room.links)
   pub marks : room.marks.items ≡ replicate s.frames false
   pub values : (room.values.items ≡ []) × (33 ≤ vec_capacity room.values)
   pub kept : (room.kept.items ≡ []) × (32 ≤ vec_capacity room.kept)

@@ -5,7 +5,8 @@ use Rattle.slub_into_words.specs.declared.opened.Rest.{Rest}
 use Rattle.slub_into_words.specs.declared.opened.KeptNode.{KeptNode}
 use Rattle.slub_into_words.specs.Values.{has_node, IsKeptOf}
 
--- the vectors of the lists, whatever stands in them, with what the round leaves as it is
+-- the vectors of the lists, whatever stands in them, with what the round leaves as it is. The words
+-- of the frames are out, in the table
 pub record IsRestOf (s : State) (rest : Rest) : Type 0 where
   pub frames : rest.frames ≡ s.frames
   pub cpus : rest.cpus ≡ s.cpus
@@ -13,7 +14,6 @@ pub record IsRestOf (s : State) (rest : Rest) : Type 0 where
   pub slabs : length rest.slabs.items ≡ s.frames
   pub frees : length rest.frees ≡ s.frames
   pub cpu_lists : length rest.cpu_lists.items ≡ 32 * s.cpus
-  pub memory : length rest.memory.items ≡ 512 * s.frames
   pub board : length rest.board.items ≡ length s.board
   pub gone : length rest.gone.items ≡ length s.board
   pub live : length rest.live.items ≡ 32
@@ -30,7 +30,7 @@ pub record IsRestOf (s : State) (rest : Rest) : Type 0 where
       → IsKeptOf (has_node s.table s.checked cache) []
       (slice_index_or rest.kept.items cache otherwise)
 
--- but for the words of the frames, and for what is out, the vectors have what the lists had
+-- but for what is out, the vectors have what the lists had
 pub record IsUntouched (s : State) (rest : Rest) : Type 0 where
   pub slabs : rest.slabs.items ≡ s.slabs
   pub frees : rest.frees ≡ s.frees

@@ -1,6 +1,6 @@
 //! The words of a machine, class by class, in their order.
 
-ghost use Rattle.std.specs.Prelude.{◌≡◌, ◌+◌, ◌-◌, ◌*◌, ◌^◌, ◌<◌, ◌≤◌, ◌++◌, ◌||◌, [], ℕ, length, nat_lt, replicate, slice_index_or, sum_by, vec_capacity, false, IfSome, MatchOption};
+ghost use Rattle.std.specs.Prelude.{◌≡◌, ◌+◌, ◌-◌, ◌*◌, ◌^◌, ◌<◌, ◌≤◌, ◌++◌, ◌||◌, [], ℕ, length, nat_lt, replicate, slice_index_or, sum_by, vec_capacity, false, IfSome};
 ghost use Rattle.std.specs.Option.{option_map};
 ghost use Rattle.slub_common.specs.Times.{times};
 ghost use Rattle.slub_words.specs.Words.{slab_bits};
@@ -223,17 +223,6 @@ fn object_number(held: &Option<Held>) -> u64
             word.pack()
         }
         None => 0,
-    }
-}
-
-/// The words of the memory.
-pub fn push_memory(memory: &[u64], words: &mut Vec<u64>)
-    requires room { length words.old.items + length memory.now ≤ vec_capacity words.old }
-    ensures words { words.new.items ≡ words.old.items ++ memory.now }
-    ensures capacity { vec_capacity words.new ≡ vec_capacity words.old }
-{
-    for word in memory {
-        words.push_reserved(*word);
     }
 }
 

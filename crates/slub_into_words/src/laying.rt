@@ -14,6 +14,7 @@ use slub_list_machine::own_lists::OwnLists;
 use slub_list_machine::parts::Parts;
 use slub_lists::lists::{CpuLists, FrameList, FreeList, Slab};
 use slub_local::setup::Setup;
+use slub_memory::memory::Memory;
 
 /// What a CPU has of a cache, by the number of their word; None where the machine hasn't the CPU.
 pub fn lists_at(cpus: u32, lists: &[CpuLists], number: usize) -> Option<&CpuLists>
@@ -29,7 +30,7 @@ pub fn lists_at(cpus: u32, lists: &[CpuLists], number: usize) -> Option<&CpuList
 }
 
 /// Lays the free pointers of a CPU's freelist into the objects of its slab.
-fn lay_free(setup: &Setup, cache: u8, frame: u16, free: &FreeList, memory: &mut [u64])
+fn lay_free(setup: &Setup, cache: u8, frame: u16, free: &FreeList, memory: &mut Memory)
     requires { IsLayable setup.now (length memory.old) cache frame free.now }
     ensures { memory.new ≡ laid (free_row setup.now cache frame free.now) memory.old }
 {
@@ -42,7 +43,7 @@ fn lay_free(setup: &Setup, cache: u8, frame: u16, free: &FreeList, memory: &mut 
 }
 
 /// Lays those of a slab's own freelist.
-fn lay_own_free(setup: &Setup, cache: u8, frame: u16, frees: &OwnLists, memory: &mut [u64])
+fn lay_own_free(setup: &Setup, cache: u8, frame: u16, frees: &OwnLists, memory: &mut Memory)
     requires { IsLayable setup.now (length memory.old) cache frame (slice_index_or frees.now frame []) }
     ensures { memory.new ≡ laid (free_row setup.now cache frame (slice_index_or frees.now frame [])) memory.old }
 {
@@ -61,7 +62,7 @@ fn lay_pointer(
     frame: u16,
     index: u16,
     head: u16,
-    memory: &mut [u64],
+    memory: &mut Memory,
 ) -> u16
     requires index { index < 512 }
     requires inside { pointer_in setup.now cache frame index < length memory.old }
@@ -69,15 +70,16 @@ fn lay_pointer(
     ensures memory { memory.new ≡ slice_set memory.old (pointer_in setup.now cache frame index) (hardened cache (pointer_in setup.now cache frame index) head) }
 {
     let place = setup.pointer_at(cache, frame, index);
-    memory[place as usize] = setup.hardened(cache, place, head);
+    memory.write(place as usize, setup.hardened(cache, place, head));
     index + 1
 }
 
 /// Lays the slabs' own freelists.
-fn lay_own(setup: &Setup, slabs: &[Option<Slab>], frees: &OwnLists, memory: &mut [u64])
+fn lay_own(setup: &Setup, slabs: &[Option<Slab>], frees: &OwnLists, memory: &mut Memory)
     requires frames { length slabs.now ≤ 4096 }
     requires layable { (frame : ℕ) → IsLayable setup.now (length memory.old) (cache_in (slice_index_or slabs.now frame None)) frame (slice_index_or frees.now frame []) }
-    ensures { read memory.new ≡ lay_each (own_in setup.now slabs.now frees.now) (length slabs.now) (read memory.old) }
+    ensures count { length memory.new ≡ length memory.old }
+    ensures memory { read memory.new ≡ lay_each (own_in setup.now slabs.now frees.now) (length slabs.now) (read memory.old) }
 {
     for frame in 0..slabs.len() {
         let cache = cache_of(&slabs[frame]);
@@ -106,10 +108,11 @@ pub fn frame_of(current: Option<u16>) -> u16
 }
 
 /// Lays the CPUs' freelists.
-fn lay_cpus(setup: &Setup, cpus: u32, lists: &[CpuLists], memory: &mut [u64])
+fn lay_cpus(setup: &Setup, cpus: u32, lists: &[CpuLists], memory: &mut Memory)
     requires cpus { cpus ≤ 16 }
     requires layable { (n : ℕ) → IsLayable setup.now (length memory.old) (n / 16) (frame_of (cpu_in cpus lists.now n).current) (cpu_in cpus lists.now n).free }
-    ensures { read memory.new ≡ lay_each (cpu_free_in setup.now cpus lists.now) 512 (read memory.old) }
+    ensures count { length memory.new ≡ length memory.old }
+    ensures memory { read memory.new ≡ lay_each (cpu_free_in setup.now cpus lists.now) 512 (read memory.old) }
 {
     for number in 0..512 {
         if let Some(found) = lists_at(cpus, lists, number) {
@@ -151,9 +154,9 @@ pub fn lay_all(setup: &Setup, parts: &mut Parts, links: &mut Vec<u16>)
     requires consistent { IsConsistent (state_of parts.old) }
     requires setup { (step : ℕ) × (setup.now ≡ facts_of (state_of parts.old) step) }
     requires links { length links.old.items ≡ parts.old.frames }
-    ensures state { state_of parts.new ≡ record (state_of parts.old) { memory = parts.new.memory.items } }
-    ensures count { length parts.new.memory.items ≡ length parts.old.memory.items }
-    ensures memory { read parts.new.memory.items ≡ lay_each (cpu_row (state_of parts.old)) 512 (lay_each (own_row (state_of parts.old)) parts.old.frames (read parts.old.memory.items)) }
+    ensures state { state_of parts.new ≡ record (state_of parts.old) { memory = parts.new.memory } }
+    ensures count { length parts.new.memory ≡ length parts.old.memory }
+    ensures memory { read parts.new.memory ≡ lay_each (cpu_row (state_of parts.old)) 512 (lay_each (own_row (state_of parts.old)) parts.old.frames (read parts.old.memory)) }
     ensures links_count { length links.new.items ≡ length links.old.items }
     ensures links { read links.new.items ≡ lay_each (λ n. string_row (cpu_at (state_of parts.old) n).partial) 512 (read links.old.items) }
 {

@@ -38,6 +38,7 @@ pub enum KeptNode {
 }
 
 /// The vectors of the lists, into which the machine closes without taking memory, whatever stands in them.
+/// The words of the frames wait in the table.
 #[derive(Debug, Drop)]
 pub struct Rest {
     /// Frame 0 counts.
@@ -56,8 +57,6 @@ pub struct Rest {
     pub kept: Vec<KeptNode>,
     /// By cache number: the checked slabs are out.
     pub checked: Vec<Option<CheckedSlabs>>,
-    /// The words of the frames.
-    pub memory: Vec<u64>,
     /// By object number.
     pub board: Vec<Option<Held>>,
     pub gone: Vec<Option<Held>>,

@@ -1,6 +1,6 @@
 //! A machine on plain lists opens into words and lock values.
 
-ghost use Rattle.std.specs.Prelude.{◌≡◌, ◌+◌, ◌-◌, ◌≤◌, ◌++◌, [], length, replicate, vec_capacity, false, IfOk, IfErr};
+ghost use Rattle.std.specs.Prelude.{◌≡◌, ◌+◌, ◌-◌, ◌≤◌, [], length, replicate, vec_capacity, false, IfOk, IfErr};
 ghost use Rattle.slub_lists.specs.Coherent.{IsCoherent, IsConsistent};
 ghost use Rattle.slub_list_machine.specs.Parts.{state_of};
 ghost use Rattle.slub_into_words.specs.Beside.{IsBesideOf};
@@ -24,7 +24,10 @@ use std::alloc::Global;
 #[derive(Debug, Drop)]
 struct Room {
     setup: Setup,
+    /// For the words before the memory.
     words: Vec<u64>,
+    /// For those behind it.
+    links: Vec<u64>,
     /// A mark for each frame.
     marks: Vec<bool>,
     values: Vec<Guarded>,
@@ -59,13 +62,15 @@ fn take_room(alloc: Global, parts: &Parts, step: u32) -> Result<Room, NoMemory>
 {
     let frames = parts.frames as usize;
     let setup = facts::setup_of(alloc, parts, step)?;
-    let words = Vec::with_capacity(alloc, 1056 + 514 * frames + parts.board.len())?;
+    let words = Vec::with_capacity(alloc, 1056 + frames + parts.board.len())?;
+    let links = Vec::with_capacity(alloc, frames)?;
     let marks = vec![in alloc; false; frames]?;
     let values = Vec::with_capacity(alloc, CACHES_MAX + 1)?;
     let kept = Vec::with_capacity(alloc, CACHES_MAX)?;
     Ok(Room {
         setup,
         words,
+        links,
         marks,
         values,
         kept,
@@ -83,16 +88,16 @@ fn opened(mut parts: Parts, mut beside: Beside, room: Room) -> Opened
     let Room {
         setup,
         mut words,
+        mut links,
         marks,
         values,
         kept,
     } = room;
     push_front(&parts, &beside.tids, marks, &mut words);
     laying::lay_all(&setup, &mut parts, &mut beside.links);
-    classes::push_memory(&parts.memory, &mut words);
-    classes::push_links(&beside.links, &mut words);
-    let table = Table::open(parts.frames, parts.board.len() as u32, words);
-    let (values, rest) = values::moved(parts, beside, values, kept);
+    classes::push_links(&beside.links, &mut links);
+    let (values, memory, rest) = values::moved(parts, beside, values, kept);
+    let table = Table::open(rest.frames, rest.board.len() as u32, words, memory, links);
     Opened {
         setup,
         table,

@@ -64,13 +64,13 @@ fn opened(rt: &impl Abort, alloc: Global, lists: Lists) -> Result<Opened, NoMemo
 fn a_current_slab(rt: HostRuntime) -> Result<(), Fail> {
     let lists = machine(&rt, rt.alloc())?;
     let opened = opened(&rt, rt.alloc(), lists)?;
-    let words = opened.table.words();
-    assert_eq!(rt; words.len(), 1056 + 514 * 16 + 2);
-    assert_eq!(rt; words[545], 0x0000_0000_0001_0002);
-    assert_eq!(rt; words[546], 0x0000_0001_0000_0000);
-    assert_eq!(rt; words[1058], 0x0001_0015_0015_0000);
-    assert_eq!(rt; words[1073], 0x0001_0001);
-    assert_eq!(rt; words[1074 + 548], 0x4c46_6fac_43fd_007f);
+    let table = &opened.table;
+    assert_eq!(rt; table.len(), 1056 + 514 * 16 + 2);
+    assert_eq!(rt; table.word(545), 0x0000_0000_0001_0002);
+    assert_eq!(rt; table.word(546), 0x0000_0001_0000_0000);
+    assert_eq!(rt; table.word(1058), 0x0001_0015_0015_0000);
+    assert_eq!(rt; table.word(1073), 0x0001_0001);
+    assert_eq!(rt; table.word(1074 + 548), 0x4c46_6fac_43fd_007f);
     assert_eq!(rt; opened.setup.step(), 2);
     Ok(())
 }
@@ -82,11 +82,11 @@ fn a_listed_slab(rt: HostRuntime) -> Result<(), Fail> {
     assert!(rt; lists.cpus() == 2);
     assert_eq!(rt; lists.flush(0), Reply::Flushed(1));
     let opened = opened(&rt, rt.alloc(), lists)?;
-    let words = opened.table.words();
-    assert_eq!(rt; words.len(), 1056 + 514 * 16 + 2);
-    assert_eq!(rt; words[545], 0);
-    assert_eq!(rt; words[1058], 0x0002_0015_0001_0002);
-    assert_eq!(rt; words[1074 + 548], 0x4c46_6fac_43fd_007f);
+    let table = &opened.table;
+    assert_eq!(rt; table.len(), 1056 + 514 * 16 + 2);
+    assert_eq!(rt; table.word(545), 0);
+    assert_eq!(rt; table.word(1058), 0x0002_0015_0001_0002);
+    assert_eq!(rt; table.word(1074 + 548), 0x4c46_6fac_43fd_007f);
     assert!(rt; opened.values.len() == 33);
     assert_eq!(rt; opened.values[1].node(), [1].as_slice());
     Ok(())

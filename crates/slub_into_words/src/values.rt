@@ -17,6 +17,7 @@ use slub_cache_create::caches::Caches;
 use slub_list_machine::node::Node;
 use slub_list_machine::parts::Parts;
 use slub_local::guarded::Guarded;
+use slub_memory::memory::Memory;
 use slub_red_zone::checked::CheckedSlabs;
 
 /// What the lock of a cache guards, and what is left of its node list.
@@ -35,14 +36,14 @@ fn parted(live: bool, slabs: Option<CheckedSlabs>, node: Node) -> (Guarded, Kept
     }
 }
 
-/// Moves the pool, the node lists and the checked slabs behind their locks. The rest waits for the end of the round.
-/// `values` and `kept` are empty, with room.
+/// Moves the pool, the node lists and the checked slabs behind their locks, and the words of the frames out. The rest
+/// waits for the end of the round. `values` and `kept` are empty, with room.
 pub fn moved(
     parts: Parts,
     beside: Beside,
     mut values: Vec<Guarded>,
     mut kept: Vec<KeptNode>,
-) -> (Vec<Guarded>, Rest)
+) -> (Vec<Guarded>, Memory, Rest)
     requires consistent { IsConsistent (state_of parts) }
     requires tids { length beside.tids.items ≡ 512 }
     requires links { length beside.links.items ≡ parts.frames }
@@ -50,8 +51,9 @@ pub fn moved(
     requires kept { (kept.items ≡ []) × (32 ≤ vec_capacity kept) }
     ensures values { values_of result.0.items ≡ value_of (state_of parts) }
     ensures rooms { rooms_of result.0.items ≡ map (room_of (state_of parts)) (range_with_len 0 33) }
-    ensures rest { IsRestOf (state_of parts) result.1 }
-    ensures still { IsUntouched (state_of parts) result.1 }
+    ensures memory { result.1 ≡ parts.memory }
+    ensures rest { IsRestOf (state_of parts) result.2 }
+    ensures still { IsUntouched (state_of parts) result.2 }
 {
     let Parts {
         frames,
@@ -80,14 +82,13 @@ pub fn moved(
         nodes,
         kept,
         checked,
-        memory,
         board,
         gone,
         live,
         tids: beside.tids,
         links: beside.links,
     };
-    (values, rest)
+    (values, memory, rest)
 }
 
 /// Moves the node lists and the checked slabs, in the order of cache numbers.

@@ -107,6 +107,10 @@ ended-closes s ids b trace round m rest answers ended =
     record {
       setup = ended.setup;
       may_open = opens_;
+      sizes = record {
+        frames = sym (ap (λ (x : Setup). x.frames) ended.setup) ∙ ended.sizes.frames;
+        objects = sym (ap (λ (x : Setup). x.objects) ended.setup) ∙ ended.sizes.objects;
+      };
       waiting = ended.waiting;
       rooms = ended.full;
       coherent = subst P (sym ended.run) (after-coherent mm (world_before s d round) (system_begun s d round) ended.picks (opens mm (system_before s d round) opening));
@@ -130,6 +134,7 @@ pub has-ended : (s : State) (ids : List ℕ) (b : Beside) (trace : Trace) (round
 has-ended s ids b trace round m n rest answers picks may begun kept ready ran finished room = record {
   may = may;
   setup = kept ∙ begun.setup;
+  sizes = ready.sizes;
   picks = picks;
   run = ran ∙ (λ i. run (begun.setup i) (begun.system i) picks);
   finished = finished;

@@ -64,6 +64,7 @@ pub record HasEnded (s : State) (ids : List ℕ) (b : Beside) (trace : Trace) (r
     (m : Machine) (rest : Rest) (answers : Answers) : Type 0 where
   pub may : MayRun s ids b trace round
   pub setup : local.setup_of m.setup the_means ≡ setup_of s (beside_in b)
+  pub sizes : IsTableFor m.setup m.table
   pub picks : List Pick
   pub run : system_in m ≡ run (setup_of s (beside_in b)) (system_begun s (beside_in b) round) picks
   pub finished : All IsFinished m.locals.items

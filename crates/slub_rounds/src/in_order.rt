@@ -43,8 +43,8 @@ use std::alloc::Global;
 /// Does a round in the order of the text, of however many workers: each event is done to its end before the next one
 /// begins.
 ///
-/// All memory is taken before the first turn, but the bytes of new checked slabs. The cost is in proportion to the words
-/// of the machine, to the events and to the turns.
+/// All memory is taken before the first turn, but the bytes of new checked slabs. The cost is in proportion to the
+/// frames, the object numbers and the objects of the machine, to the events and to the turns.
 pub fn in_order(alloc: Global, lists: Lists, ids: &Ids, round: &Round) -> Result<Ended, Stopped>
     requires coherent { IsCoherent lists }
     requires laid_down { IsLaidDown lists }

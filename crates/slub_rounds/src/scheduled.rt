@@ -49,8 +49,8 @@ pub enum Stopped {
 
 /// Does a round of several workers: the turns are made in the order that the seed draws.
 ///
-/// All memory is taken before the first turn, but the bytes of new checked slabs. The cost is in proportion to the words
-/// of the machine and to the turns.
+/// All memory is taken before the first turn, but the bytes of new checked slabs. The cost is in proportion to the
+/// frames, the object numbers and the objects of the machine, and to the turns.
 pub fn scheduled(
     alloc: Global,
     lists: Lists,

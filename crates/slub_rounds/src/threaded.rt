@@ -26,8 +26,9 @@ use slub_into_words::opened::Opened;
 use slub_into_words::opening::open;
 use slub_list_machine::lists::Lists;
 use slub_local::local::Local;
+use slub_memory::memory::Memory;
 use slub_workers::round::threads_round;
-use std::alloc::{AllocError, Global};
+use std::alloc::Global;
 use std::sync::Wait;
 use std::thread::Threads;
 
@@ -63,7 +64,7 @@ pub fn threaded<R: Threads + Wait + Sync, G: Gate + Sync>(
     let (lists, kept) = keep_memory(alloc, lists);
     let memory = match kept {
         Ok(memory) => memory,
-        Err(AllocError) => return Err(lists),
+        Err(NoMemory) => return Err(lists),
     };
     let Room {
         beside,
@@ -80,12 +81,12 @@ pub fn threaded<R: Threads + Wait + Sync, G: Gate + Sync>(
 }
 
 /// The words of the frames, kept for the case that the round can't begin once the lists are opened.
-fn keep_memory(alloc: Global, lists: Lists) -> (Lists, Result<Vec<u64>, AllocError>)
+fn keep_memory(alloc: Global, lists: Lists) -> (Lists, Result<Memory, NoMemory>)
     ensures lists { result.0 ≡ lists }
-    ensures kept { IfOk result.1 (λ memory. memory.items ≡ lists.memory) }
+    ensures kept { IfOk result.1 (λ memory. memory ≡ lists.memory) }
 {
     let parts = lists.into_parts();
-    let kept = Vec::from_slice(alloc, &parts.memory);
+    let kept = parts.memory.copied(alloc);
     (Lists::from_parts(parts), kept)
 }
 
@@ -97,12 +98,12 @@ fn in_threads<R: Threads + Wait + Sync, G: Gate + Sync>(
     alloc: Global,
     opened: Opened,
     locals: Vec<Local>,
-    memory: Vec<u64>,
+    memory: Memory,
     answers: Answers,
     round: &Round,
 ) -> Result<Ended, Lists>
-    requires set { (s : State) × (ids : List ℕ) × (b : Beside) × (trace : Trace) × IsSetForThreads s ids b trace round.now opened locals.items memory.items answers }
-    ensures { (s : State) (ids : List ℕ) (b : Beside) (trace : Trace) → IsSetForThreads s ids b trace round.now opened locals.items memory.items answers → MatchResult result (λ done. IsDoneByThreads s ids round.now done) (λ after. after ≡ s) }
+    requires set { (s : State) × (ids : List ℕ) × (b : Beside) × (trace : Trace) × IsSetForThreads s ids b trace round.now opened locals.items memory answers }
+    ensures { (s : State) (ids : List ℕ) (b : Beside) (trace : Trace) → IsSetForThreads s ids b trace round.now opened locals.items memory answers → MatchResult result (λ done. IsDoneByThreads s ids round.now done) (λ after. after ≡ s) }
 {
     let (machine, rest) = begun(opened, locals);
     let objects = rest.board.len() as u32;

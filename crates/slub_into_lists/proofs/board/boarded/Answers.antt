@@ -7,4 +7,4 @@ use Rattle.slub_into_lists.proofs.board.boarded.Goals as goal
 
 pub returns-then-object-eq0 : goal.returns-then-object-eq0
 unfolding board_in
-returns-then-object-eq0 c = sym (ap (λ x. option_map held_on (board_in x)) (cond-true (eqb c.args.object 0) 0 (get_or c.args.words.now (c.args.base + c.args.object) 0) (eq-eqb c.args.object 0 c.if-object-eq0.true)))
+returns-then-object-eq0 c = sym (ap (λ x. option_map held_on (board_in x)) (cond-true (eqb c.args.object 0) 0 (get_or c.args.table.now.words (c.args.base + c.args.object) 0) (eq-eqb c.args.object 0 c.if-object-eq0.true)))

@@ -16,4 +16,4 @@ loop-local-preserved c = λ are object below.
     let item : P c.local-item.result = subst P (sym c.local-item.is) (are c.loop-local.local-index c.local-item.result within) in
     c.put_known.ensures item.0 (subst (λ n. All (λ (k : Known). k.object < n) c.local-item.result.known) long item.1) object (omega (arith, below, long))
     ∙ ap (λ o. option_or o (held_in c.local-item.result.worker c.local-item.result.known object)) (c.loop-local.invariant are object below)
-    ∙ among-place c.args.locals.now c.loop-local.local-index c.local-item.result object (on_board c.args.words.now c.args.base object) within c.local-item.is
+    ∙ among-place c.args.locals.now c.loop-local.local-index c.local-item.result object (on_board c.args.table.now.words c.args.base object) within c.local-item.is

@@ -11,4 +11,4 @@ use Rattle.slub_into_lists.proofs.board.close_board.Given as goal
 abbrev pub invariant-loop-local : goal.invariant-loop-local
 invariant-loop-local l =
     All (λ (x : Local). AreDistinct x.known × All (λ (k : Known). k.object < length l.fn.board) x.known) l.locals
-    → (object : ℕ) → object < length l.fn.board → get_or l.board object None ≡ option_or (on_board l.words l.base object) (held_among (take l.local-index l.locals) object)
+    → (object : ℕ) → object < length l.fn.board → get_or l.board object None ≡ option_or (on_board l.table.words l.base object) (held_among (take l.local-index l.locals) object)

@@ -3,4 +3,4 @@ use Rattle.slub_into_lists.specs.Reads.{on_board}
 use Rattle.slub_into_lists.proofs.board.lay_down.Given as goal
 
 abbrev pub invariant-loop-object : goal.invariant-loop-object
-invariant-loop-object l = (k : ℕ) → k < l.object → get_or l.board k None ≡ on_board l.words l.base k
+invariant-loop-object l = (k : ℕ) → k < l.object → get_or l.board k None ≡ on_board l.table.words l.base k

@@ -1,4 +1,5 @@
-use Rattle.std.proofs.Common.{length, ap, subst}
+use Rattle.std.proofs.Common.{◌≡◌, ◌*◌, ◌<◌, length, ap, sym, ◌∙◌, subst, arith}
+use Rattle.std.proofs.lemmas.List.{ext_get_or}
 use Rattle.slub_local.specs.Values.{values_of}
 use Rattle.slub_into_words.specs.declared.opened.Rest.{Rest}
 use Rattle.slub_into_lists.specs.Closing.{IsWritten, IsPutTogether}
@@ -20,9 +21,13 @@ put_together-requires c =
 pub returns : goal.returns
 returns c = λ s b world ended.
     let new = c.write_lists.new.rest in
-    let written : IsWritten c.args.setup.now c.args.table.words (values_of c.args.values.items) c.args.locals.now c.args.rest new =
-    subst (λ ws. IsWritten c.args.setup.now ws (values_of c.args.values.items) c.args.locals.now c.args.rest new) c.words.ensures.words
-    (subst (λ vs. IsWritten c.args.setup.now c.words.result.now (values_of vs) c.args.locals.now c.args.rest new) c.deref.ensures.value c.write_lists.ensures) in
-    let put : IsPutTogether c.args.setup.now.step (values_of c.args.values.items) new c.put_together.result.0 c.put_together.result.1 =
-    subst (λ n. IsPutTogether n (values_of c.args.values.items) new c.put_together.result.0 c.put_together.result.1) c.step.ensures.step c.put_together.ensures in
-    is-closed c.args.setup.now c.args.table c.args.values.items c.args.rest c.args.locals.now s b world ended new c.put_together.result.0 c.put_together.result.1 written put
+    let memory = c.into_memory.result in
+    let same : c.memory.result.now ≡ memory =
+    ext_get_or 0 c.memory.result.now memory (c.memory.ensures.count ∙ sym c.into_memory.ensures.count)
+    (λ at below. let inside : at < 512 * c.args.table.frames = omega (arith, below, c.memory.ensures.count) in c.memory.ensures.words at inside ∙ sym (c.into_memory.ensures.words at inside)) in
+    let written : IsWritten c.args.setup.now c.args.table.words memory (values_of c.args.values.items) c.args.locals.now c.args.rest new =
+    subst (λ ws. IsWritten c.args.setup.now c.args.table.words ws (values_of c.args.values.items) c.args.locals.now c.args.rest new) same
+    (subst (λ vs. IsWritten c.args.setup.now c.args.table.words c.memory.result.now (values_of vs) c.args.locals.now c.args.rest new) c.deref.ensures.value c.write_lists.ensures) in
+    let put : IsPutTogether c.args.setup.now.step (values_of c.args.values.items) new memory c.put_together.result.0 c.put_together.result.1 =
+    subst (λ n. IsPutTogether n (values_of c.args.values.items) new memory c.put_together.result.0 c.put_together.result.1) c.step.ensures.step c.put_together.ensures in
+    is-closed c.args.setup.now c.args.table c.args.values.items c.args.rest c.args.locals.now s b world ended new memory c.put_together.result.0 c.put_together.result.1 c.into_memory.ensures.count c.into_memory.ensures.words written put

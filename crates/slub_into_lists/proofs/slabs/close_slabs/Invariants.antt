@@ -4,4 +4,4 @@ use Rattle.slub_into_lists.specs.Reads.{slab_at}
 use Rattle.slub_into_lists.proofs.slabs.close_slabs.Given as goal
 
 abbrev pub invariant-loop-frame : goal.invariant-loop-frame
-invariant-loop-frame l = (k : ℕ) → k < l.frame → get_or l.slabs k None ≡ slab_at l.setup l.words (values_of l.values) k
+invariant-loop-frame l = (k : ℕ) → k < l.frame → get_or l.slabs k None ≡ slab_at l.setup l.table.words (values_of l.values) k

@@ -5,7 +5,7 @@ use Rattle.slub_into_lists.proofs.walks.walk_string.Given as goal
 -- what was come by, and what the walk comes by from here on, are the whole
 abbrev pub invariant-loop-next : goal.invariant-loop-next
 invariant-loop-next l = record {
-  whole : string_in l.words l.links l.fn.front ≡ l.partial ++ walked (λ frame. frame) (link_in l.words l.links) (4095 - length l.partial) l.next;
+  whole : string_in l.table.words l.links l.fn.front ≡ l.partial ++ walked (λ frame. frame) (link_in l.table.words l.links) (4095 - length l.partial) l.next;
   small : l.next < 2 ^ 16;
 }
 

@@ -1,8 +1,7 @@
-use Rattle.std.proofs.Common.{◌≡◌, ◌<◌, ◌^◌, [], Some, None, false, refl, sym, ◌∙◌, arith}
+use Rattle.std.proofs.Common.{◌≡◌, Some, None, false, refl, sym, ◌∙◌, arith}
 use Rattle.slub_lists.proofs.ObjectWords.{read-inside}
 use Rattle.slub_list_machine.specs.Parts.{state_of}
 use Rattle.slub_lists.specs.Alloc.{slab_of, own_free, checked_of}
-use Rattle.slub_opening.specs.Opening.{head_of}
 use Rattle.slub_into_words.proofs.Small.{own-head, plain-number, none-is}
 use Rattle.slub_into_words.proofs.classes.slab_number.Goals as goal
 

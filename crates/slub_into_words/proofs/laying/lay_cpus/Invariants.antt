@@ -1,8 +1,11 @@
-use Rattle.std.proofs.Common.{◌≡◌}
+use Rattle.std.proofs.Common.{◌≡◌, length}
 use Rattle.slub_opening.specs.Opening.{lay_each}
 use Rattle.slub_into_words.specs.Laying.{read, cpu_free_in}
 use Rattle.slub_into_words.proofs.laying.lay_cpus.Given as goal
 
 -- the freelists of the first CPUs stand there
 abbrev pub invariant-loop-number : goal.invariant-loop-number
-invariant-loop-number l = read l.memory ≡ lay_each (cpu_free_in l.setup l.cpus l.lists) l.number (read l.fn.memory)
+invariant-loop-number l = record {
+  count : length l.memory ≡ length l.fn.memory;
+  memory : read l.memory ≡ lay_each (cpu_free_in l.setup l.cpus l.lists) l.number (read l.fn.memory);
+}

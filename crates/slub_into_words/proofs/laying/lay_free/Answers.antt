@@ -1,4 +1,4 @@
-use Rattle.std.proofs.Common.{◌≡◌, ◌-◌, ◌<◌, Some, refl, arith, ap, sym, ◌∙◌}
+use Rattle.std.proofs.Common.{◌≡◌, ◌-◌, ◌<◌, Some, refl, arith, ap, sym, ◌∙◌, length, length-set}
 use Rattle.std.specs.Prelude.{slice_get}
 use Rattle.std.proofs.lemmas.Bool.Decides.{nat_tests}
 use Rattle.slub_core.specs.Setup.{hardened}
@@ -17,6 +17,7 @@ loop-at-preserved-in-Some c =
     record {
       memory = c.lay_pointer-next.ensures.memory
           ∙ lay-step row.place row.value free c.args.memory.now c.loop-at.memory c.loop-at.at c.in-Some.index place (hardened c.args.cache place c.loop-at.next) some at c.loop-at.invariant.memory refl (ap (hardened c.args.cache place) c.loop-at.invariant.next);
+      count = ap length c.lay_pointer-next.ensures.memory ∙ length-set c.loop-at.memory place (hardened c.args.cache place c.loop-at.next) ∙ c.loop-at.invariant.count;
       next = c.lay_pointer-next.ensures.head ∙ next-head free c.loop-at.at c.in-Some.index some at;
     }
 

@@ -1,4 +1,4 @@
-use Rattle.std.proofs.Common.{◌≡◌, [], drop, get_or}
+use Rattle.std.proofs.Common.{◌≡◌, [], drop, get_or, length}
 use Rattle.slub_opening.specs.Opening.{head_of}
 use Rattle.slub_into_words.specs.Laying.{free_row, laid_items}
 use Rattle.slub_into_words.proofs.laying.lay_own_free.Given as goal
@@ -10,5 +10,6 @@ invariant-loop-at l =
     let row = free_row l.setup l.cache l.frame own in
     record {
       memory : l.memory ≡ laid_items row.place row.value (drop l.at own) l.fn.memory;
+      count : length l.memory ≡ length l.fn.memory;
       next : l.next ≡ head_of (drop l.at own);
     }

@@ -30,7 +30,6 @@ returns-clause-rest c =
       slabs = shaped.slabs;
       frees = shaped.frees;
       cpu_lists = shaped.cpu_lists;
-      memory = shaped.memory;
       board = refl;
       gone = shaped.gone;
       live = shaped.live;

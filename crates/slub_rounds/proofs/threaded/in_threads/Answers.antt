@@ -33,11 +33,11 @@ pub put_back-requires : goal.put_back-requires
 put_back-requires g c =
     let (s, ids, b, trace, set) = c.requires.set in (
       s,
-      was-opened s ids b trace c.args.round.now c.args.opened c.args.locals.items c.args.memory.items c.args.answers c.in-Err.unopened.machine.values.items c.begun-machine.result.1 set
+      was-opened s ids b trace c.args.round.now c.args.opened c.args.locals.items c.args.memory c.args.answers c.in-Err.unopened.machine.values.items c.begun-machine.result.1 set
           (c.in-Err.ensures.unopened.values ∙ ap (λ v. v.items) c.begun-machine.ensures.values) c.begun-machine.ensures.rest,
     )
 
 pub returns-in-Err : goal.returns-in-Err
 returns-in-Err g c = λ s ids b trace set.
-    c.put_back.ensures s (was-opened s ids b trace c.args.round.now c.args.opened c.args.locals.items c.args.memory.items c.args.answers c.in-Err.unopened.machine.values.items c.begun-machine.result.1 set
+    c.put_back.ensures s (was-opened s ids b trace c.args.round.now c.args.opened c.args.locals.items c.args.memory c.args.answers c.in-Err.unopened.machine.values.items c.begun-machine.result.1 set
     (c.in-Err.ensures.unopened.values ∙ ap (λ v. v.items) c.begun-machine.ensures.values) c.begun-machine.ensures.rest)

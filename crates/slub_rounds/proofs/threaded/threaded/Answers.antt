@@ -10,8 +10,8 @@ pub in_threads-requires-clause-set : goal.in_threads-requires-clause-set
 in_threads-requires-clause-set g c = λ κs lives.
     let (trace, does) = c.requires.may_do in
     let lists = c.args.lists in
-    let kept : c.in-Ok-kept.memory.items ≡ lists.memory = subst (λ r. IfOk r (λ memory. memory.items ≡ lists.memory)) c.in-Ok-kept.is c.keep_memory-lists.ensures.kept in
-    let set = set-for lists c.args.ids.now trace c.args.round.now c.in-Ok.room c.keep_memory-lists.result.0 c.in-Ok-open.opened c.in-Ok-kept.memory.items c.requires.coherent c.requires.laid_down does c.in-Ok.ensures
+    let kept : c.in-Ok-kept.memory ≡ lists.memory = subst (λ r. IfOk r (λ memory. memory ≡ lists.memory)) c.in-Ok-kept.is c.keep_memory-lists.ensures.kept in
+    let set = set-for lists c.args.ids.now trace c.args.round.now c.in-Ok.room c.keep_memory-lists.result.0 c.in-Ok-open.opened c.in-Ok-kept.memory c.requires.coherent c.requires.laid_down does c.in-Ok.ensures
     c.keep_memory-lists.ensures.lists c.in-Ok-open.ensures.opened c.in-Ok-open.ensures.still kept in
     (lists, c.args.ids.now, c.in-Ok.room.beside, trace, set)
 
@@ -19,8 +19,8 @@ pub returns-in-Ok-open-clause-does : goal.returns-in-Ok-open-clause-does
 returns-in-Ok-open-clause-does g c =
     let (trace, does) = c.requires.may_do in
     let lists = c.args.lists in
-    let kept : c.in-Ok-kept.memory.items ≡ lists.memory = subst (λ r. IfOk r (λ memory. memory.items ≡ lists.memory)) c.in-Ok-kept.is c.keep_memory-lists.ensures.kept in
-    let set = set-for lists c.args.ids.now trace c.args.round.now c.in-Ok.room c.keep_memory-lists.result.0 c.in-Ok-open.opened c.in-Ok-kept.memory.items c.requires.coherent c.requires.laid_down does c.in-Ok.ensures
+    let kept : c.in-Ok-kept.memory ≡ lists.memory = subst (λ r. IfOk r (λ memory. memory ≡ lists.memory)) c.in-Ok-kept.is c.keep_memory-lists.ensures.kept in
+    let set = set-for lists c.args.ids.now trace c.args.round.now c.in-Ok.room c.keep_memory-lists.result.0 c.in-Ok-open.opened c.in-Ok-kept.memory c.requires.coherent c.requires.laid_down does c.in-Ok.ensures
     c.keep_memory-lists.ensures.lists c.in-Ok-open.ensures.opened c.in-Ok-open.ensures.still kept in
     does-of Finishes State (λ after. after ≡ lists) lists c.args.ids.now c.args.round.now c.in_threads.result (c.in_threads.ensures lists c.args.ids.now c.in-Ok.room.beside trace set)
 
@@ -28,8 +28,8 @@ pub returns-in-Ok-open-clause-coherent : goal.returns-in-Ok-open-clause-coherent
 returns-in-Ok-open-clause-coherent g c =
     let (trace, does) = c.requires.may_do in
     let lists = c.args.lists in
-    let kept : c.in-Ok-kept.memory.items ≡ lists.memory = subst (λ r. IfOk r (λ memory. memory.items ≡ lists.memory)) c.in-Ok-kept.is c.keep_memory-lists.ensures.kept in
-    let set = set-for lists c.args.ids.now trace c.args.round.now c.in-Ok.room c.keep_memory-lists.result.0 c.in-Ok-open.opened c.in-Ok-kept.memory.items c.requires.coherent c.requires.laid_down does c.in-Ok.ensures
+    let kept : c.in-Ok-kept.memory ≡ lists.memory = subst (λ r. IfOk r (λ memory. memory ≡ lists.memory)) c.in-Ok-kept.is c.keep_memory-lists.ensures.kept in
+    let set = set-for lists c.args.ids.now trace c.args.round.now c.in-Ok.room c.keep_memory-lists.result.0 c.in-Ok-open.opened c.in-Ok-kept.memory c.requires.coherent c.requires.laid_down does c.in-Ok.ensures
     c.keep_memory-lists.ensures.lists c.in-Ok-open.ensures.opened c.in-Ok-open.ensures.still kept in
     coherent-of Finishes State (λ after. after ≡ lists) lists c.args.ids.now c.args.round.now c.in_threads.result (c.in_threads.ensures lists c.args.ids.now c.in-Ok.room.beside trace set)
 
@@ -37,8 +37,8 @@ pub returns-in-Ok-open-clause-laid_down : goal.returns-in-Ok-open-clause-laid_do
 returns-in-Ok-open-clause-laid_down g c =
     let (trace, does) = c.requires.may_do in
     let lists = c.args.lists in
-    let kept : c.in-Ok-kept.memory.items ≡ lists.memory = subst (λ r. IfOk r (λ memory. memory.items ≡ lists.memory)) c.in-Ok-kept.is c.keep_memory-lists.ensures.kept in
-    let set = set-for lists c.args.ids.now trace c.args.round.now c.in-Ok.room c.keep_memory-lists.result.0 c.in-Ok-open.opened c.in-Ok-kept.memory.items c.requires.coherent c.requires.laid_down does c.in-Ok.ensures
+    let kept : c.in-Ok-kept.memory ≡ lists.memory = subst (λ r. IfOk r (λ memory. memory ≡ lists.memory)) c.in-Ok-kept.is c.keep_memory-lists.ensures.kept in
+    let set = set-for lists c.args.ids.now trace c.args.round.now c.in-Ok.room c.keep_memory-lists.result.0 c.in-Ok-open.opened c.in-Ok-kept.memory c.requires.coherent c.requires.laid_down does c.in-Ok.ensures
     c.keep_memory-lists.ensures.lists c.in-Ok-open.ensures.opened c.in-Ok-open.ensures.still kept in
     laid-of Finishes State (λ after. after ≡ lists) lists c.args.ids.now c.args.round.now c.in_threads.result (c.in_threads.ensures lists c.args.ids.now c.in-Ok.room.beside trace set)
 
@@ -46,8 +46,8 @@ pub returns-in-Ok-open-clause-ids : goal.returns-in-Ok-open-clause-ids
 returns-in-Ok-open-clause-ids g c =
     let (trace, does) = c.requires.may_do in
     let lists = c.args.lists in
-    let kept : c.in-Ok-kept.memory.items ≡ lists.memory = subst (λ r. IfOk r (λ memory. memory.items ≡ lists.memory)) c.in-Ok-kept.is c.keep_memory-lists.ensures.kept in
-    let set = set-for lists c.args.ids.now trace c.args.round.now c.in-Ok.room c.keep_memory-lists.result.0 c.in-Ok-open.opened c.in-Ok-kept.memory.items c.requires.coherent c.requires.laid_down does c.in-Ok.ensures
+    let kept : c.in-Ok-kept.memory ≡ lists.memory = subst (λ r. IfOk r (λ memory. memory ≡ lists.memory)) c.in-Ok-kept.is c.keep_memory-lists.ensures.kept in
+    let set = set-for lists c.args.ids.now trace c.args.round.now c.in-Ok.room c.keep_memory-lists.result.0 c.in-Ok-open.opened c.in-Ok-kept.memory c.requires.coherent c.requires.laid_down does c.in-Ok.ensures
     c.keep_memory-lists.ensures.lists c.in-Ok-open.ensures.opened c.in-Ok-open.ensures.still kept in
     ids-of Finishes State (λ after. after ≡ lists) lists c.args.ids.now c.args.round.now c.in_threads.result (c.in_threads.ensures lists c.args.ids.now c.in-Ok.room.beside trace set)
 
@@ -55,8 +55,8 @@ pub returns-in-Ok-open-clause-err : goal.returns-in-Ok-open-clause-err
 returns-in-Ok-open-clause-err g c =
     let (trace, does) = c.requires.may_do in
     let lists = c.args.lists in
-    let kept : c.in-Ok-kept.memory.items ≡ lists.memory = subst (λ r. IfOk r (λ memory. memory.items ≡ lists.memory)) c.in-Ok-kept.is c.keep_memory-lists.ensures.kept in
-    let set = set-for lists c.args.ids.now trace c.args.round.now c.in-Ok.room c.keep_memory-lists.result.0 c.in-Ok-open.opened c.in-Ok-kept.memory.items c.requires.coherent c.requires.laid_down does c.in-Ok.ensures
+    let kept : c.in-Ok-kept.memory ≡ lists.memory = subst (λ r. IfOk r (λ memory. memory ≡ lists.memory)) c.in-Ok-kept.is c.keep_memory-lists.ensures.kept in
+    let set = set-for lists c.args.ids.now trace c.args.round.now c.in-Ok.room c.keep_memory-lists.result.0 c.in-Ok-open.opened c.in-Ok-kept.memory c.requires.coherent c.requires.laid_down does c.in-Ok.ensures
     c.keep_memory-lists.ensures.lists c.in-Ok-open.ensures.opened c.in-Ok-open.ensures.still kept in
     stops-of Finishes State (λ after. after ≡ lists) lists c.args.ids.now c.args.round.now c.in_threads.result (c.in_threads.ensures lists c.args.ids.now c.in-Ok.room.beside trace set)
 
@@ -64,8 +64,8 @@ pub returns-in-Ok-open-clause-lawful : goal.returns-in-Ok-open-clause-lawful
 returns-in-Ok-open-clause-lawful g c =
     let (trace, does) = c.requires.may_do in
     let lists = c.args.lists in
-    let kept : c.in-Ok-kept.memory.items ≡ lists.memory = subst (λ r. IfOk r (λ memory. memory.items ≡ lists.memory)) c.in-Ok-kept.is c.keep_memory-lists.ensures.kept in
-    let set = set-for lists c.args.ids.now trace c.args.round.now c.in-Ok.room c.keep_memory-lists.result.0 c.in-Ok-open.opened c.in-Ok-kept.memory.items c.requires.coherent c.requires.laid_down does c.in-Ok.ensures
+    let kept : c.in-Ok-kept.memory ≡ lists.memory = subst (λ r. IfOk r (λ memory. memory ≡ lists.memory)) c.in-Ok-kept.is c.keep_memory-lists.ensures.kept in
+    let set = set-for lists c.args.ids.now trace c.args.round.now c.in-Ok.room c.keep_memory-lists.result.0 c.in-Ok-open.opened c.in-Ok-kept.memory c.requires.coherent c.requires.laid_down does c.in-Ok.ensures
     c.keep_memory-lists.ensures.lists c.in-Ok-open.ensures.opened c.in-Ok-open.ensures.still kept in
     lawful-of Finishes State (λ after. after ≡ lists) lists c.args.ids.now c.args.round.now c.in_threads.result
     (λ result after left done. c.rounds_by_threads_are_lawful.ensures lists c.args.ids.now trace c.args.round.now result after left c.requires.coherent c.requires.laid_down does done)

@@ -1,5 +1,6 @@
 -- The parts of a slot: where they lie, and what follows for what is examined and written.
-use Rattle.std.proofs.Common.{◌≡◌, ℕ, ◌+◌, ◌≤◌, ◌++◌, ◌↔◌, Bool, true, false, IsTrue, List, [], ◌∷◌, length, replicate, All, Option, None, Some, refl, ap, arith, subst, sym, ◌∙◌, if◌then◌else◌}
+use Rattle.std.proofs.Common.{◌≡◌, ◌==◌, ℕ, ◌+◌, ◌≤◌, ◌++◌, ◌↔◌, not, Bool, true, false, IsTrue, List, [], ◌∷◌, length, position, replicate, All, Option, None, Some, refl, ap, arith, subst, sym, ◌∙◌, if◌then◌else◌}
+use Rattle.std.specs.List.{list_all}
 use Rattle.std.proofs.lemmas.Bool.{false≢true}
 use Rattle.std.proofs.lemmas.List.{get_or-replicate, length-replicate}
 use Rattle.std.proofs.lemmas.List.Elements.{All-nil, All-cons, All-append}
@@ -179,3 +180,8 @@ module _ (layout : Layout) (flags : Flags) (is : IsLayoutFor flags layout) where
   -- so nothing keeps an object of a new slab from being given
   pub new-given : damage_when_given layout flags (new_slot layout flags) ≡ None
   new-given = (given-whole layout is.bounds flags (new_slot layout flags) new-long).1 (λ on. new-whole)
+
+-- where every byte is this one, none is another
+pub none_other : (byte : ℕ) (bytes : List ℕ) → list_all (λ x. x == byte) bytes ≡ true → position (λ x. not (x == byte)) bytes ≡ None
+none_other byte [] all = grind arith
+none_other byte (x ∷ xs) all = grind (arith, none_other byte xs)

@@ -1,6 +1,7 @@
 //! The checked bytes of a slot: the first that is damaged, and setting an object up.
 
 ghost use Rattle.std.specs.Prelude.{◌≡◌, ◌==◌, ◌+◌, ◌<◌, ◌≤◌, not, length, position, IfSome};
+ghost use Rattle.std.specs.List.{list_all};
 ghost use Rattle.slub_object_layout.specs.Layout.{IsWithinBounds};
 ghost use Rattle.slub_red_zone.specs.Zones as spec;
 
@@ -169,7 +170,21 @@ fn first_other(bytes: &[u8], wanted: u8) -> Option<usize>
     ensures first { result ≡ position (λ byte. not (byte == wanted)) bytes.now }
     ensures inside { IfSome result (λ at. at < length bytes.now) }
 {
+    if are_all(bytes, wanted) {
+        return None;
+    }
     bytes.iter().position(|byte| *byte != wanted)
+}
+
+/// Whether every byte is this one. It looks at each, many at a time.
+fn are_all(bytes: &[u8], wanted: u8) -> bool
+    ensures { result ≡ list_all (λ byte. byte == wanted) bytes.now }
+{
+    let mut same = true;
+    for byte in bytes {
+        same = same & (*byte == wanted);
+    }
+    same
 }
 
 /// Sets an object up with this byte in its red zones; every other byte of its slot stays

@@ -15,6 +15,7 @@ use slub_local::local::Local;
 use slub_local::setup::Setup;
 
 /// Leads the worker to where the answer of its step leads, and tells the reply that its call has by it.
+#[inline(always)]
 pub fn alloc_advance(
     setup: &Setup,
     local: &mut Local,

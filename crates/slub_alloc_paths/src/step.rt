@@ -16,6 +16,7 @@ use slub_local::ways::raised_word;
 use slub_words::slab::SlabWord;
 
 /// The step that a spot calls for (`slab_alloc_node`, `___slab_alloc`).
+#[inline(always)]
 pub fn alloc_step(setup: &Setup, local: &Local, spot: AllocSpot) -> Step
     requires { AllocFits setup.now.step local.now spot }
     ensures { (means : Means) → result ≡ alloc_step (setup_of setup.now means) local.now spot }

@@ -30,6 +30,7 @@ use slub_words::cpu::CpuWord;
 use slub_words::slab::SlabWord;
 
 /// The step that a spot of a free calls for.
+#[inline(always)]
 pub fn free_step(setup: &Setup, local: &Local, spot: FreeSpot) -> Step
     requires { FreeFits setup.now.step local.now spot }
     ensures { (means : Means) → result ≡ free.free_step (setup_of setup.now means) local.now spot }
@@ -71,6 +72,7 @@ fn freed_word(local: &Local) -> SlabWord
 }
 
 /// Where the answer to that step leads, and the reply that the call has by it.
+#[inline(always)]
 pub fn free_advance(
     setup: &Setup,
     local: &mut Local,

@@ -13,6 +13,7 @@ use slub_local::ops;
 use slub_local::words::list_in;
 
 /// The step that a spot of it calls for.
+#[inline(always)]
 pub fn put_on_list_step(local: &Local, spot: PutOnListSpot) -> Step
     ensures { result ≡ put_on_list.put_on_list_step local.now spot }
 {
@@ -29,6 +30,7 @@ pub fn put_on_list_step(local: &Local, spot: PutOnListSpot) -> Step
 }
 
 /// Where the answer to that step leads.
+#[inline(always)]
 pub fn put_on_list_advance(local: &mut Local, spot: PutOnListSpot, put: PutOnList, answer: Answer)
     requires { PutOnListFits local.old spot put }
     ensures { goes local.new ≡ put_on_list.put_on_list_advance local.old spot put answer }

@@ -16,6 +16,7 @@ use slub_local::ops;
 use slub_local::setup::Setup;
 
 /// The step of a write.
+#[inline(always)]
 pub fn write_step(setup: &Setup, local: &Local) -> Step
     requires { (call_of local.now).word ≤ 4095 }
     ensures { (means : Means) → (value : ℕ → LockValue) → result ≡ core.step_at (setup_of setup.now means) value local.now Spot.WriteWord }
@@ -25,6 +26,7 @@ pub fn write_step(setup: &Setup, local: &Local) -> Step
 }
 
 /// The step of a read.
+#[inline(always)]
 pub fn read_step(setup: &Setup, local: &Local) -> Step
     requires { (call_of local.now).word ≤ 4095 }
     ensures { (means : Means) → (value : ℕ → LockValue) → result ≡ core.step_at (setup_of setup.now means) value local.now Spot.ReadWord }
@@ -33,6 +35,7 @@ pub fn read_step(setup: &Setup, local: &Local) -> Step
 }
 
 /// Where the answer to a write's step leads, and the reply that the call has by it.
+#[inline(always)]
 pub fn write_advance(setup: &Setup, local: &mut Local, answer: Answer) -> Option<Reply>
     ensures { (means : Means) → (value : ℕ → LockValue) → turned local.new result ≡ core.advance_at (setup_of setup.now means) value local.old Spot.WriteWord answer }
 {
@@ -46,6 +49,7 @@ pub fn write_advance(setup: &Setup, local: &mut Local, answer: Answer) -> Option
 }
 
 /// Where the answer to a read's step leads, and the reply that the call has by it.
+#[inline(always)]
 pub fn read_advance(setup: &Setup, local: &mut Local, answer: Answer) -> Option<Reply>
     ensures { (means : Means) → (value : ℕ → LockValue) → turned local.new result ≡ core.advance_at (setup_of setup.now means) value local.old Spot.ReadWord answer }
 {

@@ -4,12 +4,13 @@ use Rattle.slub_answers.specs.declared.reply.Reply.{Reply}
 use Rattle.slub_core.specs.declared.spot.Spot.{Spot}
 use Rattle.slub_core.specs.declared.step.Step.{Step}
 use Rattle.slub_core.specs.declared.step.Answer.{Answer}
-use Rattle.slub_core.specs.Setup.{Setup}
+use Rattle.slub_core.specs.Setup.{Setup, Means}
 use Rattle.slub_core.specs.Words.{number_of, after_op, answer_of}
 use Rattle.slub_core.specs.Local.{Local, Turn, Change, noted}
 use Rattle.slub_core.specs.Steps.{step_at, advance_at, changed, settled, rested, begun, told}
 use Rattle.slub_core.specs.Run.{System, after_step, turn}
 use Rattle.slub_local.specs.declared.guarded.Guarded.{Guarded}
+use Rattle.slub_local.specs.Facts.{Facts, setup_of}
 use Rattle.slub_local.specs.Values.{values_of, rooms_of}
 use Rattle.slub_local.specs.Ways as ways
 use Rattle.slub_schedule.specs.Table.{WordTable}
@@ -120,3 +121,9 @@ fast_hears m table values k s step answer at made heard fits =
     let P : Change → Type 0 = λ c. HasCallFor c.local c.reply in
     let Q : Turn → Type 0 = λ u. HasCallFor u.local u.reply in
     subst Q (blindly m (values_of values) k s answer) (subst P (sym is) fits.first.call)
+
+-- a turn that fits whatever the locks guard and whether memory is refused, fits where it isn't
+pub quick_fits : (facts : Facts) (table : WordTable) (values : List Guarded) (local : Local)
+    → (means : Means) × HasRooms (setup_of facts means) (rooms_of values) × ((refused : Bool) → TurnFits (setup_of facts means) refused (alone table values local) local)
+    → (means : Means) × (values : List Guarded) × TurnFits (setup_of facts means) false (alone table values local) local
+quick_fits facts table values local fits = (fits.0, values, fits.2 false)

@@ -1,8 +1,8 @@
 //! What is done at once, under a lock that the worker has.
 
-ghost use Rattle.std.specs.Prelude.{◌≡◌, ◌||◌, Bool};
+ghost use Rattle.std.specs.Prelude.{◌≡◌, ◌||◌};
 ghost use Rattle.slub_core.specs.Setup.{Means};
-ghost use Rattle.slub_core.specs.Local.{noted, Change};
+ghost use Rattle.slub_core.specs.Local.{noted};
 ghost use Rattle.slub_core.specs.Steps as core;
 ghost use Rattle.slub_local.specs.Facts.{setup_of};
 ghost use Rattle.slub_local.specs.Values.{values_of, rooms_of};
@@ -98,6 +98,7 @@ fn change_here(setup: &Setup, values: &mut [Guarded], local: &mut Local) -> Opti
 }
 
 /// Whether something is done at once at this spot, which then calls for no step.
+#[inline(always)]
 fn is_at_once(spot: Spot) -> bool
     ensures { result ≡ spots.is_at_once spot }
 {
@@ -117,6 +118,7 @@ fn is_at_once(spot: Spot) -> bool
 
 /// The call has this reply, if it is one; and what is done at once after that is done, up to a spot that calls for a
 /// step, which is twice at most. Whether memory was refused in it.
+#[inline(always)]
 pub fn settle(
     setup: &Setup,
     values: &mut [Guarded],

@@ -3,9 +3,11 @@
 //! `step`, `advance` and `at_once` join the paths over the spots of a worker: the step that its spot calls for, where
 //! the answer leads, and what is done at once under a lock. `begin` begins a call and gives the replies that take no
 //! step. `turn` is all of a turn; at the six spots of the two fast paths it is made of the parts in `quick`, in which
-//! nothing is left to choose, as the turn of a thread is (`slub_workers`). `machine` has the words, the values of the
-//! locks and the workers of a round, and `round` runs a round by seed. Contracts see the machine by `system_of` of
-//! `specs/System.antt`; what they ask of it is `IsReady` of `specs/Ready.antt`.
+//! nothing is left to choose, as the turn of a thread is (`slub_workers`). Of the other spots those of a free onto the
+//! slab's own freelist are named where the turn is made (`free_turn`), so that the compiler can drop the other cases of
+//! the path. `machine` has the words, the values of the locks and the workers of a round, and `round` runs a round by
+//! seed. Contracts see the machine by `system_of` of `specs/System.antt`; what they ask of it is `IsReady` of
+//! `specs/Ready.antt`.
 //!
 //! # What it promises
 //!

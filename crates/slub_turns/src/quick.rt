@@ -243,7 +243,8 @@ fn pushed(setup: &Setup, local: &mut Local, answer: Answer)
     }
 }
 
-/// Leads the worker to where the answer leads, with the reply that its call has by it and the replies that take no step.
+/// Leads the worker to where the answer leads, with the reply that its call has by it and the replies that take no
+/// step.
 #[inline(always)]
 pub fn lead(setup: &Setup, local: &mut Local, spot: Quick, answer: Answer)
     requires { (means : Means) × MayHear (setup_of setup.now means) local.old (spot_of spot) answer }

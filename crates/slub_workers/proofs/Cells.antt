@@ -1,11 +1,11 @@
 -- The words by number, and the cells that they lie in.
-use Rattle.std.proofs.Common.{◌≡◌, ◌⊎◌, ℕ, ◌+◌, ◌-◌, ◌*◌, ◌<◌, ◌≤◌, List, length, get_or, set, sym, ap, ◌∙◌, subst, inl, inr, arith, length-set}
+use Rattle.std.proofs.Common.{◌≡◌, ◌⊎◌, ℕ, ◌+◌, ◌-◌, ◌*◌, ◌<◌, ◌≤◌, List, length, get_or, set, refl, sym, ap, ◌∙◌, subst, inl, inr, arith, length-set}
 use Rattle.std.proofs.lemmas.Bool.{cases_eq, cases_lt}
 use Rattle.std.proofs.lemmas.Bool.Decides.{nat_tests}
 use Rattle.std.proofs.lemmas.List.{ext_get_or, get_or_past, get_or-set_same, get_or-set_other}
 use Rattle.std.proofs.lemmas.List.FromFn.{length-map-range_with_len, get_or-map-range_with_len}
-use Rattle.slub_core.specs.Words.{cpu_base, slab_base}
-use Rattle.slub_workers.specs.Cells.{mirrored, cell_of, by_number, CpuWordsLieApart}
+use Rattle.slub_core.specs.Words.{list_base, cpu_base, slab_base}
+use Rattle.slub_workers.specs.Cells.{mirrored, cell_of, spread_end, by_number, CpusLieApart, SlabsLieApart}
 
 -- ---- digits
 
@@ -17,29 +17,54 @@ mirrored-mirrored i low = omega arith
 
 -- ---- cells
 
-pub cell-below : (n : ℕ) → n < cpu_base → cell_of n ≡ n
+pub cell-below : (n : ℕ) → n < list_base → cell_of n ≡ n
 unfolding cell_of
 cell-below n low = grind (arith, nat_tests)
 
-pub cell-above : (n : ℕ) → slab_base ≤ n → cell_of n ≡ n
+pub cell-above : (n : ℕ) → spread_end ≤ n → cell_of n ≡ n
 unfolding cell_of
 cell-above n far = grind (arith, nat_tests)
+
+pub cell-list : (i : ℕ) → i < 512 → cell_of (list_base + i) ≡ list_base + mirrored i
+unfolding cell_of
+cell-list i low = grind (arith, nat_tests)
 
 pub cell-cpu : (i : ℕ) → i < 512 → cell_of (cpu_base + i) ≡ cpu_base + mirrored i
 unfolding cell_of
 cell-cpu i low = grind (arith, nat_tests)
 
--- a number is that of a CPU word, or another one
+pub cell-slab : (i : ℕ) → i < 512 → cell_of (slab_base + i) ≡ slab_base + mirrored i
+unfolding cell_of
+cell-slab i low = grind (arith, nat_tests)
+
+-- the words of a kind are numbered from here on: the list words, the CPU words, or the slab words
+abbrev pub IsBase : ℕ → Type 0
+IsBase base = (base ≡ list_base) ⊎ (base ≡ cpu_base) ⊎ (base ≡ slab_base)
+
+pub cell-mirrored : (base i : ℕ) → IsBase base → i < 512 → cell_of (base + i) ≡ base + mirrored i
+cell-mirrored base i is low = elim is [
+  | inl e ↦ ap (λ (b : ℕ). cell_of (b + i)) e ∙ cell-list i low ∙ ap (λ (b : ℕ). b + mirrored i) (sym e)
+  | inr (inl e) ↦ ap (λ (b : ℕ). cell_of (b + i)) e ∙ cell-cpu i low ∙ ap (λ (b : ℕ). b + mirrored i) (sym e)
+  | inr (inr e) ↦ ap (λ (b : ℕ). cell_of (b + i)) e ∙ cell-slab i low ∙ ap (λ (b : ℕ). b + mirrored i) (sym e)
+]
+
+-- a number is that of a word of such a kind, or another one
 pub data Sort (n : ℕ) : Type 0 where
-  stays : (n < cpu_base) ⊎ (slab_base ≤ n) → cell_of n ≡ n → Sort n
-  of_cpu : (i : ℕ) → i < 512 → n ≡ cpu_base + i → Sort n
+  stays : (n < list_base) ⊎ (spread_end ≤ n) → cell_of n ≡ n → Sort n
+  of_cpus : (base i : ℕ) → IsBase base → i < 512 → n ≡ base + i → Sort n
 
 pub sort_of : (n : ℕ) → Sort n
-sort_of n = elim (cases_lt n cpu_base) [
+sort_of n = elim (cases_lt n list_base) [
   | inl low ↦ stays (inl low) (cell-below n low)
-  | inr high ↦ elim (cases_lt n slab_base) [
-    | inl low ↦ of_cpu (n - cpu_base) (omega arith) (omega arith)
-    | inr far ↦ stays (inr far) (cell-above n far)
+  | inr high ↦ elim (cases_lt n cpu_base) [
+    | inl low ↦ of_cpus list_base (n - list_base) (inl refl) (omega arith) (omega arith)
+    | inr higher ↦ elim (cases_lt n slab_base) [
+      | inl low ↦ of_cpus cpu_base (n - cpu_base) (inr (inl refl)) (omega arith) (omega arith)
+      | inr last ↦ elim (cases_lt n spread_end) [
+        | inl low ↦ of_cpus slab_base (n - slab_base) (inr (inr refl)) (omega arith) (omega arith)
+        | inr far ↦ stays (inr far) (cell-above n far)
+      ]
+    ]
   ]
 ]
 
@@ -47,25 +72,27 @@ sort_of n = elim (cases_lt n cpu_base) [
 pub cell-cell : (n : ℕ) → cell_of (cell_of n) ≡ n
 cell-cell n = elim (sort_of n) [
   | stays out e ↦ ap cell_of e ∙ e
-  | of_cpu i low e ↦
-      ap (λ (k : ℕ). cell_of (cell_of k)) e ∙ ap cell_of (cell-cpu i low) ∙ cell-cpu (mirrored i) (mirrored-below i low)
-      ∙ ap (λ (k : ℕ). cpu_base + k) (mirrored-mirrored i low) ∙ sym e
+  | of_cpus base i is low e ↦
+      ap (λ (k : ℕ). cell_of (cell_of k)) e ∙ ap cell_of (cell-mirrored base i is low) ∙ cell-mirrored base (mirrored i) is (mirrored-below i low)
+      ∙ ap (λ (k : ℕ). base + k) (mirrored-mirrored i low) ∙ sym e
 ]
 
--- a table that has all CPU words has the cell of each of its words
-pub cell-within : (n count : ℕ) → 1056 ≤ count → n < count → cell_of n < count
+-- a table that has all words of these kinds has the cell of each of its words
+pub cell-within : (n count : ℕ) → 1569 ≤ count → n < count → cell_of n < count
 cell-within n count all low = elim (sort_of n) [
   | stays out e ↦ omega (arith, e)
-  | of_cpu i below e ↦ let c : cell_of n ≡ cpu_base + mirrored i = ap cell_of e ∙ cell-cpu i below in omega (arith, c)
+  | of_cpus base i is below e ↦
+      let c : cell_of n ≡ base + mirrored i = ap cell_of e ∙ cell-mirrored base i is below in
+      elim is [ inl b ↦ omega (arith, c) | inr (inl b) ↦ omega (arith, c) | inr (inr b) ↦ omega (arith, c) ]
 ]
 
-pub cell-outside : (n count : ℕ) → 1056 ≤ count → count ≤ n → count ≤ cell_of n
+pub cell-outside : (n count : ℕ) → 1569 ≤ count → count ≤ n → count ≤ cell_of n
 cell-outside n count all far = elim (cases_lt (cell_of n) count) [
   | inl low ↦ let back = cell-within (cell_of n) count all low in let e = cell-cell n in absurd (omega arith)
   | inr out ↦ out
 ]
 
-pub number-outside : (n count : ℕ) → 1056 ≤ count → count ≤ cell_of n → count ≤ n
+pub number-outside : (n count : ℕ) → 1569 ≤ count → count ≤ cell_of n → count ≤ n
 number-outside n count all far = let e = cell-cell n in let out = cell-outside (cell_of n) count all far in omega arith
 
 -- ---- words
@@ -74,7 +101,7 @@ pub length-by_number : (words : List ℕ) → length (by_number words) ≡ lengt
 unfolding by_number
 length-by_number words = length-map-range_with_len (λ n. get_or words (cell_of n) 0) 0 (length words)
 
-pub get-by_number : (words : List ℕ) (n : ℕ) → 1056 ≤ length words → get_or (by_number words) n 0 ≡ get_or words (cell_of n) 0
+pub get-by_number : (words : List ℕ) (n : ℕ) → 1569 ≤ length words → get_or (by_number words) n 0 ≡ get_or words (cell_of n) 0
 unfolding by_number
 get-by_number words n all = elim (cases_lt n (length words)) [
   | inl low ↦ get_or-map-range_with_len (λ k. get_or words (cell_of k) 0) 0 (length words) n n 0 low (omega arith)
@@ -84,14 +111,14 @@ get-by_number words n all = elim (cases_lt n (length words)) [
 ]
 
 -- the words that have at each number what these have in its cell
-pub is-by_number : (words now : List ℕ) → 1056 ≤ length words → length now ≡ length words
+pub is-by_number : (words now : List ℕ) → 1569 ≤ length words → length now ≡ length words
     → ((n : ℕ) → n < length words → get_or now n 0 ≡ get_or words (cell_of n) 0) → now ≡ by_number words
 is-by_number words now all long at =
     let count = length-by_number words in
     ext_get_or 0 now (by_number words) (omega arith) (λ n low. at n (omega arith) ∙ sym (get-by_number words n all))
 
 -- a word is changed in its cell
-pub set-by_number : (words : List ℕ) (n v : ℕ) → 1056 ≤ length words → by_number (set words (cell_of n) v) ≡ set (by_number words) n v
+pub set-by_number : (words : List ℕ) (n v : ℕ) → 1569 ≤ length words → by_number (set words (cell_of n) v) ≡ set (by_number words) n v
 set-by_number words n v all =
     let long = length-set words (cell_of n) v in
     let count = length-by_number words in
@@ -108,7 +135,7 @@ set-by_number words n v all =
           ∙ sym (get_or-set_other words (cell_of n) (cell_of k) v 0 (λ e. ne (sym (cell-cell k) ∙ ap cell_of e ∙ cell-cell n)))
     ]))
 
-pub by_number-twice : (words : List ℕ) → 1056 ≤ length words → by_number (by_number words) ≡ words
+pub by_number-twice : (words : List ℕ) → 1569 ≤ length words → by_number (by_number words) ≡ words
 by_number-twice words all =
     let count = length-by_number words in
     sym (is-by_number (by_number words) words (omega arith) (omega arith) (λ n low.
@@ -116,11 +143,20 @@ by_number-twice words all =
 
 -- ---- lines
 
-pub cpu_words-lie-apart : CpuWordsLieApart
-cpu_words-lie-apart cache cpu other low one two apart =
-    let a = cell-cpu (16 * cache + cpu) (omega arith) in
-    let b = cell-cpu (16 * cache + other) (omega arith) in
-    elim (cases_lt (cell_of (cpu_base + (16 * cache + cpu))) (cell_of (cpu_base + (16 * cache + other)))) [
+pub cpus-lie-apart : (base : ℕ) → IsBase base → CpusLieApart base
+cpus-lie-apart base is cache cpu other low one two apart =
+    let a = cell-mirrored base (16 * cache + cpu) is (omega arith) in
+    let b = cell-mirrored base (16 * cache + other) is (omega arith) in
+    elim (cases_lt (cell_of (base + (16 * cache + cpu))) (cell_of (base + (16 * cache + other)))) [
+      | inl under ↦ inl (omega arith)
+      | inr over ↦ inr (omega arith)
+    ]
+
+pub slabs-lie-apart : SlabsLieApart
+slabs-lie-apart frame other low one same apart =
+    let a = cell-slab frame low in
+    let b = cell-slab other one in
+    elim (cases_lt (cell_of (slab_base + frame)) (cell_of (slab_base + other))) [
       | inl under ↦ inl (omega arith)
       | inr over ↦ inr (omega arith)
     ]

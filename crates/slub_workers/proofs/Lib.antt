@@ -33,3 +33,4 @@ pub mod Try
 pub mod Calls
 pub mod CallTurns
 pub mod Ended
+pub mod Sizes

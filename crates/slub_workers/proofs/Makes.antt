@@ -19,10 +19,11 @@ use Rattle.slub_turns.specs.Laws.{TurnsKeepReady, PicksFit}
 use Rattle.slub_workers.specs.Begun.{Begun}
 use Rattle.slub_workers.specs.Cells.{cell_of, by_number}
 use Rattle.slub_workers.specs.Locks.{Move, Stays, Takes, Gives, move_at, move_of, value_given, values_moved, slots_out, locks_of}
-use Rattle.slub_workers.specs.Standing.{Standing, Fork, step_in}
-use Rattle.slub_workers.specs.Rule.{Holds, setup_in}
+use Rattle.slub_workers.specs.Standing.{Standing, Fork, locals_of, step_in}
+use Rattle.slub_workers.specs.Rule.{Holds, setup_in, facts_in, table_in}
 use Rattle.slub_workers.specs.Sits.{Steps, Told, Made, slots_after}
 use Rattle.slub_workers.proofs.Cells.{number-outside, length-by_number, get-by_number, set-by_number}
+use Rattle.slub_workers.proofs.Sizes.{many-frames}
 use Rattle.slub_workers.proofs.StepStands.{number_at}
 use Rattle.slub_workers.proofs.StepGoesOn.{gives_last, takes_below}
 use Rattle.slub_workers.proofs.Moves.{IsWord, allowed}
@@ -94,6 +95,9 @@ either_is false x y = refl
 
 module _ (keep : TurnsKeepReady) (fit : PicksFit) (key kk : Begun) (same_key : kk ≡ key) (slots id : ℕ) (tries : Bool) (x : Standing) (before me : Me Guarded (List Fork)) (values : List Guarded) (step : Step)
     (st : Steps kk tries x before values step) (same : me.0 ≡ before.0) where
+  many : 2 ≤ (setup_in kk).frames
+  many = many-frames (facts_in kk) (table_in kk st.may.words) st.may.stands.guards (locals_of st.may.all) st.may.stands.ready
+
   asks_at : (i : ℕ) (f told : ℕ → ℕ)
       → ((lock n : ℕ) → move_of step n ≡ Gives lock → me.1 ≡ (lock, value_given lock x.values) ∷ rest me.1)
       → ((words : List ℕ) → length words ≡ word_count (setup_in kk) → IsWord kk tries x words i f told)
@@ -114,7 +118,8 @@ module _ (keep : TurnsKeepReady) (fit : PicksFit) (key kk : Begun) (same_key : k
       let op = (step_in m tries x).op in
       let at : word ≡ cell_of n = number ∙ ap (λ (s : Step). cell_of (number_of m s.place)) st.is in
       asks_at word f (λ n. n) given (λ words long.
-      let all : 1056 ≤ length words = omega arith in
+      let two = many in
+      let all : 1569 ≤ length words = omega arith in
       let found : slice_index words word ≡ slice_index (by_number words) n = ap (λ (k : ℕ). slice_index words k) at ∙ sym (get-by_number words n all) in
       record {
         found = found;
@@ -153,7 +158,7 @@ module _ (keep : TurnsKeepReady) (fit : PicksFit) (key kk : Begun) (same_key : k
 
   -- a number is outside of it where its cell is
   far_number : (count : ℕ) → count ≤ cell_of (number_of (setup_in kk) step.place) → count ≡ word_count (setup_in kk) → count ≤ number_of (setup_in kk) step.place
-  far_number count far all = number-outside (number_of (setup_in kk) step.place) count (omega arith) far
+  far_number count far all = let two = many in number-outside (number_of (setup_in kk) step.place) count (omega arith) far
 
   pub outside_asks : (count : ℕ) → count ≤ cell_of (number_of (setup_in kk) step.place) → count ≡ word_count (setup_in kk)
       → Allows (Holds key) slots id me 0 (λ n. n) (λ n after. Told kk tries x 0 me after)

@@ -22,6 +22,7 @@ use Rattle.slub_workers.specs.Rule.{Stands, Holds, Owns, AreTied, IsAbsent, numb
 use Rattle.slub_workers.specs.Ranks.{AreFresh}
 use Rattle.slub_workers.specs.Round.{MayBegin}
 use Rattle.slub_workers.proofs.Cells.{by_number-twice}
+use Rattle.slub_workers.proofs.Sizes.{many-frames}
 use Rattle.slub_workers.proofs.StepReady.{many-guards}
 
 -- ---- lists
@@ -136,8 +137,8 @@ module _ (key : Begun) (o : MayBegin key) where
   tied zero v e = subst (λ (x : List Fork). Owns (λ _. 0) (first_view key) 0 x) (some-injective (first_view key) v e) owns_all
   tied (suc k) v e = absurd (some-ne-none v (sym e))
 
-  every_word : 1056 ≤ length key.table.words
-  every_word = let n = o.ready.may.coherent.words in omega arith
+  every_word : 1569 ≤ length key.table.words
+  every_word = let n = o.ready.may.coherent.words in let m = many-frames key.facts key.table key.guards key.locals o.ready in omega arith
 
   -- in cells, the words are those with which the round begins
   pub opens : Holds key (opening (by_number key.table.words) key.guards (first_view key))

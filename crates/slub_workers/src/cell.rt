@@ -1,12 +1,9 @@
-//! The cells of the table in which the words lie: those of different CPUs apart.
+//! The cells of the table in which the words lie: those of two CPUs of a cache apart, and the slab words of two frames
+//! below 512 of one block of 64.
 
-ghost use Rattle.std.specs.Prelude.{◌≡◌, ◌≢◌, ◌+◌, ◌<◌, ◌≤◌, length, slice_index_or, slice_set};
-ghost use Rattle.std.specs.List.{swap};
-ghost use Rattle.slub_core.specs.Words.{cpu_base};
-ghost use Rattle.slub_workers.specs.Cells.{mirrored, cell_of, by_number, CpuWordsLieApart};
-
-use slub_core::step::{Answer, Op, Place, Step};
-use slub_schedule::table::Table;
+ghost use Rattle.std.specs.Prelude.{◌≡◌, ◌<◌, ◌≤◌, length};
+ghost use Rattle.slub_core.specs.Words.{list_base, cpu_base};
+ghost use Rattle.slub_workers.specs.Cells.{mirrored, cell_of, by_number, CpusLieApart, SlabsLieApart};
 
 /// The cell of the word of this number.
 #[tactic(auto, unfolding(crate::specs::Cells::cell_of))]
@@ -14,10 +11,14 @@ use slub_schedule::table::Table;
 pub(crate) fn cell(number: usize) -> usize
     ensures { result ≡ cell_of number }
 {
-    if number < 545 || number >= 1057 {
+    if number < 33 || number >= 1569 {
         number
-    } else {
+    } else if number < 545 {
+        33 + mirrored(number - 33)
+    } else if number < 1057 {
         545 + mirrored(number - 545)
+    } else {
+        1057 + mirrored(number - 1057)
     }
 }
 
@@ -30,47 +31,25 @@ fn mirrored(number: usize) -> usize
     number % 8 * 64 + number / 8 % 8 * 8 + number / 64
 }
 
-/// The CPU words of a cache lie in different lines of 64 bytes, wherever a line begins. This does nothing.
-pub fn cpu_words_lie_apart()
-    ensures { CpuWordsLieApart }
+/// The CPU words of a cache lie at least 8 cells apart, so in different lines of 64 bytes, wherever a line begins; so
+/// do its list words, and so do the slab words of two frames below 512 of one block of 64. This does nothing.
+pub fn words_lie_apart()
+    ensures cpu_words { CpusLieApart cpu_base }
+    ensures list_words { CpusLieApart list_base }
+    ensures slab_words { SlabsLieApart }
 {}
 
-/// Brings the words of a machine into their cells, in place, or back from there into the order of their numbers.
-pub(crate) fn rearrange(table: &mut Table)
-    requires { 1056 ≤ length table.old.words }
-    ensures { table.new ≡ record { frames = table.old.frames; objects = table.old.objects; words = by_number table.old.words } }
+/// Brings words that stand in the order of their numbers into their cells, in place, or back from there.
+pub(crate) fn rearrange(words: &mut [u64])
+    requires { 1569 ≤ length words.old }
+    ensures { words.new ≡ by_number words.old }
 {
     for number in 0..512 {
         let other = mirrored(number);
         if number < other {
-            exchange(table, number as u32, other as u32);
+            words.swap(33 + number, 33 + other);
+            words.swap(545 + number, 545 + other);
+            words.swap(1057 + number, 1057 + other);
         }
-    }
-}
-
-/// Exchanges two CPU words.
-fn exchange(table: &mut Table, one: u32, other: u32)
-    requires words { 1056 ≤ length table.old.words }
-    requires apart { one ≢ other }
-    requires below { (one < 511) × (other < 511) }
-    ensures { table.new ≡ record { frames = table.old.frames; objects = table.old.objects; words = swap table.old.words (cpu_base + one) (cpu_base + other) } }
-{
-    let word = put(table, one, 0);
-    let word = put(table, other, word);
-    let _ = put(table, one, word);
-}
-
-/// Puts a word in the place of the CPU word of this number. The one that was there.
-fn put(table: &mut Table, number: u32, word: u64) -> u64
-    ensures found { result ≡ slice_index_or table.old.words (cpu_base + number) 0 }
-    ensures table { table.new ≡ record { frames = table.old.frames; objects = table.old.objects; words = slice_set table.old.words (cpu_base + number) word } }
-{
-    let step = Step {
-        place: Place::CpuOf(number),
-        op: Op::Swap(word),
-    };
-    match table.apply(step) {
-        Answer::Word(found) => found,
-        _ => unreachable!(),
     }
 }

@@ -6,14 +6,17 @@
 //! a run of turns of the step machine (`slub_core`) leads to its words, values and workers, and that the invariants of
 //! that machine hold: so they do at every step, whatever order the threads' steps have.
 //!
-//! Each word lies in the cell of its number, but for the CPU words: those of a cache lie at least a line of 64 bytes
-//! apart (`cell`, `specs/Cells.antt`), so that threads on different CPUs, each of which exchanges its own CPU word, don't
-//! slow each other down. The words of the machine are rearranged so as the table is opened, and back as it is closed.
+//! Threads on different CPUs mostly exchange different words, each those of its CPU and of its slabs, and would wait
+//! for each other where these lie in one line of 64 bytes. So list words, CPU words, and the 512 words from 1057 on
+//! (in a machine of 512 frames or more the slab words of frames 0 to 511) lie in mirrored cells (`cell`,
+//! `specs/Cells.antt`): the words of two CPUs of a cache, and those of two frames of one block of 64, at least 64
+//! bytes apart. All other words lie in the cells of their numbers. The machine's own table waits beside the cells; its
+//! words are copied into them as the shared table is opened, and back as it is closed.
 //!
 //! `round` does a round: it opens the table (`shared`), gives each worker a seat (`worker`), lets them make their turns
-//! until each event has its reply, and closes the table. `step` makes one step on it. The six spots of the two fast paths
-//! have turns of their own (`quick`), made of the parts in `quick` of `slub_turns`, in which nothing is left to choose;
-//! each is the turn of the step machine all the same. A try is made of three of them (`try_turns`).
+//! until each event has its reply, and closes the table. `step` makes one step on it. The six spots of the two fast
+//! paths have turns of their own (`quick`), made of the parts in `quick` of `slub_turns`, in which nothing is left to
+//! choose; each is the turn of the step machine all the same. A try is made of three of them (`try_turns`).
 //!
 //! The same, call by call: `round::open` gives the table and its `workers`; a worker makes its next call by `call`,
 //! which may wait for a lock, or tries it by `fast`, the fast path alone, which never waits; `Workers::end` takes the

@@ -1,5 +1,5 @@
-//! Turns of the two fast paths (`slab_alloc_node`, `do_slab_free`): one step on the table, whose kind is known where the
-//! turn is written, and the worker is set where the answer leads.
+//! Turns of the two fast paths (`slab_alloc_node`, `do_slab_free`): one step on the table, whose kind is known where
+//! the turn is written, and the worker is set where the answer leads.
 
 ghost use Rattle.std.specs.Prelude.{◌≡◌};
 ghost use Rattle.slub_turns.specs.Quick.{spot_of};

@@ -2,6 +2,7 @@
 
 ghost use Rattle.std.specs.Prelude.{◌≡◌, ℕ, ◌+◌, ◌*◌, ◌<◌, ◌≤◌, [], false, slice_index_or, IfOk, IfErr, length, vec_capacity};
 ghost use Rattle.std.specs.Mem.Slots.{slots_items, slots_filled, slots_len, IsFull};
+ghost use Rattle.slub_workers.specs.Cells.{by_number};
 ghost use Rattle.slub_workers.specs.Rule.{first_view};
 ghost use Rattle.slub_workers.specs.Round.{HasClosed, IsUnchanged, MayWork, begun_by};
 
@@ -10,6 +11,7 @@ use crate::rule::{Key, Ruled, View};
 use crate::workers::Ended;
 use atomic_table::{Closed, Refused, Seat};
 use crossbeam_utils::CachePadded;
+use slub_common::no_memory::NoMemory;
 use slub_local::guarded::Guarded;
 use slub_local::local::Local;
 use slub_local::setup::Setup;
@@ -28,6 +30,8 @@ pub struct Shared {
     /// What a lock guards lies in the slot of its number.
     pub(crate) words: Words,
     pub(crate) setup: Setup,
+    /// In which the words stood before the round, and stand again after it. Nothing reads it until then.
+    table: Table,
     /// Frame 0 counts.
     pub(crate) frames: u32,
     /// Object numbers are below this one; 0 is none.
@@ -35,10 +39,12 @@ pub struct Shared {
     /// How many sleep, or are about to look whether they are to; apart from what every step reads.
     pub(crate) asleep: CachePadded<AtomicU64>,
     ghost sizes: { (setup.frames ≡ frames) × (setup.objects ≡ objects) },
+    ghost many: { 2 ≤ frames },
     ghost words_are: { words.shared.table_id.words ≡ 1056 + 514 * frames + objects },
     ghost slots: { words.shared.table_id.slots ≡ 33 },
     ghost facts: { words.shared.key.facts ≡ setup },
-    ghost table: { (words.shared.key.table.frames ≡ frames) × (words.shared.key.table.objects ≡ objects) },
+    ghost stood: { words.shared.key.table ≡ table },
+    ghost room: { length table.words ≡ words.shared.table_id.words },
 }
 
 /// There was no memory: the machine is as it was.
@@ -53,7 +59,7 @@ pub(crate) struct Opened {
     pub(crate) root: WorkerSeat,
     /// In rising number.
     pub(crate) locals: Vec<Local>,
-    /// Room for as many words: that in which those of the machine stood.
+    /// Empty, with room for as many words as the table has.
     pub(crate) room: Vec<u64>,
 }
 
@@ -73,40 +79,43 @@ impl Shared {
         ensures room { IfOk result (λ o. (o.room.items ≡ []) × (o.shared.words.shared.table_id.words ≤ vec_capacity o.room)) }
         ensures unopened { IfErr result (λ u. IsUnchanged machine u.machine) }
     {
+        let Ok(mut room) = cells_of(alloc, &machine.table) else {
+            return Err(Unopened { machine });
+        };
         let key = Key {
             machine: Snapshot::of(&machine),
         };
         let Machine {
             setup,
-            mut table,
+            table,
             values,
             locals,
         } = machine;
-        rearrange(&mut table);
-        match Words::new(alloc, table.words(), values, &key) {
-            Ok((words, root)) => Ok(Opened {
-                shared: Shared {
-                    words,
-                    setup,
-                    frames,
-                    objects,
-                    asleep: CachePadded::new(AtomicU64::new(0)),
-                },
-                root,
-                locals,
-                room: emptied(table),
-            }),
-            Err(Refused { slots: values }) => {
-                rearrange(&mut table);
-                Err(Unopened {
-                    machine: Machine {
+        match Words::new(alloc, room.as_slice(), values, &key) {
+            Ok((words, root)) => {
+                room.clear();
+                Ok(Opened {
+                    shared: Shared {
+                        words,
                         setup,
                         table,
-                        values,
-                        locals,
+                        frames,
+                        objects,
+                        asleep: CachePadded::new(AtomicU64::new(0)),
                     },
+                    root,
+                    locals,
+                    room,
                 })
             }
+            Err(Refused { slots: values }) => Err(Unopened {
+                machine: Machine {
+                    setup,
+                    table,
+                    values,
+                    locals,
+                },
+            }),
         }
     }
 
@@ -120,10 +129,11 @@ impl Shared {
         ensures locals { result.locals ≡ ended.locals }
     {
         let Shared {
-            words: table,
+            words: cells,
             setup,
-            frames,
-            objects,
+            mut table,
+            frames: _,
+            objects: _,
             asleep: _,
         } = self;
         let Ended {
@@ -133,13 +143,12 @@ impl Shared {
             locals,
             tried: _,
         } = ended;
-        let count = table.word_count();
-        let mut closed = table.close_with(root);
+        let count = cells.word_count();
+        let mut closed = cells.close_with(root);
         let words = words_of(&closed, count, words);
         let values = values_of(&mut closed, values);
         closed.free();
-        let mut table = Table::open(frames, objects, words);
-        rearrange(&mut table);
+        table.fill(words.as_slice());
         Machine {
             setup,
             table,
@@ -149,25 +158,28 @@ impl Shared {
     }
 }
 
-/// The room in which the words of a table stand, without them.
-fn emptied(table: Table) -> Vec<u64>
-    ensures empty { result.items ≡ [] }
-    ensures room { length table.words ≤ vec_capacity result }
+/// The words of a table, each in its cell.
+fn cells_of(alloc: Global, table: &Table) -> Result<Vec<u64>, NoMemory>
+    requires { 2 ≤ table.now.frames }
+    ensures { IfOk result (λ cells. cells.items ≡ by_number table.now.words) }
 {
-    let mut words = table.into_words();
-    words.clear();
-    words
+    let mut words = Vec::with_capacity(alloc, table.len())?;
+    table.push_to(&mut words);
+    rearrange(words.as_mut_slice());
+    Ok(words)
 }
 
-/// The words of a closed table by their cells, of which there are so many. There is room for them.
+/// The words of a closed table, of which there are so many, in the order of their numbers. There is room for them.
 fn words_of(closed: &Closed<Guarded, Global>, count: usize, mut words: Vec<u64>) -> Vec<u64>
     requires count { (count ≡ slots_len closed.now.words) × IsFull closed.now.words }
+    requires all { 1569 ≤ count }
     requires room { (words.items ≡ []) × (count ≤ vec_capacity words) }
-    ensures { result.items ≡ slots_items closed.now.words }
+    ensures { result.items ≡ by_number (slots_items closed.now.words) }
 {
     for i in 0..count {
         words.push_reserved(closed.word(i));
     }
+    rearrange(words.as_mut_slice());
     words
 }
 

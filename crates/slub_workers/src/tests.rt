@@ -1,6 +1,6 @@
 //! Numbers and cells of words, steps outside of the table, and the gate.
 
-use crate::cell::cell;
+use crate::cell::{cell, rearrange};
 use crate::number::{answer_outside, number};
 use crate::worker::pass;
 use slub_answers::reply::Reply;
@@ -26,16 +26,21 @@ fn numbers_of_words(rt: HostRuntime) {
     assert_eq!(rt; number(16, 8, Place::LinkOf(15)), 9287);
 }
 
-/// All other words than those of CPUs lie in the cells of their numbers.
+/// List words, CPU words, and the 512 words from 1057 on lie in cells whose numbers needn't be theirs.
 #[test]
 fn cells_of_words(rt: HostRuntime) {
     assert_eq!(rt; cell(number(16, 8, Place::LockOf(32))), 32);
+    assert_eq!(rt; cell(number(16, 8, Place::ListOf(0))), 33);
+    assert_eq!(rt; cell(number(16, 8, Place::ListOf(1))), 97);
+    assert_eq!(rt; cell(number(16, 8, Place::ListOf(8))), 41);
     assert_eq!(rt; cell(number(16, 8, Place::ListOf(511))), 544);
     assert_eq!(rt; cell(number(16, 8, Place::CpuOf(0))), 545);
     assert_eq!(rt; cell(number(16, 8, Place::CpuOf(1))), 609);
     assert_eq!(rt; cell(number(16, 8, Place::CpuOf(8))), 553);
     assert_eq!(rt; cell(number(16, 8, Place::CpuOf(511))), 1056);
-    assert_eq!(rt; cell(number(16, 8, Place::SlabOf(1))), 1058);
+    assert_eq!(rt; cell(number(4096, 8, Place::SlabOf(1))), 1121);
+    assert_eq!(rt; cell(number(4096, 8, Place::SlabOf(511))), 1568);
+    assert_eq!(rt; cell(number(4096, 8, Place::SlabOf(512))), 1569);
 }
 
 /// The words of two CPUs of a cache, the last one, are 8 cells or more apart.
@@ -46,8 +51,31 @@ fn words_of_two_cpus_lie_apart(rt: HostRuntime) {
             let mine = cell(number(16, 8, Place::CpuOf(cpu)));
             let theirs = cell(number(16, 8, Place::CpuOf(other)));
             assert!(rt; mine.abs_diff(theirs) >= 8);
+            let mine = cell(number(16, 8, Place::ListOf(cpu)));
+            let theirs = cell(number(16, 8, Place::ListOf(other)));
+            assert!(rt; mine.abs_diff(theirs) >= 8);
         }
     }
+}
+
+/// Words of each kind are brought into their cells, and back.
+#[test]
+fn words_are_brought_into_their_cells_and_back(rt: HostRuntime) -> Result<(), Fail> {
+    let mut words = vec![in rt.alloc(); 0; 1570]?;
+    for n in 0..1570usize {
+        words[n] = n as u64;
+    }
+    rearrange(words.as_mut_slice());
+    assert_eq!(rt; words[32], 32);
+    assert_eq!(rt; words[97], 34);
+    assert_eq!(rt; words[609], 546);
+    assert_eq!(rt; words[1121], 1058);
+    assert_eq!(rt; words[1569], 1569);
+    rearrange(words.as_mut_slice());
+    for n in 0..1570usize {
+        assert_eq!(rt; words[n], n as u64);
+    }
+    Ok(())
 }
 
 #[test]

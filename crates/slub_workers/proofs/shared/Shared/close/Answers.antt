@@ -5,16 +5,17 @@ use Rattle.slub_schedule.specs.Table.{WordTable}
 use Rattle.slub_workers.specs.Cells.{by_number}
 use Rattle.slub_workers.specs.Rule.{table_in}
 use Rattle.slub_workers.specs.Round.{HasClosed}
+use Rattle.slub_workers.proofs.Cells.{length-by_number}
 use Rattle.slub_workers.proofs.Closing.{ends}
 use Rattle.slub_workers.proofs.shared.Shared.close.Goals as goal
 
-pub rearrange-requires : goal.rearrange-requires
-rearrange-requires c =
-    let long = ap (λ (t : WordTable). length t.words) c.open-table.ensures in
-    let items = ap (λ (ws : List ℕ). length ws) c.words_of-words.ensures in
+pub fill-requires : goal.fill-requires
+fill-requires c =
+    let words = slots_items c.close_with-closed.result.words in
     let n = slots_counts c.close_with-closed.result.words in
     let m = c.close_with-closed.ensures.counts.0 in
-    let k = c.args.self.words_are in
+    let k = c.args.self.room in
+    let long : length c.as_slice.result.now ≡ length words = ap length (c.as_slice.ensures.value ∙ c.words_of-words.ensures) ∙ length-by_number words in
     omega arith
 
 pub returns-clause-closed : goal.returns-clause-closed
@@ -27,8 +28,9 @@ returns-clause-closed c =
     let n = slots_counts closed.result.slots in
     let m = closed.ensures.counts.1 in
     let k = self.slots in
-    let opened : c.open-table.result ≡ table_in key words = c.open-table.ensures ∙ (λ i. record { frames = sym self.table.0 i; objects = sym self.table.1 i; words = c.words_of-words.ensures i }) in
-    let table : c.rearrange.new.table ≡ table_in key (by_number words) =
-    c.rearrange.ensures ∙ ap (λ (t : WordTable). record { frames = t.frames; objects = t.objects; words = by_number t.words }) opened in
-    subst (λ (guards : List Guarded). HasClosed key c.args.ended.tried record { facts = self.setup; table = c.rearrange.new.table; guards = guards; locals = c.args.ended.locals.items }) (sym c.values_of-values.ensures.values)
-    (ends c.args.ended.tried key c.args.ended.root.id c.args.ended.root.me.0 c.args.ended.locals.items words xs c.requires.ended.back c.requires.ended.all closed.ensures.values.2 self.setup c.rearrange.new.table (omega arith) (sym self.facts) table)
+    let filled : c.as_slice.result.now ≡ by_number words = c.as_slice.ensures.value ∙ c.words_of-words.ensures in
+    let stood : self.table ≡ key.table = sym self.stood in
+    let table : c.fill.new.self ≡ table_in key (by_number words) =
+    c.fill.ensures ∙ ap (λ (t : WordTable). record t { words = c.as_slice.result.now }) stood ∙ ap (λ (ws : List ℕ). table_in key ws) filled in
+    subst (λ (guards : List Guarded). HasClosed key c.args.ended.tried record { facts = self.setup; table = c.fill.new.self; guards = guards; locals = c.args.ended.locals.items }) (sym c.values_of-values.ensures.values)
+    (ends c.args.ended.tried key c.args.ended.root.id c.args.ended.root.me.0 c.args.ended.locals.items words xs c.requires.ended.back c.requires.ended.all closed.ensures.values.2 self.setup c.fill.new.self (omega arith) (sym self.facts) table)

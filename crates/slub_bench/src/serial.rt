@@ -104,6 +104,32 @@ fn measure_one(
     Ok(each)
 }
 
+/// The nanoseconds that an event takes in the first replay of a trace of about so many events, the opening of the machine
+/// left out. Most of its memory is touched for the first time.
+fn first_each(
+    rt: &(impl Clock + AllocGlobal + Threads + Wait + Sync),
+    events: u32,
+    opening: u64,
+) -> io::Result<u64> {
+    let text = one_round(rt.alloc(), 1, events)?;
+    let plain = run_nanos(rt, &text, PLAIN, &mut FaultlessSink::new())?;
+    Ok(plain.saturating_sub(opening) / u64::from(events).max(1))
+}
+
+/// Measures the first replay of each of three lengths, the shortest first.
+fn measure_first(
+    rt: &(impl Clock + AllocGlobal + Threads + Wait + Sync + Print),
+    opening: u64,
+) -> io::Result<()> {
+    let short = first_each(rt, 10_000, opening)?;
+    let middle = first_each(rt, 100_000, opening)?;
+    let long = first_each(rt, 500_000, opening)?;
+    let percent = long.saturating_mul(100) / short.max(1);
+    println!(rt;
+        "the first replay of each length, in memory that isn't touched yet: 10000 events: {short} ns an event; 100000 events: {middle} ns; 500000 events: {long} ns, {percent} % of the first"
+    )
+}
+
 /// The objects of the trace of a checked cache.
 const CHECKED: u32 = 100_000;
 
@@ -157,6 +183,7 @@ pub(crate) fn measure(
     let opening = Parts::best(rt, &one_round(rt.alloc(), 1, 0)?)?.plain;
     let micros = opening / 1000;
     println!(rt; "a machine of 4096 frames is opened in {micros} us")?;
+    measure_first(rt, opening)?;
     let first = measure_one(rt, 10_000, opening, None)?;
     measure_one(rt, 100_000, opening, Some(first))?;
     measure_one(rt, 500_000, opening, Some(first))?;

@@ -1,6 +1,6 @@
 //! The calls of a checked cache (`alloc_single_from_partial`, `free_debug_processing`; the rest is profile).
 
-ghost use Rattle.std.specs.Prelude.{◌≡◌, if◌then◌else◌};
+ghost use Rattle.std.specs.Prelude.{◌≡◌};
 ghost use Rattle.slub_core.specs.Setup.{Means, node_lock, pool_lock};
 ghost use Rattle.slub_core.specs.World.{pool_in};
 ghost use Rattle.slub_core.specs.Checked as core;

@@ -6,7 +6,6 @@ ghost use Rattle.slub_red_zone.specs.Sound.{IsSound, IsSized};
 ghost use Rattle.slub_red_zone.specs.Steps.{Gives, damage_of_used, with_taken, with_byte, with_word, word_of, with_given, with_new_slab};
 ghost use Rattle.slub_core.specs.Setup.{node_lock};
 ghost use Rattle.slub_core.specs.World.{Checked, update};
-ghost use Rattle.slub_core.specs.Local.{call_of};
 ghost use Rattle.slub_core.specs.Checked as core;
 ghost use Rattle.slub_local.specs.Values.{value_in, values_of, room_in, rooms_of};
 ghost use Rattle.slub_checked_paths.specs.Slabs.{IsCheckedValue, slabs_at, spare_run, less_spare};

@@ -1,12 +1,10 @@
 //! Discarding an empty slab in hand, under the node lock (`discard_slab`).
 
-ghost use Rattle.std.specs.Prelude.{◌≡◌, ◌+◌, ◌<◌, ◌^◌, if◌then◌else◌, ◌==◌, None};
-ghost use Rattle.slub_page_pool.specs.Block.{CanPut};
-ghost use Rattle.slub_core.specs.Setup.{Means, order_for, pool_lock};
-ghost use Rattle.slub_core.specs.World.{pool_in};
+ghost use Rattle.std.specs.Prelude.{◌≡◌, None};
+ghost use Rattle.slub_core.specs.Setup.{Means, order_for};
 ghost use Rattle.slub_core.specs.Discard as core;
 ghost use Rattle.slub_core.specs.Offline.{if_trimming};
-ghost use Rattle.slub_core.specs.Local.{goes, hand_of, run_of};
+ghost use Rattle.slub_core.specs.Local.{goes};
 ghost use Rattle.slub_local.specs.Facts.{setup_of, cache_of};
 ghost use Rattle.slub_local.specs.Values.{values_of, rooms_of};
 ghost use Rattle.slub_local.specs.Ways.{changed};

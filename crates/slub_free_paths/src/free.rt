@@ -1,6 +1,6 @@
 //! The free of an object of an unchecked cache (`do_slab_free`, `__slab_free`).
 
-ghost use Rattle.std.specs.Prelude.{◌≡◌, ◌+◌, ◌<◌, ◌^◌, ◌==◌, ◌&&◌, not, nat_lt, nat_le, length, if◌then◌else◌, None};
+ghost use Rattle.std.specs.Prelude.{◌≡◌, ◌<◌, ◌==◌, ◌&&◌, not, nat_lt, nat_le, length, if◌then◌else◌, None};
 ghost use Rattle.slub_object_layout.specs.Layout.{address_of};
 ghost use Rattle.slub_core.specs.Setup.{Means};
 ghost use Rattle.slub_core.specs.Free as free;

@@ -1,6 +1,6 @@
 //! Moving a string of slabs to the node list, its empty slabs to the pool (`__unfreeze_partials`).
 
-ghost use Rattle.std.specs.Prelude.{◌≡◌, ◌+◌, ◌<◌, ◌^◌, ◌%◌, ◌-◌, ◌==◌, ◌&&◌, nat_le, length, if◌then◌else◌, Some, None};
+ghost use Rattle.std.specs.Prelude.{◌≡◌, ◌<◌, ◌^◌, ◌%◌, ◌-◌, ◌==◌, ◌&&◌, nat_le, length, if◌then◌else◌, Some, None};
 ghost use Rattle.slub_core.specs.Setup.{Means};
 ghost use Rattle.slub_core.specs.MoveSet as core;
 ghost use Rattle.slub_core.specs.Alloc as alloc;

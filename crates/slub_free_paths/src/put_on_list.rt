@@ -1,6 +1,6 @@
 //! Putting a string of slabs before a CPU's partial list (`put_cpu_partial`), without a lock.
 
-ghost use Rattle.std.specs.Prelude.{◌≡◌, ◌+◌, ◌%◌, ◌<◌, ◌^◌};
+ghost use Rattle.std.specs.Prelude.{◌≡◌};
 ghost use Rattle.slub_core.specs.PutOnList as put_on_list;
 ghost use Rattle.slub_core.specs.Local.{goes};
 ghost use Rattle.slub_free_paths.specs.Fits.{PutOnListFits};

@@ -1,6 +1,6 @@
 //! What object numbers name: objects on the board and with workers, and how many there are of each cache.
 
-ghost use Rattle.std.specs.Prelude.{◌≡◌, ℕ, ◌+◌, ◌*◌, ◌^◌, ◌<◌, ◌≤◌, All, [], ◌∷◌, length, sum_by, None, slice_index_or};
+ghost use Rattle.std.specs.Prelude.{◌≡◌, ℕ, ◌^◌, ◌<◌, ◌≤◌, All, [], ◌∷◌, length, sum_by, None, slice_index_or};
 ghost use Rattle.std.specs.Option.{option_or};
 ghost use Rattle.slub_core.specs.Accounted.{AreDistinct};
 ghost use Rattle.slub_core.specs.Local.{Local as Worker};

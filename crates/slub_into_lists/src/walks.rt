@@ -1,6 +1,6 @@
 //! Walks along free pointers and links.
 
-ghost use Rattle.std.specs.Prelude.{◌≡◌, ◌+◌, ◌%◌, ◌^◌, ◌<◌, length, slice_index_or, slice_set};
+ghost use Rattle.std.specs.Prelude.{◌≡◌, ◌%◌, ◌^◌, ◌<◌, length, slice_index_or, slice_set};
 ghost use Rattle.slub_local.specs.Facts.{found_in, pointer_in};
 ghost use Rattle.slub_into_lists.specs.Reads.{chain_in, string_in};
 

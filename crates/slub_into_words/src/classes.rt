@@ -1,6 +1,6 @@
 //! The words of a machine, class by class, in their order.
 
-ghost use Rattle.std.specs.Prelude.{◌≡◌, ◌+◌, ◌-◌, ◌*◌, ◌^◌, ◌<◌, ◌≤◌, ◌++◌, ◌||◌, [], ℕ, length, nat_lt, replicate, slice_index_or, sum_by, vec_capacity, false, IfSome};
+ghost use Rattle.std.specs.Prelude.{◌≡◌, ◌+◌, ◌-◌, ◌^◌, ◌<◌, ◌≤◌, ◌++◌, ◌||◌, [], ℕ, length, nat_lt, replicate, slice_index_or, sum_by, vec_capacity, false, IfSome};
 ghost use Rattle.std.specs.Option.{option_map};
 ghost use Rattle.slub_common.specs.Times.{times};
 ghost use Rattle.slub_words.specs.Words.{slab_bits};
@@ -8,7 +8,7 @@ ghost use Rattle.slub_lists.specs.Coherent.{IsConsistent};
 ghost use Rattle.slub_list_machine.specs.Parts.{state_of};
 ghost use Rattle.slub_opening.specs.Opening.{cpu_at, head_of, front_of, board_word};
 ghost use Rattle.slub_opening.specs.Table.{board_number};
-ghost use Rattle.slub_into_words.specs.Classes.{lock_words, list_number, list_words, cpu_number, cpu_words, slab_number, slab_words, object_number, board_words};
+ghost use Rattle.slub_into_words.specs.Classes.{lock_words, list_number, list_words, cpu_number, cpu_words, slab_number, slab_words, board_words};
 
 use crate::facts::is_checked;
 use crate::laying::{frame_of, lists_at};

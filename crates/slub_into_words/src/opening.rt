@@ -1,6 +1,6 @@
 //! A machine on plain lists opens into words and lock values.
 
-ghost use Rattle.std.specs.Prelude.{◌≡◌, ◌+◌, ◌-◌, ◌≤◌, [], length, replicate, vec_capacity, false, IfOk, IfErr};
+ghost use Rattle.std.specs.Prelude.{◌≡◌, ◌+◌, ◌≤◌, [], length, replicate, vec_capacity, false, IfOk, IfErr};
 ghost use Rattle.slub_lists.specs.Coherent.{IsCoherent, IsConsistent};
 ghost use Rattle.slub_list_machine.specs.Parts.{state_of};
 ghost use Rattle.slub_into_words.specs.Beside.{IsBesideOf};

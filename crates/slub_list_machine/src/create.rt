@@ -1,7 +1,7 @@
 //! Creating caches, after `kmem_cache_create_usercopy`.
 
-ghost use Rattle.std.specs.Prelude.{◌≡◌, ◌↔◌, ◌<◌, None, length, IsOk, IsSome, IfOk, IfSome, IsErrOf, OnErr, slice_index_or};
-ghost use Rattle.slub_object_layout.specs.Layout.{IsAccepted, IsAlign, IsSize, IsSupported, is_checked};
+ghost use Rattle.std.specs.Prelude.{◌≡◌, ◌↔◌, ◌<◌, length, IsOk, IsSome, IfOk, IfSome, IsErrOf, OnErr};
+ghost use Rattle.slub_object_layout.specs.Layout.{IsAccepted, IsAlign, IsSize, IsSupported};
 ghost use Rattle.slub_cache_create.specs.Create.{IsOpenTo};
 ghost use Rattle.slub_cache_create.specs.Sound.{IsSound};
 ghost use Rattle.slub_cache_create.specs.Table.{IsTaken};

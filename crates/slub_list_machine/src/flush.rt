@@ -1,6 +1,6 @@
 //! What CPUs have of a cache goes to the node list (`flush_cpu_slab`, `deactivate_slab`).
 
-ghost use Rattle.std.specs.Prelude.{◌≡◌, ℕ, ◌+◌, ◌<◌, ◌++◌, ◌==◌, ◌∷◌, List, length, None, Some, MatchOption};
+ghost use Rattle.std.specs.Prelude.{◌≡◌, ℕ, ◌+◌, ◌<◌, ◌==◌, ◌∷◌, List, length, None, Some, MatchOption};
 ghost use Rattle.slub_lists.specs.Alloc.{checked_of, lists_of, no_lists, node_of, slab_of, with_node};
 ghost use Rattle.slub_lists.specs.Coherent.{IsCoherent, IsConsistent, times_current, times_partial};
 ghost use Rattle.slub_lists.specs.Leaving.{LeavesSlabs};

@@ -1,6 +1,6 @@
 //! Emptying a CPU in the midst of a round (`__flush_cpu_slab`).
 
-ghost use Rattle.std.specs.Prelude.{◌≡◌, ℕ, ◌<◌, ◌≤◌, length, IsSome};
+ghost use Rattle.std.specs.Prelude.{◌≡◌, ℕ, ◌<◌, ◌≤◌, IsSome};
 ghost use Rattle.slub_lists.specs.Alloc.{cache_of, lists_of};
 ghost use Rattle.slub_lists.specs.Coherent.{IsCoherent, KeepsOthers};
 ghost use Rattle.slub_lists.specs.Flush.{Flushes, flushed_cpu, flushed_of, slabs_on, slabs_on_cpu};

@@ -1,8 +1,8 @@
 //! The partial lists: slabs that come to one, and a set that is moved from a CPU's to the node's.
 
-ghost use Rattle.std.specs.Prelude.{◌≡◌, ◌+◌, ◌<◌, ◌++◌, [], ◌∷◌, length, nat_lt, MatchOption};
+ghost use Rattle.std.specs.Prelude.{◌≡◌, ◌+◌, ◌<◌, ◌++◌, [], ◌∷◌, nat_lt, MatchOption};
 ghost use Rattle.slub_common.specs.Times.{times};
-ghost use Rattle.slub_lists.specs.Alloc.{lists_of, node_of, own_free, slab_of, with_node};
+ghost use Rattle.slub_lists.specs.Alloc.{lists_of, node_of, slab_of, with_node};
 ghost use Rattle.slub_lists.specs.Coherent.{IsConsistent, times_current};
 ghost use Rattle.slub_lists.specs.Free.{drained, moved, moved_all, put_partial, without_spare, with_partial, without_slab};
 ghost use Rattle.slub_lists.specs.Leaving.{LeavesSlabs};

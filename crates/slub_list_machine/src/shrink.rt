@@ -2,12 +2,12 @@
 
 ghost use Rattle.std.specs.Prelude.{◌≡◌, ℕ, ◌<◌, ◌==◌, false, length, None, IsSome, MatchOption, ◌≤◌, slice_index};
 ghost use Rattle.slub_common.specs.Times.{times};
-ghost use Rattle.slub_lists.specs.Alloc.{cache_of, checked_of, lists_of, no_lists, node_of};
-ghost use Rattle.slub_lists.specs.Coherent.{IsCoherent, IsConsistent, KeepsMachine};
+ghost use Rattle.slub_lists.specs.Alloc.{cache_of, checked_of, node_of};
+ghost use Rattle.slub_lists.specs.Coherent.{IsCoherent, KeepsMachine};
 ghost use Rattle.slub_lists.specs.Free.{inuse_of};
 ghost use Rattle.slub_lists.specs.Leaving.{LeavesSlabs};
 ghost use Rattle.slub_lists.specs.Shrink.{Promotes, Shrinks, ShrinksCache, ShrinksUnchecked, busy_of, has_slab, slabs_of, swept, swept_slab};
-ghost use Rattle.slub_lists.specs.Shrinking.{IsSwept, KeepsChecked};
+ghost use Rattle.slub_lists.specs.Shrinking.{KeepsChecked};
 
 use crate::lists::{Lists, is_slab_of};
 use slub_common::no_such_cache::NoSuchCache;

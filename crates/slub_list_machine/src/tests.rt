@@ -1,6 +1,6 @@
 //! The happy path of the calls; what traces show stands in the tests of the program.
 
-ghost use Rattle.std.specs.Prelude.{IfOk, ◌≤◌};
+ghost use Rattle.std.specs.Prelude.{IfOk};
 ghost use Rattle.slub_lists.specs.Coherent.{IsCoherent};
 
 use crate::lists::Lists;

@@ -1,6 +1,6 @@
 //! Settings of live caches, after `min_partial_store` and `cpu_partial_store`.
 
-ghost use Rattle.std.specs.Prelude.{◌≡◌, ◌≤◌, ◌<◌, None, IsSome, MatchResult};
+ghost use Rattle.std.specs.Prelude.{◌≡◌, ◌≤◌, None, IsSome, MatchResult};
 ghost use Rattle.slub_cache_create.specs.Tune.{IsSetting};
 ghost use Rattle.slub_lists.specs.Alloc.{cache_of, checked_of};
 ghost use Rattle.slub_lists.specs.Coherent.{IsCoherent, KeepsMachine};

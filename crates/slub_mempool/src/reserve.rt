@@ -1,7 +1,6 @@
 //! One reserve.
 
-ghost use Rattle.std.specs.Prelude.{◌≡◌, ◌+◌, ◌<◌, ◌≤◌, ◌==◌, ◌++◌, ◌∷◌, [], length, is_some, nat_lt, vec_capacity};
-ghost use Rattle.std.specs.List.{filter};
+ghost use Rattle.std.specs.Prelude.{◌≡◌, ◌+◌, ◌<◌, ◌≤◌, ◌++◌, ◌∷◌, [], length, is_some, nat_lt, vec_capacity};
 ghost use Rattle.slub_lists.specs.Coherent.{held_under};
 ghost use Rattle.slub_clients.specs.Reserves.{Pops, has_number, kept_of};
 

@@ -1,6 +1,6 @@
 //! All reserves, and the lines of their clients.
 
-ghost use Rattle.std.specs.Prelude.{◌≡◌, ◌+◌, ◌^◌, ◌<◌, ◌≤◌, ◌==◌, ◌++◌, ◌∷◌, [], false, length, All, Err, IfErr, IfOk, IfSome, IsSome, OnErr, vec_capacity};
+ghost use Rattle.std.specs.Prelude.{◌≡◌, ◌+◌, ◌<◌, ◌≤◌, ◌++◌, ◌∷◌, [], length, All, Err, IfErr, IfOk, IfSome, IsSome, OnErr, vec_capacity};
 ghost use Rattle.std.specs.List.{list_any, range_with_len};
 ghost use Rattle.slub_events.specs.declared.event.Act.TheVariants.{Alloc, Free};
 ghost use Rattle.slub_lists.specs.Coherent.{IsCoherent, held_under};

@@ -1,9 +1,9 @@
 //! Putting away what a CPU has of a cache (`__flush_cpu_slab`).
 
-ghost use Rattle.std.specs.Prelude.{◌≡◌, ◌+◌, ◌<◌, ◌≤◌, ◌^◌, length};
+ghost use Rattle.std.specs.Prelude.{◌≡◌, ◌+◌, ◌≤◌};
 ghost use Rattle.slub_core.specs.Setup.{Means};
 ghost use Rattle.slub_core.specs.Offline as core;
-ghost use Rattle.slub_core.specs.Local.{goes, with_hand, hand_from};
+ghost use Rattle.slub_core.specs.Local.{with_hand, hand_from};
 ghost use Rattle.slub_core.specs.Alloc as alloc;
 ghost use Rattle.slub_local.specs.Facts.{setup_of};
 ghost use Rattle.slub_local.specs.Ways.{turned};

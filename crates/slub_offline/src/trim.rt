@@ -1,6 +1,6 @@
 //! The end of a trim, under the node lock (`__kmem_cache_do_shrink`).
 
-ghost use Rattle.std.specs.Prelude.{◌≡◌, ◌<◌, slice_index, length, None};
+ghost use Rattle.std.specs.Prelude.{◌≡◌, ◌<◌, length, None};
 ghost use Rattle.slub_core.specs.Setup.{Means};
 ghost use Rattle.slub_core.specs.Offline as core;
 ghost use Rattle.slub_local.specs.Facts.{setup_of};

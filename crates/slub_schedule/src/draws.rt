@@ -1,6 +1,6 @@
 //! The numbers that a seed draws, one before each turn (profile).
 
-ghost use Rattle.std.specs.Prelude.{◌≡◌, ◌^◌, ◌<◌};
+ghost use Rattle.std.specs.Prelude.{◌≡◌};
 ghost use Rattle.slub_schedule.specs.Draws.{next, number_from};
 
 use std::marker::Model;

@@ -1,6 +1,6 @@
 //! A round by schedule, on any machine whose workers make turns.
 
-ghost use Rattle.std.specs.Prelude.{◌≡◌, ◌+◌, ◌<◌, ◌≤◌, Bool, false, List, length, slice_index_or, OnOk, OnErr};
+ghost use Rattle.std.specs.Prelude.{◌≡◌, ◌<◌, Bool, false, List, length, slice_index_or, OnOk, OnErr};
 ghost use Rattle.slub_core.specs.Setup.{Setup};
 ghost use Rattle.slub_core.specs.Run.{System, Pick, idle, turn};
 ghost use Rattle.slub_schedule.specs.Schedule.{is_finished, unfinished};

@@ -3,7 +3,7 @@
 ghost use Rattle.std.specs.Prelude.{◌≡◌, ◌<◌, map};
 ghost use Rattle.slub_core.specs.Setup.{Means};
 ghost use Rattle.slub_core.specs.Steps as core;
-ghost use Rattle.slub_local.specs.Facts.{setup_of, cache_of};
+ghost use Rattle.slub_local.specs.Facts.{setup_of};
 ghost use Rattle.slub_fits.specs.Fits.{BeginFits};
 ghost use Rattle.slub_schedule.specs.Schedule as schedule;
 

@@ -1,11 +1,8 @@
 //! The machine of a round: its words, the values of its locks, and its workers.
 
-ghost use Rattle.std.specs.Prelude.{◌≡◌, ◌<◌, length, slice_index_or, Bool};
-ghost use Rattle.slub_core.specs.Run.{turn, idle};
+ghost use Rattle.std.specs.Prelude.{◌≡◌};
 ghost use Rattle.slub_core.specs.Opening.{opened};
 ghost use Rattle.slub_local.specs.Facts.{setup_of};
-ghost use Rattle.slub_local.specs.Values.{rooms_of};
-ghost use Rattle.slub_schedule.specs.Schedule as schedule;
 ghost use Rattle.slub_turns.specs.Means.{the_means};
 ghost use Rattle.slub_turns.specs.System.{system_of};
 ghost use Rattle.slub_turns.specs.Ready.{IsReady};

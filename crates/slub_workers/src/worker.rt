@@ -1,6 +1,6 @@
 //! A worker at its seat, and its turns.
 
-ghost use Rattle.std.specs.Prelude.{◌≡◌, ◌||◌, false};
+ghost use Rattle.std.specs.Prelude.{◌≡◌, ◌||◌};
 ghost use Rattle.slub_core.specs.Setup.{Means};
 ghost use Rattle.slub_core.specs.Steps.{begun};
 ghost use Rattle.slub_local.specs.Facts.{setup_of};

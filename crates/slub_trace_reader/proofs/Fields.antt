@@ -1,11 +1,9 @@
 -- Words taken off the front, and what stands there.
-use Rattle.std.proofs.Common.{◌≡◌, ◌≢◌, ℕ, true, false, ◌&&◌, Option, Some, None, Bor, List, [], ◌∷◌, ◌++◌, length, refl, sym, ap, arith, eq-eqb, eqb, leb, inl, inr, subst, All, ◌⊎◌}
-use Rattle.std.specs.Prelude.{IsSome, IfSome, IfNone, MatchOption, SomeIff}
-use Rattle.std.specs.List.{list_all}
-use Rattle.std.proofs.lemmas.Bool.{false≢true, cases_Bool, eqb-true, eqb-false, ne_eqb, and_parts, and_from, leb-true, le-leb, false_from_ne_true}
+use Rattle.std.proofs.Common.{◌≡◌, ◌≢◌, ℕ, true, false, Option, Some, None, Bor, List, [], ◌∷◌, ◌++◌, length, refl, sym, ap, arith, eq-eqb, eqb, inl, inr, subst, All, ◌⊎◌}
+use Rattle.std.specs.Prelude.{IfSome, IfNone, MatchOption, SomeIff}
+use Rattle.std.proofs.lemmas.Bool.{cases_Bool, eqb-true, eqb-false, ne_eqb, false_from_ne_true}
 use Rattle.std.proofs.lemmas.List.Elements.{All-cons, All-nil, All-tail}
-use Rattle.std.proofs.lemmas.Bool.Decides.{nat_tests}
-use Rattle.slub_object_layout.specs.Name.{IsName, IsLetterOrDigit, IsNameByte}
+use Rattle.slub_object_layout.specs.Name.{IsName}
 use Rattle.slub_trace.specs.Names.{is_name}
 use Rattle.slub_trace.proofs.Names.{name_tells}
 use Rattle.slub_trace_reader.specs.Forms.{Gives, strip, field, name_of}

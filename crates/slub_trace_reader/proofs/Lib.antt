@@ -15,3 +15,4 @@ pub mod Soundness
 pub mod Texts
 mod Windows
 pub mod WordTexts
+pub mod WrittenWords

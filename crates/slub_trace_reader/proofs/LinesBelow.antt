@@ -5,8 +5,6 @@ use Rattle.std.proofs.lemmas.Bool.{cases_order}
 use Rattle.slub_trace_reader.specs.declared.line.Line.{Line}
 use Rattle.slub_trace_reader.specs.declared.line.Line.TheVariants.{Passed, Slubtrace, Machine, Cache, Shrink, Destroy, Tune, Slabinfo, Client, Round, Alloc, Free, Write, Read, Poke, Trim, Flush, Done, End}
 use Rattle.slub_trace_reader.specs.declared.place.Place.TheVariants.{After}
-use Rattle.slub_trace_reader.specs.declared.reading.TraceFault.{TraceFault}
-use Rattle.slub_trace_reader.specs.declared.reading.TraceFault.TheVariants.{ReadFault, TooLong, BadLine, NoMemory}
 use Rattle.slub_trace_reader.specs.declared.reading.Why.{Why}
 use Rattle.slub_trace_reader.specs.declared.reading.Why.TheVariants.{Unfinished, AfterEnd, Form, Range, TooManyRounds, UnknownCache, ObjectTwice, UnknownObject, ReadBeforeWrite, NoEnd}
 use Rattle.slub_trace.specs.declared.trace.Trace.{Trace}

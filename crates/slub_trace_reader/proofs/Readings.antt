@@ -1,7 +1,6 @@
 -- What comes of reading a source by a window, and what comes of its lines.
-use Rattle.std.proofs.Common.{◌≡◌, ℕ, ◌+◌, ◌<◌, ◌≤◌, true, eqb, subst, Result, Ok, Err, Option, Some, None, List, [], ◌∷◌, ◌++◌, length, refl, sym, ap, ◌∙◌, arith, append_assoc, append-nil, length-append}
-use Rattle.std.specs.Prelude.{IfSome}
-use Rattle.std.specs.Io.KnownBytes.{Consumes, IsAtEnd}
+use Rattle.std.proofs.Common.{◌≡◌, ℕ, ◌≤◌, true, eqb, subst, Ok, Err, Option, List, [], ◌∷◌, ◌++◌, length, refl, sym, ap, ◌∙◌, arith, append_assoc, append-nil, length-append}
+use Rattle.std.specs.Io.KnownBytes.{IsAtEnd}
 use Rattle.std.proofs.KnownBytes.{Consumes-nil, Consumes-trans}
 use Rattle.std.proofs.lemmas.Bool.{eqb-true}
 use Rattle.slub_edges.specs.Edges.{Rose}
@@ -18,7 +17,7 @@ use Rattle.slub_trace_reader.specs.Grammar.{AreLines, IsOneLine, IsTrace}
 use Rattle.slub_trace_reader.specs.Parsing.{StopsAt}
 use Rattle.slub_trace_reader.specs.Reads.{Reads}
 use Rattle.slub_trace_reader.specs.State.{IsModest}
-use Rattle.slub_trace_reader.specs.Window.{Grows, Counts, IsOver, StopsRead, Leads, StopsBehind, next_of, Stands, IsRead, IsReadBad, StopsLines}
+use Rattle.slub_trace_reader.specs.Window.{Grows, Counts, StopsRead, Leads, StopsBehind, next_of, Stands, IsRead, StopsLines}
 use Rattle.slub_trace_reader.proofs.LinesBelow.{modest_start, leads_modest, trace_once, bad_at, went_bad, went_all, tells_trace}
 
 -- bytes that are none

@@ -1,9 +1,8 @@
 -- Reading one line: a function on lists of bytes, which takes one word after the other off the
 -- front.
-use Rattle.std.specs.Prelude.{◌≡◌, ℕ, ◌+◌, ◌-◌, ◌*◌, ◌==◌, ◌&&◌, ◌||◌, Bool, true, false, List, [], ◌∷◌, length, Option, Some, None, option_and_then, option_map, if◌then◌else◌, codes, nat_eq, nat_le}
-use Rattle.std.specs.List.{list_all}
+use Rattle.std.specs.Prelude.{◌≡◌, ℕ, ◌+◌, ◌-◌, ◌*◌, ◌==◌, ◌&&◌, Bool, true, false, List, [], ◌∷◌, Option, Some, None, option_and_then, option_map, if◌then◌else◌, codes, nat_eq, nat_le}
 use Rattle.std.specs.Cmp.Lexicographic.{pointwise}
-use Rattle.slub_numbers.specs.Numbers.{is_digit, number_of}
+use Rattle.slub_numbers.specs.Numbers.{number_of}
 use Rattle.slub_object_layout.specs.declared.layout.Flags.{Flags}
 use Rattle.slub_trace_reader.specs.declared.client.ClientLine.{ClientLine}
 use Rattle.slub_trace_reader.specs.declared.client.ClientLine.TheVariants.{Kmalloc, Kget, Krealloc, Bulk, Bulkfree, Mempool, Mget, Mput}

@@ -1,5 +1,5 @@
 -- Which lines may stand where, and which bytes are a trace.
-use Rattle.std.specs.Prelude.{◌≡◌, ℕ, ◌+◌, ◌-◌, ◌%◌, ◌<◌, ◌≤◌, Bool, true, false, List, [], ◌∷◌, ◌++◌, length, Option, None, Some, nat_le, if◌then◌else◌, All, ⊤, ◌≢◌, nat_eq}
+use Rattle.std.specs.Prelude.{◌≡◌, ℕ, ◌+◌, ◌-◌, ◌<◌, ◌≤◌, Bool, true, false, List, [], ◌∷◌, ◌++◌, length, All, ⊤, ◌≢◌, nat_eq}
 use Rattle.slub_trace_reader.specs.declared.client.ClientLine.{ClientLine}
 use Rattle.slub_trace_reader.specs.declared.client.ClientLine.TheVariants.{Kmalloc, Kget, Krealloc, Bulk, Bulkfree, Mempool, Mget, Mput}
 use Rattle.slub_trace_reader.specs.declared.line.Line.{Line}

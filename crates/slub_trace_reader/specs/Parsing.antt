@@ -7,7 +7,7 @@ use Rattle.slub_trace_reader.specs.declared.place.Place.TheVariants.{After}
 use Rattle.slub_trace_reader.specs.declared.reading.TraceFault.{TraceFault}
 use Rattle.slub_trace_reader.specs.declared.reading.TraceFault.TheVariants.{ReadFault, TooLong, BadLine, NoMemory}
 use Rattle.slub_trace_reader.specs.Above.{Above, start, after, after_all, place_of}
-use Rattle.slub_trace_reader.specs.Faults.{Next, Finished, IsFirstReason, IsFirstBad}
+use Rattle.slub_trace_reader.specs.Faults.{Next, Finished, IsFirstReason}
 use Rattle.slub_trace_reader.specs.Grammar.{IsLine, IsNamed, IsOneLine, AreLines}
 use Rattle.slub_trace_reader.specs.Lines.{Says}
 

@@ -1,5 +1,5 @@
 -- For proofs and private clauses: what the reader keeps of the lines above.
-use Rattle.std.specs.Prelude.{◌≡◌, ℕ, ◌+◌, ◌*◌, ◌<◌, ◌≤◌, ◌^◌, ◌++◌, ◌∷◌, [], false, length, fold, get_or, max, nat_eq, Option, Some, None, ⊤}
+use Rattle.std.specs.Prelude.{◌≡◌, ℕ, ◌+◌, ◌*◌, ◌<◌, ◌≤◌, ◌^◌, ◌++◌, ◌∷◌, [], List, Bool, true, false, ◌||◌, if◌then◌else◌, length, fold, get_or, slice_get, max, nat_eq, Option, Some, None, IsSome, ⊤}
 use Rattle.std.specs.List.{list_any}
 use Rattle.slub_trace_reader.specs.declared.client.ClientLine.{ClientLine}
 use Rattle.slub_trace_reader.specs.declared.client.ClientLine.TheVariants.{Kmalloc, Kget, Krealloc, Bulk, Bulkfree, Mempool, Mget, Mput}
@@ -9,8 +9,9 @@ use Rattle.slub_trace_reader.specs.declared.objects.Objects.{Objects}
 use Rattle.slub_trace_reader.specs.declared.reading.Why.{Why}
 use Rattle.slub_trace_reader.specs.declared.reading.Why.TheVariants.{Unfinished, AfterEnd, Form, Range, TooManyRounds, UnknownCache, ObjectTwice, UnknownObject, ReadBeforeWrite, NoEnd}
 use Rattle.slub_trace_reader.specs.declared.state.State.{State}
+use Rattle.slub_trace_reader.specs.declared.written.Written.{Written}
 use Rattle.slub_events.specs.declared.event.Act.TheVariants as act
-use Rattle.slub_trace_reader.specs.Above.{Above, workers_in, with_event}
+use Rattle.slub_trace_reader.specs.Above.{Above, is_spot, workers_in, with_event}
 use Rattle.slub_trace_reader.specs.Grammar.{MayStand, InRange, HasRoom, HasCache, IsFresh, IsKnown, IsWritten}
 
 -- what the lines above say, as it is kept
@@ -42,11 +43,41 @@ with_alloc a worker cpu cache object =
 abbrev pub IsMarked : Objects → Type 0
 IsMarked objects = (n : ℕ) → get_or objects.marks.items n false ≡ list_any (nat_eq n) objects.keys
 
--- the greatest object is kept beside them, and a line brings thirteen names at most
+-- the write, where there is one and it is of this object
+abbrev pub when_of : ℕ → Option (ℕ × ℕ × ℕ) → Option (ℕ × ℕ × ℕ)
+when_of object None = None
+when_of object (Some spot) = if nat_eq spot.1 object then Some spot else None
+
+-- the write to which an object's place leads, where it is one of that object
+abbrev pub noted_of : List (ℕ × ℕ × ℕ) → List ℕ → ℕ → Option (ℕ × ℕ × ℕ)
+noted_of keys places object = when_of object (slice_get keys (get_or places object 0))
+
+-- that write is this one
+abbrev pub is_noted : ℕ × ℕ × ℕ → Option (ℕ × ℕ × ℕ) → Bool
+is_noted spot None = false
+is_noted spot (Some first) = is_spot spot first
+
+-- of each object that has a write its place leads to one, and every other write of it is among the
+-- others
+pub record AreNoted (keys : List (ℕ × ℕ × ℕ)) (places : List ℕ) (more : List (ℕ × ℕ × ℕ))
+    : Type 0 where
+  pub each : (spot : ℕ × ℕ × ℕ)
+      → list_any (is_spot spot) keys
+      ≡ (is_noted spot (noted_of keys places spot.1) || list_any (is_spot spot) more)
+  pub led : (spot : ℕ × ℕ × ℕ) → list_any (is_spot spot) keys ≡ true
+      → IsSome (noted_of keys places spot.1)
+
+abbrev pub IsNoted : Written → Type 0
+IsNoted written = AreNoted written.keys written.places.items written.more.keys
+
+-- the greatest object is kept beside them, a line brings thirteen names and one write at most, and
+-- marks and places hold
 pub record Keeps (s : State) : Type 0 where
   pub greatest : s.greatest ≡ fold max 0 s.objects.keys
   pub names : length s.names.keys ≤ 13 * s.count
+  pub writes : length s.written.keys ≤ s.count
   pub marked : IsMarked s.objects
+  pub noted : IsNoted s.written
 
 -- the numbers that a client's line may allocate have 32 bits
 abbrev pub AreSmall : ClientLine → Type 0

@@ -1,5 +1,5 @@
 -- For private clauses: the bytes that were read and not yet taken, and the lines in front of them.
-use Rattle.std.specs.Prelude.{◌≡◌, ℕ, ◌+◌, ◌<◌, ◌≤◌, List, [], ◌∷◌, ◌++◌, length, slice_range, Option, ⊤}
+use Rattle.std.specs.Prelude.{◌≡◌, ℕ, ◌+◌, ◌<◌, ◌≤◌, List, [], ◌∷◌, ◌++◌, length, slice_range, Option}
 use Rattle.std.specs.Io.KnownBytes.{Consumes, IsAtEnd}
 use Rattle.slub_edges.specs.Edges.{Rose}
 use Rattle.slub_trace_reader.specs.declared.line.Line.{Line}

@@ -8,7 +8,7 @@ ghost use Rattle.slub_trace_reader.specs.Forms.{line_of};
 ghost use Rattle.slub_trace_reader.specs.Grammar.{InRange, ClientInRange, HasRoom, HasCache, HasSource, IsFresh, IsKnown, IsWritten, IsLine, IsObject, AreObjects, IsOffset};
 ghost use Rattle.slub_trace.specs.Ranges.{IsAskedSize, IsTid, step_of};
 ghost use Rattle.slub_trace_reader.specs.Lines.{IsPassed};
-ghost use Rattle.slub_trace_reader.specs.State.{above, IsMarked, IsModest, Lacks};
+ghost use Rattle.slub_trace_reader.specs.State.{above, IsMarked, IsModest, IsNoted, Lacks};
 
 use crate::client::ClientLine;
 use crate::line::{Line, is_skipped};
@@ -294,12 +294,14 @@ impl State {
     }
 
     pub(crate) fn was_written(&self, worker: u8, object: u32, word: u16) -> bool
+        requires { IsNoted self.now.written }
         ensures { result ≡ list_any (is_spot (worker, object, word)) self.now.written.keys }
     {
-        self.written.contains(&(worker, object, word))
+        self.written.has(worker, object, word)
     }
 
     fn is_written(&self, line: &Line) -> bool
+        requires noted { IsNoted self.now.written }
         requires modest { IsModest (above self.now) }
         requires range { InRange (above self.now) line.now }
         ensures { IsTrue result ↔ IsWritten (above self.now) line.now }
@@ -320,6 +322,7 @@ impl State {
     /// The first reason that a line of some form is bad for.
     fn lacks(&self, line: &Line) -> Option<Why>
         requires marked { IsMarked self.now.objects }
+        requires noted { IsNoted self.now.written }
         requires modest { IsModest (above self.now) }
         ensures { Lacks (above self.now) line.now result }
     {
@@ -357,6 +360,7 @@ impl State {
     /// The line that a text says, or the first reason that it is bad for.
     pub(crate) fn judge<'a>(&self, text: &[u8], said: &'a Option<Line>) -> Result<&'a Line, Why>
         requires marked { IsMarked self.now.objects }
+        requires noted { IsNoted self.now.written }
         requires modest { IsModest (above self.now) }
         requires said { said.now ≡ line_of text.now }
         ensures good { IfOk result (λ line. IsLine (above self.now) text.now line.now) }

@@ -16,10 +16,13 @@
 //! bad line is told only once the rest of the source was read and counted, since a read that fails
 //! and a source that is too long come before it. `specs/Window` has what a window holds.
 //!
-//! Each line costs steps in its length alone, and takes no memory but for what it adds: names and
-//! written words are looked up by their hashes (few names one by one), objects by marks, and
-//! numbers are read in place. Nearly all lines of a long trace are taken as soon as they are told,
-//! from the bytes that are left (`quick`).
+//! Each line costs steps in its length alone, and takes no memory but for what it adds, save that a
+//! mark (a byte) is kept for each number up to the greatest that was allocated, and a place (four
+//! bytes) for each up to the greatest that was written: names are looked up by their hashes (few
+//! names one by one), objects by marks, the first write of an object in a round by the object's
+//! number and another by its hash, and numbers are read in place.
+//! Nearly all lines of a long trace are taken as soon as they are told, from the bytes that are left
+//! (`quick`).
 //! `read_trace` alone takes memory from the caller's allocator.
 //!
 //! # What it promises
@@ -54,3 +57,4 @@ mod window;
 #[cfg(test)]
 mod window_tests;
 mod words;
+mod written;

@@ -13,6 +13,7 @@ use crate::line::{Knob, Line};
 use crate::names::place_among;
 use crate::objects::Objects;
 use crate::place::Place;
+use crate::written::Written;
 use indexmap::IndexSet;
 use slub_common::sequence::Sequence;
 use slub_events::event::{Act, Event, Round};
@@ -22,7 +23,8 @@ use slub_trace::trace::{Item, Trace};
 use std::alloc::{AllocError, Global};
 use std::mem;
 
-/// What the lines above say. Names and written words are looked up by their hashes.
+/// What the lines above say. Names are looked up by their hashes, objects and the first write of
+/// each by its number, other writes by their hashes.
 #[derive(Drop)]
 pub(crate) struct State {
     /// How many lines there are.
@@ -42,8 +44,8 @@ pub(crate) struct State {
     pub(crate) greatest: u32,
     /// The rounds, each client's line counted as two.
     pub(crate) rounds: u32,
-    /// The worker, object and word of each write of this round.
-    pub(crate) written: IndexSet<(u8, u32, u16)>,
+    /// The writes of this round.
+    pub(crate) written: Written,
     pub(crate) items: Sequence<Item>,
     /// The events of the round that isn't ended.
     pub(crate) events: Sequence<Event>,
@@ -68,7 +70,7 @@ impl State {
             objects: Objects::new(alloc),
             greatest: 0,
             rounds: 0,
-            written: IndexSet::new(alloc),
+            written: Written::new(alloc),
             items: Sequence::new(alloc),
             events: Sequence::new(alloc),
         }
@@ -194,7 +196,6 @@ impl State {
         ensures taken { OnOk result (above self.new ≡ after (above self.old) (Line.Write worker object word value)) }
         ensures keeps { OnOk result (Keeps self.new) }
     {
-        self.written.insert((worker, object, word))?;
         self.push_event(
             worker,
             0,
@@ -203,7 +204,8 @@ impl State {
                 object,
                 value,
             },
-        )
+        )?;
+        self.written.put(worker, object, word)
     }
 
     /// Takes a `round` line.
@@ -216,7 +218,7 @@ impl State {
     {
         self.place = Place::Within { workers };
         self.rounds += 1;
-        self.written = IndexSet::new(alloc);
+        self.written.begin(alloc);
         self.events = Sequence::new(alloc);
         self.count += 1;
     }

@@ -1,8 +1,8 @@
-use Rattle.std.proofs.Common.{◌≡◌, ℕ, List, [], length, length-append, refl, sym, ap, ◌∙◌, arith, subst}
+use Rattle.std.proofs.Common.{ℕ, List, length, length-append, refl, sym, ap, ◌∙◌, arith, subst}
 use Rattle.std.proofs.lemmas.Result.{err_from_is_err_and}
 use Rattle.slub_trace_reader.specs.Parsing.{StopsAt}
 use Rattle.slub_trace_reader.specs.State.{above}
-use Rattle.slub_trace_reader.specs.Window.{items, next_of, StopsLines}
+use Rattle.slub_trace_reader.specs.Window.{items, next_of}
 use Rattle.slub_trace_reader.proofs.Readings.{stands_grown, stands_on, stands_modest, counts_none, read_stops, line_stops, end_stops, all_read}
 use Rattle.slub_trace_reader.proofs.reading.read_lines.Goals.{then-not-ended+in_ok-pass_rest, else-not-ended}
 use Rattle.slub_trace_reader.proofs.reading.read_lines.Goals as goal

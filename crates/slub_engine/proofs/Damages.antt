@@ -1,12 +1,13 @@
 -- What was found while events were answered, and how much it can be.
-use Rattle.std.proofs.Common.{◌≡◌, ℕ, ◌+◌, ◌-◌, ◌<◌, ◌≤◌, List, [], ◌∷◌, ◌++◌, length, take, drop, get_or, flat_map, sum_by, refl, sym, ◌∙◌, ap, arith, Option, Some, None}
+use Rattle.std.proofs.Common.{◌≡◌, ℕ, zero, suc, ◌+◌, ◌-◌, ◌<◌, ◌≤◌, Bool, true, false, cond, List, [], ◌∷◌, ◌++◌, length, take, drop, get_or, flat_map, sum_by, refl, sym, ◌∙◌, ap, arith, Option, Some, None, is_some}
+use Rattle.std.specs.List.{list_any}
 use Rattle.std.specs.Option.{option_map_or}
 use Rattle.std.proofs.lemmas.List.{append-nil, length-append, length-drop, length-map, take_all, take_more}
 use Rattle.std.proofs.lemmas.List.FromFn.{get_or-range_with_len, length-range_with_len}
 use Rattle.std.proofs.lemmas.List.Folds.{length-flat_map-take}
 use Rattle.std.proofs.lemmas.Grind.{flat_map-append}
 use Rattle.std.proofs.lemmas.List.Concat.{flat_map-cons, length-flat_map}
-use Rattle.std.proofs.lemmas.List.Sums.{sum_by-cons}
+use Rattle.std.proofs.lemmas.List.Sums.{sum_by-cons, sum_by-le}
 use Rattle.std.proofs.Math.ListN.{get_or-map}
 use Rattle.slub_red_zone.specs.Objects.{findable}
 use Rattle.slub_red_zone.specs.State.{CheckedState}
@@ -17,7 +18,7 @@ use Rattle.slub_lists.specs.State.{State}
 use Rattle.slub_journal.specs.declared.journal.Found.{Found}
 use Rattle.slub_journal.specs.Lawful.{cache_numbers, found_in, found_of, reports_of}
 use Rattle.slub_journal.proofs.Numbers.{sum_numbers}
-use Rattle.slub_engine.specs.Steps.{found_past, found_since, listed_in, told_in}
+use Rattle.slub_engine.specs.Steps.{found_past, found_since, listed_in, most_found, told_in}
 
 -- ---- one after the other
 
@@ -56,6 +57,19 @@ told_grows None (Some new) adds = absurd adds
 told_grows (Some old) None adds = absurd adds
 told_grows (Some old) (Some new) adds = omega (arith, ap (λ (reports : List Report). length reports) adds.1, length-append old.reports adds.0)
 
+-- where there was no cache there is none, and nothing was told of it
+told_none : (old new : Option CheckedState) → AddsReportsOf old new → is_some old ≡ false → told new ≡ 0
+told_none None None adds bare = refl
+told_none None (Some new) adds bare = absurd adds
+told_none (Some old) new adds bare = absurd (let never : ⊥ = cc in never)
+
+-- where no cache is checked, that of no number is
+bare_at : (all : List (Option CheckedState)) → list_any is_some all ≡ false → (cache : ℕ) → is_some (get_or all cache None) ≡ false
+bare_at [] bare cache = refl
+bare_at (None ∷ rest) bare zero = refl
+bare_at (None ∷ rest) bare (suc cache) = bare_at rest bare cache
+bare_at (Some slabs ∷ rest) bare cache = absurd (let never : ⊥ = cc in never)
+
 -- ---- all caches
 
 -- what was told of each cache, by cache number
@@ -71,22 +85,38 @@ still_told s now cache adds =
 pub found_is : (s now : State) → found_since (told_in s) now ≡ found_in s now
 found_is s now = flat_map_same (λ cache. found_past (get_or (told_in s) cache 0) now cache) (found_of s now) cache_numbers (λ cache. ap (λ count. found_past count now cache) (told_at s cache))
 
--- at most one of each slab that was listed, and of each that an event lists
+-- what was found of a cache is what was told of it since
+found_count : (s now : State) (cache : ℕ) → length (found_past (get_or (told_in s) cache 0) now cache) ≡ told (checked_of now cache) - told (checked_of s cache)
+found_count s now cache =
+    let count : length (found_past (get_or (told_in s) cache 0) now cache) ≡ length (reports_of now cache) - get_or (told_in s) cache 0 =
+    length-map (drop (get_or (told_in s) cache 0) (reports_of now cache)) _ ∙ length-drop (get_or (told_in s) cache 0) (reports_of now cache) in
+    omega (arith, count, told_at s cache, told_of (checked_of s cache), told_of (checked_of now cache))
+
+-- at most one of each slab that was listed, and of each that an event lists; none where no cache is checked
 pub found_few : (s now : State) (events : ℕ) → length s.checked ≡ 32 → length now.checked ≡ 32
     → ((cache : ℕ) → AddsReportsOf (checked_of s cache) (checked_of now cache)) → findable_in now ≤ findable_in s + events
-    → length (found_since (told_in s) now) ≤ listed_in s + events
-found_few s now events before after adds few =
-    let places = cache_numbers in
-    let found : ℕ → ℕ = λ cache. length (found_past (get_or (told_in s) cache 0) now cache) in
-    let all : length (found_since (told_in s) now) ≡ sum_by found places = length-flat_map (λ cache. found_past (get_or (told_in s) cache 0) now cache) places in
-    let over = sums_over places (λ cache. findings (checked_of s cache)) found (λ cache. findings (checked_of now cache)) (λ cache. listed (checked_of s cache)) one in
-    omega (arith, all, over, few, sum_numbers findings None s.checked before, sum_numbers findings None now.checked after, sum_numbers listed None s.checked before)
+    → length (found_since (told_in s) now) ≤ most_found s events
+found_few s now events before after adds few = at_most (list_any is_some s.checked) refl
   where
-    one : (cache : ℕ) → findings (checked_of s cache) + length (found_past (get_or (told_in s) cache 0) now cache) ≤ findings (checked_of now cache) + listed (checked_of s cache)
+    found : ℕ → ℕ
+    found cache = length (found_past (get_or (told_in s) cache 0) now cache)
+
+    all : length (found_since (told_in s) now) ≡ sum_by found cache_numbers
+    all = length-flat_map (λ cache. found_past (get_or (told_in s) cache 0) now cache) cache_numbers
+
+    one : (cache : ℕ) → findings (checked_of s cache) + found cache ≤ findings (checked_of now cache) + listed (checked_of s cache)
     one cache =
-        let count : length (found_past (get_or (told_in s) cache 0) now cache) ≡ length (reports_of now cache) - get_or (told_in s) cache 0 =
-        length-map (drop (get_or (told_in s) cache 0) (reports_of now cache)) _ ∙ length-drop (get_or (told_in s) cache 0) (reports_of now cache) in
-        omega (arith, count, told_at s cache, told_of (checked_of s cache), told_of (checked_of now cache), told_grows (checked_of s cache) (checked_of now cache) (adds cache), findings_are (checked_of s cache), findings_are (checked_of now cache))
+        omega (arith, found_count s now cache, told_grows (checked_of s cache) (checked_of now cache) (adds cache), findings_are (checked_of s cache), findings_are (checked_of now cache))
+
+    none : list_any is_some s.checked ≡ false → (cache : ℕ) → found cache ≤ 0
+    none bare cache =
+        omega (arith, found_count s now cache, told_none (checked_of s cache) (checked_of now cache) (adds cache) (bare_at s.checked bare cache))
+
+    at_most : (some : Bool) → list_any is_some s.checked ≡ some → length (found_since (told_in s) now) ≤ cond some (listed_in s + events) 0
+    at_most true any =
+        let over = sums_over cache_numbers (λ cache. findings (checked_of s cache)) found (λ cache. findings (checked_of now cache)) (λ cache. listed (checked_of s cache)) one in
+        omega (arith, all, over, few, sum_numbers findings None s.checked before, sum_numbers findings None now.checked after, sum_numbers listed None s.checked before)
+    at_most false bare = omega (arith, all, sum_by-le found 0 cache_numbers (λ place d within. none bare (get_or cache_numbers place d)))
 
 -- ---- putting them in
 

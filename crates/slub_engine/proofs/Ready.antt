@@ -12,8 +12,7 @@ use Rattle.slub_trace.specs.declared.trace.Item.{Item}
 use Rattle.slub_trace.specs.declared.trace.Item.TheVariants as item
 use Rattle.slub_trace.specs.declared.trace.Trace.{Trace}
 use Rattle.slub_trace.specs.Sound.{IsSound, objects_in, objects_of}
-use Rattle.slub_journal.specs.Lawful.{DoesRound, IsAtRest, IsReady, IsUnheld, coming}
-use Rattle.slub_journal.specs.declared.journal.RoundResult.{RoundResult}
+use Rattle.slub_journal.specs.Lawful.{IsAtRest, IsReady, IsUnheld, coming}
 use Rattle.slub_journal.proofs.Laws.{no_held}
 use Rattle.slub_engine.specs.Steps.{KeepsSizes, KeepsUnheld}
 use Rattle.slub_engine.proofs.Parts.{All-back, All-front, distinct_back, distinct_front}

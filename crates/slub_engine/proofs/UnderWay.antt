@@ -170,9 +170,9 @@ told_grown s workers most done running now run cache = rw run.room.told (still_t
 pub found_room : (s : State) (workers most : ℕ) (done : List Event) (running : Running) (now : State) → HasRun s workers most done running now
     → length (found_since running.told.items now) ≤ vec_capacity running.damages
 found_room s workers most done running now run =
-    let few = found_few s now (length done) run.before.shaped.checked.numbers run.coherent.shaped.checked.numbers run.reports run.findable in
+    let few = found_few s now most run.before.shaped.checked.numbers run.coherent.shaped.checked.numbers run.reports (omega (arith, run.findable, run.within)) in
     let same = ap (λ (counts : List ℕ). length (found_since counts now)) run.room.told in
-    omega (arith, same, few, run.room.damages.1, run.within)
+    omega (arith, same, few, run.room.damages.1)
 
 pub does_round : (s : State) (most : ℕ) (round : Round) (running : Running) (now : State) (result : RoundResult) (after : State)
     → HasRun s round.workers most round.events running now → after ≡ all_on_board now

@@ -8,7 +8,7 @@ use Rattle.slub_lists.specs.Alloc.{checked_of}
 use Rattle.slub_lists.specs.Coherent.{AddsReportsOf, IsCoherent, findable_in}
 use Rattle.slub_trace.specs.Sound.{objects_of}
 use Rattle.slub_journal.specs.Lawful.{AreLedgers, IsUnheld, RunsEvents}
-use Rattle.slub_engine.specs.Steps.{IsKnown, KeepsCaches, KeepsUnheld, listed_in, told_in}
+use Rattle.slub_engine.specs.Steps.{IsKnown, KeepsCaches, KeepsUnheld, most_found, told_in}
 use Rattle.slub_engine.specs.declared.running.Running.{Running}
 
 -- the replies so far, the first one first
@@ -20,7 +20,7 @@ replies_in running = running.replies.items
 pub record HasRoom (s : State) (most : ℕ) (running : Running) : Type 0 where
   pub few : most < 2 ^ 63
   pub replies : vec_capacity running.replies ≡ most
-  pub damages : (running.damages.items ≡ []) × (listed_in s + most ≤ vec_capacity running.damages)
+  pub damages : (running.damages.items ≡ []) × (vec_capacity running.damages ≡ most_found s most)
   pub told : running.told.items ≡ told_in s
 
 -- a round of so many workers with at most so many events began on the machine `s`, these events

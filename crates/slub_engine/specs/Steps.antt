@@ -1,6 +1,6 @@
 -- The steps of a round.
-use Rattle.std.specs.Prelude.{◌≡◌, ℕ, ◌+◌, ◌<◌, ◌≤◌, List, length, drop, flat_map, map, sum_by, if◌then◌else◌, slice_index, slice_index_or, slice_set}
-use Rattle.std.specs.List.{Contains}
+use Rattle.std.specs.Prelude.{◌≡◌, ℕ, ◌+◌, ◌<◌, ◌≤◌, List, length, drop, flat_map, is_some, map, sum_by, if◌then◌else◌, slice_index, slice_index_or, slice_set}
+use Rattle.std.specs.List.{Contains, list_any}
 use Rattle.std.specs.Option.{option_map_or}
 use Rattle.slub_events.specs.declared.event.Act.{Act}
 use Rattle.slub_events.specs.declared.event.Act.TheVariants.{Alloc, Free, Write, Read, Poke, Trim, Flush}
@@ -93,6 +93,11 @@ told_in s = map (λ slabs. option_map_or (λ slabs. length slabs.reports) slabs 
 -- how many slabs of checked caches are listed
 abbrev pub listed_in : State → ℕ
 listed_in s = sum_by (λ slabs. option_map_or (λ slabs. length slabs.listed) slabs 0) s.checked
+
+-- how many damages can be found at most while so many events are answered: none where no cache is
+-- checked, else one of each slab that is listed, and one of the slab that an event lists
+abbrev pub most_found : State → ℕ → ℕ
+most_found s events = if list_any is_some s.checked then listed_in s + events else 0
 
 -- a report of the cache with this title
 abbrev pub found_with : List ℕ → Report → Found

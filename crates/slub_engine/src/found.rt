@@ -1,10 +1,11 @@
 //! What was found damaged in a round.
 
-ghost use Rattle.std.specs.Prelude.{◌≡◌, ℕ, ◌+◌, ◌^◌, ◌<◌, ◌≤◌, ◌++◌, [], length, map, slice_index_or, vec_capacity, IfOk};
+ghost use Rattle.std.specs.Prelude.{◌≡◌, ℕ, ◌+◌, ◌^◌, ◌<◌, ◌≤◌, ◌++◌, [], is_some, length, map, slice_index_or, vec_capacity, IfOk};
+ghost use Rattle.std.specs.List.{list_any};
 ghost use Rattle.std.specs.Option.{option_map_or};
 ghost use Rattle.slub_lists.specs.Coherent.{IsCoherent};
 ghost use Rattle.slub_journal.specs.Lawful.{reports_of};
-ghost use Rattle.slub_engine.specs.Steps.{found_past, found_since, found_with, listed_in, told_in};
+ghost use Rattle.slub_engine.specs.Steps.{found_past, found_since, found_with, most_found, told_in};
 
 use slub_common::no_memory::NoMemory;
 use slub_journal::journal::Found;
@@ -34,18 +35,29 @@ fn count_told(slabs: &Option<CheckedSlabs>) -> usize
     }
 }
 
-/// How many damages can be found at most while so many events are answered: one of each slab that is
-/// listed, and one of the slab that an event lists.
+/// How many damages can be found at most while so many events are answered: none where no cache is
+/// checked, else one of each slab that is listed, and one of the slab that an event lists.
 pub fn room_to_find(lists: &Lists, events: usize) -> usize
     requires coherent { IsCoherent lists.now }
     requires few { events < 2 ^ 63 }
-    ensures { result ≡ listed_in lists.now + events }
+    ensures { result ≡ most_found lists.now events }
 {
+    let checked = lists.checked();
+    if !has_checked(checked) {
+        return 0;
+    }
     let mut room = events;
-    for slabs in lists.checked() {
+    for slabs in checked {
         room += count_listed(slabs);
     }
     room
+}
+
+/// Whether one of the caches is checked.
+fn has_checked(caches: &[Option<CheckedSlabs>]) -> bool
+    ensures { result ≡ list_any is_some caches.now }
+{
+    caches.iter().any(Option::is_some)
 }
 
 fn count_listed(slabs: &Option<CheckedSlabs>) -> usize

@@ -24,7 +24,7 @@ use std::alloc::Global;
 /// A round whose events are answered one after the other, each to its end, while it is under way.
 ///
 /// All its memory is taken before the first event: each event makes at most one more slab that may be
-/// reported.
+/// reported, and where no cache is checked there is none.
 #[derive(Debug, Drop)]
 pub struct Running {
     replies: Vec<Reply>,

@@ -24,7 +24,6 @@ use Rattle.slub_core.specs.Setup.{Setup}
 use Rattle.slub_core.specs.World.{World, update}
 use Rattle.slub_core.specs.Local.{Local}
 use Rattle.slub_core.specs.Law.{IsCoherentSystem}
-use Rattle.slub_core.specs.Round.{in_order}
 use Rattle.slub_core.specs.Run.{System, Pick, idle, run, turn, IsFinished}
 use Rattle.slub_core.specs.Steps.{rested}
 use Rattle.slub_core.proofs.CallsStay.{script, rested_at-script}

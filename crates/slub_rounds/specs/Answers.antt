@@ -13,7 +13,7 @@ use Rattle.slub_core.specs.Run.{idle}
 use Rattle.slub_calls.specs.Calls.{events_by}
 use Rattle.slub_journal.specs.Lawful.{AreLedgers, found_in}
 use Rattle.slub_journal.specs.declared.journal.RoundResult.{RoundResult}
-use Rattle.slub_engine.specs.Steps.{IsBlank, IsKnown, listed_in, told_in}
+use Rattle.slub_engine.specs.Steps.{IsBlank, IsKnown, most_found, told_in}
 use Rattle.slub_rounds.specs.declared.answers.Answers.{Answers}
 use Rattle.slub_round_causes.specs.Ran.{AreReplies}
 
@@ -23,7 +23,7 @@ pub record IsRoomFor (s : State) (events workers : ℕ) (a : Answers) : Type 0 w
   pub cursors : a.cursors.items ≡ replicate workers 0
   pub ledgers : (length a.ledgers.items ≡ workers) × All IsBlank a.ledgers.items
   pub told : a.told.items ≡ told_in s
-  pub damages : (a.damages.items ≡ []) × (listed_in s + events ≤ vec_capacity a.damages)
+  pub damages : (a.damages.items ≡ []) × (vec_capacity a.damages ≡ most_found s events)
 
 -- each worker has as many replies as events
 abbrev pub AreAnswered : List Event → List Local → Type 0

@@ -4,12 +4,13 @@
 //! prints what a take costs, by the pool and by a scan of all frames, and the ratio; `reader` reads a
 //! trace of some twelve million bytes, and prints what that costs against counting its lines and
 //! words; `serial` replays traces of 10,000, 100,000 and 500,000 events, and prints what an event costs
-//! in each (the first time, and then at best), what of it is reading, replay, text and writing, and
-//! what whole replays cost against counting; `schedule` replays rounds of eight workers by schedule and in the order of the text,
-//! a round of fast paths, a load, and a trace of small rounds; `threads` replays rounds by threads, of one
-//! worker, of four on CPUs of their own and of four on one CPU, with and without opening and closing,
-//! and how often the workers lost an exchange or slept; and a try of the fast path with the push that
-//! undoes it.
+//! in each (the first time, and then at best, in memory that was touched before), what of it is reading,
+//! replay, text and writing, and what whole replays cost against counting; `schedule` replays rounds of
+//! eight workers by schedule and in the order of the text, a round of fast paths, a load, and a trace of
+//! small rounds; `threads` replays rounds by threads, of one worker, of four on CPUs of their own, with
+//! long-lived and with short-lived objects, and of four on one CPU, with and without opening and closing,
+//! and prints how often the workers lost an exchange or slept; and a try of the fast path with the push
+//! that undoes it.
 #![tactic(auto)]
 
 mod pool;

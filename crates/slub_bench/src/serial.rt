@@ -153,6 +153,16 @@ fn checked_round(alloc: Global) -> Result<Vec<u8>, AllocError> {
     Ok(text)
 }
 
+/// The length of a block: nearly 32 MiB, so the longest whose release raises glibc's thresholds.
+const LEARNT: usize = 33_000_000;
+
+/// Takes a long block and gives it back. From then on glibc gives memory back to the system only where more than twice
+/// as much is free at the end of its heap, so a replay finds the pages that the one before it touched.
+fn keep_memory(alloc: Global) -> Result<(), AllocError> {
+    let _block: Vec<u8> = Vec::with_capacity(alloc, LEARNT)?;
+    Ok(())
+}
+
 /// What a whole replay of a text takes against counting its lines and words, in tenths.
 fn tenths_of_counting(
     rt: &(impl Clock + AllocGlobal + Threads + Wait + Sync),
@@ -176,14 +186,25 @@ fn measure_whole(
     )
 }
 
+/// The nanoseconds in which a machine of 4096 frames is opened.
+fn opening_nanos(
+    rt: &(impl Clock + Files + AllocGlobal + Threads + Wait + Sync),
+) -> io::Result<u64> {
+    Ok(Parts::best(rt, &one_round(rt.alloc(), 1, 0)?)?.plain)
+}
+
 /// Measures three lengths; the cost of an event doesn't grow with the length.
 pub(crate) fn measure(
     rt: &(impl Clock + Files + AllocGlobal + Threads + Wait + Sync + Print),
 ) -> io::Result<()> {
-    let opening = Parts::best(rt, &one_round(rt.alloc(), 1, 0)?)?.plain;
+    let opening = opening_nanos(rt)?;
     let micros = opening / 1000;
     println!(rt; "a machine of 4096 frames is opened in {micros} us")?;
     measure_first(rt, opening)?;
+    keep_memory(rt.alloc())?;
+    let opening = opening_nanos(rt)?;
+    let micros = opening / 1000;
+    println!(rt; "in memory that was touched before, a machine is opened in {micros} us, and")?;
     let first = measure_one(rt, 10_000, opening, None)?;
     measure_one(rt, 100_000, opening, Some(first))?;
     measure_one(rt, 500_000, opening, Some(first))?;

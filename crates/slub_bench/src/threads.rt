@@ -17,9 +17,6 @@ const WORKERS: u32 = 4;
 /// The events of a worker. A round is measured with half as many, too; with more its text would be too long.
 const EACH: u32 = 200_000;
 
-/// How many objects a worker holds at most.
-const LIVE: u32 = 64;
-
 /// A replay by threads.
 const THREADS: &[&str] = &["replay", "--how", "threads"];
 
@@ -53,23 +50,51 @@ impl Cpus {
     }
 }
 
-/// The lines of one worker: so many allocations, and each object is freed when 64 more were allocated.
+/// What the workers of a round do.
+#[derive(Clone, Copy)]
+struct Load {
+    cpus: Cpus,
+    /// How many objects a worker holds at most. With 64 nearly every object is freed after its slab was left by its CPU; with
+    /// 8 the slab is mostly the CPU's still.
+    live: u32,
+}
+
+/// Long-lived objects, on CPUs of the workers' own.
+const LONG: Load = Load {
+    cpus: Cpus::Own,
+    live: 64,
+};
+
+/// Short-lived objects, on CPUs of the workers' own.
+const SHORT: Load = Load {
+    cpus: Cpus::Own,
+    live: 8,
+};
+
+/// Long-lived objects, all on one CPU.
+const SAME: Load = Load {
+    cpus: Cpus::One,
+    live: 64,
+};
+
+/// The lines of one worker: half as many allocations as events, and each object is freed when `load.live` more were
+/// allocated.
 fn push_worker(
     alloc: Global,
     text: &mut Vec<u8>,
     worker: u32,
     events: u32,
-    cpus: Cpus,
+    load: Load,
 ) -> Result<(), AllocError> {
     let first = (worker % WORKERS) * EACH;
-    let cpu = cpus.of(worker);
+    let cpu = load.cpus.of(worker);
     for nth in 1..=events / 2 {
         let object = first + nth;
         let line = format!(in alloc; "alloc {worker} {cpu} dentry {object}\n")?;
         text.extend_from_slice(line.as_bytes())?;
-        if nth > LIVE {
-            let freed = object - LIVE;
-            let there = cpus.of_free(worker, nth);
+        if nth > load.live {
+            let freed = object - load.live;
+            let there = load.cpus.of_free(worker, nth);
             let line = format!(in alloc; "free {worker} {there} {freed}\n")?;
             text.extend_from_slice(line.as_bytes())?;
         }
@@ -78,12 +103,12 @@ fn push_worker(
 }
 
 /// A round of several workers, of which some have so many events; the others have two.
-fn round_of(alloc: Global, busy: u32, events: u32, cpus: Cpus) -> Result<Vec<u8>, AllocError> {
+fn round_of(alloc: Global, busy: u32, events: u32, load: Load) -> Result<Vec<u8>, AllocError> {
     let mut text = Vec::from_slice(alloc, HEAD)?;
     text.extend_from_slice(format!(in alloc; "round {WORKERS}\n")?.as_bytes())?;
     for worker in 0..WORKERS {
         let events = if worker < busy { events } else { 2 };
-        push_worker(alloc, &mut text, worker, events, cpus)?;
+        push_worker(alloc, &mut text, worker, events, load)?;
     }
     text.extend_from_slice(b"done\nend\n")?;
     Ok(text)
@@ -113,10 +138,10 @@ fn best_of(
     rt: &(impl Clock + AllocGlobal + Threads + Wait + Sync),
     busy: u32,
     events: u32,
-    cpus: Cpus,
+    load: Load,
     words: &[&str],
 ) -> io::Result<Run> {
-    let text = round_of(rt.alloc(), busy, events, cpus)?;
+    let text = round_of(rt.alloc(), busy, events, load)?;
     let reading = best_read(rt, &text)?;
     let mut best = run_of(rt, &text, words)?;
     for _ in 0..2 {
@@ -143,11 +168,11 @@ struct Cost {
 fn cost_of(
     rt: &(impl Clock + AllocGlobal + Threads + Wait + Sync),
     busy: u32,
-    cpus: Cpus,
+    load: Load,
     words: &[&str],
 ) -> io::Result<Cost> {
-    let half = best_of(rt, busy, EACH / 2, cpus, words)?;
-    let all = best_of(rt, busy, EACH, cpus, words)?;
+    let half = best_of(rt, busy, EACH / 2, load, words)?;
+    let all = best_of(rt, busy, EACH, load, words)?;
     let events = u64::from(busy) * u64::from(EACH);
     let more = all.nanos.saturating_sub(half.nanos);
     Ok(Cost {
@@ -162,15 +187,32 @@ fn percent(one: u64, each: u64) -> u64 {
     one.saturating_mul(100) / each.max(1)
 }
 
+/// Prints what an event of one worker costs by threads.
+fn print_one(rt: &impl Print, load: Load, one: Cost) -> io::Result<()> {
+    let live = load.live;
+    let whole = one.whole / 1000;
+    let net = one.net / 1000;
+    println!(rt;
+        "one worker that holds {live} objects: with opening and closing {whole} ns an event, without {net} ns"
+    )
+}
+
 /// Prints what an event of several workers costs against one worker's, and how often they had to wait.
-fn print_against(rt: &impl Print, which: &str, one: Cost, several: Cost) -> io::Result<()> {
+fn print_against(
+    rt: &impl Print,
+    which: &str,
+    load: Load,
+    one: Cost,
+    several: Cost,
+) -> io::Result<()> {
+    let live = load.live;
     let whole = several.whole / 1000;
     let net = several.net / 1000;
     let whole_rate = percent(one.whole, several.whole);
     let net_rate = percent(one.net, several.net);
     let lost = several.waits.lost;
     let parked = several.waits.parked;
-    println!(rt; "{WORKERS} workers on {which}:")?;
+    println!(rt; "{WORKERS} workers on {which}, each of which holds {live} objects:")?;
     println!(rt;
         "  with opening and closing {whole} ns an event, {whole_rate} % of one worker's rate"
     )?;
@@ -178,25 +220,43 @@ fn print_against(rt: &impl Print, which: &str, one: Cost, several: Cost) -> io::
     println!(rt; "  {lost} exchanges lost, {parked} times slept on a lock")
 }
 
-/// Measures one worker, several on CPUs of their own and several on one CPU, by threads and by schedule; and tries.
+/// Measures several workers by threads, and prints what an event costs against one worker's.
+fn measure_against(
+    rt: &(impl Clock + AllocGlobal + Print + Threads + Wait + Sync),
+    which: &str,
+    one: Cost,
+    load: Load,
+) -> io::Result<()> {
+    let several = cost_of(rt, WORKERS, load, THREADS)?;
+    print_against(rt, which, load, one, several)
+}
+
+/// Measures one worker by a schedule, and prints that against what it costs by threads.
+fn measure_schedule(
+    rt: &(impl Clock + AllocGlobal + Print + Threads + Wait + Sync),
+    one: Cost,
+) -> io::Result<()> {
+    let drawn = cost_of(rt, 1, LONG, SCHEDULE)?;
+    let whole = drawn.whole / 1000;
+    let net = drawn.net / 1000;
+    let turn = percent(one.net, drawn.net);
+    println!(rt;
+        "  by schedule {whole} ns and {net} ns; by threads without opening and closing {turn} % of that"
+    )
+}
+
+/// Measures one worker by threads and by schedule; several on CPUs of their own, with long-lived and with short-lived
+/// objects, and several on one CPU, each against one; and tries.
 pub(crate) fn measure(
     rt: &(impl Clock + AllocGlobal + Print + Threads + Wait + Sync),
 ) -> io::Result<()> {
-    let one = cost_of(rt, 1, Cpus::Own, THREADS)?;
-    let drawn = cost_of(rt, 1, Cpus::Own, SCHEDULE)?;
-    let whole = one.whole / 1000;
-    let net = one.net / 1000;
-    let drawn_whole = drawn.whole / 1000;
-    let drawn_net = drawn.net / 1000;
-    let turn = percent(one.net, drawn.net);
-    println!(rt; "one worker:")?;
-    println!(rt;
-        "  with opening and closing {whole} ns an event by threads, {drawn_whole} ns by schedule"
-    )?;
-    println!(rt; "  without {net} ns by threads, {drawn_net} ns by schedule: {turn} %")?;
-    let own = cost_of(rt, WORKERS, Cpus::Own, THREADS)?;
-    print_against(rt, "CPUs of their own", one, own)?;
-    let same = cost_of(rt, WORKERS, Cpus::One, THREADS)?;
-    print_against(rt, "one CPU", one, same)?;
+    let one = cost_of(rt, 1, LONG, THREADS)?;
+    print_one(rt, LONG, one)?;
+    measure_schedule(rt, one)?;
+    measure_against(rt, "CPUs of their own", one, LONG)?;
+    let short = cost_of(rt, 1, SHORT, THREADS)?;
+    print_one(rt, SHORT, short)?;
+    measure_against(rt, "CPUs of their own", short, SHORT)?;
+    measure_against(rt, "one CPU", one, SAME)?;
     tries::measure(rt)
 }

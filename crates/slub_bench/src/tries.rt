@@ -18,8 +18,12 @@ use std::rt::Clock;
 use std::sync::Wait;
 use std::time::Instant;
 
-/// How many allocations are made, each with the free that undoes it.
-const PAIRS: u32 = 100_000;
+/// How many allocations are made, each with the free that undoes it: so few that the worker's calls and replies stay in
+/// the processor's caches.
+const PAIRS: u32 = 1000;
+
+/// How often each is measured.
+const RUNS: u32 = 100;
 
 /// A round of one worker that frees each object before it allocates the next one.
 fn pairs_text(alloc: Global) -> Result<Vec<u8>, AllocError> {
@@ -97,7 +101,7 @@ fn bare_nanos(rt: &(impl Clock + AllocGlobal)) -> io::Result<u64> {
     nanos_since(rt, &start)
 }
 
-/// Measures both, the best of three runs of each.
+/// Measures both, the best of all runs of each.
 pub(crate) fn measure(rt: &(impl Clock + AllocGlobal + Print + Wait)) -> io::Result<()> {
     let text = pairs_text(rt.alloc())?;
     let Ok(mut source) = FaultlessSource::of(rt.alloc(), text.as_slice()) else {
@@ -108,7 +112,7 @@ pub(crate) fn measure(rt: &(impl Clock + AllocGlobal + Print + Wait)) -> io::Res
     };
     let mut tries = tries_nanos(rt, &trace)?;
     let mut bare = bare_nanos(rt)?;
-    for _ in 0..2 {
+    for _ in 1..RUNS {
         tries = tries.min(tries_nanos(rt, &trace)?);
         bare = bare.min(bare_nanos(rt)?);
     }

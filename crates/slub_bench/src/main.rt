@@ -13,6 +13,7 @@
 //! that undoes it.
 #![tactic(auto)]
 
+mod held;
 mod pool;
 mod reader;
 mod runs;

@@ -1,5 +1,6 @@
 //! Replays of generated traces.
 
+use crate::held::keep_memory;
 use crate::reader::best_count;
 use crate::runs::{best_run, one_round, read_nanos, run_nanos};
 use slub_edges::adapters::WriteSink;
@@ -153,16 +154,6 @@ fn checked_round(alloc: Global) -> Result<Vec<u8>, AllocError> {
     Ok(text)
 }
 
-/// The length of a block: nearly 32 MiB, so the longest whose release raises glibc's thresholds.
-const LEARNT: usize = 33_000_000;
-
-/// Takes a long block and gives it back. From then on glibc gives memory back to the system only where more than twice
-/// as much is free at the end of its heap, so a replay finds the pages that the one before it touched.
-fn keep_memory(alloc: Global) -> Result<(), AllocError> {
-    let _block: Vec<u8> = Vec::with_capacity(alloc, LEARNT)?;
-    Ok(())
-}
-
 /// What a whole replay of a text takes against counting its lines and words, in tenths.
 fn tenths_of_counting(
     rt: &(impl Clock + AllocGlobal + Threads + Wait + Sync),
@@ -201,7 +192,7 @@ pub(crate) fn measure(
     let micros = opening / 1000;
     println!(rt; "a machine of 4096 frames is opened in {micros} us")?;
     measure_first(rt, opening)?;
-    keep_memory(rt.alloc())?;
+    let _held = keep_memory(rt.alloc())?;
     let opening = opening_nanos(rt)?;
     let micros = opening / 1000;
     println!(rt; "in memory that was touched before, a machine is opened in {micros} us, and")?;

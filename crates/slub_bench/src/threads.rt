@@ -1,6 +1,7 @@
 //! Rounds of several workers by threads, against one worker and against a schedule: with opening and closing, and without
 //! them, by the difference of two rounds. The rate that several workers are to have is one of events alone.
 
+use crate::held::keep_memory;
 use crate::runs::{HEAD, best_read, gated_nanos};
 use crate::tries;
 use crate::waits::{CountingGate, Waits};
@@ -250,6 +251,7 @@ fn measure_schedule(
 pub(crate) fn measure(
     rt: &(impl Clock + AllocGlobal + Print + Threads + Wait + Sync),
 ) -> io::Result<()> {
+    let _held = keep_memory(rt.alloc())?;
     let one = cost_of(rt, 1, LONG, THREADS)?;
     print_one(rt, LONG, one)?;
     measure_schedule(rt, one)?;

@@ -1,10 +1,11 @@
 //! The words of the page frames, as the holders of objects wrote them.
 
-ghost use Rattle.std.specs.Prelude.{◌≡◌, ◌+◌, ◌-◌, ◌<◌, ◌≤◌, ◌++◌, length, replicate, take, slice_index_or, slice_set, vec_capacity, IfOk};
+ghost use Rattle.std.specs.Prelude.{◌≡◌, ◌+◌, ◌-◌, ◌<◌, ◌≤◌, ◌++◌, [], length, replicate, take, slice_index_or, slice_set, vec_capacity, IfOk};
 
 use slub_common::no_memory::NoMemory;
 use std::alloc::Global;
 use std::marker::Model;
+use std::mem::replace;
 
 /// The words of the page frames. All are 0 at first.
 ///
@@ -16,6 +17,8 @@ pub struct Memory {
     words: Vec<u64>,
     /// How many words there are.
     count: usize,
+    /// The row that was lent last and came back; empty before that.
+    row: Vec<u64>,
 }
 
 impl Model for Memory {
@@ -36,19 +39,27 @@ impl Memory {
         Ok(Memory {
             words: Vec::with_capacity(alloc, count)?,
             count,
+            row: Vec::new(alloc),
         })
     }
 
-    /// The same words in a room of their own.
-    pub fn copied(&self, alloc: Global) -> Result<Memory, NoMemory>
-        ensures { IfOk result (λ memory. memory ≡ self.now) }
+    /// Copies of the words up to the last one that was written. All others are 0.
+    pub fn stored(&self, alloc: Global) -> Result<Vec<u64>, NoMemory>
+        ensures inside { IfOk result (λ stored. length stored.items ≤ length self.now) }
+        ensures stored { IfOk result (λ stored. stored.items ++ replicate (length self.now - length stored.items) 0 ≡ self.now) }
     {
-        let mut words = Vec::with_capacity(alloc, self.count)?;
-        put_behind(&mut words, &self.words);
-        Ok(Memory {
-            words,
-            count: self.count,
-        })
+        let mut stored = Vec::with_capacity(alloc, self.words.len())?;
+        put_behind(&mut stored, &self.words);
+        Ok(stored)
+    }
+
+    /// Writes these words, and 0 in all words behind them. It takes no memory.
+    pub fn restore(&mut self, stored: &[u64])
+        requires { length stored.now ≤ length self.old }
+        ensures { self.new ≡ stored.now ++ replicate (length self.old - length stored.now) 0 }
+    {
+        self.words.clear();
+        put_behind(&mut self.words, stored);
     }
 
     /// The word at a place; 0 behind the last one.
@@ -77,19 +88,47 @@ impl Memory {
         requires { length words.now ≡ length self.old }
         ensures { self.new ≡ words.now }
     {
-        self.words.clear();
-        put_behind(&mut self.words, &words[..reach_of(words)]);
+        self.restore(&words[..reach_of(words)]);
     }
 
-    /// Puts all words behind others, for which there is room.
-    pub fn push_to(&self, words: &mut Vec<u64>)
-        requires room { length words.old.items + length self.now ≤ vec_capacity words.old }
-        ensures words { words.new.items ≡ words.old.items ++ self.now }
-        ensures capacity { vec_capacity words.new ≡ vec_capacity words.old }
+    /// Lends a row of these words, with all its own behind them, and with others behind its own. It takes memory only
+    /// where the row that came back last is shorter.
+    pub fn lend_row(
+        &mut self,
+        alloc: Global,
+        before: &[u64],
+        behind: &[u64],
+    ) -> Result<Vec<u64>, NoMemory>
+        ensures memory { self.new ≡ self.old }
+        ensures row { IfOk result (λ row. row.items ≡ (before.now ++ self.old) ++ behind.now) }
     {
-        let count = words.len() + self.count;
-        put_behind(words, &self.words);
-        store_up_to(words, count, 0);
+        let count = before.len() + self.count;
+        let mut row = self.take_row(alloc, count + behind.len())?;
+        row.extend_from_slice(before)?;
+        row.extend_from_slice(&self.words)?;
+        row.resize(count, 0)?;
+        row.extend_from_slice(behind)?;
+        Ok(row)
+    }
+
+    /// The row that came back last, empty, where it has room for so many words; a new one where it hasn't.
+    fn take_row(&mut self, alloc: Global, count: usize) -> Result<Vec<u64>, NoMemory>
+        ensures memory { self.new ≡ self.old }
+        ensures row { IfOk result (λ row. (row.items ≡ []) × (count ≤ vec_capacity row)) }
+    {
+        let mut row = replace(&mut self.row, Vec::new(alloc));
+        if row.capacity() < count {
+            return Ok(Vec::with_capacity(alloc, count)?);
+        }
+        row.clear();
+        Ok(row)
+    }
+
+    /// Takes a row back, to lend it the next time.
+    pub fn keep_row(&mut self, row: Vec<u64>)
+        ensures { self.new ≡ self.old }
+    {
+        self.row = row;
     }
 }
 

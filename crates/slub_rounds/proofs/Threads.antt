@@ -1,5 +1,5 @@
 -- A round by threads: how it begins and ends, and that it is lawful.
-use Rattle.std.proofs.Common.{◌≡◌, ℕ, List, [], ◌∷◌, length, get_or, refl, sym, ap, ◌∙◌, subst, All, Option, None, Some, arith}
+use Rattle.std.proofs.Common.{◌≡◌, ℕ, ◌-◌, List, [], ◌∷◌, ◌++◌, length, replicate, get_or, refl, sym, ap, ◌∙◌, subst, All, Option, None, Some, arith}
 use Rattle.std.proofs.lemmas.List.Elements.{All-map}
 use Rattle.std.specs.List.{range_with_len}
 use Rattle.slub_events.specs.declared.event.Round.{Round}
@@ -17,7 +17,6 @@ use Rattle.slub_core.specs.Steps.{or_step, rested, rested_at, rested_with}
 use Rattle.slub_local.specs.Facts as local
 use Rattle.slub_local.specs.Facts.{Facts}
 use Rattle.slub_local.specs.Values.{rooms_of, values_of}
-use Rattle.slub_local.specs.declared.guarded.Guarded.{Guarded}
 use Rattle.slub_opening.specs.Opening.{IsLaidDown, setup_of}
 use Rattle.slub_calls.specs.Calls.{worker_of, workers_of}
 use Rattle.slub_calls.specs.Laws.{MayDo}
@@ -26,15 +25,15 @@ use Rattle.slub_into_words.specs.declared.opened.Opened.{Opened}
 use Rattle.slub_into_words.specs.declared.opened.Rest.{Rest}
 use Rattle.slub_into_words.specs.Opened.{IsOpened}
 use Rattle.slub_into_words.specs.Rest.{IsRestOf, IsUntouched}
-use Rattle.slub_into_lists.specs.Undoing.{WasOpened}
 use Rattle.slub_turns.specs.declared.machine.Machine.{Machine}
 use Rattle.slub_turns.specs.Means.{the_means}
-use Rattle.slub_workers.specs.Round.{HasWorked, MayWork}
+use Rattle.slub_schedule.specs.Table.{WordTable}
+use Rattle.slub_workers.specs.Round.{HasWorked, IsUnchanged, MayWork}
 use Rattle.slub_rounds.specs.declared.answers.Answers.{Answers}
 use Rattle.slub_rounds.specs.declared.room.Room.{Room}
 use Rattle.slub_rounds.specs.Answers.{IsRoomFor}
 use Rattle.slub_rounds.specs.Room.{IsTakenFor}
-use Rattle.slub_rounds.specs.Machine.{HasEnded, IsBegun, IsSetForThreads, MayRun, beside_in, system_in}
+use Rattle.slub_rounds.specs.Machine.{AreKept, HasEnded, IsBegun, IsSetForThreads, MayRun, WasKept, beside_in, system_in}
 use Rattle.slub_rounds.specs.Rounds.{Finishes}
 use Rattle.slub_rounds.proofs.Machines.{begun-count, has-ended, is-set, ready-begun}
 
@@ -88,24 +87,38 @@ module _ (s : State) (ids : List ℕ) (b : Beside) (trace : Trace) (round : Roun
 -- ---- the whole
 
 -- the memory was taken, and the lists were opened
-pub set-for : (s : State) (ids : List ℕ) (trace : Trace) (round : Round) (room : Room) (now : State) (opened : Opened) (memory : List ℕ) → IsCoherent s → IsLaidDown s → MayDo s trace round → IsTakenFor s ids round room
-    → now ≡ s → IsOpened now room.beside opened → IsUntouched now opened.rest → memory ≡ s.memory → IsSetForThreads s ids room.beside trace round opened room.workers.items memory room.answers
-set-for s ids trace round room now opened memory coherent laid does taken same opens still kept = record {
+pub set-for : (s : State) (ids : List ℕ) (trace : Trace) (round : Round) (room : Room) (now : State) (opened : Opened) (kept : List ℕ) → IsCoherent s → IsLaidDown s → MayDo s trace round → IsTakenFor s ids round room
+    → now ≡ s → IsOpened now room.beside opened → IsUntouched now opened.rest → AreKept kept s.memory → IsSetForThreads s ids room.beside trace round opened room.workers.items kept room.answers
+set-for s ids trace round room now opened kept coherent laid does taken same opens still are = record {
   set = is-set s ids trace round room opened coherent laid does taken (subst (λ (t : State). IsOpened t room.beside opened) same opens);
   still = subst (λ (t : State). IsUntouched t opened.rest) same still;
-  memory_is = kept;
+  kept_are = are;
 }
 
 -- ---- want of memory
 
 -- the machine is opened as it was
-pub was-opened : (s : State) (ids : List ℕ) (b : Beside) (trace : Trace) (round : Round) (opened : Opened) (locals : List Local) (memory : List ℕ) (answers : Answers) (guards : List Guarded) (rest : Rest) → IsSetForThreads s ids b trace round opened locals memory answers
-    → guards ≡ opened.values.items → rest ≡ opened.rest → WasOpened s guards rest memory
-was-opened s ids b trace round opened locals memory answers guards rest set same is = record {
-  coherent = set.set.may.coherent;
-  values = ap values_of same ∙ set.set.opens.values;
-  rooms = ap rooms_of same ∙ set.set.opens.rooms;
-  waiting = subst (IsRestOf s) (sym is) set.set.opens.rest;
-  still = subst (IsUntouched s) (sym is) set.still;
-  memory_is = set.memory_is;
-}
+pub was-kept : (s : State) (ids : List ℕ) (b : Beside) (trace : Trace) (round : Round) (opened : Opened) (locals : List Local) (kept : List ℕ) (answers : Answers) (m now : Machine) (rest : Rest) → IsSetForThreads s ids b trace round opened locals kept answers
+    → IsBegun s b round m rest → m.values.items ≡ opened.values.items → rest ≡ opened.rest → IsUnchanged m now → WasKept s now rest kept
+was-kept s ids b trace round opened locals kept answers m now rest set begun same is unchanged =
+    let guards = unchanged.values ∙ same in
+    let frames = (sizes-are s b round m rest begun).0 in
+    let waiting = begun.waiting.frames in
+    let table = ap (λ (t : WordTable). t.frames) unchanged.table in
+    let words = set.set.may.coherent.shaped.memory in
+    record {
+      opened = record {
+        coherent = set.set.may.coherent;
+        values = ap values_of guards ∙ set.set.opens.values;
+        rooms = ap rooms_of guards ∙ set.set.opens.rooms;
+        waiting = subst (IsRestOf s) (sym is) set.set.opens.rest;
+        still = subst (IsUntouched s) (sym is) set.still;
+        memory_is = refl;
+      };
+      frames = omega (arith, words, frames, waiting, table);
+      kept_are = set.kept_are;
+    }
+
+-- and the words that were kept are those that its frames had
+pub kept-again : (kept memory before now : List ℕ) → AreKept kept memory → length before ≡ length memory → now ≡ kept ++ replicate (length before - length kept) 0 → now ≡ memory
+kept-again kept memory before now are long is = is ∙ ap (λ (n : ℕ). kept ++ replicate (n - length kept) 0) long ∙ are.words

@@ -1,5 +1,5 @@
 -- The machine of a round, as the crate's own functions have it. The promise doesn't speak of it.
-use Rattle.std.specs.Prelude.{◌≡◌, ℕ, List, length, map, All}
+use Rattle.std.specs.Prelude.{◌≡◌, ℕ, ◌-◌, ◌*◌, ◌≤◌, ◌++◌, List, length, map, replicate, All}
 use Rattle.std.specs.List.{range_with_len}
 use Rattle.slub_events.specs.declared.event.Round.{Round}
 use Rattle.slub_trace.specs.declared.trace.Trace.{Trace}
@@ -15,6 +15,7 @@ use Rattle.slub_opening.specs.Opening.{IsLaidDown, setup_of}
 use Rattle.slub_opening.specs.Opening as opening
 use Rattle.slub_opening.specs.Closing.{Closes}
 use Rattle.slub_into_lists.specs.Closing.{KeepsWords}
+use Rattle.slub_into_lists.specs.Undoing.{WasOpened}
 use Rattle.slub_calls.specs.Calls.{workers_of}
 use Rattle.slub_calls.specs.Laws.{MayDo}
 use Rattle.slub_into_words.specs.declared.beside.Beside.{Beside}
@@ -94,13 +95,24 @@ pub record IsSet (s : State) (ids : List ℕ) (b : Beside) (trace : Trace) (roun
   pub workers : locals ≡ workers_of s.table round
   pub room : IsRoomFor s (length round.events) round.workers answers
 
+-- these are the words of the frames up to some number, and those behind them are 0
+pub record AreKept (kept memory : List ℕ) : Type 0 where
+  pub inside : length kept ≤ length memory
+  pub words : kept ++ replicate (length memory - length kept) 0 ≡ memory
+
 -- the same of a round by threads, beside which the words of the frames wait as they were
 pub record IsSetForThreads (s : State) (ids : List ℕ) (b : Beside) (trace : Trace)
-    (round : Round) (opened : Opened) (locals : List Local) (memory : List ℕ)
+    (round : Round) (opened : Opened) (locals : List Local) (kept : List ℕ)
     (answers : Answers) : Type 0 where
   pub set : IsSet s ids b trace round opened locals answers
   pub still : IsUntouched s opened.rest
-  pub memory_is : memory ≡ s.memory
+  pub kept_are : AreKept kept s.memory
+
+-- s was opened as this machine, on which nothing was done, and beside it these words wait
+pub record WasKept (s : State) (m : Machine) (rest : Rest) (kept : List ℕ) : Type 0 where
+  pub opened : WasOpened s m.values.items rest s.memory
+  pub frames : length s.memory ≡ 512 * m.table.frames
+  pub kept_are : AreKept kept s.memory
 
 -- the round is done, and the next one may begin
 pub record IsDone (Ending : Setup → System → List Pick → System → Type 0) (s : State)

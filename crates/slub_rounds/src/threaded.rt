@@ -1,6 +1,6 @@
 //! A round of several workers by threads.
 
-ghost use Rattle.std.specs.Prelude.{◌≡◌, ◌≤◌, ℕ, List, IfErr, IfOk, MatchResult, length};
+ghost use Rattle.std.specs.Prelude.{◌≡◌, ◌-◌, ◌≤◌, ◌++◌, ℕ, List, IfErr, IfOk, MatchResult, length, replicate};
 ghost use Rattle.slub_trace.specs.declared.trace.Trace.{Trace};
 ghost use Rattle.slub_lists.specs.State.{State};
 ghost use Rattle.slub_lists.specs.Coherent.{IsCoherent};
@@ -10,7 +10,7 @@ ghost use Rattle.slub_into_words.specs.declared.beside.Beside.{Beside};
 ghost use Rattle.slub_into_words.specs.Ids.{AreIds};
 ghost use Rattle.slub_round_law.specs.Round.{IsRound};
 ghost use Rattle.slub_rounds.specs.Rounds.{DoesRoundByThreads};
-ghost use Rattle.slub_rounds.specs.Machine.{IsDoneByThreads, IsSetForThreads};
+ghost use Rattle.slub_rounds.specs.Machine.{IsDoneByThreads, IsSetForThreads, WasKept};
 
 use crate::answers::Answers;
 use crate::ended::Ended;
@@ -22,11 +22,11 @@ use slub_edges::gate::Gate;
 use slub_events::event::Round;
 use slub_into_lists::undoing::put_back;
 use slub_into_words::ids::Ids;
-use slub_into_words::opened::Opened;
+use slub_into_words::opened::{Opened, Rest};
 use slub_into_words::opening::open;
 use slub_list_machine::lists::Lists;
 use slub_local::local::Local;
-use slub_memory::memory::Memory;
+use slub_turns::machine::Machine;
 use slub_workers::round::threads_round;
 use std::alloc::Global;
 use std::sync::Wait;
@@ -61,9 +61,9 @@ pub fn threaded<R: Threads + Wait + Sync, G: Gate + Sync>(
         Ok(room) => room,
         Err(NoMemory) => return Err(lists),
     };
-    let (lists, kept) = keep_memory(alloc, lists);
-    let memory = match kept {
-        Ok(memory) => memory,
+    let (lists, kept) = keep_words(alloc, lists);
+    let kept = match kept {
+        Ok(kept) => kept,
         Err(NoMemory) => return Err(lists),
     };
     let Room {
@@ -75,19 +75,37 @@ pub fn threaded<R: Threads + Wait + Sync, G: Gate + Sync>(
         answers,
     } = room;
     match open(alloc, lists, beside) {
-        Ok(opened) => in_threads(rt, gate, alloc, opened, workers, memory, answers, round),
+        Ok(opened) => in_threads(rt, gate, alloc, opened, workers, kept, answers, round),
         Err(unopened) => Err(unopened.lists),
     }
 }
 
-/// The words of the frames, kept for the case that the round can't begin once the lists are opened.
-fn keep_memory(alloc: Global, lists: Lists) -> (Lists, Result<Memory, NoMemory>)
+/// The words of the frames up to the last one that was written, kept for the case that the round can't begin once the
+/// lists are opened.
+fn keep_words(alloc: Global, lists: Lists) -> (Lists, Result<Vec<u64>, NoMemory>)
     ensures lists { result.0 ≡ lists }
-    ensures kept { IfOk result.1 (λ memory. memory ≡ lists.memory) }
+    ensures inside { IfOk result.1 (λ kept. length kept.items ≤ length lists.memory) }
+    ensures kept { IfOk result.1 (λ kept. kept.items ++ replicate (length lists.memory - length kept.items) 0 ≡ lists.memory) }
 {
     let parts = lists.into_parts();
-    let kept = parts.memory.copied(alloc);
+    let kept = parts.memory.stored(alloc);
     (Lists::from_parts(parts), kept)
+}
+
+/// Puts the lists together again of a round that couldn't begin. These words of the frames were kept.
+fn undone(machine: Machine, rest: Rest, kept: Vec<u64>) -> Lists
+    requires { (s : State) × WasKept s machine rest kept.items }
+    ensures { (s : State) → WasKept s machine rest kept.items → result ≡ s }
+{
+    let Machine {
+        setup: _,
+        table,
+        values,
+        locals: _,
+    } = machine;
+    let mut memory = table.into_memory();
+    memory.restore(kept.as_slice());
+    put_back(values, rest, memory)
 }
 
 /// Does the round on the machine in words, and closes it. Where there is no memory for the table that the threads
@@ -98,17 +116,17 @@ fn in_threads<R: Threads + Wait + Sync, G: Gate + Sync>(
     alloc: Global,
     opened: Opened,
     locals: Vec<Local>,
-    memory: Memory,
+    kept: Vec<u64>,
     answers: Answers,
     round: &Round,
 ) -> Result<Ended, Lists>
-    requires set { (s : State) × (ids : List ℕ) × (b : Beside) × (trace : Trace) × IsSetForThreads s ids b trace round.now opened locals.items memory answers }
-    ensures { (s : State) (ids : List ℕ) (b : Beside) (trace : Trace) → IsSetForThreads s ids b trace round.now opened locals.items memory answers → MatchResult result (λ done. IsDoneByThreads s ids round.now done) (λ after. after ≡ s) }
+    requires set { (s : State) × (ids : List ℕ) × (b : Beside) × (trace : Trace) × IsSetForThreads s ids b trace round.now opened locals.items kept.items answers }
+    ensures { (s : State) (ids : List ℕ) (b : Beside) (trace : Trace) → IsSetForThreads s ids b trace round.now opened locals.items kept.items answers → MatchResult result (λ done. IsDoneByThreads s ids round.now done) (λ after. after ≡ s) }
 {
     let (machine, rest) = begun(opened, locals);
     let objects = rest.board.len() as u32;
     match threads_round(rt, gate, alloc, rest.frames, objects, machine) {
         Ok(machine) => Ok(closed(machine, rest, round, answers)),
-        Err(unopened) => Err(put_back(unopened.machine.values, rest, memory)),
+        Err(unopened) => Err(undone(unopened.machine, rest, kept)),
     }
 }

@@ -1,12 +1,14 @@
 //! The words of the machine, on which steps are applied.
 
-ghost use Rattle.std.specs.Prelude.{◌≡◌, ℕ, ◌+◌, ◌*◌, ◌<◌, ◌≤◌, ◌++◌, length, slice_set, slice_index_or, vec_capacity};
+ghost use Rattle.std.specs.Prelude.{◌≡◌, ℕ, ◌+◌, ◌*◌, ◌<◌, ◌≤◌, ◌++◌, length, slice_set, slice_index_or, IfOk};
 ghost use Rattle.slub_core.specs.Setup.{Setup};
 ghost use Rattle.slub_core.specs.Words.{number_of, after_op, answer_of};
 ghost use Rattle.slub_schedule.specs.Table.{WordTable, IsTableOf};
 
+use slub_common::no_memory::NoMemory;
 use slub_core::step::{Answer, Op, Place, Step};
-use slub_memory::memory::{Memory, put_behind};
+use slub_memory::memory::Memory;
+use std::alloc::Global;
 use std::marker::Model;
 
 /// The table of words of a machine. Contracts see it as a `WordTable`.
@@ -117,15 +119,19 @@ impl Table {
         self.memory
     }
 
-    /// Puts all words behind others, for which there is room.
-    pub fn push_to(&self, words: &mut Vec<u64>)
-        requires room { length words.old.items + length self.now.words ≤ vec_capacity words.old }
-        ensures words { words.new.items ≡ words.old.items ++ self.now.words }
-        ensures capacity { vec_capacity words.new ≡ vec_capacity words.old }
+    /// Lends a row of all words, in the order of their numbers. It takes memory only where no such row came back before.
+    pub fn lend_row(&mut self, alloc: Global) -> Result<Vec<u64>, NoMemory>
+        ensures table { self.new ≡ self.old }
+        ensures row { IfOk result (λ row. row.items ≡ self.old.words) }
     {
-        put_behind(words, &self.front);
-        self.memory.push_to(words);
-        put_behind(words, &self.links);
+        self.memory.lend_row(alloc, &self.front, &self.links)
+    }
+
+    /// Takes a row back, to lend it the next time.
+    pub fn keep_row(&mut self, row: Vec<u64>)
+        ensures { self.new ≡ self.old }
+    {
+        self.memory.keep_row(row);
     }
 
     /// Stores all words, in the order of their numbers. It takes no memory.

@@ -228,7 +228,7 @@ fn take_all(
 ) -> Ended
     requires table { root.table_id ≡ shared.now.words.shared.table_id }
     requires view { root.me ≡ ([], []) }
-    requires words { (words.items ≡ []) × (shared.now.words.shared.table_id.words ≤ vec_capacity words) }
+    requires words { length words.items ≡ shared.now.words.shared.table_id.words }
     requires values { (values.items ≡ []) × (33 ≤ vec_capacity values) }
     requires list { All (IsIdleAt shared.now.words.shared.table_id) list.items }
     requires numbers { map worker_in list.items ≡ countdown (length list.items) }

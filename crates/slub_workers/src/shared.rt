@@ -59,7 +59,7 @@ pub(crate) struct Opened {
     pub(crate) root: WorkerSeat,
     /// In rising number.
     pub(crate) locals: Vec<Local>,
-    /// Empty, with room for as many words as the table has.
+    /// As many words as the table has, whichever they are.
     pub(crate) room: Vec<u64>,
 }
 
@@ -69,17 +69,17 @@ impl Shared {
         alloc: Global,
         frames: u32,
         objects: u32,
-        machine: Machine,
+        mut machine: Machine,
     ) -> Result<Opened, Unopened>
         requires sizes { (frames ≡ machine.table.frames) × (objects ≡ machine.table.objects) }
         requires work { MayWork machine }
         ensures key { IfOk result (λ o. o.shared.words.shared.key ≡ begun_by machine) }
         ensures root { IfOk result (λ o. (o.root.table_id ≡ o.shared.words.shared.table_id) × (o.root.me ≡ (first_view o.shared.words.shared.key, []))) }
         ensures locals { IfOk result (λ o. o.locals ≡ machine.locals) }
-        ensures room { IfOk result (λ o. (o.room.items ≡ []) × (o.shared.words.shared.table_id.words ≤ vec_capacity o.room)) }
+        ensures room { IfOk result (λ o. length o.room.items ≡ o.shared.words.shared.table_id.words) }
         ensures unopened { IfErr result (λ u. IsUnchanged machine u.machine) }
     {
-        let Ok(mut room) = cells_of(alloc, &machine.table) else {
+        let Ok(room) = cells_of(alloc, &mut machine.table) else {
             return Err(Unopened { machine });
         };
         let key = Key {
@@ -87,42 +87,42 @@ impl Shared {
         };
         let Machine {
             setup,
-            table,
+            mut table,
             values,
             locals,
         } = machine;
         match Words::new(alloc, room.as_slice(), values, &key) {
-            Ok((words, root)) => {
-                room.clear();
-                Ok(Opened {
-                    shared: Shared {
-                        words,
-                        setup,
-                        table,
-                        frames,
-                        objects,
-                        asleep: CachePadded::new(AtomicU64::new(0)),
-                    },
-                    root,
-                    locals,
-                    room,
-                })
-            }
-            Err(Refused { slots: values }) => Err(Unopened {
-                machine: Machine {
+            Ok((words, root)) => Ok(Opened {
+                shared: Shared {
+                    words,
                     setup,
                     table,
-                    values,
-                    locals,
+                    frames,
+                    objects,
+                    asleep: CachePadded::new(AtomicU64::new(0)),
                 },
+                root,
+                locals,
+                room,
             }),
+            Err(Refused { slots: values }) => {
+                table.keep_row(room);
+                Err(Unopened {
+                    machine: Machine {
+                        setup,
+                        table,
+                        values,
+                        locals,
+                    },
+                })
+            }
         }
     }
 
     ghost use Rattle.slub_workers.specs.Ends.{AreGathered};
 
     /// The machine as the last step left it, where all workers have given their seats back. It takes no memory: there
-    /// is room for the words and for what the locks guard.
+    /// is room for the words and for what the locks guard, and the machine keeps that of the words.
     pub fn close(self, ended: Ended) -> Machine
         requires ended { AreGathered self.words.shared.table_id (length self.words.shared.key.locals) ended }
         ensures closed { HasClosed self.words.shared.key ended.tried (begun_by result) }
@@ -143,12 +143,12 @@ impl Shared {
             locals,
             tried: _,
         } = ended;
-        let count = cells.word_count();
         let mut closed = cells.close_with(root);
-        let words = words_of(&closed, count, words);
+        let words = words_of(&closed, words);
         let values = values_of(&mut closed, values);
         closed.free();
         table.fill(words.as_slice());
+        table.keep_row(words);
         Machine {
             setup,
             table,
@@ -158,29 +158,36 @@ impl Shared {
     }
 }
 
-/// The words of a table, each in its cell.
-fn cells_of(alloc: Global, table: &Table) -> Result<Vec<u64>, NoMemory>
-    requires { 2 ≤ table.now.frames }
-    ensures { IfOk result (λ cells. cells.items ≡ by_number table.now.words) }
+/// The words of a table, each in its cell, in a row that the table is to get back.
+fn cells_of(alloc: Global, table: &mut Table) -> Result<Vec<u64>, NoMemory>
+    requires { 1569 ≤ length table.old.words }
+    ensures table { table.new ≡ table.old }
+    ensures cells { IfOk result (λ cells. cells.items ≡ by_number table.old.words) }
 {
-    let mut words = Vec::with_capacity(alloc, table.len())?;
-    table.push_to(&mut words);
+    let mut words = table.lend_row(alloc)?;
     rearrange(words.as_mut_slice());
     Ok(words)
 }
 
-/// The words of a closed table, of which there are so many, in the order of their numbers. There is room for them.
-fn words_of(closed: &Closed<Guarded, Global>, count: usize, mut words: Vec<u64>) -> Vec<u64>
-    requires count { (count ≡ slots_len closed.now.words) × IsFull closed.now.words }
-    requires all { 1569 ≤ count }
-    requires room { (words.items ≡ []) × (count ≤ vec_capacity words) }
+/// The words of a closed table in the order of their numbers, in a row that has as many.
+fn words_of(closed: &Closed<Guarded, Global>, mut words: Vec<u64>) -> Vec<u64>
+    requires count { (length words.items ≡ slots_len closed.now.words) × IsFull closed.now.words }
+    requires all { 1569 ≤ length words.items }
     ensures { result.items ≡ by_number (slots_items closed.now.words) }
 {
-    for i in 0..count {
-        words.push_reserved(closed.word(i));
-    }
+    copy_words(closed, words.as_mut_slice());
     rearrange(words.as_mut_slice());
     words
+}
+
+/// Stores the words of a closed table in these, cell by cell.
+fn copy_words(closed: &Closed<Guarded, Global>, words: &mut [u64])
+    requires { (length words.old ≡ slots_len closed.now.words) × IsFull closed.now.words }
+    ensures { words.new ≡ slots_items closed.now.words }
+{
+    for cell in 0..words.len() {
+        words[cell] = closed.word(cell);
+    }
 }
 
 /// What the locks guard, by the number of the lock. There is room for it.

@@ -1,7 +1,7 @@
-use Rattle.std.proofs.Common.{ap, ◌∙◌, arith}
+use Rattle.std.proofs.Common.{ap, arith}
 use Rattle.slub_rounds.specs.Rounds.{Finishes}
 use Rattle.slub_rounds.proofs.Machines.{is-done}
-use Rattle.slub_rounds.proofs.Threads.{finishes, has-worked, may-work, sizes-are, was-opened}
+use Rattle.slub_rounds.proofs.Threads.{finishes, has-worked, may-work, sizes-are, was-kept}
 use Rattle.slub_rounds.proofs.threaded.in_threads.Goals as goal
 
 pub threads_round-requires-clause-sizes : goal.threads_round-requires-clause-sizes
@@ -29,15 +29,15 @@ returns-in-Ok g c = λ s ids b trace set.
     is-done Finishes s ids b trace c.args.round.now c.begun-machine.result.0 c.in-Ok.machine c.begun-machine.result.1 worked.picks c.closed.result set.set.may begun
     (finishes s ids b trace c.args.round.now c.begun-machine.result.0 c.in-Ok.machine c.begun-machine.result.1 set.set.may begun worked) closed
 
-pub put_back-requires : goal.put_back-requires
-put_back-requires g c =
+pub undone-requires : goal.undone-requires
+undone-requires g c =
     let (s, ids, b, trace, set) = c.requires.set in (
       s,
-      was-opened s ids b trace c.args.round.now c.args.opened c.args.locals.items c.args.memory c.args.answers c.in-Err.unopened.machine.values.items c.begun-machine.result.1 set
-          (c.in-Err.ensures.unopened.values ∙ ap (λ v. v.items) c.begun-machine.ensures.values) c.begun-machine.ensures.rest,
+      was-kept s ids b trace c.args.round.now c.args.opened c.args.locals.items c.args.kept.items c.args.answers c.begun-machine.result.0 c.in-Err.unopened.machine c.begun-machine.result.1 set
+          (c.begun-machine.ensures.begun s b c.args.round.now set.set.opens set.set.workers) (ap (λ v. v.items) c.begun-machine.ensures.values) c.begun-machine.ensures.rest c.in-Err.ensures.unopened,
     )
 
 pub returns-in-Err : goal.returns-in-Err
 returns-in-Err g c = λ s ids b trace set.
-    c.put_back.ensures s (was-opened s ids b trace c.args.round.now c.args.opened c.args.locals.items c.args.memory c.args.answers c.in-Err.unopened.machine.values.items c.begun-machine.result.1 set
-    (c.in-Err.ensures.unopened.values ∙ ap (λ v. v.items) c.begun-machine.ensures.values) c.begun-machine.ensures.rest)
+    c.undone.ensures s (was-kept s ids b trace c.args.round.now c.args.opened c.args.locals.items c.args.kept.items c.args.answers c.begun-machine.result.0 c.in-Err.unopened.machine c.begun-machine.result.1 set
+    (c.begun-machine.ensures.begun s b c.args.round.now set.set.opens set.set.workers) (ap (λ v. v.items) c.begun-machine.ensures.values) c.begun-machine.ensures.rest c.in-Err.ensures.unopened)

@@ -8,9 +8,9 @@
 //! replay, text and writing, and what whole replays cost against counting; `schedule` replays rounds of
 //! eight workers by schedule and in the order of the text, a round of fast paths, a load, and a trace of
 //! small rounds; `threads` replays rounds by threads, of one worker, of four on CPUs of their own, with
-//! long-lived and with short-lived objects, and of four on one CPU, with and without opening and closing,
-//! and prints how often the workers lost an exchange or slept; and a try of the fast path with the push
-//! that undoes it.
+//! long-lived and with short-lived objects, and with caches of their own, and of four on one CPU, in all and
+//! from the first event to the end of the last, and prints how often the workers lost an exchange or slept; a
+//! trace of small rounds; and a try of the fast path with the push that undoes it.
 #![tactic(auto)]
 
 mod held;

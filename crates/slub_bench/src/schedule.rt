@@ -20,16 +20,16 @@ const EACH: u32 = 100_000;
 const TURNS: u64 = 3;
 
 /// How many small rounds stand in a trace, which is as many as there may be.
-const ROUNDS: u32 = 256;
+pub(crate) const ROUNDS: u32 = 256;
 
 /// A replay in the order of the text.
 const SERIAL: &[&str] = &["replay"];
 
 /// A replay by schedule.
-const SCHEDULE: &[&str] = &["replay", "--how", "schedule"];
+pub(crate) const SCHEDULE: &[&str] = &["replay", "--how", "schedule"];
 
 /// A trace of as many rounds as there may be, of two workers and two events each.
-fn small_rounds(alloc: Global) -> Result<Vec<u8>, AllocError> {
+pub(crate) fn small_rounds(alloc: Global) -> Result<Vec<u8>, AllocError> {
     let mut text = Vec::from_slice(alloc, HEAD)?;
     for round in 1..=ROUNDS {
         let other = round + ROUNDS;

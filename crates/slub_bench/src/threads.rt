@@ -1,8 +1,9 @@
-//! Rounds of several workers by threads, against one worker and against a schedule: with opening and closing, and without
-//! them, by the difference of two rounds. The rate that several workers are to have is one of events alone.
+//! Rounds of several workers by threads, against one worker and against a schedule: in all, and from the first event to the
+//! end of the last one, as a gate notes them. The rate that several workers are to have is one of events alone.
 
 use crate::held::keep_memory;
-use crate::runs::{HEAD, best_read, gated_nanos};
+use crate::runs::{best_read, best_run, gated_nanos};
+use crate::schedule::{ROUNDS, SCHEDULE, small_rounds};
 use crate::tries;
 use crate::waits::{CountingGate, Waits};
 use slub_edges::faultless::FaultlessSink;
@@ -15,14 +16,16 @@ use std::thread::Threads;
 /// The workers of a round.
 const WORKERS: u32 = 4;
 
-/// The events of a worker. A round is measured with half as many, too; with more its text would be too long.
+/// The events of a worker; with more the text of a round would be too long.
 const EACH: u32 = 200_000;
 
 /// A replay by threads.
 const THREADS: &[&str] = &["replay", "--how", "threads"];
 
-/// A replay by schedule.
-const SCHEDULE: &[&str] = &["replay", "--how", "schedule"];
+/// What a trace begins with: 4 CPUs, and a cache for each worker. None merges with another: each is larger than those
+/// before it.
+const HEAD: &[u8] =
+    b"slubtrace 1\nmachine 4096 4\ncache dentry 192 8 R\ncache inode 200 8 R\ncache filp 208 8 R\ncache vma 216 8 R\n";
 
 /// On which CPUs the workers allocate.
 #[derive(Clone, Copy)]
@@ -51,10 +54,31 @@ impl Cpus {
     }
 }
 
+/// Which caches the workers allocate from.
+#[derive(Clone, Copy)]
+enum Caches {
+    /// All from one.
+    One,
+    /// Each from one of its own, so that no slab is shared.
+    Own,
+}
+
+impl Caches {
+    fn of(self, worker: u32) -> &'static str {
+        match (self, worker % WORKERS) {
+            (Caches::Own, 1) => "inode",
+            (Caches::Own, 2) => "filp",
+            (Caches::Own, 3) => "vma",
+            _ => "dentry",
+        }
+    }
+}
+
 /// What the workers of a round do.
 #[derive(Clone, Copy)]
 struct Load {
     cpus: Cpus,
+    caches: Caches,
     /// How many objects a worker holds at most. With 64 nearly every object is freed after its slab was left by its CPU; with
     /// 8 the slab is mostly the CPU's still.
     live: u32,
@@ -63,18 +87,29 @@ struct Load {
 /// Long-lived objects, on CPUs of the workers' own.
 const LONG: Load = Load {
     cpus: Cpus::Own,
+    caches: Caches::One,
     live: 64,
 };
 
 /// Short-lived objects, on CPUs of the workers' own.
 const SHORT: Load = Load {
     cpus: Cpus::Own,
+    caches: Caches::One,
     live: 8,
+};
+
+/// Long-lived objects of caches of the workers' own, on CPUs of their own: what the machine's processors give where
+/// workers share next to nothing.
+const APART: Load = Load {
+    cpus: Cpus::Own,
+    caches: Caches::Own,
+    live: 64,
 };
 
 /// Long-lived objects, all on one CPU.
 const SAME: Load = Load {
     cpus: Cpus::One,
+    caches: Caches::One,
     live: 64,
 };
 
@@ -89,9 +124,10 @@ fn push_worker(
 ) -> Result<(), AllocError> {
     let first = (worker % WORKERS) * EACH;
     let cpu = load.cpus.of(worker);
+    let cache = load.caches.of(worker);
     for nth in 1..=events / 2 {
         let object = first + nth;
-        let line = format!(in alloc; "alloc {worker} {cpu} dentry {object}\n")?;
+        let line = format!(in alloc; "alloc {worker} {cpu} {cache} {object}\n")?;
         text.extend_from_slice(line.as_bytes())?;
         if nth > load.live {
             let freed = object - load.live;
@@ -115,11 +151,31 @@ fn round_of(alloc: Global, busy: u32, events: u32, load: Load) -> Result<Vec<u8>
     Ok(text)
 }
 
-/// A run of a round: its nanoseconds, reading left out, and how often its workers had to wait.
+/// A run of a round.
 #[derive(Clone, Copy)]
 struct Run {
+    /// Its nanoseconds, reading left out.
     nanos: u64,
+    /// The nanoseconds from its first event to the end of its last one; 0 by schedule.
+    events: u64,
+    /// How often its workers had to wait.
     waits: Waits,
+}
+
+impl Run {
+    /// The least of each of two runs, and the waits of the one with the shorter events.
+    fn least(self, other: Run) -> Run {
+        let waits = if other.events < self.events {
+            other.waits
+        } else {
+            self.waits
+        };
+        Run {
+            nanos: self.nanos.min(other.nanos),
+            events: self.events.min(other.events),
+            waits,
+        }
+    }
 }
 
 /// A run of this text.
@@ -128,13 +184,16 @@ fn run_of(
     text: &[u8],
     words: &[&str],
 ) -> io::Result<Run> {
-    let gate = CountingGate::new();
+    let gate = CountingGate::new(rt)?;
     let nanos = gated_nanos(rt, text, words, &mut FaultlessSink::new(), &gate)?;
-    let waits = gate.waits();
-    Ok(Run { nanos, waits })
+    Ok(Run {
+        nanos,
+        events: gate.nanos(),
+        waits: gate.waits(),
+    })
 }
 
-/// The shortest of three runs of a round.
+/// The best of three runs of a round.
 fn best_of(
     rt: &(impl Clock + AllocGlobal + Threads + Wait + Sync),
     busy: u32,
@@ -146,41 +205,51 @@ fn best_of(
     let reading = best_read(rt, &text)?;
     let mut best = run_of(rt, &text, words)?;
     for _ in 0..2 {
-        let run = run_of(rt, &text, words)?;
-        if run.nanos < best.nanos {
-            best = run;
-        }
+        best = best.least(run_of(rt, &text, words)?);
     }
     best.nanos = best.nanos.saturating_sub(reading);
     Ok(best)
 }
 
-/// What a round costs.
+/// What a round costs, in picoseconds an event.
 #[derive(Clone, Copy)]
 struct Cost {
-    /// The picoseconds an event, with the opening of the machine into words and its closing.
+    /// All of it but reading: with its calls, the opening of the machine into words, its closing, and its replies.
     whole: u64,
-    /// The same without them: of what a round takes longer that has twice as many events.
-    net: u64,
+    /// From the first event to the end of the last one.
+    events: u64,
     waits: Waits,
 }
 
-/// What a round costs of so many busy workers, by one of half as many events and one of them all.
+/// What so many nanoseconds are in picoseconds an event.
+fn each(nanos: u64, events: u64) -> u64 {
+    nanos.saturating_mul(1000) / events.max(1)
+}
+
+/// What a round by threads costs of so many busy workers.
 fn cost_of(
     rt: &(impl Clock + AllocGlobal + Threads + Wait + Sync),
     busy: u32,
     load: Load,
-    words: &[&str],
 ) -> io::Result<Cost> {
-    let half = best_of(rt, busy, EACH / 2, load, words)?;
-    let all = best_of(rt, busy, EACH, load, words)?;
+    let run = best_of(rt, busy, EACH, load, THREADS)?;
     let events = u64::from(busy) * u64::from(EACH);
-    let more = all.nanos.saturating_sub(half.nanos);
     Ok(Cost {
-        whole: all.nanos.saturating_mul(1000) / events.max(1),
-        net: more.saturating_mul(2000) / events.max(1),
-        waits: all.waits,
+        whole: each(run.nanos, events),
+        events: each(run.events, events),
+        waits: run.waits,
     })
+}
+
+/// The picoseconds that an event of one worker takes more in a round of twice as many: without what a round costs that
+/// has none.
+fn more_of(
+    rt: &(impl Clock + AllocGlobal + Threads + Wait + Sync),
+    words: &[&str],
+) -> io::Result<u64> {
+    let half = best_of(rt, 1, EACH / 2, LONG, words)?;
+    let all = best_of(rt, 1, EACH, LONG, words)?;
+    Ok(each(all.nanos.saturating_sub(half.nanos), u64::from(EACH / 2)))
 }
 
 /// How many per cent of the rate of one worker a rate is, by what an event costs in each.
@@ -188,77 +257,90 @@ fn percent(one: u64, each: u64) -> u64 {
     one.saturating_mul(100) / each.max(1)
 }
 
-/// Prints what an event of one worker costs by threads.
-fn print_one(rt: &impl Print, load: Load, one: Cost) -> io::Result<()> {
+/// Measures one worker by threads, and prints what an event costs.
+fn measure_one(
+    rt: &(impl Clock + AllocGlobal + Print + Threads + Wait + Sync),
+    load: Load,
+) -> io::Result<Cost> {
+    let one = cost_of(rt, 1, load)?;
     let live = load.live;
     let whole = one.whole / 1000;
-    let net = one.net / 1000;
+    let events = one.events / 1000;
     println!(rt;
-        "one worker that holds {live} objects: with opening and closing {whole} ns an event, without {net} ns"
-    )
-}
-
-/// Prints what an event of several workers costs against one worker's, and how often they had to wait.
-fn print_against(
-    rt: &impl Print,
-    which: &str,
-    load: Load,
-    one: Cost,
-    several: Cost,
-) -> io::Result<()> {
-    let live = load.live;
-    let whole = several.whole / 1000;
-    let net = several.net / 1000;
-    let whole_rate = percent(one.whole, several.whole);
-    let net_rate = percent(one.net, several.net);
-    let lost = several.waits.lost;
-    let parked = several.waits.parked;
-    println!(rt; "{WORKERS} workers on {which}, each of which holds {live} objects:")?;
-    println!(rt;
-        "  with opening and closing {whole} ns an event, {whole_rate} % of one worker's rate"
+        "one worker that holds {live} objects: {whole} ns an event, of which {events} ns from the first event to the end of the last"
     )?;
-    println!(rt; "  without {net} ns an event, {net_rate} % of one worker's rate")?;
-    println!(rt; "  {lost} exchanges lost, {parked} times slept on a lock")
+    Ok(one)
 }
 
-/// Measures several workers by threads, and prints what an event costs against one worker's.
+/// Measures several workers by threads, and prints what an event costs against one worker's, and how often they had to
+/// wait.
 fn measure_against(
     rt: &(impl Clock + AllocGlobal + Print + Threads + Wait + Sync),
     which: &str,
     one: Cost,
     load: Load,
 ) -> io::Result<()> {
-    let several = cost_of(rt, WORKERS, load, THREADS)?;
-    print_against(rt, which, load, one, several)
+    let several = cost_of(rt, WORKERS, load)?;
+    let live = load.live;
+    let whole = several.whole / 1000;
+    let events = several.events / 1000;
+    let whole_rate = percent(one.whole, several.whole);
+    let events_rate = percent(one.events, several.events);
+    let lost = several.waits.lost;
+    let parked = several.waits.parked;
+    println!(rt; "{WORKERS} workers on {which}, each of which holds {live} objects:")?;
+    println!(rt;
+        "  from the first event to the end of the last {events} ns an event, {events_rate} % of one worker's rate"
+    )?;
+    println!(rt; "  in all {whole} ns an event, {whole_rate} % of one worker's rate")?;
+    println!(rt; "  {lost} exchanges lost, {parked} times slept on a lock")
 }
 
-/// Measures one worker by a schedule, and prints that against what it costs by threads.
+/// Measures one worker by threads and by a schedule, each by the difference of two rounds, and prints both.
 fn measure_schedule(
     rt: &(impl Clock + AllocGlobal + Print + Threads + Wait + Sync),
-    one: Cost,
 ) -> io::Result<()> {
-    let drawn = cost_of(rt, 1, LONG, SCHEDULE)?;
-    let whole = drawn.whole / 1000;
-    let net = drawn.net / 1000;
-    let turn = percent(one.net, drawn.net);
+    let threads = more_of(rt, THREADS)?;
+    let drawn = more_of(rt, SCHEDULE)?;
+    let one = threads / 1000;
+    let turn = drawn / 1000;
+    let ratio = percent(threads, drawn);
     println!(rt;
-        "  by schedule {whole} ns and {net} ns; by threads without opening and closing {turn} % of that"
+        "  by the difference of two rounds {one} ns an event, by schedule {turn} ns: {ratio} % of that"
     )
 }
 
-/// Measures one worker by threads and by schedule; several on CPUs of their own, with long-lived and with short-lived
-/// objects, and several on one CPU, each against one; and tries.
+/// Measures a trace of small rounds by threads, and prints it against the schedule's.
+fn measure_small(
+    rt: &(impl Clock + AllocGlobal + Print + Threads + Wait + Sync),
+) -> io::Result<()> {
+    let text = small_rounds(rt.alloc())?;
+    let threads = best_run(rt, &text, THREADS)? / 1_000_000;
+    let drawn = best_run(rt, &text, SCHEDULE)? / 1_000_000;
+    println!(rt;
+        "{ROUNDS} rounds of two workers and two events: {threads} ms, by schedule {drawn} ms"
+    )
+}
+
+/// Measures small rounds, in memory that isn't held; one worker by threads and by schedule; several on CPUs of their own,
+/// with long-lived and with short-lived objects, and with caches of their own, and several on one CPU, each against one;
+/// and tries.
 pub(crate) fn measure(
     rt: &(impl Clock + AllocGlobal + Print + Threads + Wait + Sync),
 ) -> io::Result<()> {
+    measure_small(rt)?;
     let _held = keep_memory(rt.alloc())?;
-    let one = cost_of(rt, 1, LONG, THREADS)?;
-    print_one(rt, LONG, one)?;
-    measure_schedule(rt, one)?;
+    let one = measure_one(rt, LONG)?;
+    measure_schedule(rt)?;
     measure_against(rt, "CPUs of their own", one, LONG)?;
-    let short = cost_of(rt, 1, SHORT, THREADS)?;
-    print_one(rt, SHORT, short)?;
+    let short = measure_one(rt, SHORT)?;
     measure_against(rt, "CPUs of their own", short, SHORT)?;
+    measure_against(
+        rt,
+        "CPUs of their own, with caches of their own",
+        one,
+        APART,
+    )?;
     measure_against(rt, "one CPU", one, SAME)?;
     tries::measure(rt)
 }

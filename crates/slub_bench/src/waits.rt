@@ -1,7 +1,11 @@
-//! A gate that adds up how often workers had to wait.
+//! A gate that adds up how often workers had to wait, and notes how long their events took.
 
+use crate::nanos_since;
 use slub_edges::gate::Gate;
+use std::io;
+use std::rt::Clock;
 use std::sync::atomic::{AtomicU64, Ordering};
+use std::time::Instant;
 
 /// How often the workers of a run had to wait.
 #[derive(Clone, Copy, Debug, PartialEq, Eq)]
@@ -12,20 +16,30 @@ pub(crate) struct Waits {
     pub(crate) parked: u64,
 }
 
-/// A gate that lets everything pass at once, and adds up what workers tell it at the end of their events.
+/// A gate that lets everything pass at once, adds up what workers tell it at the end of their events, and notes when the
+/// first of them came to its first event and when the last one left.
 #[derive(Debug, Drop)]
-pub(crate) struct CountingGate {
+pub(crate) struct CountingGate<'a, R: Clock> {
+    rt: &'a R,
+    made: Instant,
+    /// Nanoseconds since it was made.
+    first: AtomicU64,
+    last: AtomicU64,
     lost: AtomicU64,
     parked: AtomicU64,
 }
 
-impl CountingGate {
-    /// A gate that nobody has left.
-    pub(crate) fn new() -> CountingGate {
-        CountingGate {
+impl<'a, R: Clock> CountingGate<'a, R> {
+    /// A gate that nobody has passed.
+    pub(crate) fn new(rt: &'a R) -> io::Result<CountingGate<'a, R>> {
+        Ok(CountingGate {
+            rt,
+            made: Instant::now(rt)?,
+            first: AtomicU64::new(u64::MAX),
+            last: AtomicU64::new(0),
             lost: AtomicU64::new(0),
             parked: AtomicU64::new(0),
-        }
+        })
     }
 
     /// What the workers that have left had to wait.
@@ -35,12 +49,28 @@ impl CountingGate {
             parked: self.parked.load(Ordering::SeqCst),
         }
     }
+
+    /// The nanoseconds from the first event of all to the end of the last one.
+    pub(crate) fn nanos(&self) -> u64 {
+        let last = self.last.load(Ordering::SeqCst);
+        last.saturating_sub(self.first.load(Ordering::SeqCst))
+    }
+
+    /// The nanoseconds since it was made; 0 where the clock can't be read.
+    fn now(&self) -> u64 {
+        nanos_since(self.rt, &self.made).unwrap_or(0)
+    }
 }
 
-impl Gate for CountingGate {
-    fn pass(&self, _worker: u32, _event: u32) {}
+impl<'a, R: Clock> Gate for CountingGate<'a, R> {
+    fn pass(&self, _worker: u32, event: u32) {
+        if event == 0 {
+            self.first.fetch_min(self.now(), Ordering::SeqCst);
+        }
+    }
 
     fn left(&self, _worker: u32, lost: u64, parked: u64) {
+        self.last.fetch_max(self.now(), Ordering::SeqCst);
         self.lost.fetch_add(lost, Ordering::SeqCst);
         self.parked.fetch_add(parked, Ordering::SeqCst);
     }

@@ -27,13 +27,14 @@ use Rattle.slub_into_words.specs.Opened.{IsOpened}
 use Rattle.slub_into_words.specs.Rest.{IsRestOf, IsUntouched}
 use Rattle.slub_turns.specs.declared.machine.Machine.{Machine}
 use Rattle.slub_turns.specs.Means.{the_means}
+use Rattle.slub_memory.specs.Stored.{AreStored}
 use Rattle.slub_schedule.specs.Table.{WordTable}
 use Rattle.slub_workers.specs.Round.{HasWorked, IsUnchanged, MayWork}
 use Rattle.slub_rounds.specs.declared.answers.Answers.{Answers}
 use Rattle.slub_rounds.specs.declared.room.Room.{Room}
 use Rattle.slub_rounds.specs.Answers.{IsRoomFor}
 use Rattle.slub_rounds.specs.Room.{IsTakenFor}
-use Rattle.slub_rounds.specs.Machine.{AreKept, HasEnded, IsBegun, IsSetForThreads, MayRun, WasKept, beside_in, system_in}
+use Rattle.slub_rounds.specs.Machine.{HasEnded, IsBegun, IsSetForThreads, MayRun, WasKept, beside_in, system_in}
 use Rattle.slub_rounds.specs.Rounds.{Finishes}
 use Rattle.slub_rounds.proofs.Machines.{begun-count, has-ended, is-set, ready-begun}
 
@@ -88,7 +89,7 @@ module _ (s : State) (ids : List ℕ) (b : Beside) (trace : Trace) (round : Roun
 
 -- the memory was taken, and the lists were opened
 pub set-for : (s : State) (ids : List ℕ) (trace : Trace) (round : Round) (room : Room) (now : State) (opened : Opened) (kept : List ℕ) → IsCoherent s → IsLaidDown s → MayDo s trace round → IsTakenFor s ids round room
-    → now ≡ s → IsOpened now room.beside opened → IsUntouched now opened.rest → AreKept kept s.memory → IsSetForThreads s ids room.beside trace round opened room.workers.items kept room.answers
+    → now ≡ s → IsOpened now room.beside opened → IsUntouched now opened.rest → AreStored kept s.memory → IsSetForThreads s ids room.beside trace round opened room.workers.items kept room.answers
 set-for s ids trace round room now opened kept coherent laid does taken same opens still are = record {
   set = is-set s ids trace round room opened coherent laid does taken (subst (λ (t : State). IsOpened t room.beside opened) same opens);
   still = subst (λ (t : State). IsUntouched t opened.rest) same still;
@@ -120,5 +121,5 @@ was-kept s ids b trace round opened locals kept answers m now rest set begun sam
     }
 
 -- and the words that were kept are those that its frames had
-pub kept-again : (kept memory before now : List ℕ) → AreKept kept memory → length before ≡ length memory → now ≡ kept ++ replicate (length before - length kept) 0 → now ≡ memory
-kept-again kept memory before now are long is = is ∙ ap (λ (n : ℕ). kept ++ replicate (n - length kept) 0) long ∙ are.words
+pub kept-again : (kept memory now : List ℕ) → AreStored kept memory → AreStored kept now → length now ≡ length memory → now ≡ memory
+kept-again kept memory now are again long = sym again.words ∙ ap (λ (n : ℕ). kept ++ replicate (n - length kept) 0) long ∙ are.words

@@ -1,5 +1,5 @@
 -- The machine of a round, as the crate's own functions have it. The promise doesn't speak of it.
-use Rattle.std.specs.Prelude.{◌≡◌, ℕ, ◌-◌, ◌*◌, ◌≤◌, ◌++◌, List, length, map, replicate, All}
+use Rattle.std.specs.Prelude.{◌≡◌, ℕ, ◌*◌, List, length, map, All}
 use Rattle.std.specs.List.{range_with_len}
 use Rattle.slub_events.specs.declared.event.Round.{Round}
 use Rattle.slub_trace.specs.declared.trace.Trace.{Trace}
@@ -10,6 +10,7 @@ use Rattle.slub_core.specs.Local.{Local}
 use Rattle.slub_core.specs.Run.{System, Pick, run, IsFinished}
 use Rattle.slub_local.specs.Facts as local
 use Rattle.slub_local.specs.Values.{rooms_of}
+use Rattle.slub_memory.specs.Stored.{AreStored}
 use Rattle.slub_schedule.specs.Rounds.{Ends}
 use Rattle.slub_opening.specs.Opening.{IsLaidDown, setup_of}
 use Rattle.slub_opening.specs.Opening as opening
@@ -95,24 +96,19 @@ pub record IsSet (s : State) (ids : List ℕ) (b : Beside) (trace : Trace) (roun
   pub workers : locals ≡ workers_of s.table round
   pub room : IsRoomFor s (length round.events) round.workers answers
 
--- these are the words of the frames up to some number, and those behind them are 0
-pub record AreKept (kept memory : List ℕ) : Type 0 where
-  pub inside : length kept ≤ length memory
-  pub words : kept ++ replicate (length memory - length kept) 0 ≡ memory
-
 -- the same of a round by threads, beside which the words of the frames wait as they were
 pub record IsSetForThreads (s : State) (ids : List ℕ) (b : Beside) (trace : Trace)
     (round : Round) (opened : Opened) (locals : List Local) (kept : List ℕ)
     (answers : Answers) : Type 0 where
   pub set : IsSet s ids b trace round opened locals answers
   pub still : IsUntouched s opened.rest
-  pub kept_are : AreKept kept s.memory
+  pub kept_are : AreStored kept s.memory
 
 -- s was opened as this machine, on which nothing was done, and beside it these words wait
 pub record WasKept (s : State) (m : Machine) (rest : Rest) (kept : List ℕ) : Type 0 where
   pub opened : WasOpened s m.values.items rest s.memory
   pub frames : length s.memory ≡ 512 * m.table.frames
-  pub kept_are : AreKept kept s.memory
+  pub kept_are : AreStored kept s.memory
 
 -- the round is done, and the next one may begin
 pub record IsDone (Ending : Setup → System → List Pick → System → Type 0) (s : State)

@@ -1,9 +1,10 @@
 //! A round of several workers by threads.
 
-ghost use Rattle.std.specs.Prelude.{◌≡◌, ◌-◌, ◌≤◌, ◌++◌, ℕ, List, IfErr, IfOk, MatchResult, length, replicate};
+ghost use Rattle.std.specs.Prelude.{◌≡◌, ◌≤◌, ℕ, List, IfErr, IfOk, MatchResult, length};
 ghost use Rattle.slub_trace.specs.declared.trace.Trace.{Trace};
 ghost use Rattle.slub_lists.specs.State.{State};
 ghost use Rattle.slub_lists.specs.Coherent.{IsCoherent};
+ghost use Rattle.slub_memory.specs.Stored.{AreStored};
 ghost use Rattle.slub_opening.specs.Opening.{IsLaidDown};
 ghost use Rattle.slub_calls.specs.Laws.{MayDo};
 ghost use Rattle.slub_into_words.specs.declared.beside.Beside.{Beside};
@@ -84,8 +85,7 @@ pub fn threaded<R: Threads + Wait + Sync, G: Gate + Sync>(
 /// lists are opened.
 fn keep_words(alloc: Global, lists: Lists) -> (Lists, Result<Vec<u64>, NoMemory>)
     ensures lists { result.0 ≡ lists }
-    ensures inside { IfOk result.1 (λ kept. length kept.items ≤ length lists.memory) }
-    ensures kept { IfOk result.1 (λ kept. kept.items ++ replicate (length lists.memory - length kept.items) 0 ≡ lists.memory) }
+    ensures kept { IfOk result.1 (λ kept. AreStored kept.items lists.memory) }
 {
     let parts = lists.into_parts();
     let kept = parts.memory.stored(alloc);

@@ -2,7 +2,7 @@
 use Rattle.std.proofs.Common.{◌≡◌, ◌∙◌, ℕ, ◌+◌, ◌-◌, ◌<◌, ◌≤◌, ◌++◌, List, length, set, take, drop, ap, sym, append_assoc, arith}
 use Rattle.std.specs.List.{slice_range}
 use Rattle.slub_schedule.specs.Table.{WordTable}
-use Rattle.std.proofs.lemmas.List.{length-append, set-append_left, set-append_right, take-append-drop}
+use Rattle.std.proofs.lemmas.List.{length-append, length-drop, set-append_left, set-append_right, take-append-drop, take_all}
 use Rattle.std.proofs.lemmas.List.Folds.{drop_split}
 
 module _ (xs ys zs : List ℕ) (n w : ℕ) where
@@ -21,6 +21,13 @@ module _ (xs ys zs : List ℕ) (n w : ℕ) where
 pub parted : (words : List ℕ) (m n : ℕ) → m ≤ n → (take m words ++ slice_range words m n) ++ drop n words ≡ words
 parted words m n order =
     append_assoc (take m words) (slice_range words m n) (drop n words) ∙ ap (λ (l : List ℕ). take m words ++ l) (sym (drop_split words m n order)) ∙ take-append-drop m words
+
+-- the same of its three ranges
+pub ranges : (words : List ℕ) (m n end : ℕ) → m ≤ n → end ≡ length words → (slice_range words 0 m ++ slice_range words m n) ++ slice_range words n end ≡ words
+ranges words m n end order all =
+    let whole : m - 0 ≡ m = omega arith in
+    let left = length-drop n words in
+    (λ i. (take (whole i) words ++ slice_range words m n) ++ take_all (end - n) (drop n words) (omega arith) i) ∙ parted words m n order
 
 -- ---- tables
 

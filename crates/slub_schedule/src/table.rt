@@ -8,6 +8,7 @@ ghost use Rattle.slub_schedule.specs.Table.{WordTable, IsTableOf};
 use slub_common::no_memory::NoMemory;
 use slub_core::step::{Answer, Op, Place, Step};
 use slub_memory::memory::Memory;
+use slub_memory::words::{Words, put_words};
 use std::alloc::Global;
 use std::marker::Model;
 
@@ -119,7 +120,8 @@ impl Table {
         self.memory
     }
 
-    /// Lends a row of all words, in the order of their numbers. It takes memory only where no such row came back before.
+    /// Lends a row of all words, in the order of their numbers. It takes memory only where the row that came back last
+    /// is too short.
     pub fn lend_row(&mut self, alloc: Global) -> Result<Vec<u64>, NoMemory>
         ensures table { self.new ≡ self.old }
         ensures row { IfOk result (λ row. row.items ≡ self.old.words) }
@@ -127,23 +129,27 @@ impl Table {
         self.memory.lend_row(alloc, &self.front, &self.links)
     }
 
-    /// Takes a row back, to lend it the next time.
+    /// Takes back a row that has the table's words, in the order of their numbers, to lend it the next time.
     pub fn keep_row(&mut self, row: Vec<u64>)
+        requires { row.items ≡ self.old.words }
         ensures { self.new ≡ self.old }
     {
-        self.memory.keep_row(row);
+        self.memory.keep_row(row, &self.front, &self.links);
     }
 
     /// Stores all words, in the order of their numbers. It takes no memory.
-    pub fn fill(&mut self, words: &[u64])
-        requires { length words.now ≡ length self.old.words }
-        ensures { self.new ≡ record self.old { words = words.now } }
+    pub fn fill<W: Words>(&mut self, words: &W)
+        requires { length (W.all words.now) ≡ length self.old.words }
+        ensures { self.new ≡ record self.old { words = W.all words.now } }
     {
         let memory = memory_base(self.frames, self.objects);
         let links = link_base(self.frames, self.objects);
-        self.front.copy_from_slice(&words[..memory]);
-        self.memory.fill(&words[memory..links]);
-        self.links.copy_from_slice(&words[links..]);
+        let end = links + self.frames as usize;
+        self.front.clear();
+        put_words(&mut self.front, words, 0, memory);
+        self.memory.fill(words, memory, links);
+        self.links.clear();
+        put_words(&mut self.links, words, links, end);
     }
 
     /// One step on its word; a load stores nothing. Outside of the table a word is 0, and stays so.

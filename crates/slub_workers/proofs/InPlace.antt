@@ -1,10 +1,11 @@
--- The words of each kind change their places among each other, two at a time: list words, CPU words, slab words.
+-- The words of each kind change their places among each other, two at a time: list words, CPU words, slab words. Then
+-- each lock word changes with its list word.
 use Rattle.std.proofs.Common.{◌≡◌, ◌≢◌, ◌⊎◌, ℕ, ◌+◌, ◌<◌, ◌≤◌, List, length, get_or, swap, refl, sym, ap, ◌∙◌, inl, inr, arith, subst}
 use Rattle.std.proofs.lemmas.Bool.{cases_eq, cases_lt}
 use Rattle.std.proofs.lemmas.List.Edits.{length-swap, Swapped, swapped_from_swap}
 use Rattle.slub_core.specs.Words.{list_base, cpu_base, slab_base}
-use Rattle.slub_workers.specs.Cells.{mirrored, cell_of, spread_end, by_number}
-use Rattle.slub_workers.proofs.Cells.{IsBase, stays, of_cpus, sort_of, mirrored-below, mirrored-mirrored, cell-mirrored, is-by_number}
+use Rattle.slub_workers.specs.Cells.{mirrored, list_of_lock, cell_of, spread_end, by_number}
+use Rattle.slub_workers.proofs.Cells.{mirrored_cell, IsBase, stays, of_cpus, sort_of, of_lock, of_list, of_others, place_of, mirrored-below, mirrored-mirrored, mirrored-stays, mirrored-base, mirrored-of_lock, cell-lock, cell-of_lock, is-by_number}
 
 -- ---- those of one kind
 
@@ -102,13 +103,13 @@ of_kind base i first now is t = elim is [
   | inr (inr b) ↦ subst (λ (c : ℕ). Mirrors c i first now) (sym b) t.slabs
 ]
 
-pub turns-all : (i : ℕ) (first now : List ℕ) → 512 ≤ i → 1569 ≤ length first → Turns i first now → now ≡ by_number first
-turns-all i first now far all t =
-    is-by_number first now all t.count (λ n low. elim (sort_of n) [
-      | stays out e ↦ t.others n out ∙ ap (λ (k : ℕ). get_or first k 0) (sym e)
-      | of_cpus base k is below e ↦
-          ap (λ (j : ℕ). get_or now j 0) e ∙ (of_kind base i first now is t).done k below (inl (omega arith)) ∙ ap (λ (j : ℕ). get_or first j 0) (sym (ap cell_of e ∙ cell-mirrored base k is below))
-    ])
+-- then each word is in its mirrored cell
+pub turns-all : (i : ℕ) (first now : List ℕ) → 512 ≤ i → Turns i first now → (n : ℕ) → get_or now n 0 ≡ get_or first (mirrored_cell n) 0
+turns-all i first now far t n = elim (sort_of n) [
+  | stays out e ↦ t.others n out ∙ ap (λ (k : ℕ). get_or first k 0) (sym e)
+  | of_cpus base k is below e ↦
+      ap (λ (j : ℕ). get_or now j 0) e ∙ (of_kind base i first now is t).done k below (inl (omega arith)) ∙ ap (λ (j : ℕ). get_or first j 0) (sym (ap mirrored_cell e ∙ mirrored-base base k is below))
+]
 
 pub turns-stay : (i : ℕ) (first now : List ℕ) → i < 512 → mirrored i ≤ i → Turns i first now → Turns (i + 1) first now
 turns-stay i first now below low t = record {
@@ -157,3 +158,54 @@ turns-more i first now one two next below low all t to_one to_two to_next =
           stay-out slab_base i two next below (omega arith) (omega arith) q n out ∙ stay-out cpu_base i one two below (omega arith) (omega arith) r n out
           ∙ stay-out list_base i now one below (omega arith) (omega arith) s n out ∙ t.others n out;
     }
+
+-- ---- the lock words
+
+-- the words so far, once each was in its mirrored cell and then the lock words below this number were each exchanged
+-- with its list word
+pub record Exchanges (i : ℕ) (first now : List ℕ) : Type 0 where
+  pub count : length now ≡ length first
+  pub locks : (k : ℕ) → k < i → get_or now k 0 ≡ get_or first (list_base + list_of_lock k) 0
+  pub lists : (k : ℕ) → k < i → get_or now (list_base + list_of_lock k) 0 ≡ get_or first k 0
+  pub others : (n : ℕ) → ((k : ℕ) → k < i → n ≢ k) → ((k : ℕ) → k < i → n ≢ list_base + list_of_lock k) → get_or now n 0 ≡ get_or first (mirrored_cell n) 0
+
+pub exchanges-none : (i : ℕ) (first now : List ℕ) → 512 ≤ i → Turns i first now → Exchanges 0 first now
+exchanges-none i first now far t = record {
+  count = t.count;
+  locks = λ k low. absurd (omega arith);
+  lists = λ k low. absurd (omega arith);
+  others = λ n no_lock no_list. turns-all i first now far t n;
+}
+
+pub exchanges-more : (i : ℕ) (first now next : List ℕ) → i < 33 → 1569 ≤ length first → Exchanges i first now
+    → next ≡ swap now i (list_base + list_of_lock i) → Exchanges (i + 1) first next
+exchanges-more i first now next low all t to_next =
+    let count = t.count in
+    let long : length next ≡ length now = ap length to_next ∙ length-swap now i (list_base + list_of_lock i) in
+    let s : Swapped (λ n. get_or now n 0) (λ n. get_or next n 0) i (list_base + list_of_lock i) = swapped_from_swap now next i (list_base + list_of_lock i) 0 (omega arith) (omega arith) to_next in
+    record {
+      count = long ∙ t.count;
+      locks = λ k below. elim (cases_eq k i) [
+        | inl e ↦
+            ap (λ (j : ℕ). get_or next j 0) e ∙ s.0 ∙ t.others (list_base + list_of_lock i) (λ j under f. omega arith) (λ j under f. omega arith)
+            ∙ ap (λ (j : ℕ). get_or first j 0) (mirrored-of_lock i low) ∙ ap (λ (j : ℕ). get_or first (list_base + list_of_lock j) 0) (sym e)
+        | inr ne ↦ s.2 k ne (λ f. omega arith) ∙ t.locks k (omega arith)
+      ];
+      lists = λ k below. elim (cases_eq k i) [
+        | inl e ↦
+            ap (λ (j : ℕ). get_or next (list_base + list_of_lock j) 0) e ∙ s.1 ∙ t.others i (λ j under f. omega arith) (λ j under f. omega arith)
+            ∙ ap (λ (j : ℕ). get_or first j 0) (mirrored-stays i (inl low) ∙ sym e)
+        | inr ne ↦ s.2 (list_base + list_of_lock k) (λ f. omega arith) (λ f. ne (omega arith)) ∙ t.lists k (omega arith)
+      ];
+      others = λ n no_lock no_list.
+          s.2 n (no_lock i (omega arith)) (no_list i (omega arith)) ∙ t.others n (λ k under. no_lock k (omega arith)) (λ k under. no_list k (omega arith));
+    }
+
+pub exchanges-all : (i : ℕ) (first now : List ℕ) → 33 ≤ i → i ≤ 33 → 1569 ≤ length first → Exchanges i first now → now ≡ by_number first
+exchanges-all i first now far near all t =
+    is-by_number first now all t.count (λ n low. elim (place_of n) [
+      | of_lock lock ↦ t.locks n (omega arith) ∙ ap (λ (j : ℕ). get_or first j 0) (sym (cell-lock n lock))
+      | of_list k lock e ↦
+          ap (λ (j : ℕ). get_or now j 0) e ∙ t.lists k (omega arith) ∙ ap (λ (j : ℕ). get_or first j 0) (sym (ap cell_of e ∙ cell-of_lock k lock))
+      | of_others from apart e ↦ t.others n (λ k under f. omega arith) (λ k under. apart k (omega arith)) ∙ ap (λ (j : ℕ). get_or first j 0) (sym e)
+    ])

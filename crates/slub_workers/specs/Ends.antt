@@ -17,7 +17,6 @@ use Rattle.slub_workers.specs.Workers.{MayWorkAt, countdown, worker_in}
 -- the first seat knows of no worker, and there is room for so many workers at the end
 pub record IsRoom (table : TableId) (count : ℕ) (rest : Rest) : Type 0 where
   pub seat : (rest.root.table_id ≡ table) × (rest.root.me ≡ ([], []))
-  pub words : length rest.words.items ≡ table.words
   pub values : (rest.values.items ≡ []) × (33 ≤ vec_capacity rest.values)
   pub locals : (rest.locals.items ≡ []) × (count ≤ vec_capacity rest.locals)
   pub done : (rest.done.items ≡ []) × (count ≤ vec_capacity rest.done)
@@ -54,7 +53,6 @@ pub record AreGathered (table : TableId) (count : ℕ) (e : Ended) : Type 0 wher
   pub seat : e.root.table_id ≡ table
   pub back : AreBack e.tried 0 e.root.me.0 e.locals.items
   pub all : length e.locals.items ≡ count
-  pub words : length e.words.items ≡ table.words
   pub values : (e.values.items ≡ []) × (33 ≤ vec_capacity e.values)
 
 -- these workers have given their seats back, and where none of them has tried it is known so

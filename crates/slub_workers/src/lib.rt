@@ -7,11 +7,12 @@
 //! that machine hold: so they do at every step, whatever order the threads' steps have.
 //!
 //! Threads on different CPUs mostly exchange different words, each those of its CPU and of its slabs, and would wait
-//! for each other where these lie in one line of 64 bytes. So list words, CPU words, and the 512 words from 1057 on
-//! (in a machine of 512 frames or more the slab words of frames 0 to 511) lie in mirrored cells (`cell`,
-//! `specs/Cells.antt`): the words of two CPUs of a cache, and those of two frames of one block of 64, at least 64
-//! bytes apart. All other words lie in the cells of their numbers. The machine's own table waits beside the cells; its
-//! words are copied into them as the shared table is opened, and back as it is closed.
+//! for each other where these lie in one line of 64 bytes, as would threads that take the locks of two caches. So lock
+//! words, list words, CPU words, and the 512 words from 1057 on (in a machine of 512 frames or more the slab words of
+//! frames 0 to 511) lie in cells whose numbers needn't be theirs (`cell`, `specs/Cells.antt`): any two lock words, the
+//! CPU words of a cache, the list words of a cache below 15, and the slab words of two frames of one block of 64 lie at
+//! least 64 bytes apart. All other words lie in the cells of their numbers. The machine's own table waits beside the
+//! cells: its words are copied into them as the shared table is opened, and it reads them there as that is closed.
 //!
 //! `round` does a round: it opens the table (`shared`), gives each worker a seat (`worker`), lets them make their turns
 //! until each event has its reply, and closes the table. `step` makes one step on it. The six spots of the two fast

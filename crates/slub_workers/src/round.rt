@@ -221,14 +221,12 @@ fn one_tried(tried: bool, more: bool) -> bool
 fn take_all(
     shared: &Shared,
     mut root: WorkerSeat,
-    words: Vec<u64>,
     values: Vec<Guarded>,
     mut list: Vec<Worker>,
     mut locals: Vec<Local>,
 ) -> Ended
     requires table { root.table_id ≡ shared.now.words.shared.table_id }
     requires view { root.me ≡ ([], []) }
-    requires words { length words.items ≡ shared.now.words.shared.table_id.words }
     requires values { (values.items ≡ []) × (33 ≤ vec_capacity values) }
     requires list { All (IsIdleAt shared.now.words.shared.table_id) list.items }
     requires numbers { map worker_in list.items ≡ countdown (length list.items) }
@@ -243,7 +241,6 @@ fn take_all(
     }
     Ended {
         root,
-        words,
         values,
         locals,
         tried,
@@ -261,12 +258,11 @@ impl Workers {
         let Workers { list, rest } = self;
         let Rest {
             root,
-            words,
             values,
             locals,
             done: _,
         } = rest;
-        take_all(shared, root, words, values, list, locals)
+        take_all(shared, root, values, list, locals)
     }
 }
 
@@ -297,12 +293,10 @@ pub fn open(
         shared,
         mut root,
         mut locals,
-        room: words,
     } = Shared::open(alloc, frames, objects, machine)?;
     let list = seat_all(&shared, &mut root, &mut locals, hands, workers);
     let rest = Rest {
         root,
-        words,
         values,
         locals,
         done,
@@ -326,13 +320,12 @@ fn work<R: Threads + Wait + Sync, G: Gate + Sync>(
     let Workers { list, rest } = workers;
     let Rest {
         root,
-        words,
         values,
         locals,
         done,
     } = rest;
     let list = work_all(rt, gate, shared, list, done);
-    take_all(shared, root, words, values, list, locals)
+    take_all(shared, root, values, list, locals)
 }
 
 /// The workers of the machine, which has so many frames and object numbers, make their turns, each in a thread of its

@@ -6,7 +6,7 @@ ghost use Rattle.slub_workers.specs.Cells.{by_number};
 ghost use Rattle.slub_workers.specs.Rule.{first_view};
 ghost use Rattle.slub_workers.specs.Round.{HasClosed, IsUnchanged, MayWork, begun_by};
 
-use crate::cell::rearrange;
+use crate::cell::{cell, rearrange};
 use crate::rule::{Key, Ruled, View};
 use crate::workers::Ended;
 use atomic_table::{Closed, Refused, Seat};
@@ -15,20 +15,21 @@ use slub_common::no_memory::NoMemory;
 use slub_local::guarded::Guarded;
 use slub_local::local::Local;
 use slub_local::setup::Setup;
+use slub_memory::words::Words;
 use slub_schedule::table::Table;
 use slub_turns::machine::Machine;
 use std::alloc::Global;
 use std::snapshot::Snapshot;
 use std::sync::atomic::AtomicU64;
 
-pub(crate) type Words = atomic_table::Table<Guarded, View, Key, Ruled, Global>;
+pub(crate) type Cells = atomic_table::Table<Guarded, View, Key, Ruled, Global>;
 
 pub(crate) type WorkerSeat = Seat<Guarded, View>;
 
 /// The table that the workers of a round share.
 pub struct Shared {
     /// What a lock guards lies in the slot of its number.
-    pub(crate) words: Words,
+    pub(crate) words: Cells,
     pub(crate) setup: Setup,
     /// In which the words stood before the round, and stand again after it. Nothing reads it until then.
     table: Table,
@@ -59,8 +60,6 @@ pub(crate) struct Opened {
     pub(crate) root: WorkerSeat,
     /// In rising number.
     pub(crate) locals: Vec<Local>,
-    /// As many words as the table has, whichever they are.
-    pub(crate) room: Vec<u64>,
 }
 
 impl Shared {
@@ -76,10 +75,9 @@ impl Shared {
         ensures key { IfOk result (λ o. o.shared.words.shared.key ≡ begun_by machine) }
         ensures root { IfOk result (λ o. (o.root.table_id ≡ o.shared.words.shared.table_id) × (o.root.me ≡ (first_view o.shared.words.shared.key, []))) }
         ensures locals { IfOk result (λ o. o.locals ≡ machine.locals) }
-        ensures room { IfOk result (λ o. length o.room.items ≡ o.shared.words.shared.table_id.words) }
         ensures unopened { IfErr result (λ u. IsUnchanged machine u.machine) }
     {
-        let Ok(room) = cells_of(alloc, &mut machine.table) else {
+        let Ok(cells) = cells_of(alloc, &mut machine.table) else {
             return Err(Unopened { machine });
         };
         let key = Key {
@@ -91,7 +89,9 @@ impl Shared {
             values,
             locals,
         } = machine;
-        match Words::new(alloc, room.as_slice(), values, &key) {
+        let made = Cells::new(alloc, cells.as_slice(), values, &key);
+        keep_cells(&mut table, cells);
+        match made {
             Ok((words, root)) => Ok(Opened {
                 shared: Shared {
                     words,
@@ -103,26 +103,22 @@ impl Shared {
                 },
                 root,
                 locals,
-                room,
             }),
-            Err(Refused { slots: values }) => {
-                table.keep_row(room);
-                Err(Unopened {
-                    machine: Machine {
-                        setup,
-                        table,
-                        values,
-                        locals,
-                    },
-                })
-            }
+            Err(Refused { slots: values }) => Err(Unopened {
+                machine: Machine {
+                    setup,
+                    table,
+                    values,
+                    locals,
+                },
+            }),
         }
     }
 
     ghost use Rattle.slub_workers.specs.Ends.{AreGathered};
 
-    /// The machine as the last step left it, where all workers have given their seats back. It takes no memory: there
-    /// is room for the words and for what the locks guard, and the machine keeps that of the words.
+    /// The machine as the last step left it, where all workers have given their seats back. It takes no memory: the
+    /// words go into the machine's own table, and there is room for what the locks guard.
     pub fn close(self, ended: Ended) -> Machine
         requires ended { AreGathered self.words.shared.table_id (length self.words.shared.key.locals) ended }
         ensures closed { HasClosed self.words.shared.key ended.tried (begun_by result) }
@@ -138,17 +134,14 @@ impl Shared {
         } = self;
         let Ended {
             root,
-            words,
             values,
             locals,
             tried: _,
         } = ended;
         let mut closed = cells.close_with(root);
-        let words = words_of(&closed, words);
+        table.fill(&ByNumber { closed: &closed });
         let values = values_of(&mut closed, values);
         closed.free();
-        table.fill(words.as_slice());
-        table.keep_row(words);
         Machine {
             setup,
             table,
@@ -164,29 +157,38 @@ fn cells_of(alloc: Global, table: &mut Table) -> Result<Vec<u64>, NoMemory>
     ensures table { table.new ≡ table.old }
     ensures cells { IfOk result (λ cells. cells.items ≡ by_number table.old.words) }
 {
-    let mut words = table.lend_row(alloc)?;
-    rearrange(words.as_mut_slice());
-    Ok(words)
+    let mut cells = table.lend_row(alloc)?;
+    rearrange(cells.as_mut_slice());
+    Ok(cells)
 }
 
-/// The words of a closed table in the order of their numbers, in a row that has as many.
-fn words_of(closed: &Closed<Guarded, Global>, mut words: Vec<u64>) -> Vec<u64>
-    requires count { (length words.items ≡ slots_len closed.now.words) × IsFull closed.now.words }
-    requires all { 1569 ≤ length words.items }
-    ensures { result.items ≡ by_number (slots_items closed.now.words) }
+/// Gives a table its row back, in which its words lie in their cells.
+fn keep_cells(table: &mut Table, mut cells: Vec<u64>)
+    requires all { 1569 ≤ length table.old.words }
+    requires cells { cells.items ≡ by_number table.old.words }
+    ensures { table.new ≡ table.old }
 {
-    copy_words(closed, words.as_mut_slice());
-    rearrange(words.as_mut_slice());
-    words
+    rearrange(cells.as_mut_slice());
+    table.keep_row(cells);
 }
 
-/// Stores the words of a closed table in these, cell by cell.
-fn copy_words(closed: &Closed<Guarded, Global>, words: &mut [u64])
-    requires { (length words.old ≡ slots_len closed.now.words) × IsFull closed.now.words }
-    ensures { words.new ≡ slots_items closed.now.words }
-{
-    for cell in 0..words.len() {
-        words[cell] = closed.word(cell);
+/// The words of a closed table, read in the order of their numbers.
+#[derive(Drop)]
+struct ByNumber<'a> {
+    closed: &'a Closed<Guarded, Global>,
+    ghost full: { IsFull closed.now.words },
+    ghost all: { 1569 ≤ slots_len closed.now.words },
+}
+
+impl Words for ByNumber<'_> {
+    ghost use Rattle.std.specs.Mem.Slots.{slots_items};
+    ghost use Rattle.slub_workers.specs.Cells.{by_number};
+
+    ghost all = { λ words. by_number (slots_items words.closed.now.words) };
+
+    #[inline(always)]
+    fn word(&self, at: usize) -> u64 {
+        self.closed.word(cell(at))
     }
 }
 

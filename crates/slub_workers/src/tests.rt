@@ -26,14 +26,16 @@ fn numbers_of_words(rt: HostRuntime) {
     assert_eq!(rt; number(16, 8, Place::LinkOf(15)), 9287);
 }
 
-/// List words, CPU words, and the 512 words from 1057 on lie in cells whose numbers needn't be theirs.
+/// Lock words, list words, CPU words, and the 512 words from 1057 on lie in cells whose numbers needn't be theirs.
 #[test]
 fn cells_of_words(rt: HostRuntime) {
-    assert_eq!(rt; cell(number(16, 8, Place::LockOf(32))), 32);
+    assert_eq!(rt; cell(number(16, 8, Place::LockOf(0))), 284);
+    assert_eq!(rt; cell(number(16, 8, Place::LockOf(32))), 544);
     assert_eq!(rt; cell(number(16, 8, Place::ListOf(0))), 33);
     assert_eq!(rt; cell(number(16, 8, Place::ListOf(1))), 97);
     assert_eq!(rt; cell(number(16, 8, Place::ListOf(8))), 41);
-    assert_eq!(rt; cell(number(16, 8, Place::ListOf(511))), 544);
+    assert_eq!(rt; cell(number(16, 8, Place::ListOf(251))), 0);
+    assert_eq!(rt; cell(number(16, 8, Place::ListOf(511))), 32);
     assert_eq!(rt; cell(number(16, 8, Place::CpuOf(0))), 545);
     assert_eq!(rt; cell(number(16, 8, Place::CpuOf(1))), 609);
     assert_eq!(rt; cell(number(16, 8, Place::CpuOf(8))), 553);
@@ -43,16 +45,28 @@ fn cells_of_words(rt: HostRuntime) {
     assert_eq!(rt; cell(number(4096, 8, Place::SlabOf(512))), 1569);
 }
 
-/// The words of two CPUs of a cache, the last one, are 8 cells or more apart.
+/// The CPU words of the last cache and the list words of cache 14 are 8 cells or more apart.
 #[test]
 fn words_of_two_cpus_lie_apart(rt: HostRuntime) {
-    for cpu in 496..512 {
-        for other in 496..cpu {
-            let mine = cell(number(16, 8, Place::CpuOf(cpu)));
-            let theirs = cell(number(16, 8, Place::CpuOf(other)));
+    for cpu in 0..16 {
+        for other in 0..cpu {
+            let mine = cell(number(16, 8, Place::CpuOf(496 + cpu)));
+            let theirs = cell(number(16, 8, Place::CpuOf(496 + other)));
             assert!(rt; mine.abs_diff(theirs) >= 8);
-            let mine = cell(number(16, 8, Place::ListOf(cpu)));
-            let theirs = cell(number(16, 8, Place::ListOf(other)));
+            let mine = cell(number(16, 8, Place::ListOf(224 + cpu)));
+            let theirs = cell(number(16, 8, Place::ListOf(224 + other)));
+            assert!(rt; mine.abs_diff(theirs) >= 8);
+        }
+    }
+}
+
+/// So are the words of any two locks.
+#[test]
+fn words_of_two_locks_lie_apart(rt: HostRuntime) {
+    for lock in 0..33 {
+        for other in 0..lock {
+            let mine = cell(number(16, 8, Place::LockOf(lock)));
+            let theirs = cell(number(16, 8, Place::LockOf(other)));
             assert!(rt; mine.abs_diff(theirs) >= 8);
         }
     }
@@ -66,8 +80,11 @@ fn words_are_brought_into_their_cells_and_back(rt: HostRuntime) -> Result<(), Fa
         words[n] = n as u64;
     }
     rearrange(words.as_mut_slice());
-    assert_eq!(rt; words[32], 32);
+    assert_eq!(rt; words[0], 284);
+    assert_eq!(rt; words[32], 544);
     assert_eq!(rt; words[97], 34);
+    assert_eq!(rt; words[284], 0);
+    assert_eq!(rt; words[544], 32);
     assert_eq!(rt; words[609], 546);
     assert_eq!(rt; words[1121], 1058);
     assert_eq!(rt; words[1569], 1569);

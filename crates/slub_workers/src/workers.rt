@@ -18,9 +18,7 @@ pub struct Workers {
 pub struct Rest {
     /// The first seat, which knows of no worker while each has its own.
     pub(crate) root: WorkerSeat,
-    /// Room: for the words, of which it has as many; for what the locks guard, for the workers that are back, and for
-    /// those that have worked.
-    pub(crate) words: Vec<u64>,
+    /// Room: for what the locks guard, for the workers that are back, and for those that have worked.
     pub(crate) values: Vec<Guarded>,
     pub(crate) locals: Vec<Local>,
     pub(crate) done: Vec<Worker>,
@@ -31,8 +29,7 @@ pub struct Rest {
 pub struct Ended {
     /// The first seat, which knows of all of them.
     pub(crate) root: WorkerSeat,
-    /// Room: for the words, of which it has as many, and for what the locks guard.
-    pub(crate) words: Vec<u64>,
+    /// Room for what the locks guard.
     pub(crate) values: Vec<Guarded>,
     /// In rising number.
     pub(crate) locals: Vec<Local>,

@@ -1,7 +1,7 @@
-use Rattle.std.proofs.Common.{◌≡◌, ◌-◌, ◌≤◌, ◌++◌, length, replicate, subst}
+use Rattle.std.proofs.Common.{◌≡◌, subst}
 use Rattle.std.specs.Prelude.{IfOk}
 use Rattle.slub_lists.specs.State.{State}
-use Rattle.slub_rounds.specs.Machine.{AreKept}
+use Rattle.slub_memory.specs.Stored.{AreStored}
 use Rattle.slub_rounds.specs.Rounds.{Finishes}
 use Rattle.slub_rounds.proofs.Coming.{coherent-of, does-of, ids-of, laid-of, lawful-of, stops-of}
 use Rattle.slub_rounds.proofs.Threads.{set-for}
@@ -11,10 +11,7 @@ pub in_threads-requires-clause-set : goal.in_threads-requires-clause-set
 in_threads-requires-clause-set g c = λ κs lives.
     let (trace, does) = c.requires.may_do in
     let lists = c.args.lists in
-    let kept : AreKept c.in-Ok-kept.kept.items lists.memory = record {
-      inside = subst (λ r. IfOk r (λ kept. length kept.items ≤ length lists.memory)) c.in-Ok-kept.is c.keep_words-lists.ensures.inside;
-      words = subst (λ r. IfOk r (λ kept. kept.items ++ replicate (length lists.memory - length kept.items) 0 ≡ lists.memory)) c.in-Ok-kept.is c.keep_words-lists.ensures.kept;
-    } in
+    let kept = subst (λ r. IfOk r (λ kept. AreStored kept.items lists.memory)) c.in-Ok-kept.is c.keep_words-lists.ensures.kept in
     let set = set-for lists c.args.ids.now trace c.args.round.now c.in-Ok.room c.keep_words-lists.result.0 c.in-Ok-open.opened c.in-Ok-kept.kept.items c.requires.coherent c.requires.laid_down does c.in-Ok.ensures
     c.keep_words-lists.ensures.lists c.in-Ok-open.ensures.opened c.in-Ok-open.ensures.still kept in
     (lists, c.args.ids.now, c.in-Ok.room.beside, trace, set)
@@ -23,10 +20,7 @@ pub returns-in-Ok-open-clause-does : goal.returns-in-Ok-open-clause-does
 returns-in-Ok-open-clause-does g c =
     let (trace, does) = c.requires.may_do in
     let lists = c.args.lists in
-    let kept : AreKept c.in-Ok-kept.kept.items lists.memory = record {
-      inside = subst (λ r. IfOk r (λ kept. length kept.items ≤ length lists.memory)) c.in-Ok-kept.is c.keep_words-lists.ensures.inside;
-      words = subst (λ r. IfOk r (λ kept. kept.items ++ replicate (length lists.memory - length kept.items) 0 ≡ lists.memory)) c.in-Ok-kept.is c.keep_words-lists.ensures.kept;
-    } in
+    let kept = subst (λ r. IfOk r (λ kept. AreStored kept.items lists.memory)) c.in-Ok-kept.is c.keep_words-lists.ensures.kept in
     let set = set-for lists c.args.ids.now trace c.args.round.now c.in-Ok.room c.keep_words-lists.result.0 c.in-Ok-open.opened c.in-Ok-kept.kept.items c.requires.coherent c.requires.laid_down does c.in-Ok.ensures
     c.keep_words-lists.ensures.lists c.in-Ok-open.ensures.opened c.in-Ok-open.ensures.still kept in
     does-of Finishes State (λ after. after ≡ lists) lists c.args.ids.now c.args.round.now c.in_threads.result (c.in_threads.ensures lists c.args.ids.now c.in-Ok.room.beside trace set)
@@ -35,10 +29,7 @@ pub returns-in-Ok-open-clause-coherent : goal.returns-in-Ok-open-clause-coherent
 returns-in-Ok-open-clause-coherent g c =
     let (trace, does) = c.requires.may_do in
     let lists = c.args.lists in
-    let kept : AreKept c.in-Ok-kept.kept.items lists.memory = record {
-      inside = subst (λ r. IfOk r (λ kept. length kept.items ≤ length lists.memory)) c.in-Ok-kept.is c.keep_words-lists.ensures.inside;
-      words = subst (λ r. IfOk r (λ kept. kept.items ++ replicate (length lists.memory - length kept.items) 0 ≡ lists.memory)) c.in-Ok-kept.is c.keep_words-lists.ensures.kept;
-    } in
+    let kept = subst (λ r. IfOk r (λ kept. AreStored kept.items lists.memory)) c.in-Ok-kept.is c.keep_words-lists.ensures.kept in
     let set = set-for lists c.args.ids.now trace c.args.round.now c.in-Ok.room c.keep_words-lists.result.0 c.in-Ok-open.opened c.in-Ok-kept.kept.items c.requires.coherent c.requires.laid_down does c.in-Ok.ensures
     c.keep_words-lists.ensures.lists c.in-Ok-open.ensures.opened c.in-Ok-open.ensures.still kept in
     coherent-of Finishes State (λ after. after ≡ lists) lists c.args.ids.now c.args.round.now c.in_threads.result (c.in_threads.ensures lists c.args.ids.now c.in-Ok.room.beside trace set)
@@ -47,10 +38,7 @@ pub returns-in-Ok-open-clause-laid_down : goal.returns-in-Ok-open-clause-laid_do
 returns-in-Ok-open-clause-laid_down g c =
     let (trace, does) = c.requires.may_do in
     let lists = c.args.lists in
-    let kept : AreKept c.in-Ok-kept.kept.items lists.memory = record {
-      inside = subst (λ r. IfOk r (λ kept. length kept.items ≤ length lists.memory)) c.in-Ok-kept.is c.keep_words-lists.ensures.inside;
-      words = subst (λ r. IfOk r (λ kept. kept.items ++ replicate (length lists.memory - length kept.items) 0 ≡ lists.memory)) c.in-Ok-kept.is c.keep_words-lists.ensures.kept;
-    } in
+    let kept = subst (λ r. IfOk r (λ kept. AreStored kept.items lists.memory)) c.in-Ok-kept.is c.keep_words-lists.ensures.kept in
     let set = set-for lists c.args.ids.now trace c.args.round.now c.in-Ok.room c.keep_words-lists.result.0 c.in-Ok-open.opened c.in-Ok-kept.kept.items c.requires.coherent c.requires.laid_down does c.in-Ok.ensures
     c.keep_words-lists.ensures.lists c.in-Ok-open.ensures.opened c.in-Ok-open.ensures.still kept in
     laid-of Finishes State (λ after. after ≡ lists) lists c.args.ids.now c.args.round.now c.in_threads.result (c.in_threads.ensures lists c.args.ids.now c.in-Ok.room.beside trace set)
@@ -59,10 +47,7 @@ pub returns-in-Ok-open-clause-ids : goal.returns-in-Ok-open-clause-ids
 returns-in-Ok-open-clause-ids g c =
     let (trace, does) = c.requires.may_do in
     let lists = c.args.lists in
-    let kept : AreKept c.in-Ok-kept.kept.items lists.memory = record {
-      inside = subst (λ r. IfOk r (λ kept. length kept.items ≤ length lists.memory)) c.in-Ok-kept.is c.keep_words-lists.ensures.inside;
-      words = subst (λ r. IfOk r (λ kept. kept.items ++ replicate (length lists.memory - length kept.items) 0 ≡ lists.memory)) c.in-Ok-kept.is c.keep_words-lists.ensures.kept;
-    } in
+    let kept = subst (λ r. IfOk r (λ kept. AreStored kept.items lists.memory)) c.in-Ok-kept.is c.keep_words-lists.ensures.kept in
     let set = set-for lists c.args.ids.now trace c.args.round.now c.in-Ok.room c.keep_words-lists.result.0 c.in-Ok-open.opened c.in-Ok-kept.kept.items c.requires.coherent c.requires.laid_down does c.in-Ok.ensures
     c.keep_words-lists.ensures.lists c.in-Ok-open.ensures.opened c.in-Ok-open.ensures.still kept in
     ids-of Finishes State (λ after. after ≡ lists) lists c.args.ids.now c.args.round.now c.in_threads.result (c.in_threads.ensures lists c.args.ids.now c.in-Ok.room.beside trace set)
@@ -71,10 +56,7 @@ pub returns-in-Ok-open-clause-err : goal.returns-in-Ok-open-clause-err
 returns-in-Ok-open-clause-err g c =
     let (trace, does) = c.requires.may_do in
     let lists = c.args.lists in
-    let kept : AreKept c.in-Ok-kept.kept.items lists.memory = record {
-      inside = subst (λ r. IfOk r (λ kept. length kept.items ≤ length lists.memory)) c.in-Ok-kept.is c.keep_words-lists.ensures.inside;
-      words = subst (λ r. IfOk r (λ kept. kept.items ++ replicate (length lists.memory - length kept.items) 0 ≡ lists.memory)) c.in-Ok-kept.is c.keep_words-lists.ensures.kept;
-    } in
+    let kept = subst (λ r. IfOk r (λ kept. AreStored kept.items lists.memory)) c.in-Ok-kept.is c.keep_words-lists.ensures.kept in
     let set = set-for lists c.args.ids.now trace c.args.round.now c.in-Ok.room c.keep_words-lists.result.0 c.in-Ok-open.opened c.in-Ok-kept.kept.items c.requires.coherent c.requires.laid_down does c.in-Ok.ensures
     c.keep_words-lists.ensures.lists c.in-Ok-open.ensures.opened c.in-Ok-open.ensures.still kept in
     stops-of Finishes State (λ after. after ≡ lists) lists c.args.ids.now c.args.round.now c.in_threads.result (c.in_threads.ensures lists c.args.ids.now c.in-Ok.room.beside trace set)
@@ -83,10 +65,7 @@ pub returns-in-Ok-open-clause-lawful : goal.returns-in-Ok-open-clause-lawful
 returns-in-Ok-open-clause-lawful g c =
     let (trace, does) = c.requires.may_do in
     let lists = c.args.lists in
-    let kept : AreKept c.in-Ok-kept.kept.items lists.memory = record {
-      inside = subst (λ r. IfOk r (λ kept. length kept.items ≤ length lists.memory)) c.in-Ok-kept.is c.keep_words-lists.ensures.inside;
-      words = subst (λ r. IfOk r (λ kept. kept.items ++ replicate (length lists.memory - length kept.items) 0 ≡ lists.memory)) c.in-Ok-kept.is c.keep_words-lists.ensures.kept;
-    } in
+    let kept = subst (λ r. IfOk r (λ kept. AreStored kept.items lists.memory)) c.in-Ok-kept.is c.keep_words-lists.ensures.kept in
     let set = set-for lists c.args.ids.now trace c.args.round.now c.in-Ok.room c.keep_words-lists.result.0 c.in-Ok-open.opened c.in-Ok-kept.kept.items c.requires.coherent c.requires.laid_down does c.in-Ok.ensures
     c.keep_words-lists.ensures.lists c.in-Ok-open.ensures.opened c.in-Ok-open.ensures.still kept in
     lawful-of Finishes State (λ after. after ≡ lists) lists c.args.ids.now c.args.round.now c.in_threads.result

@@ -1,6 +1,6 @@
 use Rattle.std.proofs.Common.{◌+◌, ℕ, List, swap, sym, ap, ◌∙◌, subst, arith}
 use Rattle.slub_core.specs.Words.{list_base, cpu_base, slab_base}
-use Rattle.slub_workers.proofs.InPlace.{Turns, turns-stay, turns-more, turns-all}
+use Rattle.slub_workers.proofs.InPlace.{Turns, turns-stay, turns-more, exchanges-none, exchanges-more, exchanges-all}
 use Rattle.slub_workers.proofs.cell.rearrange.Goals as goal
 use Rattle.slub_workers.proofs.cell.rearrange.Goals.{then-number-other, else-number-other}
 
@@ -26,5 +26,16 @@ loop-number-preserved c =
           subst (λ (z : List ℕ). Turns (i + 1) first z) (sym w.words-is) (turns-stay i first now low (omega arith) inv)
     ]
 
+pub loop-lock-init : goal.loop-lock-init
+loop-lock-init c = exchanges-none c.loop-number.number c.args.words.now c.loop-number.words c.loop-number-test.false c.loop-number.invariant
+
+pub loop-lock-preserved : goal.loop-lock-preserved
+loop-lock-preserved c =
+    let i : ℕ = c.loop-lock.lock in
+    let now : List ℕ = c.loop-lock.words in
+    let list = c.list_of_lock.ensures in
+    exchanges-more i c.args.words.now now c.swap-in-loop-lock.new.self c.loop-lock-test.true c.requires c.loop-lock.invariant
+    (c.swap-in-loop-lock.ensures.after ∙ ap (λ (k : ℕ). swap now i (list_base + k)) list)
+
 pub returns : goal.returns
-returns c = turns-all c.loop-number.number c.args.words.now c.loop-number.words c.loop-number-test.false c.requires c.loop-number.invariant
+returns c = exchanges-all c.loop-lock.lock c.args.words.now c.loop-lock.words c.loop-lock-test.false (omega arith) c.requires c.loop-lock.invariant

@@ -32,7 +32,6 @@ returns-clause-seated c =
       numbers = s.numbers ∙ ap countdown (same ∙ sym known);
       room = record {
         seat = (s.root.0 ∙ o.root.0, s.root.1);
-        words = o.room;
         values = r.values;
         locals = (s.locals.0, omega (arith, same, known, left, ok.0, ok.1));
         done = (r.done.0, omega (arith, known, done));

@@ -1,4 +1,4 @@
-use Rattle.std.proofs.Common.{rules, ◌≡◌, ◌-◌, ℕ, List, length, replicate, ap, sym, ◌∙◌, set, length-append, arith}
+use Rattle.std.proofs.Common.{rules, ◌-◌, ℕ, List, length, replicate, ap, sym, ◌∙◌, set, length-append, arith}
 use Rattle.std.proofs.lemmas.List.{length-replicate}
 use Rattle.slub_memory.proofs.Stored.{written-behind}
 use Rattle.slub_memory.proofs.memory.Memory.write.Goals as goal

@@ -1,4 +1,4 @@
-use Rattle.std.proofs.Common.{◌≡◌, List, ℕ, length, ap, sym, ◌∙◌, subst, arith}
+use Rattle.std.proofs.Common.{◌≡◌, List, ap, sym, ◌∙◌, subst, arith}
 use Rattle.std.specs.Mem.Slots.{slots_items, slots_counts}
 use Rattle.slub_local.specs.declared.guarded.Guarded.{Guarded}
 use Rattle.slub_schedule.specs.Table.{WordTable}
@@ -15,7 +15,7 @@ fill-requires c =
     let n = slots_counts c.close_with-closed.result.words in
     let m = c.close_with-closed.ensures.counts.0 in
     let k = c.args.self.room in
-    let long : length c.as_slice.result.now ≡ length words = ap length (c.as_slice.ensures.value ∙ c.words_of-words.ensures) ∙ length-by_number words in
+    let long = length-by_number words in
     omega arith
 
 pub returns-clause-closed : goal.returns-clause-closed
@@ -28,9 +28,7 @@ returns-clause-closed c =
     let n = slots_counts closed.result.slots in
     let m = closed.ensures.counts.1 in
     let k = self.slots in
-    let filled : c.as_slice.result.now ≡ by_number words = c.as_slice.ensures.value ∙ c.words_of-words.ensures in
     let stood : self.table ≡ key.table = sym self.stood in
-    let table : c.keep_row.new.self ≡ table_in key (by_number words) =
-    c.keep_row.ensures ∙ c.fill.ensures ∙ ap (λ (t : WordTable). record t { words = c.as_slice.result.now }) stood ∙ ap (λ (ws : List ℕ). table_in key ws) filled in
-    subst (λ (guards : List Guarded). HasClosed key c.args.ended.tried record { facts = self.setup; table = c.keep_row.new.self; guards = guards; locals = c.args.ended.locals.items }) (sym c.values_of-values.ensures.values)
-    (ends c.args.ended.tried key c.args.ended.root.id c.args.ended.root.me.0 c.args.ended.locals.items words xs c.requires.ended.back c.requires.ended.all closed.ensures.values.2 self.setup c.keep_row.new.self (omega arith) (sym self.facts) table)
+    let table : c.fill.new.self ≡ table_in key (by_number words) = c.fill.ensures ∙ ap (λ (t : WordTable). record t { words = by_number words }) stood in
+    subst (λ (guards : List Guarded). HasClosed key c.args.ended.tried record { facts = self.setup; table = c.fill.new.self; guards = guards; locals = c.args.ended.locals.items }) (sym c.values_of-values.ensures.values)
+    (ends c.args.ended.tried key c.args.ended.root.id c.args.ended.root.me.0 c.args.ended.locals.items words xs c.requires.ended.back c.requires.ended.all closed.ensures.values.2 self.setup c.fill.new.self (omega arith) (sym self.facts) table)

@@ -21,8 +21,8 @@ cells_of-requires c =
     let count = c.requires.work.ready.may.coherent.words in
     omega arith
 
-pub new-requires : goal.new-requires
-new-requires c =
+pub new-made-requires : goal.new-made-requires
+new-made-requires c =
     let m : Machine = c.args.machine in
     let table : c.cells_of.new.table ≡ m.table = c.cells_of.ensures.table in
     let whole : record m { table = c.cells_of.new.table } ≡ m = λ i. record m { table = table i } in
@@ -31,13 +31,28 @@ new-requires c =
     subst (λ (ws : List ℕ). Holds (begun_by m) (opening ws m.values.items (first_view (begun_by m)))) (sym cells) (opens (begun_by m) c.requires.work) in
     subst (λ (n : Machine). Holds (begun_by n) (opening c.as_slice.result.now m.values.items (first_view (begun_by n)))) (sym (c.of.ensures ∙ whole)) one
 
+pub keep_cells-requires-clause-all : goal.keep_cells-requires-clause-all
+keep_cells-requires-clause-all c =
+    let m : Machine = c.args.machine in
+    let many = many-frames m.setup m.table m.values.items m.locals.items c.requires.work.ready in
+    let f = c.requires.work.ready.sizes.frames in
+    let o = c.requires.work.ready.sizes.objects in
+    let count = c.requires.work.ready.may.coherent.words in
+    let table : c.cells_of.new.table ≡ m.table = c.cells_of.ensures.table in
+    let long : length c.cells_of.new.table.words ≡ length m.table.words = ap (λ (t : WordTable). length t.words) table in
+    omega arith
+
+pub keep_cells-requires-clause-cells : goal.keep_cells-requires-clause-cells
+keep_cells-requires-clause-cells c = c.in-Ok.ensures.cells ∙ ap (λ (t : WordTable). by_number t.words) (sym c.cells_of.ensures.table)
+
 pub invariant_of-result : goal.invariant_of-result
 invariant_of-result c =
     let m : Machine = c.args.machine in
-    let e = c.in-Ok-new.ensures.ok in
+    let e = c.in-Ok-made.ensures.ok in
     let table : c.cells_of.new.table ≡ m.table = c.cells_of.ensures.table in
+    let kept : c.keep_cells.new.table ≡ m.table = c.keep_cells.ensures ∙ table in
     let whole : record m { table = c.cells_of.new.table } ≡ m = λ i. record m { table = table i } in
-    let key : c.in-Ok-new.words.shared.key ≡ begun_by m = e.5 ∙ ap (λ (n : Machine). begun_by n) (c.of.ensures ∙ whole) in
+    let key : c.in-Ok-made.words.shared.key ≡ begun_by m = e.5 ∙ ap (λ (n : Machine). begun_by n) (c.of.ensures ∙ whole) in
     let s = c.requires.work.ready.sizes in
     let k = c.requires.sizes in
     let many = many-frames m.setup m.table m.values.items m.locals.items c.requires.work.ready in
@@ -52,6 +67,6 @@ invariant_of-result c =
       words_are = e.0 ∙ long ∙ omega arith;
       slots = e.1 ∙ many-guards (setup_in (begun_by m)) m.values.items c.requires.work.ready.full;
       facts = ap (λ (b : Begun). b.facts) key;
-      stood = ap (λ (b : Begun). b.table) key ∙ sym table;
-      room = ap (λ (t : WordTable). length t.words) table ∙ sym (e.0 ∙ long);
+      stood = ap (λ (b : Begun). b.table) key ∙ sym kept;
+      room = ap (λ (t : WordTable). length t.words) kept ∙ sym (e.0 ∙ long);
     }

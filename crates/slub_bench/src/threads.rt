@@ -186,9 +186,12 @@ fn run_of(
 ) -> io::Result<Run> {
     let gate = CountingGate::new(rt)?;
     let nanos = gated_nanos(rt, text, words, &mut FaultlessSink::new(), &gate)?;
+    let Some(events) = gate.nanos() else {
+        return Err(io::Error::from(io::ErrorKind::Other));
+    };
     Ok(Run {
         nanos,
-        events: gate.nanos(),
+        events,
         waits: gate.waits(),
     })
 }

@@ -4,7 +4,7 @@ use crate::nanos_since;
 use slub_edges::gate::Gate;
 use std::io;
 use std::rt::Clock;
-use std::sync::atomic::{AtomicU64, Ordering};
+use std::sync::atomic::{AtomicBool, AtomicU64, Ordering};
 use std::time::Instant;
 
 /// How often the workers of a run had to wait.
@@ -25,6 +25,8 @@ pub(crate) struct CountingGate<'a, R: Clock> {
     /// Nanoseconds since it was made.
     first: AtomicU64,
     last: AtomicU64,
+    /// The clock couldn't be read once.
+    unread: AtomicBool,
     lost: AtomicU64,
     parked: AtomicU64,
 }
@@ -37,6 +39,7 @@ impl<'a, R: Clock> CountingGate<'a, R> {
             made: Instant::now(rt)?,
             first: AtomicU64::new(u64::MAX),
             last: AtomicU64::new(0),
+            unread: AtomicBool::new(false),
             lost: AtomicU64::new(0),
             parked: AtomicU64::new(0),
         })
@@ -50,15 +53,22 @@ impl<'a, R: Clock> CountingGate<'a, R> {
         }
     }
 
-    /// The nanoseconds from the first event of all to the end of the last one.
-    pub(crate) fn nanos(&self) -> u64 {
+    /// The nanoseconds from the first event of all to the end of the last one, where the clock could be read each time.
+    pub(crate) fn nanos(&self) -> Option<u64> {
+        if self.unread.load(Ordering::SeqCst) {
+            return None;
+        }
         let last = self.last.load(Ordering::SeqCst);
-        last.saturating_sub(self.first.load(Ordering::SeqCst))
+        Some(last.saturating_sub(self.first.load(Ordering::SeqCst)))
     }
 
-    /// The nanoseconds since it was made; 0 where the clock can't be read.
+    /// The nanoseconds since it was made. Where the clock can't be read, that is noted.
     fn now(&self) -> u64 {
-        nanos_since(self.rt, &self.made).unwrap_or(0)
+        let Ok(nanos) = nanos_since(self.rt, &self.made) else {
+            self.unread.store(true, Ordering::SeqCst);
+            return 0;
+        };
+        nanos
     }
 }
 

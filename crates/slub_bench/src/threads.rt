@@ -1,6 +1,7 @@
 //! Rounds of several workers by threads, against one worker and against a schedule: in all, and from the first event to the
 //! end of the last one, as a gate notes them. The rate that several workers are to have is one of events alone.
 
+use crate::apart::four_nanos;
 use crate::held::keep_memory;
 use crate::runs::{best_read, best_run, gated_nanos};
 use crate::schedule::{ROUNDS, SCHEDULE, small_rounds};
@@ -275,6 +276,22 @@ fn measure_one(
     Ok(one)
 }
 
+/// Measures four replays of one busy worker side by side, and prints what an event costs against one replay's: no more can
+/// be asked of four workers of one round.
+fn measure_apart(
+    rt: &(impl Clock + AllocGlobal + Print + Threads + Wait + Sync),
+    one: Cost,
+) -> io::Result<()> {
+    let text = round_of(rt.alloc(), 1, EACH, LONG)?;
+    let nanos = four_nanos(rt, &text, THREADS, WORKERS)?;
+    let picos = each(nanos, 4 * u64::from(EACH));
+    let events = picos / 1000;
+    let rate = percent(one.events, picos);
+    println!(rt;
+        "  four such replays side by side, which share nothing: {events} ns an event, {rate} % of one's rate"
+    )
+}
+
 /// Measures several workers by threads, and prints what an event costs against one worker's, and how often they had to
 /// wait.
 fn measure_against(
@@ -325,9 +342,9 @@ fn measure_small(
     )
 }
 
-/// Measures small rounds, in memory that isn't held; one worker by threads and by schedule; several on CPUs of their own,
-/// with long-lived and with short-lived objects, and with caches of their own, and several on one CPU, each against one;
-/// and tries.
+/// Measures small rounds, in memory that isn't held; one worker by threads and by schedule; four replays side by side;
+/// several workers on CPUs of their own, with long-lived and with short-lived objects, and with caches of their own, and
+/// several on one CPU, each against one; and tries.
 pub(crate) fn measure(
     rt: &(impl Clock + AllocGlobal + Print + Threads + Wait + Sync),
 ) -> io::Result<()> {
@@ -335,6 +352,7 @@ pub(crate) fn measure(
     let _held = keep_memory(rt.alloc())?;
     let one = measure_one(rt, LONG)?;
     measure_schedule(rt)?;
+    measure_apart(rt, one)?;
     measure_against(rt, "CPUs of their own", one, LONG)?;
     let short = measure_one(rt, SHORT)?;
     measure_against(rt, "CPUs of their own", short, SHORT)?;

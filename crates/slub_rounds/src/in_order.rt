@@ -23,8 +23,9 @@ ghost use Rattle.slub_rounds.specs.Machine.{IsDoneInOrder, IsSet, system_in};
 ghost use Rattle.slub_rounds.specs.Scheduled.{IsStoppedInOrder};
 
 use crate::answers::Answers;
+use crate::begins::begun;
 use crate::ended::Ended;
-use crate::ends::{begun, closed};
+use crate::ends::closed;
 use crate::laws::rounds_in_order_are_lawful;
 use crate::room::{Room, take_room};
 use crate::scheduled::Stopped;

@@ -22,6 +22,7 @@
 #![tactic(auto)]
 
 mod answers;
+pub mod begins;
 pub mod ended;
 mod ends;
 pub mod in_order;

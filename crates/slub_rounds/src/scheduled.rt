@@ -21,8 +21,9 @@ ghost use Rattle.slub_rounds.specs.Machine.{IsDoneBySeed, IsSet, system_in};
 ghost use Rattle.slub_rounds.specs.Scheduled.{IsStopped};
 
 use crate::answers::Answers;
+use crate::begins::begun;
 use crate::ended::Ended;
-use crate::ends::{begun, closed};
+use crate::ends::closed;
 use crate::laws::rounds_by_seed_are_lawful;
 use crate::room::{Room, leave_finished, take_room};
 use slub_common::no_memory::NoMemory;

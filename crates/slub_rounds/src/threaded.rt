@@ -14,8 +14,9 @@ ghost use Rattle.slub_rounds.specs.Rounds.{DoesRoundByThreads};
 ghost use Rattle.slub_rounds.specs.Machine.{IsDoneByThreads, IsSetForThreads, WasKept};
 
 use crate::answers::Answers;
+use crate::begins::begun;
 use crate::ended::Ended;
-use crate::ends::{begun, closed};
+use crate::ends::closed;
 use crate::laws::rounds_by_threads_are_lawful;
 use crate::room::{Room, take_room};
 use slub_common::no_memory::NoMemory;

@@ -187,7 +187,7 @@ fn link_base(frames: u32, objects: u32) -> usize
 
 /// The number of a word in the table of a machine with so many frames and object numbers.
 #[inline(always)]
-fn number(frames: u32, objects: u32, place: Place) -> usize
+pub fn number(frames: u32, objects: u32, place: Place) -> usize
     ensures { (m : Setup) → m.frames ≡ frames → m.objects ≡ objects → result ≡ number_of m place }
 {
     match place {
@@ -217,7 +217,7 @@ fn after(op: Op, word: u64) -> u64
 
 /// What a step answers that finds this word.
 #[inline(always)]
-fn answer(op: Op, word: u64) -> Answer
+pub fn answer(op: Op, word: u64) -> Answer
     ensures { result ≡ answer_of op word }
 {
     match op {

@@ -2,18 +2,12 @@
 
 ghost use Rattle.std.specs.Prelude.{◌≡◌, ◌≤◌, IfOk, length};
 ghost use Rattle.slub_trace.specs.declared.trace.Trace.{Trace};
-ghost use Rattle.slub_lists.specs.State.{State};
 ghost use Rattle.slub_lists.specs.Coherent.{IsCoherent};
 ghost use Rattle.slub_opening.specs.Opening.{IsLaidDown};
-ghost use Rattle.slub_calls.specs.Calls.{workers_of};
 ghost use Rattle.slub_calls.specs.Laws.{MayDo};
-ghost use Rattle.slub_into_words.specs.declared.beside.Beside.{Beside as BesideWords};
 ghost use Rattle.slub_into_words.specs.Ids.{AreIds};
-ghost use Rattle.slub_into_words.specs.Opened.{IsOpened};
-ghost use Rattle.slub_rounds.specs.Machine.{IsBegun};
 ghost use Rattle.slub_workers.specs.Round.{MayWork, begun_by};
 ghost use Rattle.slub_workers.specs.Tables.{begun_at, table_of};
-ghost use Rattle.slub_events.specs.declared.event.Round.{Round as Events};
 ghost use Rattle.slub_tries.specs.Begun.{OpensInto};
 ghost use Rattle.slub_tries.specs.Lone.{SitsAlone, begins_as, standing_of};
 
@@ -23,10 +17,9 @@ use slub_events::event::Round;
 use slub_into_words::beside::Beside;
 use slub_into_words::ids::Ids;
 use slub_into_words::laws::besides_fit;
-use slub_into_words::opened::{Opened, Rest};
 use slub_into_words::opening::open;
 use slub_list_machine::lists::Lists;
-use slub_local::local::Local;
+use slub_rounds::begins::begun;
 use slub_turns::machine::Machine;
 use slub_workers::round;
 use slub_workers::shared::Shared;
@@ -38,26 +31,6 @@ use std::alloc::Global;
 pub(crate) struct Sizes {
     frames: u32,
     objects: u32,
-}
-
-/// The machine in words with its workers, each of which has the replies that take no step.
-fn begun(opened: Opened, locals: Vec<Local>) -> (Machine, Rest)
-    ensures { (s : State) (b : BesideWords) (round : Events) → IsOpened s b opened → locals.items ≡ workers_of s.table round → IsBegun s b round result.0 result.1 }
-{
-    let Opened {
-        setup,
-        table,
-        values,
-        rest,
-    } = opened;
-    let mut machine = Machine {
-        setup,
-        table,
-        values,
-        locals,
-    };
-    machine.open();
-    (machine, rest)
 }
 
 /// The machine in words before the first turn of a round, and its sizes.

@@ -2,13 +2,13 @@
 
 ghost use Rattle.std.specs.Prelude.{◌≡◌, Bool, List, false};
 ghost use Rattle.slub_core.specs.Setup.{Means};
-ghost use Rattle.slub_core.specs.Run.{after_step, turn};
+ghost use Rattle.slub_core.specs.Run.{turn};
 ghost use Rattle.slub_local.specs.declared.guarded.Guarded.{Guarded};
 ghost use Rattle.slub_local.specs.Facts.{setup_of};
 ghost use Rattle.slub_local.specs.Values.{rooms_of};
 ghost use Rattle.slub_fits.specs.Fits.{PickFits, HasRooms, TurnFits};
 ghost use Rattle.slub_turns.specs.Quick.{spot_of};
-ghost use Rattle.slub_turns.specs.System.{alone, picked_alone, IsTableFor};
+ghost use Rattle.slub_turns.specs.System.{alone, picked_alone, IsTableFor, FitsAlone, LeadsAlone};
 
 use crate::advance::advance_at;
 use crate::at_once::settle;
@@ -31,7 +31,7 @@ fn quick_turn(setup: &Setup, table: &mut Table, local: &mut Local, spot: Quick) 
     requires fits { (means : Means) × (values : List Guarded) × TurnFits (setup_of setup.now means) false (alone table.old values local.old) local.old }
     requires spot { local.old.spot ≡ spot_of spot }
     ensures refused { result ≡ false }
-    ensures turned { (means : Means) → (values : List Guarded) → alone table.new values local.new ≡ after_step (setup_of setup.now means) result (alone table.old values local.old) 0 local.old }
+    ensures turned { (values : List Guarded) → LeadsAlone setup.now result table.old values local.old table.new values local.new }
     ensures table { IsTableFor setup.now table.new }
 {
     let step = quick_step(setup, local, spot);
@@ -50,9 +50,9 @@ fn turn_at(
     spot: Spot,
 ) -> bool
     requires table { IsTableFor setup.now table.old }
-    requires fits { (means : Means) × HasRooms (setup_of setup.now means) (rooms_of values.old) × ((refused : Bool) → TurnFits (setup_of setup.now means) refused (alone table.old values.old local.old) local.old) }
+    requires fits { FitsAlone setup.now table.old values.old local.old }
     requires spot { spot ≡ local.old.spot }
-    ensures turned { (means : Means) → alone table.new values.new local.new ≡ after_step (setup_of setup.now means) result (alone table.old values.old local.old) 0 local.old }
+    ensures turned { LeadsAlone setup.now result table.old values.old local.old table.new values.new local.new }
     ensures table { IsTableFor setup.now table.new }
     ensures rooms { rooms_of values.new ≡ rooms_of values.old }
 {
@@ -74,9 +74,9 @@ fn free_at(
     spot: FreeSpot,
 ) -> bool
     requires table { IsTableFor setup.now table.old }
-    requires fits { (means : Means) × HasRooms (setup_of setup.now means) (rooms_of values.old) × ((refused : Bool) → TurnFits (setup_of setup.now means) refused (alone table.old values.old local.old) local.old) }
+    requires fits { FitsAlone setup.now table.old values.old local.old }
     requires spot { Spot.InFree spot ≡ local.old.spot }
-    ensures turned { (means : Means) → alone table.new values.new local.new ≡ after_step (setup_of setup.now means) result (alone table.old values.old local.old) 0 local.old }
+    ensures turned { LeadsAlone setup.now result table.old values.old local.old table.new values.new local.new }
     ensures table { IsTableFor setup.now table.new }
     ensures rooms { rooms_of values.new ≡ rooms_of values.old }
 {
@@ -99,9 +99,9 @@ fn free_turn(
     spot: FreeSpot,
 ) -> bool
     requires table { IsTableFor setup.now table.old }
-    requires fits { (means : Means) × HasRooms (setup_of setup.now means) (rooms_of values.old) × ((refused : Bool) → TurnFits (setup_of setup.now means) refused (alone table.old values.old local.old) local.old) }
+    requires fits { FitsAlone setup.now table.old values.old local.old }
     requires spot { Spot.InFree spot ≡ local.old.spot }
-    ensures turned { (means : Means) → alone table.new values.new local.new ≡ after_step (setup_of setup.now means) result (alone table.old values.old local.old) 0 local.old }
+    ensures turned { LeadsAlone setup.now result table.old values.old local.old table.new values.new local.new }
     ensures table { IsTableFor setup.now table.new }
     ensures rooms { rooms_of values.new ≡ rooms_of values.old }
 {
@@ -119,8 +119,8 @@ fn free_turn(
 #[inline(always)]
 fn turn_here(setup: &Setup, table: &mut Table, values: &mut [Guarded], local: &mut Local) -> bool
     requires table { IsTableFor setup.now table.old }
-    requires fits { (means : Means) × HasRooms (setup_of setup.now means) (rooms_of values.old) × ((refused : Bool) → TurnFits (setup_of setup.now means) refused (alone table.old values.old local.old) local.old) }
-    ensures turned { (means : Means) → alone table.new values.new local.new ≡ after_step (setup_of setup.now means) result (alone table.old values.old local.old) 0 local.old }
+    requires fits { FitsAlone setup.now table.old values.old local.old }
+    ensures turned { LeadsAlone setup.now result table.old values.old local.old table.new values.new local.new }
     ensures table { IsTableFor setup.now table.new }
     ensures rooms { rooms_of values.new ≡ rooms_of values.old }
 {

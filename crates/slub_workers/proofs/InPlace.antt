@@ -1,6 +1,6 @@
 -- The words of each kind change their places among each other, two at a time: list words, CPU words, slab words. Then
 -- each lock word changes with its list word.
-use Rattle.std.proofs.Common.{◌≡◌, ◌≢◌, ◌⊎◌, ℕ, ◌+◌, ◌<◌, ◌≤◌, List, length, get_or, swap, refl, sym, ap, ◌∙◌, inl, inr, arith, subst}
+use Rattle.std.proofs.Common.{◌≡◌, ◌≢◌, ◌⊎◌, ℕ, ◌+◌, ◌<◌, ◌≤◌, List, length, get_or, swap, sym, ap, ◌∙◌, inl, inr, arith, subst}
 use Rattle.std.proofs.lemmas.Bool.{cases_eq, cases_lt}
 use Rattle.std.proofs.lemmas.List.Edits.{length-swap, Swapped, swapped_from_swap}
 use Rattle.slub_core.specs.Words.{list_base, cpu_base, slab_base}
@@ -14,12 +14,6 @@ use Rattle.slub_workers.proofs.Cells.{mirrored_cell, IsBase, stays, of_cpus, sor
 pub record Mirrors (base i : ℕ) (first now : List ℕ) : Type 0 where
   pub done : (k : ℕ) → k < 512 → (k < i) ⊎ (mirrored k < i) → get_or now (base + k) 0 ≡ get_or first (base + mirrored k) 0
   pub left : (k : ℕ) → k < 512 → i ≤ k → i ≤ mirrored k → get_or now (base + k) 0 ≡ get_or first (base + k) 0
-
-mirrors-none : (base : ℕ) (words : List ℕ) → Mirrors base 0 words words
-mirrors-none base words = record {
-  done = λ k low before. absurd (elim before [ inl e ↦ omega arith | inr e ↦ omega arith ]);
-  left = λ k low a b. refl;
-}
 
 -- a word whose number mirrored isn't above has its place
 mirrors-stay : (base i : ℕ) (first now : List ℕ) → i < 512 → mirrored i ≤ i → Mirrors base i first now → Mirrors base (i + 1) first now
@@ -85,15 +79,6 @@ pub record Turns (i : ℕ) (first now : List ℕ) : Type 0 where
   pub cpus : Mirrors cpu_base i first now
   pub slabs : Mirrors slab_base i first now
   pub others : (n : ℕ) → (n < list_base) ⊎ (spread_end ≤ n) → get_or now n 0 ≡ get_or first n 0
-
-pub turns-none : (words : List ℕ) → Turns 0 words words
-turns-none words = record {
-  count = refl;
-  lists = mirrors-none list_base words;
-  cpus = mirrors-none cpu_base words;
-  slabs = mirrors-none slab_base words;
-  others = λ n out. refl;
-}
 
 -- those of a kind, of whichever
 of_kind : (base i : ℕ) (first now : List ℕ) → IsBase base → Turns i first now → Mirrors base i first now

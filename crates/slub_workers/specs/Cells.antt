@@ -8,8 +8,8 @@
 -- the slab words of two frames below 512 of one block of 64. Words of two caches may lie side by
 -- side, and so may slab words of two blocks.
 -- The 33 lock words exchange their cells with 33 list words: one of cache 15, and two of each cache
--- from 16 on. These list words lie side by side in cells 0 to 32. The words from `spread_end` on lie in the cells of
--- their numbers.
+-- from 16 on. These list words lie side by side in cells 0 to 32. The words from `spread_end` on
+-- lie in the cells of their numbers.
 use Rattle.std.specs.Prelude.{◌≡◌, ◌≢◌, ℕ, ◌+◌, ◌-◌, ◌*◌, ◌/◌, ◌%◌, ◌<◌, ◌≤◌, ◌⊎◌, nat_lt, nat_eq, if◌then◌else◌, List, length, map, slice_index_or}
 use Rattle.std.specs.List.{range_with_len}
 use Rattle.slub_core.specs.Words.{list_base, cpu_base, slab_base}

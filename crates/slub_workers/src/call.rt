@@ -8,8 +8,8 @@ ghost use Rattle.slub_workers.specs.Turns.{HasNext};
 ghost use Rattle.slub_workers.specs.Workers.{MayTurnAt, worker_in};
 
 use crate::shared::Shared;
-use crate::worker::{Worker, pause};
-use crossbeam_utils::Backoff;
+use crate::waits::Waits;
+use crate::worker::Worker;
 use slub_answers::reply::Reply;
 use slub_core::spot::Spot;
 use slub_local::local::Local;
@@ -52,10 +52,10 @@ impl Worker {
         ensures called { HasCalled (begun_at shared.now) self.old.1 result self.new.1 }
     {
         let told = self.standing.local.answers().len();
-        let backoff = Backoff::new();
+        let mut waits = Waits::new();
         for _ in wait.forever() {
             let (step, answer) = self.turn(shared, false);
-            pause(wait, shared, &backoff, step, answer);
+            waits.pause(wait, shared, step, answer);
             if let Some(reply) = reply_after(&self.standing.local, told) {
                 return reply;
             }

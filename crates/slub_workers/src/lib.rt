@@ -15,9 +15,10 @@
 //! cells: its words are copied into them as the shared table is opened, and it reads them there as that is closed.
 //!
 //! `round` does a round: it opens the table (`shared`), gives each worker a seat (`worker`), lets them make their turns
-//! until each event has its reply, and closes the table. `step` makes one step on it. The six spots of the two fast
-//! paths have turns of their own (`quick`), made of the parts in `quick` of `slub_turns`, in which nothing is left to
-//! choose; each is the turn of the step machine all the same. A try is made of three of them (`try_turns`).
+//! until each event has its reply, and closes the table. `step` makes one step on it, and `waits` has what a worker does
+//! after one that it lost. The six spots of the two fast paths have turns of their own (`quick`), made of the parts in
+//! `quick` of `slub_turns`, in which nothing is left to choose; each is the turn of the step machine all the same. A try
+//! is made of three of them (`try_turns`).
 //!
 //! The same, call by call: `round::open` gives the table and its `workers`; a worker makes its next call by `call`,
 //! which may wait for a lock, or tries it by `fast`, the fast path alone, which never waits; `Workers::end` takes the
@@ -27,7 +28,6 @@
 pub mod call;
 pub mod cell;
 pub mod fast;
-mod number;
 mod quick;
 pub mod round;
 mod rule;
@@ -37,5 +37,6 @@ mod step;
 #[cfg(test)]
 mod tests;
 mod try_turns;
+mod waits;
 pub mod worker;
 pub mod workers;

@@ -7,11 +7,11 @@ ghost use Rattle.slub_workers.specs.Rule.{setup_in};
 ghost use Rattle.slub_workers.specs.Sits.{Steps, Made};
 
 use crate::cell::cell;
-use crate::number::{answer_outside, number};
 use crate::rule::{Does, Misses, Naming, Stores};
 use crate::shared::{Shared, WorkerSeat};
 use slub_core::step::{Answer, Op, Place, Step};
 use slub_local::guarded::Guarded;
+use slub_schedule::table::{answer, number};
 use slub_turns::laws::{picks_fit, turns_keep_ready};
 use std::mem::replace;
 
@@ -35,7 +35,7 @@ pub(crate) fn make<N: Naming>(
     let word = cell(number(shared.frames, shared.objects, step.place));
     if word >= shared.words.word_count() {
         shared.words.shared.load::<Misses<N>>(seat, 0);
-        return answer_outside(step.op);
+        return answer(step.op, 0);
     }
     match step.op {
         Op::Load => Answer::Word(shared.words.shared.load::<Does<N>>(seat, word)),

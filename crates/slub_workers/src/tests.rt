@@ -1,30 +1,18 @@
-//! Numbers and cells of words, steps outside of the table, and the gate.
+//! Cells of words, and the gate.
 
 use crate::cell::{cell, rearrange};
-use crate::number::{answer_outside, number};
 use crate::worker::pass;
 use slub_answers::reply::Reply;
 use slub_core::call::{Call, CallKind};
 use slub_core::local::Answered;
-use slub_core::step::{Answer, Op, Place};
+use slub_core::step::Place;
 use slub_edges::gate::Gate;
 use slub_local::local::Local;
 use slub_local::setup::Setup;
+use slub_schedule::table::number;
 use slub_turns::begin::rest;
 use std::sync::atomic::{AtomicU64, Ordering};
 use std::test::Fail;
-
-/// A machine of 16 frames and 8 object numbers.
-#[test]
-fn numbers_of_words(rt: HostRuntime) {
-    assert_eq!(rt; number(16, 8, Place::LockOf(32)), 32);
-    assert_eq!(rt; number(16, 8, Place::ListOf(0)), 33);
-    assert_eq!(rt; number(16, 8, Place::CpuOf(511)), 1056);
-    assert_eq!(rt; number(16, 8, Place::SlabOf(15)), 1072);
-    assert_eq!(rt; number(16, 8, Place::BoardOf(1)), 1073);
-    assert_eq!(rt; number(16, 8, Place::MemoryOf(0)), 1080);
-    assert_eq!(rt; number(16, 8, Place::LinkOf(15)), 9287);
-}
 
 /// Lock words, list words, CPU words, and the 512 words from 1057 on lie in cells whose numbers needn't be theirs.
 #[test]
@@ -93,21 +81,6 @@ fn words_are_brought_into_their_cells_and_back(rt: HostRuntime) -> Result<(), Fa
         assert_eq!(rt; words[n], n as u64);
     }
     Ok(())
-}
-
-#[test]
-fn steps_outside_find_nothing(rt: HostRuntime) {
-    assert_eq!(rt; answer_outside(Op::Load), Answer::Word(0));
-    assert_eq!(rt; answer_outside(Op::Swap(3)), Answer::Word(0));
-    assert_eq!(rt; answer_outside(Op::Store(3)), Answer::Done);
-    assert_eq!(rt;
-        answer_outside(Op::Exchange { from: 0, to: 3 }),
-        Answer::Won
-    );
-    assert_eq!(rt;
-        answer_outside(Op::Exchange { from: 1, to: 3 }),
-        Answer::Lost(0)
-    );
 }
 
 /// A gate that counts.

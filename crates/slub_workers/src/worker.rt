@@ -1,24 +1,22 @@
 //! A worker at its seat, and its turns.
 
-ghost use Rattle.std.specs.Prelude.{◌≡◌, ◌<◌, ◌||◌, IfSome};
+ghost use Rattle.std.specs.Prelude.{◌≡◌, ◌||◌};
 ghost use Rattle.slub_core.specs.Setup.{Means};
 ghost use Rattle.slub_core.specs.Steps.{begun};
 ghost use Rattle.slub_local.specs.Facts.{setup_of};
 ghost use Rattle.slub_fits.specs.Fits.{BeginFits};
-ghost use Rattle.slub_workers.specs.Cells.{cell_of};
 ghost use Rattle.slub_workers.specs.Sits.{Sits, MayStand, HasTurned, HasBegun, HasMade};
 ghost use Rattle.slub_workers.specs.Standing.{counted};
 ghost use Rattle.slub_workers.specs.Workers.{HasWorkedAt, MayTurnAt, MayWorkAt, worker_in};
 
-use crate::cell::cell;
 use crate::quick::quick_turn;
 use crate::rule::Naming;
 use crate::shared::{Shared, WorkerSeat};
 use crate::standing::Standing;
 use crate::step::make;
-use crossbeam_utils::Backoff;
+use crate::waits::Waits;
 use slub_core::spot::{AllocSpot, FreeSpot, Spot};
-use slub_core::step::{Answer, Place, Step};
+use slub_core::step::{Answer, Step};
 use slub_edges::gate::Gate;
 use slub_local::local::Local;
 use slub_local::setup::Setup;
@@ -30,12 +28,6 @@ use slub_turns::quick::Quick;
 use slub_turns::step::step_at;
 use std::marker::{Brand, Model};
 use std::sync::Wait;
-use std::sync::atomic::Ordering;
-
-/// How often a worker looks at a lock's word before it sleeps: as many times as a `Backoff` snoozes until it is
-/// completed. It makes seven pauses, each but the first twice as long as the one before, and then it lets other threads
-/// run four times.
-const LOOKS: u32 = 11;
 
 /// A worker of a round by threads. Contracts see which table it has its seat at, and how it stands.
 #[derive(Drop)]
@@ -54,29 +46,6 @@ impl Model for Worker {
     ghost view = { λ w. (w.seat.table_id, w.standing) };
 
     ghost invariant = { λ w. Sits w.seat.me w.standing };
-}
-
-/// How often a worker had to wait. No clause speaks of it.
-#[derive(Clone, Copy, Debug, Default, PartialEq, Eq)]
-struct Waits {
-    /// Exchanges of words that aren't locks, which it lost.
-    lost: u64,
-    /// How often it slept on a lock.
-    parked: u64,
-}
-
-impl Waits {
-    /// Counts what came of a step, after which the worker slept or didn't.
-    #[inline(always)]
-    fn count(&mut self, step: Step, answer: Answer, slept: bool) {
-        match (step.place, answer) {
-            (Place::LockOf(_), Answer::Lost(_)) => {
-                self.parked = self.parked.saturating_add(u64::from(slept));
-            }
-            (_, Answer::Lost(_)) => self.lost = self.lost.saturating_add(1),
-            _ => {}
-        }
-    }
 }
 
 /// Whether a worker has tried, once it makes a turn more.
@@ -223,9 +192,8 @@ impl Worker {
         ensures worked { HasWorkedAt shared.now.words.shared.table_id result }
         ensures number { worker_in result ≡ worker_in self }
     {
-        let backoff = Backoff::new();
         let mut passed = 0;
-        let mut waits = Waits::default();
+        let mut waits = Waits::new();
         for _ in wait.forever() {
             passed = pass(gate, &self.standing.local, passed);
             if is_finished(&self.standing.local) {
@@ -237,8 +205,7 @@ impl Worker {
                 return self;
             }
             let (step, answer) = self.turn(shared, false);
-            let slept = pause(wait, shared, &backoff, step, answer);
-            waits.count(step, answer, slept);
+            waits.pause(wait, shared, step, answer);
         }
         unreachable!()
     }
@@ -263,78 +230,4 @@ pub(crate) fn pass<G: Gate>(gate: &G, local: &Local, passed: usize) -> usize {
 /// The number of an event.
 fn number_of(event: usize) -> u32 {
     u32::try_from(event).unwrap_or(u32::MAX)
-}
-
-/// After a step: where a lock is lost the worker waits until the word changes, and where it is given back one that
-/// sleeps is woken. After another exchange that is lost the worker waits a little, longer each time until it wins one.
-/// Whether it slept.
-#[inline(always)]
-pub(crate) fn pause<W: Wait>(
-    wait: &W,
-    shared: &Shared,
-    backoff: &Backoff,
-    step: Step,
-    answer: Answer,
-) -> bool {
-    match (step.place, answer) {
-        (Place::LockOf(lock), Answer::Lost(_)) => {
-            return wait_for(wait, shared, lock as usize);
-        }
-        (Place::LockOf(lock), Answer::Done) => wake(shared, lock as usize),
-        (_, Answer::Lost(_)) => backoff.spin(),
-        (_, Answer::Won) => backoff.reset(),
-        _ => {}
-    }
-    false
-}
-
-/// The cell of a lock's word, where the table has it.
-fn cell_of_lock(shared: &Shared, lock: usize) -> Option<usize>
-    ensures { IfSome result (λ at. (at ≡ cell_of lock) × (at < shared.now.words.shared.table_id.words)) }
-{
-    let at = cell(lock);
-    (at < shared.words.word_count()).then_some(at)
-}
-
-/// Waits for a lock that another worker has: looks at its word some times, since most locks are given back after a few
-/// steps, and then sleeps. Whether it slept.
-#[cold]
-#[inline(never)]
-fn wait_for<W: Wait>(wait: &W, shared: &Shared, lock: usize) -> bool {
-    let Some(at) = cell_of_lock(shared, lock) else {
-        return false;
-    };
-    let backoff = Backoff::new();
-    let mut found = 0;
-    for _ in 0..LOOKS {
-        found = shared.words.shared.peek(at);
-        if found == 0 {
-            return false;
-        }
-        backoff.snooze();
-    }
-    sleep(wait, shared, at, found);
-    true
-}
-
-/// Sleeps while the word in this cell is the one that was found there. It is counted before it looks at the word.
-fn sleep<W: Wait>(wait: &W, shared: &Shared, at: usize, found: u64)
-    requires { at < shared.now.words.shared.table_id.words }
-{
-    let low = (found & 0xffff_ffff) as u32;
-    shared.asleep.fetch_add(1, Ordering::SeqCst);
-    shared.words.shared.park(wait, at, low);
-    shared.asleep.fetch_sub(1, Ordering::SeqCst);
-}
-
-/// Wakes one that sleeps on the word of a lock, which was changed before. Where nobody is counted now, whoever comes to
-/// sleep on the word finds it changed.
-#[inline(never)]
-fn wake(shared: &Shared, lock: usize) {
-    if shared.asleep.load(Ordering::SeqCst) == 0 {
-        return;
-    }
-    if let Some(at) = cell_of_lock(shared, lock) {
-        shared.words.shared.wake_one(at);
-    }
 }

@@ -22,7 +22,7 @@ lead-requires c =
     (means, fast_hears m c.args.table.now values c.args.local.now c.args.spot c.quick_step-step.result c.apply-heard.result c.requires.spot (c.quick_step-step.ensures means (values_of values)) heard fits)
 
 pub returns-clause-turned : goal.returns-clause-turned
-returns-clause-turned c = λ means values.
+returns-clause-turned c = λ values means.
     let m : Setup = setup_of c.args.setup.now means in
     let of_table : IsTableOf m c.args.table.now = record { frames = c.requires.table.frames; objects = c.requires.table.objects } in
     let heard = c.apply-heard.ensures.answer m of_table in

@@ -31,7 +31,7 @@ returns-then-word-word_count-clause-made g c =
     let count = c.word_count.ensures in
     let stays = outside_stays c.turns_keep_ready.ensures c.picks_fit.ensures s.words.shared.key g.N.Naming.key r.key 0 0 g.N.Naming.tries g.N.Naming.standing c.args.seat.now.me c.args.seat.now.me c.args.values.now c.args.step r.steps refl
     s.words.shared.table_id.words (omega (arith, here, far, count)) all in
-    made_kept g.N.Naming.key g.N.Naming.tries g.N.Naming.standing c.args.seat.now.me c.load.new.seat.me c.args.values.now c.args.step 0 c.answer_outside.result r.steps stays c.answer_outside.ensures c.load.ensures.2
+    made_kept g.N.Naming.key g.N.Naming.tries g.N.Naming.standing c.args.seat.now.me c.load.new.seat.me c.args.values.now c.args.step 0 c.answer.result r.steps stays c.answer.ensures c.load.ensures.2
 
 pub load-requires-in-Load : goal.load-requires-in-Load
 load-requires-in-Load g c =

@@ -5,7 +5,7 @@ use Rattle.slub_local.specs.Facts.{Facts, setup_of}
 use Rattle.slub_local.specs.Values.{rooms_of}
 use Rattle.slub_schedule.specs.Table.{WordTable}
 use Rattle.slub_turns.specs.Means.{the_means}
-use Rattle.slub_rounds.proofs.ends.begun.Goals as goal
+use Rattle.slub_rounds.proofs.begins.begun.Goals as goal
 
 pub returns-clause-begun : goal.returns-clause-begun
 returns-clause-begun c = λ s b round opens workers.

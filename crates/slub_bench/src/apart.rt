@@ -7,7 +7,7 @@ use slub_edges::gate::Gate;
 use std::io;
 use std::rt::Clock;
 use std::sync::Wait;
-use std::sync::atomic::{AtomicU64, Ordering};
+use std::sync::atomic::{AtomicBool, AtomicU64, Ordering};
 use std::thread::{Threads, join, yield_now};
 
 /// For how many turns a worker waits for the others.
@@ -19,6 +19,8 @@ struct Meeting {
     /// How many are to come, and how many have.
     workers: u64,
     come: AtomicU64,
+    /// One of them went on before all had come.
+    missed: AtomicBool,
 }
 
 impl Meeting {
@@ -27,10 +29,12 @@ impl Meeting {
         Meeting {
             workers,
             come: AtomicU64::new(0),
+            missed: AtomicBool::new(false),
         }
     }
 
-    /// Waits until all have come, letting other threads run at each turn. It gives up after a number of turns.
+    /// Waits until all have come, letting other threads run at each turn. It gives up after a number of turns, and notes
+    /// that.
     fn meet(&self) {
         self.come.fetch_add(1, Ordering::SeqCst);
         for _ in 0..TURNS {
@@ -39,11 +43,17 @@ impl Meeting {
             }
             yield_now();
         }
+        self.missed.store(true, Ordering::SeqCst);
     }
 
     /// Whether all have come.
     fn have_met(&self) -> bool {
         self.come.load(Ordering::SeqCst) >= self.workers
+    }
+
+    /// Whether one went on without the others.
+    fn was_missed(&self) -> bool {
+        self.missed.load(Ordering::SeqCst)
     }
 }
 
@@ -116,7 +126,7 @@ fn four<R: Clock + AllocGlobal + Threads + Wait + Sync>(
 }
 
 /// The nanoseconds from the first event to the end of the last one of four replays of a trace side by side, each with a
-/// round of so many workers: the best of three runs.
+/// round of so many workers: the best of three runs. An error where they didn't begin together.
 pub(crate) fn four_nanos<R: Clock + AllocGlobal + Threads + Wait + Sync>(
     rt: &R,
     text: &[u8],
@@ -127,6 +137,9 @@ pub(crate) fn four_nanos<R: Clock + AllocGlobal + Threads + Wait + Sync>(
     for _ in 0..3 {
         let meeting = Meeting::of(4 * u64::from(workers));
         best = best.min(four(rt, text, words, &meeting)?);
+        if meeting.was_missed() {
+            return Err(io::Error::from(io::ErrorKind::TimedOut));
+        }
     }
     Ok(best)
 }

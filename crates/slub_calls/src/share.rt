@@ -14,22 +14,9 @@ use slub_common::no_memory::NoMemory;
 use slub_core::call::{Call, CallKind};
 use slub_core::local::{Answered, Known};
 use slub_events::event::{Act, Event};
-use slub_local::local::Local;
+use slub_local::local::{Local, NO_CALL};
 use std::alloc::Global;
 use std::hash::BuildHasherDefault;
-
-/// What a call has that its kind doesn't ask for.
-const NO_CALL: Call = Call {
-    kind: CallKind::Flush,
-    cpu: 0,
-    cache: None,
-    object: 0,
-    place: 0,
-    word: 0,
-    value: 0,
-    offset: 0,
-    byte: 0,
-};
 
 /// A worker's share of the events of a round, as far as they were handed out.
 #[derive(Drop)]

@@ -1,7 +1,7 @@
 //! Lists of small numbers, front first, whose room is taken once.
 
 ghost use Rattle.std.specs.List.{range_with_len};
-ghost use Rattle.std.specs.Prelude.{slice_get, ◌≡◌, ◌<◌, ◌≤◌, ◌==◌, ◌++◌, [], ◌∷◌, length, take, drop, filter, reverse, nat_lt, not, IfOk, MatchOption};
+ghost use Rattle.std.specs.Prelude.{slice_get, ◌≡◌, ◌<◌, ◌≤◌, ◌==◌, ◌++◌, [], ◌∷◌, length, filter, nat_lt, not, IfOk, MatchOption};
 ghost use Rattle.slub_common.specs.Times.{times};
 
 use std::alloc::{AllocError, Global};

@@ -14,28 +14,14 @@ use slub_common::limits::CACHES_MAX;
 use slub_common::no_memory::NoMemory;
 use slub_list_machine::parts::Parts;
 use slub_local::cache::CacheFacts;
-use slub_local::setup::Setup;
-use slub_object_layout::layout::Layout;
+use slub_local::setup::{NO_LAYOUT, Setup};
 use std::alloc::Global;
 
 /// Where there is no cache.
 const NO_CACHE: CacheFacts = CacheFacts {
     live: false,
     checks: false,
-    layout: Layout {
-        object_size: 0,
-        inuse: 0,
-        offset: 0,
-        left_pad: 0,
-        size: 0,
-        align: 0,
-        order: 0,
-        objects: 0,
-        min_order: 0,
-        min_objects_slab: 0,
-        min_partial: 0,
-        cpu_partial_slabs: 0,
-    },
+    layout: NO_LAYOUT,
 };
 
 /// Whether the cache of a number is live.

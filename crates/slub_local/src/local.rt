@@ -41,8 +41,8 @@ const NO_RUN: FrameRun = FrameRun {
     objects: 0,
 };
 
-/// No call.
-const NO_CALL: Call = Call {
+/// No call: what a call has that its kind doesn't ask for.
+pub const NO_CALL: Call = Call {
     kind: CallKind::Flush,
     cpu: 0,
     cache: None,

@@ -14,7 +14,7 @@ use std::alloc::Global;
 use std::marker::Model;
 
 /// The layout of no cache.
-const NO_LAYOUT: Layout = Layout {
+pub const NO_LAYOUT: Layout = Layout {
     object_size: 0,
     inuse: 0,
     offset: 0,

@@ -3,7 +3,7 @@
 //! `layout_of` solves the equations of `specs/Layout.antt`. All sizes are in bytes.
 
 ghost use Rattle.std.specs.Prelude.{◌≡◌, ◌+◌, ◌*◌, ◌^◌, ◌<◌, ◌≤◌, ◌↔◌, max, if◌then◌else◌, IsOk, IfOk, IsErrOf, IsTrue, MatchOption};
-ghost use Rattle.slub_object_layout.specs.Layout.{IsAccepted, IsSize, IsAlign, IsSupported, IsLayout, IsWithinBounds, IsOrder, IsLeastOrder, IsLeastFit, IsFirstFit, SomeFits, HasOrder, align_up, alignment_of, line_of, inuse_of, offset_of, left_pad_of, slot_of, has_pointer_behind, fls, most_objects, min_partial_of, cpu_partial_of, cpu_partial_slabs_of, is_checked, address_of};
+ghost use Rattle.slub_object_layout.specs.Layout.{IsAccepted, IsSize, IsAlign, IsSupported, IsLayout, IsWithinBounds, IsOrder, IsLeastOrder, IsLeastFit, IsFirstFit, SomeFits, HasOrder, align_up, alignment_of, line_of, inuse_of, offset_of, left_pad_of, slot_of, has_pointer_behind, fls, min_partial_of, cpu_partial_of, cpu_partial_slabs_of, is_checked, address_of};
 
 /// The largest object, in bytes (profile).
 const SIZE_MAX: u32 = 16384;

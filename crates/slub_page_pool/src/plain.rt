@@ -1,6 +1,6 @@
 //! The plain search for a block, which looks at every frame. It is the witness of the tree.
 
-ghost use Rattle.std.specs.Prelude.{◌≡◌, ℕ, ◌+◌, ◌^◌, ◌<◌, ◌≤◌, ◌↔◌, length, All, IsTrue, IfSome, IfNone, ◌-◌, ◌%◌};
+ghost use Rattle.std.specs.Prelude.{ℕ, ◌+◌, ◌^◌, ◌<◌, ◌≤◌, ◌↔◌, length, All, IsTrue, IfSome, IfNone, ◌-◌, ◌%◌};
 ghost use Rattle.slub_page_pool.specs.Block.{IsFreeRun, IsBlock, IsTaken, HasNoBlock};
 ghost use Rattle.slub_page_pool.specs.Marks.{free_of};
 

@@ -1,6 +1,6 @@
 //! Single bytes and words of a checked slab.
 
-ghost use Rattle.std.specs.Prelude.{◌≡◌, ◌+◌, ◌*◌, ◌<◌, ◌≤◌, ◌↔◌, MatchOption, IfSome, IsTrue, pos, ◌+ℤ◌};
+ghost use Rattle.std.specs.Prelude.{◌≡◌, ◌+◌, ◌*◌, ◌<◌, ◌≤◌, ◌↔◌, MatchOption, IfSome, IsTrue, pos};
 ghost use Rattle.slub_object_layout.specs.Layout.{IsWithinBounds};
 ghost use Rattle.slub_red_zone.specs.State.{IsUsed, slab_of, objects_in};
 ghost use Rattle.slub_red_zone.specs.Sound.{IsSound};

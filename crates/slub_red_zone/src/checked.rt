@@ -1,10 +1,10 @@
 //! The slabs of a checked cache.
 
-ghost use Rattle.std.specs.Prelude.{◌≡◌, ◌+◌, ◌*◌, ◌<◌, ◌≤◌, ◌↔◌, [], length, IsTrue, IfOk, OnErr, OnOk, None, Some, Ok, MatchOption};
+ghost use Rattle.std.specs.Prelude.{◌≡◌, ◌+◌, ◌*◌, ◌<◌, ◌↔◌, [], IsTrue, IfOk, None, Some, Ok, MatchOption};
 ghost use Rattle.slub_object_layout.specs.Layout.{is_checked};
 ghost use Rattle.slub_node_partial.specs.Promotion.{IsPromoted};
 ghost use Rattle.slub_red_zone.specs.State.{Has, IsUsed, slab_of, state_of, objects_in, aside_in, free_count, used_count, aside_count, slab_count};
-ghost use Rattle.slub_red_zone.specs.Sound.{IsSound, IsLayoutFor, IsSized};
+ghost use Rattle.slub_red_zone.specs.Sound.{IsSound, IsLayoutFor};
 ghost use Rattle.slub_red_zone.specs.Steps as step;
 ghost use Rattle.slub_red_zone.specs.Objects.{GivesObject, TakesObject, KeepsObjects};
 

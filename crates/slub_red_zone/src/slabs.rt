@@ -1,6 +1,6 @@
 //! The table of a cache's slabs, by frame.
 
-ghost use Rattle.std.specs.Prelude.{◌≡◌, ◌==◌, if◌then◌else◌, [], ◌∷◌, ◌*◌, ◌+◌, ◌<◌, ◌≤◌, ◌++◌, length, map, replicate, vec_capacity, take, drop, slice_index_or, slice_set, slice_range, None, Some, MatchOption, IfOk, All};
+ghost use Rattle.std.specs.Prelude.{◌≡◌, ◌==◌, if◌then◌else◌, [], ◌∷◌, ◌*◌, ◌+◌, ◌<◌, ◌≤◌, ◌++◌, length, map, vec_capacity, take, drop, slice_index_or, slice_set, slice_range, None, Some, MatchOption, IfOk, All};
 ghost use Rattle.std.specs.Int.{w64, from_le_bytes, to_le_bytes};
 ghost use Rattle.slub_object_layout.specs.Layout.{IsWithinBounds};
 ghost use Rattle.slub_red_zone.specs.State.{objects_in, slab_at};

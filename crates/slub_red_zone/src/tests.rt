@@ -1,4 +1,4 @@
-ghost use Rattle.std.specs.Prelude.{◌≡◌, ◌<◌, IfOk, IsTrue, ◌↔◌};
+ghost use Rattle.std.specs.Prelude.{◌<◌, IsTrue};
 ghost use Rattle.slub_object_layout.specs.Layout.{IsSupported};
 ghost use Rattle.slub_red_zone.specs.Sound.{IsLayoutFor};
 

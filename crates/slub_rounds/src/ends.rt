@@ -1,7 +1,6 @@
 //! The end of a round on words: the machine is closed into lists.
 
-ghost use Rattle.std.specs.Prelude.{◌≡◌, ℕ, List};
-ghost use Rattle.slub_events.specs.declared.event.Round.{Round as Events};
+ghost use Rattle.std.specs.Prelude.{ℕ, List};
 ghost use Rattle.slub_trace.specs.declared.trace.Trace.{Trace};
 ghost use Rattle.slub_lists.specs.State.{State};
 ghost use Rattle.slub_into_words.specs.declared.beside.Beside.{Beside};

@@ -7,7 +7,8 @@
 //! (`slub_engine`). `threaded` does the same with a thread for each worker (`slub_workers`), and `in_order` with turns in
 //! the order of the text, each event done to its end before the next begins. All memory is taken before the first turn,
 //! but the bytes of new checked slabs: where none is found, the machine is as it was. By threads the lists are open by
-//! then, and are put together again.
+//! then, and are put together again. `begins` makes the machine with which a round on words begins, out of what was opened
+//! (for `slub_tries`, too).
 //!
 //! # What it promises
 //!

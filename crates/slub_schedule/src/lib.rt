@@ -8,7 +8,8 @@
 //! (`AreDrawn`), when a round ends and when its turns are spent (`Ends`, `IsSpent`), what a round
 //! leaves in which each worker is finished (`IsQuiet`, `AreHolders`), and what the machine is once it
 //! is closed (`closed`, `IsBoardAfter`). No step of a path stands here: this crate knows where steps
-//! lead by the definitions of `slub_core` alone.
+//! lead by the definitions of `slub_core` alone. `number` and `answer` of `table` say where a word
+//! stands and what a step answers that finds it, also for workers that share a table of words.
 //!
 //! # What it promises
 //!

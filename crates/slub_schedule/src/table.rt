@@ -1,6 +1,6 @@
 //! The words of the machine, on which steps are applied.
 
-ghost use Rattle.std.specs.Prelude.{◌≡◌, ℕ, ◌+◌, ◌*◌, ◌<◌, ◌≤◌, ◌++◌, length, slice_set, slice_index_or, IfOk};
+ghost use Rattle.std.specs.Prelude.{◌≡◌, ℕ, ◌+◌, ◌*◌, ◌<◌, ◌++◌, length, slice_set, slice_index_or, IfOk};
 ghost use Rattle.slub_core.specs.Setup.{Setup};
 ghost use Rattle.slub_core.specs.Words.{number_of, after_op, answer_of};
 ghost use Rattle.slub_schedule.specs.Table.{WordTable, IsTableOf};

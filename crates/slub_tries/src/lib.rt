@@ -10,12 +10,13 @@
 //!
 //! # What it promises
 //!
-//! The table is opened with the machine that the lists open into (`OpensInto`), and its worker stands as it begins, in
-//! no call and with no step made (`begins_as`). `try_next` and `call_next` tell what
-//! the worker's try or call was answered, and where it stands then (`HasTriedNext`, `HasCalled`). `by_tries`: the
-//! events are answered one after another from the begin of the round until each has its reply (`AllAreTold`), an
-//! object that a try gave being the reply to its event, and the machine that is left is one that some order of the
-//! worker's steps leads to (`Leaves`). It stays in words: it isn't closed into lists. A reply that takes no step comes with the event before it, and isn't told apart.
+//! The table is opened with the machine that the lists open into (`OpensInto`), and its worker stands as it begins,
+//! in no call and with no step made (`begins_as`). `try_next` and `call_next` tell what the worker's try or call
+//! was answered, and where it stands then (`HasTriedNext`, `HasCalled`). `by_tries`: the events are answered one
+//! after another from the begin of the round until each has its reply (`AllAreTold`), an object that a try gave
+//! being the reply to its event, and the machine that is left is one that some order of the worker's steps leads to
+//! (`Leaves`). It stays in words: it isn't closed into lists. A reply that takes no step comes with the event
+//! before it, and isn't told apart.
 #![tactic(auto)]
 
 pub mod fresh;

@@ -1,6 +1,6 @@
 //! The turn of one worker.
 
-ghost use Rattle.std.specs.Prelude.{◌≡◌, Bool, List, false};
+ghost use Rattle.std.specs.Prelude.{◌≡◌, List, false};
 ghost use Rattle.slub_core.specs.Setup.{Means};
 ghost use Rattle.slub_core.specs.Run.{turn};
 ghost use Rattle.slub_local.specs.declared.guarded.Guarded.{Guarded};

@@ -15,9 +15,9 @@ use std::sync::atomic::Ordering;
 /// run four times.
 const LOOKS: u32 = 11;
 
-/// How many spins of a `Backoff` a worker makes at most after an exchange that it lost: 1024 pauses of the processor, since
-/// the longest spin is of 64.
-const SPINS: u32 = 16;
+/// How many spins of a `Backoff` a worker makes after an exchange of a CPU's word that it lost: some 3000 pauses of the
+/// processor, since from its seventh one on each is of 64.
+const SPINS: u32 = 48;
 
 /// How a worker waits, and how often it had to. No clause speaks of it.
 #[derive(Drop)]
@@ -26,9 +26,8 @@ pub(crate) struct Waits {
     pub(crate) lost: u64,
     /// How often it slept on a lock.
     pub(crate) parked: u64,
+    /// It isn't reset, so from the seventh spin of a worker on each is of 64 pauses.
     backoff: Backoff,
-    /// How many spins it makes after the next exchange that it loses.
-    spins: u32,
 }
 
 impl Waits {
@@ -38,13 +37,12 @@ impl Waits {
             lost: 0,
             parked: 0,
             backoff: Backoff::new(),
-            spins: 1,
         }
     }
 
     /// After a step: where a lock is lost the worker waits for it, and where it is given back one that sleeps is woken.
-    /// After another exchange that is lost the worker spins, longer each time until it wins one, a lock's too; so the
-    /// winner goes on for some events while the words that it needs are in its processor's cache.
+    /// Where a CPU's word is lost another worker is at work on this CPU: then it spins, with no lock in hand, so long that
+    /// the other one can make some events. After any other exchange that is lost it spins once.
     #[inline(always)]
     pub(crate) fn pause<W: Wait>(&mut self, wait: &W, shared: &Shared, step: Step, answer: Answer) {
         match (step.place, answer) {
@@ -53,29 +51,20 @@ impl Waits {
                 self.parked = self.parked.saturating_add(u64::from(slept));
             }
             (Place::LockOf(lock), Answer::Done) => wake(shared, lock as usize),
-            (_, Answer::Lost(_)) => self.lose(),
-            (_, Answer::Won) => self.win(),
+            (Place::CpuOf(_), Answer::Lost(_)) => self.lose(SPINS),
+            (_, Answer::Lost(_)) => self.lose(1),
             _ => {}
         }
     }
 
-    /// Counts an exchange that was lost, of a word that isn't a lock, and spins. One after another, from the first on, it
-    /// makes 1, 6, 120, 512, and then always 1024 pauses of the processor.
+    /// Counts an exchange that was lost, of a word that isn't a lock, and spins so many times.
     #[cold]
     #[inline(never)]
-    fn lose(&mut self) {
+    fn lose(&mut self, spins: u32) {
         self.lost = self.lost.saturating_add(1);
-        for _ in 0..self.spins {
+        for _ in 0..spins {
             self.backoff.spin();
         }
-        self.spins = self.spins.saturating_mul(2).min(SPINS);
-    }
-
-    /// After an exchange that was won it begins with one pause again.
-    #[inline(always)]
-    fn win(&mut self) {
-        self.backoff.reset();
-        self.spins = 1;
     }
 }
 

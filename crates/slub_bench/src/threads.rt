@@ -20,6 +20,10 @@ const WORKERS: u32 = 4;
 /// The events of a worker; with more the text of a round would be too long.
 const EACH: u32 = 200_000;
 
+/// How many runs there are of a round whose time is subtracted from another's: a thread that runs alone is fast at some times
+/// and slow at others, and the best of each round is to be a fast one.
+const MANY: u32 = 9;
+
 /// A replay by threads.
 const THREADS: &[&str] = &["replay", "--how", "threads"];
 
@@ -197,18 +201,19 @@ fn run_of(
     })
 }
 
-/// The best of three runs of a round.
+/// The best of so many runs of a round, or of one.
 fn best_of(
     rt: &(impl Clock + AllocGlobal + Threads + Wait + Sync),
     busy: u32,
     events: u32,
     load: Load,
     words: &[&str],
+    runs: u32,
 ) -> io::Result<Run> {
     let text = round_of(rt.alloc(), busy, events, load)?;
     let reading = best_read(rt, &text)?;
     let mut best = run_of(rt, &text, words)?;
-    for _ in 0..2 {
+    for _ in 1..runs {
         best = best.least(run_of(rt, &text, words)?);
     }
     best.nanos = best.nanos.saturating_sub(reading);
@@ -236,7 +241,7 @@ fn cost_of(
     busy: u32,
     load: Load,
 ) -> io::Result<Cost> {
-    let run = best_of(rt, busy, EACH, load, THREADS)?;
+    let run = best_of(rt, busy, EACH, load, THREADS, 3)?;
     let events = u64::from(busy) * u64::from(EACH);
     Ok(Cost {
         whole: each(run.nanos, events),
@@ -246,13 +251,13 @@ fn cost_of(
 }
 
 /// The picoseconds that an event of one worker takes more in a round of twice as many: without what a round costs that
-/// has none.
+/// has none. By the best of many runs of each.
 fn more_of(
     rt: &(impl Clock + AllocGlobal + Threads + Wait + Sync),
     words: &[&str],
 ) -> io::Result<u64> {
-    let half = best_of(rt, 1, EACH / 2, LONG, words)?;
-    let all = best_of(rt, 1, EACH, LONG, words)?;
+    let half = best_of(rt, 1, EACH / 2, LONG, words, MANY)?;
+    let all = best_of(rt, 1, EACH, LONG, words, MANY)?;
     Ok(each(all.nanos.saturating_sub(half.nanos), u64::from(EACH / 2)))
 }
 
@@ -277,11 +282,11 @@ fn measure_one(
 }
 
 /// Measures four replays of one busy worker side by side, and prints what an event costs against one replay's: no more can
-/// be asked of four workers of one round.
+/// be asked of four workers of one round. The picoseconds of an event.
 fn measure_apart(
     rt: &(impl Clock + AllocGlobal + Print + Threads + Wait + Sync),
     one: Cost,
-) -> io::Result<()> {
+) -> io::Result<u64> {
     let text = round_of(rt.alloc(), 1, EACH, LONG)?;
     let nanos = four_nanos(rt, &text, THREADS, WORKERS)?;
     let picos = each(nanos, 4 * u64::from(EACH));
@@ -289,17 +294,24 @@ fn measure_apart(
     let rate = percent(one.events, picos);
     println!(rt;
         "  four such replays side by side, which share nothing: {events} ns an event, {rate} % of one's rate"
-    )
+    )?;
+    Ok(picos)
+}
+
+/// Prints what several workers cost against as many replays side by side, of which an event takes so many picoseconds.
+fn compare(rt: &impl Print, apart: u64, several: Cost) -> io::Result<()> {
+    let rate = percent(apart, several.events);
+    println!(rt; "  {rate} % of the rate of the four replays side by side")
 }
 
 /// Measures several workers by threads, and prints what an event costs against one worker's, and how often they had to
-/// wait.
+/// wait. What it costs.
 fn measure_against(
     rt: &(impl Clock + AllocGlobal + Print + Threads + Wait + Sync),
     which: &str,
     one: Cost,
     load: Load,
-) -> io::Result<()> {
+) -> io::Result<Cost> {
     let several = cost_of(rt, WORKERS, load)?;
     let live = load.live;
     let whole = several.whole / 1000;
@@ -313,7 +325,8 @@ fn measure_against(
         "  from the first event to the end of the last {events} ns an event, {events_rate} % of one worker's rate"
     )?;
     println!(rt; "  in all {whole} ns an event, {whole_rate} % of one worker's rate")?;
-    println!(rt; "  {lost} exchanges lost, {parked} times slept on a lock")
+    println!(rt; "  {lost} exchanges lost, {parked} times slept on a lock")?;
+    Ok(several)
 }
 
 /// Measures one worker by threads and by a schedule, each by the difference of two rounds, and prints both.
@@ -352,16 +365,18 @@ pub(crate) fn measure(
     let _held = keep_memory(rt.alloc())?;
     let one = measure_one(rt, LONG)?;
     measure_schedule(rt)?;
-    measure_apart(rt, one)?;
-    measure_against(rt, "CPUs of their own", one, LONG)?;
+    let apart = measure_apart(rt, one)?;
+    let own = measure_against(rt, "CPUs of their own", one, LONG)?;
+    compare(rt, apart, own)?;
     let short = measure_one(rt, SHORT)?;
     measure_against(rt, "CPUs of their own", short, SHORT)?;
-    measure_against(
+    let parted = measure_against(
         rt,
         "CPUs of their own, with caches of their own",
         one,
         APART,
     )?;
+    compare(rt, apart, parted)?;
     measure_against(rt, "one CPU", one, SAME)?;
     tries::measure(rt)
 }

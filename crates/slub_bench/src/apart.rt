@@ -126,7 +126,8 @@ fn four<R: Clock + AllocGlobal + Threads + Wait + Sync>(
 }
 
 /// The nanoseconds from the first event to the end of the last one of four replays of a trace side by side, each with a
-/// round of so many workers: the best of three runs. An error where they didn't begin together.
+/// round of so many workers: the best of three runs. An error where the replays didn't begin together
+/// in one of them.
 pub(crate) fn four_nanos<R: Clock + AllocGlobal + Threads + Wait + Sync>(
     rt: &R,
     text: &[u8],
@@ -136,10 +137,11 @@ pub(crate) fn four_nanos<R: Clock + AllocGlobal + Threads + Wait + Sync>(
     let mut best = u64::MAX;
     for _ in 0..3 {
         let meeting = Meeting::of(4 * u64::from(workers));
-        best = best.min(four(rt, text, words, &meeting)?);
+        let nanos = four(rt, text, words, &meeting)?;
         if meeting.was_missed() {
             return Err(io::Error::from(io::ErrorKind::TimedOut));
         }
+        best = best.min(nanos);
     }
     Ok(best)
 }

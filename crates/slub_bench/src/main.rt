@@ -10,8 +10,9 @@
 //! small rounds; `threads` replays rounds by threads, of one worker, of four on CPUs of their own, with
 //! long-lived and with short-lived objects, and with caches of their own, and of four on one CPU, in all and
 //! from the first event to the end of the last, and prints how often the workers lost an exchange or slept;
-//! four replays of one worker side by side, which is what the machine gives to four threads; a trace of small
-//! rounds; and a try of the fast path with the push that undoes it.
+//! four replays of one worker side by side, which is what the machine gives to four threads, and how much of
+//! their rate four workers on CPUs of their own have; a trace of small rounds; and a try of the fast path with
+//! the push that undoes it.
 #![tactic(auto)]
 
 mod apart;

@@ -1,5 +1,6 @@
-//! Rounds of several workers by threads, against one worker and against a schedule: in all, and from the first event to the
-//! end of the last one, as a gate notes them. The rate that several workers are to have is one of events alone.
+//! Rounds of several workers by threads, against one worker, against as many replays side by side, and against a schedule:
+//! in all, and from the first event to the end of the last one, as a gate notes them. The rate that several workers are to
+//! have is one of events alone.
 
 use crate::apart::four_nanos;
 use crate::held::keep_memory;
@@ -19,6 +20,9 @@ const WORKERS: u32 = 4;
 
 /// The events of a worker; with more the text of a round would be too long.
 const EACH: u32 = 200_000;
+
+/// How many runs there are of a round.
+const FEW: u32 = 3;
 
 /// How many runs there are of a round whose time is subtracted from another's: a thread that runs alone is fast at some times
 /// and slow at others, and the best of each round is to be a fast one.
@@ -201,7 +205,7 @@ fn run_of(
     })
 }
 
-/// The best of so many runs of a round, or of one.
+/// The best of so many runs of a round, and of one at least.
 fn best_of(
     rt: &(impl Clock + AllocGlobal + Threads + Wait + Sync),
     busy: u32,
@@ -241,7 +245,7 @@ fn cost_of(
     busy: u32,
     load: Load,
 ) -> io::Result<Cost> {
-    let run = best_of(rt, busy, EACH, load, THREADS, 3)?;
+    let run = best_of(rt, busy, EACH, load, THREADS, FEW)?;
     let events = u64::from(busy) * u64::from(EACH);
     Ok(Cost {
         whole: each(run.nanos, events),
@@ -261,7 +265,7 @@ fn more_of(
     Ok(each(all.nanos.saturating_sub(half.nanos), u64::from(EACH / 2)))
 }
 
-/// How many per cent of the rate of one worker a rate is, by what an event costs in each.
+/// How many per cent of one rate another is, by what an event costs at each.
 fn percent(one: u64, each: u64) -> u64 {
     one.saturating_mul(100) / each.max(1)
 }
@@ -301,7 +305,9 @@ fn measure_apart(
 /// Prints what several workers cost against as many replays side by side, of which an event takes so many picoseconds.
 fn compare(rt: &impl Print, apart: u64, several: Cost) -> io::Result<()> {
     let rate = percent(apart, several.events);
-    println!(rt; "  {rate} % of the rate of the four replays side by side")
+    println!(rt;
+        "  from the first event to the end of the last {rate} % of the rate of the four replays side by side"
+    )
 }
 
 /// Measures several workers by threads, and prints what an event costs against one worker's, and how often they had to
@@ -357,7 +363,8 @@ fn measure_small(
 
 /// Measures small rounds, in memory that isn't held; one worker by threads and by schedule; four replays side by side;
 /// several workers on CPUs of their own, with long-lived and with short-lived objects, and with caches of their own, and
-/// several on one CPU, each against one; and tries.
+/// several on one CPU, each against one, and those with long-lived objects on CPUs of their own against the four replays,
+/// too; and tries.
 pub(crate) fn measure(
     rt: &(impl Clock + AllocGlobal + Print + Threads + Wait + Sync),
 ) -> io::Result<()> {

@@ -5,12 +5,12 @@ use Rattle.slub_page_pool.specs.FreeFrames.{FreeFrames}
 use Rattle.slub_core.specs.declared.local.FrameRun.{FrameRun}
 use Rattle.slub_core.specs.declared.spot.Spot.TheVariants.{InAlloc}
 use Rattle.slub_core.specs.declared.spot.AllocSpot.TheVariants.{LoadPopped, GiveNode}
-use Rattle.slub_answers.specs.declared.reply.Reply.TheVariants.{NoFrames}
+use Rattle.slub_trace.specs.declared.reply.Reply.TheVariants.{NoFrames}
 use Rattle.slub_core.specs.Setup.{Setup}
 use Rattle.slub_core.specs.World.{LockValue}
 use Rattle.slub_core.specs.Local.{Local, at, with_hand, bare_hand, stays}
 use Rattle.slub_core.specs.Alloc.{pop_node, asks_for_another, with_node, found_run, take_run, pool_with, way_of_run}
-use Rattle.slub_local.specs.Taken.{pool_left}
+use Rattle.slub_core.specs.Taken.{pool_left}
 
 -- no other slab is asked for
 pub pop_node-stops : (m : Setup) (value : ℕ → LockValue) (l : Local) (frames : List ℕ) → asks_for_another m l ≡ false → stays value (at l (InAlloc GiveNode)) ≡ pop_node m value l frames

@@ -1,12 +1,12 @@
--- What a spot of an allocation asks of the worker: that its numbers fit into their words, and that
--- it has a hand free.
+-- `slab_alloc_node`, `___slab_alloc`: what a spot of an allocation asks of the worker: that its
+-- numbers fit into their words, and that it has a hand free.
 use Rattle.std.specs.Prelude.{ℕ, ◌+◌, ◌^◌, ◌<◌, List, length}
 use Rattle.slub_core.specs.declared.spot.AllocSpot.{AllocSpot}
 use Rattle.slub_core.specs.declared.spot.AllocSpot.TheVariants.{Pop, Detach, TakeList, FollowFront, PopNode, TakeRun, Make, LoadReady, DetachOther, Install}
 use Rattle.slub_core.specs.Local.{Local, hand_of}
-use Rattle.slub_local.specs.declared.guarded.Guarded.{Guarded}
-use Rattle.slub_local.specs.Values.{HasPool}
-use Rattle.slub_local.specs.Ways.{HasTid}
+use Rattle.slub_core.specs.declared.guarded.Guarded.{Guarded}
+use Rattle.slub_core.specs.Values.{HasPool}
+use Rattle.slub_core.specs.Ways.{HasTid}
 
 -- no more than one slab is in hand
 abbrev pub HasHand : Local → Type 0

@@ -1,18 +1,18 @@
-//! Where the answer of an allocation's step leads.
+//! `slab_alloc_node`, `___slab_alloc`: where the answer of an allocation's step leads.
 
 ghost use Rattle.std.specs.Prelude.{◌≡◌};
 ghost use Rattle.slub_core.specs.Setup.{Means};
 ghost use Rattle.slub_core.specs.Alloc.{alloc_advance};
-ghost use Rattle.slub_local.specs.Facts.{setup_of};
-ghost use Rattle.slub_local.specs.Ways.{turned};
+ghost use Rattle.slub_core.specs.Facts.{setup_of};
+ghost use Rattle.slub_core.specs.Ways.{turned};
 ghost use Rattle.slub_alloc_paths.specs.Fits.{AllocFits};
 
 use crate::{fast, fresh, install, list, node, own};
-use slub_answers::reply::Reply;
+use slub_core::setup::Setup;
 use slub_core::spot::AllocSpot;
 use slub_core::step::Answer;
-use slub_local::local::Local;
-use slub_local::setup::Setup;
+use slub_core::worker_local::Local;
+use slub_trace::reply::Reply;
 
 /// Leads the worker to where the answer of its step leads, and tells the reply that its call has by it.
 #[inline(always)]

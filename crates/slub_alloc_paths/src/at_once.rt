@@ -1,21 +1,21 @@
-//! What an allocation does at once, under a lock that the worker has.
+//! `get_partial_node`, `allocate_slab`: what an allocation does at once, under a lock that it has.
 
 ghost use Rattle.std.specs.Prelude.{◌≡◌};
 ghost use Rattle.slub_core.specs.Setup.{Means};
 ghost use Rattle.slub_core.specs.Alloc.{alloc_at_once, asks_for_another};
-ghost use Rattle.slub_local.specs.Facts.{setup_of};
-ghost use Rattle.slub_local.specs.Values.{values_of, rooms_of, HasPool};
-ghost use Rattle.slub_local.specs.Ways.{changed};
+ghost use Rattle.slub_core.specs.Facts.{setup_of};
+ghost use Rattle.slub_core.specs.Values.{values_of, rooms_of, HasPool};
+ghost use Rattle.slub_core.specs.Ways.{changed};
 ghost use Rattle.slub_alloc_paths.specs.Fits.{AtOnceFits, HasHand};
 
 use crate::words::way_of_run;
-use slub_answers::reply::Reply;
+use slub_core::guarded::Guarded;
+use slub_core::setup::Setup;
 use slub_core::spot::{AllocSpot, Spot};
-use slub_local::guarded::Guarded;
-use slub_local::local::Local;
-use slub_local::setup::Setup;
-use slub_local::values;
-use slub_local::ways::bare_hand;
+use slub_core::values;
+use slub_core::ways::bare_hand;
+use slub_core::worker_local::Local;
+use slub_trace::reply::Reply;
 
 /// Changes the node list or the pool at a spot that calls for no step, and leads the worker on; at any other spot
 /// nothing changes.

@@ -1,18 +1,18 @@
-//! The fast path (`slab_alloc_node`).
+//! `slab_alloc_node`: the fast path.
 
 ghost use Rattle.std.specs.Prelude.{◌≡◌};
 ghost use Rattle.slub_core.specs.Setup.{Means};
 ghost use Rattle.slub_core.specs.Alloc.{alloc_advance};
-ghost use Rattle.slub_local.specs.Facts.{setup_of};
-ghost use Rattle.slub_local.specs.Ways.{turned};
+ghost use Rattle.slub_core.specs.Facts.{setup_of};
+ghost use Rattle.slub_core.specs.Ways.{turned};
 
 use crate::words::{told_of_word, way_of_word};
-use slub_answers::reply::Reply;
+use slub_core::setup::Setup;
 use slub_core::spot::{AllocSpot, Spot};
 use slub_core::step::Answer;
-use slub_local::local::Local;
-use slub_local::setup::Setup;
-use slub_local::words::cpu_in;
+use slub_core::words::cpu_in;
+use slub_core::worker_local::Local;
+use slub_trace::reply::Reply;
 
 /// The CPU word was loaded.
 pub fn cpu_loaded(setup: &Setup, local: &mut Local, answer: Answer) -> Option<Reply>

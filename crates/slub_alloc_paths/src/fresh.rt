@@ -1,16 +1,16 @@
-//! A new slab (`new_slab`).
+//! `new_slab`, `allocate_slab`: a new slab.
 
 ghost use Rattle.std.specs.Prelude.{◌≡◌};
 ghost use Rattle.slub_core.specs.Setup.{Setup};
 ghost use Rattle.slub_core.specs.Alloc.{alloc_advance};
-ghost use Rattle.slub_local.specs.Ways.{turned};
+ghost use Rattle.slub_core.specs.Ways.{turned};
 ghost use Rattle.slub_alloc_paths.specs.Fits.{HasHand};
 
-use slub_answers::reply::Reply;
 use slub_core::spot::{AllocSpot, Spot};
 use slub_core::step::Answer;
-use slub_local::local::Local;
-use slub_local::ways::hand_from;
+use slub_core::ways::hand_from;
+use slub_core::worker_local::Local;
+use slub_trace::reply::Reply;
 
 /// The pool's lock was taken (`alloc_slab_page`), or another worker has it.
 pub fn pool_locked(local: &mut Local, answer: Answer) -> Option<Reply>

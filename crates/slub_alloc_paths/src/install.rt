@@ -1,21 +1,21 @@
-//! The slab in hand becomes current (`load_freelist`, `retry_load_slab`).
+//! `___slab_alloc` (`load_freelist`, `retry_load_slab`): the slab in hand becomes current.
 
 ghost use Rattle.std.specs.Prelude.{◌≡◌, ◌+◌, ◌^◌, ◌<◌};
 ghost use Rattle.slub_core.specs.Setup.{Means};
 ghost use Rattle.slub_core.specs.Local.{hand_of};
 ghost use Rattle.slub_core.specs.Alloc.{alloc_advance};
-ghost use Rattle.slub_local.specs.Facts.{setup_of};
-ghost use Rattle.slub_local.specs.Ways.{turned};
+ghost use Rattle.slub_core.specs.Facts.{setup_of};
+ghost use Rattle.slub_core.specs.Ways.{turned};
 ghost use Rattle.slub_alloc_paths.specs.Fits.{HasHand};
 
 use crate::words::{told_of_word, way_of_again};
-use slub_answers::reply::Reply;
+use slub_core::setup::Setup;
 use slub_core::spot::{AllocSpot, Away, Spot};
 use slub_core::step::Answer;
-use slub_local::local::Local;
-use slub_local::setup::Setup;
-use slub_local::ways::{hand_from, walked_on, way_of_away};
-use slub_local::words::cpu_in;
+use slub_core::ways::{hand_from, walked_on, way_of_away};
+use slub_core::words::cpu_in;
+use slub_core::worker_local::Local;
+use slub_trace::reply::Reply;
 
 /// The free pointer of the first object in hand was loaded (`get_freepointer`).
 pub fn ready_loaded(setup: &Setup, local: &mut Local, answer: Answer) -> Option<Reply>

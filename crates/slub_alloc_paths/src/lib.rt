@@ -1,16 +1,18 @@
-//! The paths of an allocation: the step that each spot calls for, and where its answer leads.
+//! `slab_alloc_node` and `___slab_alloc` by atomic steps: an allocation of an unchecked cache.
 //!
-//! `alloc_step` and `alloc_advance` are the functions of these names in the step machine's definitions
-//! (`slub_core`, specs/Alloc.antt), with the worker changed in place, and `alloc_at_once` is what is
-//! done at once under a lock. Each spot has a function of its own, in the order of `mm/slub.c`: `fast`
-//! the fast path, `own` the current slab's freelist, `list` the CPU's partial list, `node` the node
-//! list, `fresh` a new slab, `install` the slab that becomes current.
+//! - `step` has the step that each spot calls for, `advance` where its answer leads, `at_once` what
+//!   is done at once under a lock.
+//! - Each spot has a function of its own, in the order of `mm/slub.c`: `fast` the fast path, `own`
+//!   the current slab's freelist (`get_freelist`), `list` the CPU's partial list, `node` the node
+//!   list (`get_partial_node`), `fresh` a new slab (`new_slab`), `install` the slab that becomes
+//!   current (`load_freelist`). `words` has the words that they leave.
 //!
 //! # What it promises
 //!
-//! Each function is equal to the definition, for every machine and every answer. What it asks of the
-//! worker stands in `specs/Fits.antt`: that a transaction id has room for a step, that a hand is free,
-//! and that a walk's length fits.
+//! `alloc_step`, `alloc_advance` and `alloc_at_once` are the definitions of these names in the step
+//! machine (`specs/Alloc.antt` of `slub_core`), with the worker changed in place, for every machine
+//! and every answer. What they ask of the worker stands in `specs/Fits.antt`: that a transaction id
+//! has room for a step, that a hand is free, and that a walk's length fits.
 #![tactic(auto)]
 
 pub mod advance;

@@ -1,19 +1,19 @@
-//! The CPU's partial list (`slub_percpu_partial` of `___slab_alloc`).
+//! `___slab_alloc` (`slub_percpu_partial`): the CPU's partial list.
 
 ghost use Rattle.std.specs.Prelude.{◌≡◌};
 ghost use Rattle.slub_core.specs.Setup.{Setup};
 ghost use Rattle.slub_core.specs.Alloc.{alloc_advance};
-ghost use Rattle.slub_local.specs.Ways.{turned};
+ghost use Rattle.slub_core.specs.Ways.{turned};
 ghost use Rattle.slub_alloc_paths.specs.Fits.{HasHand};
 
 use crate::own::take_chain;
 use crate::words::{string_of_list, way_of_list};
-use slub_answers::reply::Reply;
 use slub_core::spot::{AllocSpot, PutOnList, PutOnListSpot, Spot};
 use slub_core::step::Answer;
-use slub_local::local::Local;
-use slub_local::ways::{bare_hand, taken_string};
-use slub_local::words::{list_in, slab_in};
+use slub_core::ways::{bare_hand, taken_string};
+use slub_core::words::{list_in, slab_in};
+use slub_core::worker_local::Local;
+use slub_trace::reply::Reply;
 
 /// The list was taken.
 pub fn list_taken(local: &mut Local, answer: Answer) -> Option<Reply>

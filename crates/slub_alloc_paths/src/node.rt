@@ -1,17 +1,17 @@
-//! The node list (`get_partial_node`).
+//! `get_partial_node`, `acquire_slab`: the node list.
 
 ghost use Rattle.std.specs.Prelude.{◌≡◌};
 ghost use Rattle.slub_core.specs.Setup.{Setup};
 ghost use Rattle.slub_core.specs.Alloc.{alloc_advance};
-ghost use Rattle.slub_local.specs.Ways.{turned};
+ghost use Rattle.slub_core.specs.Ways.{turned};
 
 use crate::own::take_chain;
-use slub_answers::reply::Reply;
 use slub_core::spot::{AllocSpot, PutOnList, PutOnListSpot, Spot};
 use slub_core::step::Answer;
-use slub_local::local::Local;
-use slub_local::ways::single_string;
-use slub_local::words::slab_in;
+use slub_core::ways::single_string;
+use slub_core::words::slab_in;
+use slub_core::worker_local::Local;
+use slub_trace::reply::Reply;
 
 /// The node lock was taken, or another worker has it.
 pub fn node_locked(local: &mut Local, answer: Answer) -> Option<Reply>

@@ -1,19 +1,19 @@
-//! The current slab's own freelist (`get_freelist`).
+//! `get_freelist`: the current slab's own freelist.
 
 ghost use Rattle.std.specs.Prelude.{◌≡◌};
 ghost use Rattle.slub_core.specs.Setup.{Setup};
 ghost use Rattle.slub_core.specs.Local.{hand_of, hand_from, set_hand};
 ghost use Rattle.slub_core.specs.Alloc.{alloc_advance};
-ghost use Rattle.slub_local.specs.Ways.{turned};
+ghost use Rattle.slub_core.specs.Ways.{turned};
 ghost use Rattle.slub_alloc_paths.specs.Fits.{HasHand};
 
 use crate::words::way_of_taken;
-use slub_answers::reply::Reply;
 use slub_core::spot::{AllocSpot, Spot};
 use slub_core::step::Answer;
-use slub_local::local::Local;
-use slub_local::ways::hand_from;
-use slub_local::words::slab_in;
+use slub_core::ways::hand_from;
+use slub_core::words::slab_in;
+use slub_core::worker_local::Local;
+use slub_trace::reply::Reply;
 
 /// The slab was taken off the CPU (`deactivate_slab`), or not.
 pub fn detached(local: &mut Local, answer: Answer) -> Option<Reply>

@@ -1,18 +1,18 @@
-//! The step that a spot of an allocation calls for.
+//! `slab_alloc_node`, `___slab_alloc`: the step that a spot of an allocation calls for.
 
 ghost use Rattle.std.specs.Prelude.{◌≡◌};
 ghost use Rattle.slub_core.specs.Setup.{Means};
 ghost use Rattle.slub_core.specs.Alloc.{alloc_step, made_word};
-ghost use Rattle.slub_local.specs.Facts.{setup_of};
+ghost use Rattle.slub_core.specs.Facts.{setup_of};
 ghost use Rattle.slub_alloc_paths.specs.Fits.{AllocFits};
 
 use crate::words::{emptied_word, frozen_word, second_of, thawed_word, unlisted_word};
+use slub_core::ops;
+use slub_core::setup::Setup;
 use slub_core::spot::AllocSpot;
 use slub_core::step::Step;
-use slub_local::local::Local;
-use slub_local::ops;
-use slub_local::setup::Setup;
-use slub_local::ways::raised_word;
+use slub_core::ways::raised_word;
+use slub_core::worker_local::Local;
 use slub_words::slab::SlabWord;
 
 /// The step that a spot calls for (`slab_alloc_node`, `___slab_alloc`).

@@ -1,16 +1,17 @@
-//! The words that an allocation leaves, and the ways that it goes by words.
+//! `slab_alloc_node`, `___slab_alloc`: the words that an allocation leaves, and the ways that it
+//! goes by words.
 
 ghost use Rattle.std.specs.Prelude.{◌≡◌};
 ghost use Rattle.slub_core.specs.Setup.{Means};
 ghost use Rattle.slub_core.specs.Alloc as alloc;
-ghost use Rattle.slub_local.specs.Facts.{setup_of};
+ghost use Rattle.slub_core.specs.Facts.{setup_of};
 
-use slub_answers::reply::Reply;
 use slub_core::local::{FrameRun, Hand, PartialString};
+use slub_core::setup::Setup;
 use slub_core::spot::{AllocSpot, Away, Spot};
+use slub_core::ways::{is_spent, taken_string, way_of_away};
 use slub_cpu_partial::words::ListWord;
-use slub_local::setup::Setup;
-use slub_local::ways::{is_spent, taken_string, way_of_away};
+use slub_trace::reply::Reply;
 use slub_words::cpu::CpuWord;
 use slub_words::slab::SlabWord;
 

@@ -4,11 +4,11 @@ use Rattle.std.specs.List.{Contains, IsDistinct, cons_option, filter_map, zip}
 use Rattle.std.specs.Prelude.{nat_eq, slice_get}
 use Rattle.std.proofs.lemmas.List.Elements.{All-cons, All-contains, All-head, All-nil, All-tail}
 use Rattle.std.proofs.lemmas.List.Sums.{sum_by-cons}
-use Rattle.slub_events.specs.declared.event.Act.{Act}
-use Rattle.slub_events.specs.declared.event.Act.TheVariants.{Alloc, Free}
-use Rattle.slub_answers.specs.declared.reply.Reply.{Reply}
-use Rattle.slub_answers.specs.declared.reply.Reply.TheVariants as reply
-use Rattle.slub_answers.specs.Kinds.{is_freed, is_given, is_no_memory}
+use Rattle.slub_trace.specs.declared.event.Act.{Act}
+use Rattle.slub_trace.specs.declared.event.Act.TheVariants.{Alloc, Free}
+use Rattle.slub_trace.specs.declared.reply.Reply.{Reply}
+use Rattle.slub_trace.specs.declared.reply.Reply.TheVariants as reply
+use Rattle.slub_trace.specs.Kinds.{is_freed, is_given, is_no_memory}
 use Rattle.slub_common.specs.Times.{times}
 use Rattle.slub_common.proofs.Times.{times-absent, times-cons, times-cons_other}
 use Rattle.slub_lists.specs.State.{State}
@@ -16,27 +16,27 @@ use Rattle.slub_lists.specs.Coherent.{IsCoherent, held_under}
 use Rattle.slub_trace.specs.declared.trace.Trace.{Trace}
 use Rattle.slub_trace.specs.Sound.{objects_of}
 use Rattle.slub_calls.specs.Laws.{MayDo}
-use Rattle.slub_journal.specs.declared.client.CacheRefusal.{CacheRefusal}
-use Rattle.slub_journal.specs.declared.client.ClientAnswer.TheVariants as answer
-use Rattle.slub_journal.specs.declared.client.ClientDone.{ClientDone}
-use Rattle.slub_journal.specs.declared.client.ClientRound.{ClientRound}
-use Rattle.slub_journal.specs.declared.journal.RoundResult.{RoundResult}
-use Rattle.slub_journal.specs.Asked.{event_of, first_refusal, frees_of, refusal_of, round_of}
-use Rattle.slub_journal.specs.Bulk.{free_order}
-use Rattle.slub_journal.specs.Lawful.{IsAtRest, IsUnheld}
-use Rattle.slub_round_law.specs.Answered.{Answered, did_free, gave, of_worker, times_freed, times_given}
-use Rattle.slub_round_law.specs.Round.{AllocCause, HaveCauses, IsRound}
-use Rattle.slub_round_law.proofs.Times.{events_given}
+use Rattle.slub_slabinfo_text.specs.declared.client.CacheRefusal.{CacheRefusal}
+use Rattle.slub_slabinfo_text.specs.declared.client.ClientAnswer.TheVariants as answer
+use Rattle.slub_slabinfo_text.specs.declared.client.ClientDone.{ClientDone}
+use Rattle.slub_slabinfo_text.specs.declared.client.ClientRound.{ClientRound}
+use Rattle.slub_slabinfo_text.specs.declared.journal.RoundResult.{RoundResult}
+use Rattle.slub_slabinfo_text.specs.Asked.{event_of, first_refusal, frees_of, refusal_of, round_of}
+use Rattle.slub_slabinfo_text.specs.Bulk.{free_order}
+use Rattle.slub_slabinfo_text.specs.Lawful.{IsAtRest, IsUnheld}
+use Rattle.slub_law_rounds.specs.Answered.{Answered, did_free, gave, of_worker, times_freed, times_given}
+use Rattle.slub_law_rounds.specs.Round.{AllocCause, HaveCauses, IsRound}
+use Rattle.slub_law_rounds.proofs.Times.{events_given}
 use Rattle.slub_rounds.specs.Laws.{MayFollow}
 use Rattle.slub_rounds.proofs.Following.{leads-on}
-use Rattle.slub_by_text.specs.Heap.{HeapState}
-use Rattle.slub_by_text.specs.Laws.{RoundsByTextAreLawful}
-use Rattle.slub_clients.specs.Asked.{AnswersAtOnce, DoesAsked, IsOpenTo}
-use Rattle.slub_clients.specs.BulkLines.{FreesAgain, FreesInOrder, ServesBulkFree, TakesAll, allocs_of, first_unheld, places_under, replied}
-use Rattle.slub_clients.specs.Laws.{IsNumber}
-use Rattle.slub_clients.proofs.Allowed.{allocations-may, allocs-long, frees-long, frees-may, frees-objects, none-differ, one-differs}
-use Rattle.slub_clients.proofs.Chosen.{replied_all, replied_long}
-use Rattle.slub_clients.proofs.Staying.{held-or-none, open-fewer}
+use Rattle.slub_rounds.specs.Heap.{HeapState}
+use Rattle.slub_rounds.specs.TextLaws.{RoundsByTextAreLawful}
+use Rattle.slub_rounds.specs.Asked.{AnswersAtOnce, DoesAsked, IsOpenTo}
+use Rattle.slub_rounds.specs.BulkLines.{FreesAgain, FreesInOrder, ServesBulkFree, TakesAll, allocs_of, first_unheld, places_under, replied}
+use Rattle.slub_rounds.specs.ClientLaws.{IsNumber}
+use Rattle.slub_rounds.proofs.Allowed.{allocations-may, allocs-long, frees-long, frees-may, frees-objects, none-differ, one-differs}
+use Rattle.slub_rounds.proofs.Chosen.{replied_all, replied_long}
+use Rattle.slub_rounds.proofs.Staying.{held-or-none, open-fewer}
 use Rattle.slub_bulk.specs.Taking.{MayTake}
 
 -- ---- which rounds are lawful

@@ -8,18 +8,18 @@ use Rattle.std.proofs.lemmas.Slice.Zip.{get_or-zip, length-zip}
 use Rattle.std.proofs.lemmas.List.FromFn.{get_or-range_with_len, length-range_with_len}
 use Rattle.std.proofs.lemmas.Map.Keys.{IsDistinct-from_apart}
 use Rattle.slub_common.proofs.Lists.{range_with_len-append}
-use Rattle.slub_answers.specs.declared.reply.Reply.{Reply}
-use Rattle.slub_answers.specs.Kinds.{is_given}
+use Rattle.slub_trace.specs.declared.reply.Reply.{Reply}
+use Rattle.slub_trace.specs.Kinds.{is_given}
 use Rattle.slub_lists.specs.State.{State}
 use Rattle.slub_trace.specs.declared.trace.Trace.{Trace}
-use Rattle.slub_journal.specs.declared.client.CacheRefusal.{CacheRefusal}
-use Rattle.slub_journal.specs.Asked.{first_refusal, refusal_of}
-use Rattle.slub_journal.specs.Bulk.{free_order}
-use Rattle.slub_clients.specs.BulkLines.{frame_under, places_under, replied}
-use Rattle.slub_by_text.specs.Heap.{HeapState}
-use Rattle.slub_clients.specs.Asked.{IsOpenTo}
-use Rattle.slub_clients.specs.Laws.{IsNumber}
-use Rattle.slub_clients.proofs.Chosen.{order_all}
+use Rattle.slub_slabinfo_text.specs.declared.client.CacheRefusal.{CacheRefusal}
+use Rattle.slub_slabinfo_text.specs.Asked.{first_refusal, refusal_of}
+use Rattle.slub_slabinfo_text.specs.Bulk.{free_order}
+use Rattle.slub_rounds.specs.BulkLines.{frame_under, places_under, replied}
+use Rattle.slub_rounds.specs.Heap.{HeapState}
+use Rattle.slub_rounds.specs.Asked.{IsOpenTo}
+use Rattle.slub_rounds.specs.ClientLaws.{IsNumber}
+use Rattle.slub_rounds.proofs.Chosen.{order_all}
 use Rattle.slub_bulk.proofs.Counting.{total_whole}
 
 -- ---- numbers that differ

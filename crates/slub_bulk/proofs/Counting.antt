@@ -4,7 +4,7 @@ use Rattle.std.specs.List.{list_any}
 use Rattle.std.proofs.lemmas.List.{length-append, map-append}
 use Rattle.std.proofs.lemmas.List.Elements.{filter-append}
 use Rattle.std.proofs.lemmas.Grind.{common_steps}
-use Rattle.slub_journal.specs.Bulk.{free_order, objects_of_slab, slabs_among}
+use Rattle.slub_slabinfo_text.specs.Bulk.{free_order, objects_of_slab, slabs_among}
 
 -- ---- how often a slab stands in a list
 

@@ -3,18 +3,18 @@ use Rattle.std.proofs.Common.{◌≡◌, ℕ, ◌+◌, ◌≤◌, ◌&&◌, cond
 use Rattle.std.specs.Prelude.{count_by, slice_index_or, sum_by}
 use Rattle.std.proofs.lemmas.List.Elements.{All-head, All-tail}
 use Rattle.std.proofs.lemmas.List.Sums.{sum_by-cons}
-use Rattle.slub_events.specs.declared.event.Act.{Act}
-use Rattle.slub_answers.specs.declared.ledger.Ledger.{Ledger}
-use Rattle.slub_answers.specs.declared.reply.Reply.{Reply}
-use Rattle.slub_answers.specs.declared.reply.Reply.TheVariants as reply
-use Rattle.slub_answers.specs.Kinds.{is_freed, is_given}
+use Rattle.slub_trace.specs.declared.event.Act.{Act}
+use Rattle.slub_trace.specs.declared.ledger.Ledger.{Ledger}
+use Rattle.slub_trace.specs.declared.reply.Reply.{Reply}
+use Rattle.slub_trace.specs.declared.reply.Reply.TheVariants as reply
+use Rattle.slub_trace.specs.Kinds.{is_freed, is_given}
 use Rattle.slub_common.specs.Times.{times}
 use Rattle.slub_common.proofs.Times.{times-cons}
 use Rattle.slub_lists.specs.State.{State}
-use Rattle.slub_journal.specs.Asked.{event_of}
-use Rattle.slub_clients.specs.BulkLines.{replied}
-use Rattle.slub_journal.specs.Lawful.{AreLedgers, freed_in, given_in, is_by}
-use Rattle.slub_round_law.specs.Answered.{Answered}
+use Rattle.slub_slabinfo_text.specs.Asked.{event_of}
+use Rattle.slub_rounds.specs.BulkLines.{replied}
+use Rattle.slub_slabinfo_text.specs.Lawful.{AreLedgers, freed_in, given_in, is_by}
+use Rattle.slub_law_rounds.specs.Answered.{Answered}
 use Rattle.slub_bulk.proofs.Boards.{answers_of}
 
 -- ---- numbers with a reply of a kind

@@ -1,15 +1,15 @@
 -- A heap whose ids last does its rounds on its lists.
 use Rattle.std.proofs.Common.{◌≡◌, ℕ, ◌+◌, ◌*◌, ◌^◌, ◌<◌, ◌≤◌, List, length, get_or, All, Option, Some, None, IfSome, inl, inr, sym, ap, ◌∙◌, subst, arith, add-mul, mul-le-mul_right}
 use Rattle.std.proofs.lemmas.List.{get_or_default}
-use Rattle.slub_events.specs.declared.event.Round.{Round}
+use Rattle.slub_trace.specs.declared.event.Round.{Round}
 use Rattle.slub_lists.specs.Coherent.{IsCoherent}
 use Rattle.slub_trace.specs.Ranges.{step_of}
-use Rattle.slub_journal.specs.declared.journal.RoundResult.{RoundResult}
-use Rattle.slub_journal.specs.Lawful.{DoesRound}
-use Rattle.slub_ids.proofs.Steps.{step-is}
-use Rattle.slub_by_text.specs.ByText.{DoesByText, DoesRoundOnLists}
-use Rattle.slub_by_text.specs.Heap.{DoesRoundOf, HeapState}
-use Rattle.slub_by_text.proofs.Growing.{not-grown, runs-grow, runs-long}
+use Rattle.slub_slabinfo_text.specs.declared.journal.RoundResult.{RoundResult}
+use Rattle.slub_slabinfo_text.specs.Lawful.{DoesRound}
+use Rattle.slub_open_close.proofs.Steps.{step-is}
+use Rattle.slub_rounds.specs.ByText.{DoesByText, DoesRoundOnLists}
+use Rattle.slub_rounds.specs.Heap.{DoesRoundOf, HeapState}
+use Rattle.slub_rounds.proofs.Growing.{not-grown, runs-grow, runs-long}
 use Rattle.slub_bulk.specs.Taking.{IdsLastFor}
 
 module _ (h : HeapState) (round : Round) (result : RoundResult) (after : HeapState) (all more : ℕ) (coherent : IsCoherent h.lists) (cpus : after.lists.cpus ≡ h.lists.cpus) (few : length round.events + more ≤ all) where

@@ -5,10 +5,10 @@ use Rattle.std.specs.Prelude.{count_by, slice_get}
 use Rattle.std.proofs.lemmas.List.FromFn.{length-range_with_len}
 use Rattle.std.proofs.lemmas.List.Sums.{sum_by-cons}
 use Rattle.std.proofs.lemmas.List.Elements.{All-cons, All-contains, All-head, All-nil, All-tail, Contains-get_or}
-use Rattle.slub_events.specs.declared.event.Act.TheVariants.{Alloc, Free}
+use Rattle.slub_trace.specs.declared.event.Act.TheVariants.{Alloc, Free}
 use Rattle.slub_object_layout.specs.Layout.{address_of}
-use Rattle.slub_answers.specs.declared.reply.Reply.{Reply}
-use Rattle.slub_answers.specs.Kinds.{is_freed, is_given}
+use Rattle.slub_trace.specs.declared.reply.Reply.{Reply}
+use Rattle.slub_trace.specs.Kinds.{is_freed, is_given}
 use Rattle.slub_common.specs.Times.{times}
 use Rattle.slub_common.proofs.Lists.{from_range_with_len}
 use Rattle.slub_common.proofs.Times.{Contains-times, times-absent, times-cons, times-contained}
@@ -26,23 +26,23 @@ use Rattle.slub_lists.proofs.Kept.{consistent-of}
 use Rattle.slub_lists.proofs.Places.{layout-of}
 use Rattle.slub_trace.specs.declared.trace.Trace.{Trace}
 use Rattle.slub_calls.specs.Laws.{MayDo}
-use Rattle.slub_journal.specs.declared.client.CacheRefusal.{CacheRefusal}
-use Rattle.slub_journal.specs.declared.client.ClientDone.{ClientDone}
-use Rattle.slub_journal.specs.declared.client.ClientAnswer.TheVariants as answer
-use Rattle.slub_journal.specs.declared.client.ClientRound.{ClientRound}
-use Rattle.slub_journal.specs.Asked.{event_of, frees_of, round_of}
-use Rattle.slub_journal.specs.Bulk.{free_order}
-use Rattle.slub_journal.specs.Lawful.{DoesRound, IsUnheld, freed_in, given_in}
-use Rattle.slub_round_law.specs.Answered.{Answered, did_free, gave, times_freed, times_given}
-use Rattle.slub_round_law.specs.Round.{IsRound, NamesChecked}
-use Rattle.slub_round_law.proofs.Steps.{match_either}
-use Rattle.slub_round_law.proofs.Times.{once_times}
-use Rattle.slub_by_text.specs.Heap.{HeapState}
-use Rattle.slub_by_text.specs.Laws.{RoundsByTextAreLawful}
-use Rattle.slub_clients.specs.Asked.{AnswersAtOnce, DoesAsked, IsOpenTo}
-use Rattle.slub_clients.specs.BulkLines.{AddsNumbers, DropsNumbers, FreesAgain, FreesInOrder, IsEven, LeavesBulk, LeavesBulkFree, ServesBulk, ServesBulkFree, TakesAll, address_under, allocs_of, bulk_answer, first_unheld, freed_by, freed_number, places_under, replied}
-use Rattle.slub_clients.proofs.Allowed.{allocs-long, frees-long, frees-may}
-use Rattle.slub_clients.proofs.Chosen.{replied_all, replied_long}
+use Rattle.slub_slabinfo_text.specs.declared.client.CacheRefusal.{CacheRefusal}
+use Rattle.slub_slabinfo_text.specs.declared.client.ClientDone.{ClientDone}
+use Rattle.slub_slabinfo_text.specs.declared.client.ClientAnswer.TheVariants as answer
+use Rattle.slub_slabinfo_text.specs.declared.client.ClientRound.{ClientRound}
+use Rattle.slub_slabinfo_text.specs.Asked.{event_of, frees_of, round_of}
+use Rattle.slub_slabinfo_text.specs.Bulk.{free_order}
+use Rattle.slub_slabinfo_text.specs.Lawful.{DoesRound, IsUnheld, freed_in, given_in}
+use Rattle.slub_law_rounds.specs.Answered.{Answered, did_free, gave, times_freed, times_given}
+use Rattle.slub_law_rounds.specs.Round.{IsRound, NamesChecked}
+use Rattle.slub_law_rounds.proofs.Steps.{match_either}
+use Rattle.slub_law_rounds.proofs.Times.{once_times}
+use Rattle.slub_rounds.specs.Heap.{HeapState}
+use Rattle.slub_rounds.specs.TextLaws.{RoundsByTextAreLawful}
+use Rattle.slub_rounds.specs.Asked.{AnswersAtOnce, DoesAsked, IsOpenTo}
+use Rattle.slub_rounds.specs.BulkLines.{AddsNumbers, DropsNumbers, FreesAgain, FreesInOrder, IsEven, LeavesBulk, LeavesBulkFree, ServesBulk, ServesBulkFree, TakesAll, address_under, allocs_of, bulk_answer, first_unheld, freed_by, freed_number, places_under, replied}
+use Rattle.slub_rounds.proofs.Allowed.{allocs-long, frees-long, frees-may}
+use Rattle.slub_rounds.proofs.Chosen.{replied_all, replied_long}
 use Rattle.slub_bulk.specs.Taking.{IdsLastFor, MayTake}
 use Rattle.slub_bulk.proofs.Boards.{allocs_free_none, allocs_lawful, answers_of, asked_lawful, frees_give_none, frees_lawful, replies_even, stays_there, takes_come, takes_often, takes_stay}
 use Rattle.slub_bulk.proofs.Bulking.{order_known, order_long, range_known}

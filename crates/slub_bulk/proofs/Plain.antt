@@ -4,11 +4,11 @@ use Rattle.std.specs.List.{fold}
 use Rattle.std.specs.Option.{option_and_then, option_map}
 use Rattle.std.proofs.lemmas.List.Elements.{All-append, All-cons, All-contains, All-head, All-nil, All-tail}
 use Rattle.std.proofs.lemmas.List.Sums.{sum_by-cons}
-use Rattle.slub_events.specs.declared.event.Act.TheVariants.{Alloc, Free}
+use Rattle.slub_trace.specs.declared.event.Act.TheVariants.{Alloc, Free}
 use Rattle.slub_object_layout.specs.Layout.{address_of}
-use Rattle.slub_answers.specs.declared.reply.Reply.{Reply}
-use Rattle.slub_answers.specs.declared.reply.Reply.TheVariants as reply
-use Rattle.slub_answers.specs.Kinds.{is_freed}
+use Rattle.slub_trace.specs.declared.reply.Reply.{Reply}
+use Rattle.slub_trace.specs.declared.reply.Reply.TheVariants as reply
+use Rattle.slub_trace.specs.Kinds.{is_freed}
 use Rattle.slub_common.specs.Times.{times}
 use Rattle.slub_common.proofs.Times.{times-cons, times-cons_other}
 use Rattle.slub_cache_create.specs.Table.{Table, cache_of as live_cache}
@@ -19,16 +19,16 @@ use Rattle.slub_lists.specs.Alloc.{cache_of, checked_of, named}
 use Rattle.slub_lists.specs.Coherent.{IsCoherent, held_under}
 use Rattle.slub_lists.proofs.CheckedSlabs.{at_some}
 use Rattle.slub_lists.proofs.Trimming.{place-live}
-use Rattle.slub_journal.specs.declared.journal.RoundResult.{RoundResult}
-use Rattle.slub_journal.specs.Asked.{event_of, frees_of, round_of}
-use Rattle.slub_round_law.specs.Answered.{Answered, did_free, found_bad, is_corrupt, of_worker, times_taken}
-use Rattle.slub_round_law.specs.Round.{AllocCause, FreeCause, HaveCauses, IsGiftOf, IsOfChecked, IsRound, NamesChecked, Spot, WasGivenAt, spot_after, spot_asked, spot_of, spot_under}
-use Rattle.slub_round_law.proofs.Tale.{injected}
-use Rattle.slub_round_law.proofs.Times.{counted_append}
-use Rattle.slub_round_law.proofs.Values.{checked-kept}
-use Rattle.slub_clients.specs.BulkLines.{allocs_of}
-use Rattle.slub_clients.proofs.Allowed.{allocs-long, frees-long}
-use Rattle.slub_clients.proofs.Staying.{held-or-none}
+use Rattle.slub_slabinfo_text.specs.declared.journal.RoundResult.{RoundResult}
+use Rattle.slub_slabinfo_text.specs.Asked.{event_of, frees_of, round_of}
+use Rattle.slub_law_rounds.specs.Answered.{Answered, did_free, found_bad, is_corrupt, of_worker, times_taken}
+use Rattle.slub_law_rounds.specs.Round.{AllocCause, FreeCause, HaveCauses, IsGiftOf, IsOfChecked, IsRound, NamesChecked, Spot, WasGivenAt, spot_after, spot_asked, spot_of, spot_under}
+use Rattle.slub_law_rounds.proofs.Tale.{injected}
+use Rattle.slub_law_rounds.proofs.Times.{counted_append}
+use Rattle.slub_law_rounds.proofs.Values.{checked-kept}
+use Rattle.slub_rounds.specs.BulkLines.{allocs_of}
+use Rattle.slub_rounds.proofs.Allowed.{allocs-long, frees-long}
+use Rattle.slub_rounds.proofs.Staying.{held-or-none}
 use Rattle.slub_bulk.proofs.Boards.{answers_of, own-all}
 use Rattle.slub_bulk.proofs.Undamaged.{first-apart, others, rest-once}
 

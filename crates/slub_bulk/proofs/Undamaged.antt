@@ -4,20 +4,20 @@ use Rattle.std.specs.Prelude.{IsTrue}
 use Rattle.std.proofs.lemmas.List.{ext_get_or}
 use Rattle.std.proofs.lemmas.List.Elements.{All-cons, All-contains, Contains-append_right, All-head, All-nil, All-tail}
 use Rattle.slub_common.proofs.Writes.{inside-of}
-use Rattle.slub_events.specs.declared.event.Act.TheVariants as act
-use Rattle.slub_events.specs.declared.event.Event.{Event}
+use Rattle.slub_trace.specs.declared.event.Act.TheVariants as act
+use Rattle.slub_trace.specs.declared.event.Event.{Event}
 use Rattle.slub_object_layout.specs.declared.layout.Layout.{Layout}
 use Rattle.slub_object_layout.specs.declared.layout.Flags.{Flags}
 use Rattle.slub_object_layout.specs.Layout.{address_of}
 use Rattle.slub_cache_create.specs.declared.caches.Cache.{Cache}
-use Rattle.slub_answers.specs.declared.reply.Reply.{Reply}
-use Rattle.slub_answers.specs.declared.reply.Reply.TheVariants as reply
-use Rattle.slub_answers.specs.Kinds.{is_freed, is_given}
+use Rattle.slub_trace.specs.declared.reply.Reply.{Reply}
+use Rattle.slub_trace.specs.declared.reply.Reply.TheVariants as reply
+use Rattle.slub_trace.specs.Kinds.{is_freed, is_given}
 use Rattle.slub_red_zone.specs.declared.checked.CheckedGive.{CheckedGive}
 use Rattle.slub_red_zone.specs.declared.checked.CheckedGive.TheVariants as give
 use Rattle.slub_red_zone.specs.declared.checked.Run.{Run as SlabRun}
 use Rattle.slub_red_zone.specs.declared.checked.Slot.{Slot}
-use Rattle.slub_red_zone.specs.declared.zones.Damage.{Damage}
+use Rattle.slub_trace.specs.declared.damage.Damage.{Damage}
 use Rattle.slub_red_zone.specs.Bytes.{IsWhole}
 use Rattle.slub_red_zone.specs.Sound.{IsLayoutFor, IsSound}
 use Rattle.slub_red_zone.specs.State.{CheckedState, IsUsed, SlabState, bytes_of, slab_of as checked_slab, slot_of}
@@ -44,18 +44,18 @@ use Rattle.slub_lists.specs.Named.{AllocatesNamed}
 use Rattle.slub_lists.proofs.CheckedTaking.{held-frame, held-slab, held-used}
 use Rattle.slub_lists.proofs.Keeps.{unchecked_keeps}
 use Rattle.slub_lists.proofs.Kept.{consistent-of}
-use Rattle.slub_journal.specs.Asked.{event_of, frees_of, round_of}
-use Rattle.slub_clients.specs.BulkLines.{allocs_of, replied}
-use Rattle.slub_journal.specs.Lawful.{Answers, RunsEvents}
-use Rattle.slub_round_law.proofs.Bytes.{Has, outside-used, set-up-at, set-up-length}
-use Rattle.slub_round_law.proofs.Clean.{new-bytes, slot-byte}
-use Rattle.slub_round_law.proofs.Damages.{damage-taken}
-use Rattle.slub_round_law.proofs.Reports.{slabs-sound}
-use Rattle.slub_round_law.proofs.Slabs.{event-slabs}
-use Rattle.slub_round_law.proofs.Sparing.{SparesIt, SparesSlot, kept, spares-it, swapped}
-use Rattle.slub_round_law.proofs.Steps.{Step, event-step, flushes, frees, gives, keeps, lacks, match_either, match_some, nameless, pokes, pokes_not, reads, reads_none, reads_not, refuses, trims, trims_checked, trims_none, wants, writes, writes_none, writes_not}
-use Rattle.slub_round_law.proofs.Tale.{injected}
-use Rattle.slub_round_law.proofs.Whole.{laid-under}
+use Rattle.slub_slabinfo_text.specs.Asked.{event_of, frees_of, round_of}
+use Rattle.slub_rounds.specs.BulkLines.{allocs_of, replied}
+use Rattle.slub_slabinfo_text.specs.Lawful.{Answers, RunsEvents}
+use Rattle.slub_law_rounds.proofs.Bytes.{Has, outside-used, set-up-at, set-up-length}
+use Rattle.slub_law_rounds.proofs.Clean.{new-bytes, slot-byte}
+use Rattle.slub_law_rounds.proofs.Damages.{damage-taken}
+use Rattle.slub_law_rounds.proofs.Reports.{slabs-sound}
+use Rattle.slub_law_rounds.proofs.Slabs.{event-slabs}
+use Rattle.slub_law_rounds.proofs.Sparing.{SparesIt, SparesSlot, kept, spares-it, swapped}
+use Rattle.slub_law_rounds.proofs.Steps.{Step, event-step, flushes, frees, gives, keeps, lacks, match_either, match_some, nameless, pokes, pokes_not, reads, reads_none, reads_not, refuses, trims, trims_checked, trims_none, wants, writes, writes_none, writes_not}
+use Rattle.slub_law_rounds.proofs.Tale.{injected}
+use Rattle.slub_law_rounds.proofs.Whole.{laid-under}
 
 -- ---- an object that is given
 

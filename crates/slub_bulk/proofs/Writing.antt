@@ -4,7 +4,7 @@ use Rattle.std.specs.List.{list_any}
 use Rattle.std.proofs.Math.Seq.{set-append_seam, take-append_seam, drop-append-add}
 use Rattle.std.proofs.lemmas.List.{append-nil, drop-drop, drop_all, drop_more, length-append, length-take, map-append, take-append-drop, take_all, take_more}
 use Rattle.std.proofs.lemmas.Grind.{flat_map-append}
-use Rattle.slub_journal.specs.Bulk.{free_order, objects_of_slab, slabs_among}
+use Rattle.slub_slabinfo_text.specs.Bulk.{free_order, objects_of_slab, slabs_among}
 use Rattle.slub_bulk.specs.declared.order.Place.{Place}
 use Rattle.slub_bulk.specs.Places.{places_of}
 use Rattle.slub_bulk.proofs.Counting.{marks_once, objects_more, objects_within, slabs_more, total_whole, total_within}

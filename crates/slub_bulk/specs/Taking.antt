@@ -3,10 +3,10 @@ use Rattle.std.specs.Prelude.{ℕ, ◌+◌, ◌*◌, ◌^◌, ◌<◌, List, len
 use Rattle.std.specs.List.{IsDistinct}
 use Rattle.slub_trace.specs.declared.trace.Trace.{Trace}
 use Rattle.slub_trace.specs.Ranges.{step_of}
-use Rattle.slub_journal.specs.Lawful.{IsUnheld}
-use Rattle.slub_by_text.specs.Heap.{HeapState}
-use Rattle.slub_clients.specs.Asked.{IsOpenTo}
-use Rattle.slub_clients.specs.Laws.{IsNumber}
+use Rattle.slub_slabinfo_text.specs.Lawful.{IsUnheld}
+use Rattle.slub_rounds.specs.Heap.{HeapState}
+use Rattle.slub_rounds.specs.Asked.{IsOpenTo}
+use Rattle.slub_rounds.specs.ClientLaws.{IsNumber}
 
 -- an object under each of these numbers may be asked on a CPU of the cache that the name at a place
 -- names: they are numbers of the heap that differ, and no object has one of them

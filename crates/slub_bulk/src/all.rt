@@ -2,22 +2,22 @@
 
 ghost use Rattle.std.specs.Prelude.{◌≡◌, ◌^◌, ◌<◌, ◌≤◌, ◌++◌, [], ◌∷◌, length, All, IfErr, IfOk, if◌then◌else◌, nat_eq};
 ghost use Rattle.std.specs.List.{IsDistinct};
-ghost use Rattle.slub_answers.specs.Kinds.{is_given};
+ghost use Rattle.slub_trace.specs.Kinds.{is_given};
 ghost use Rattle.slub_trace.specs.declared.trace.Trace.{Trace};
-ghost use Rattle.slub_journal.specs.Asked.{first_refusal, frees_of};
-ghost use Rattle.slub_journal.specs.Lawful.{IsUnheld};
+ghost use Rattle.slub_slabinfo_text.specs.Asked.{first_refusal, frees_of};
+ghost use Rattle.slub_slabinfo_text.specs.Lawful.{IsUnheld};
 ghost use Rattle.slub_engine.specs.Steps.{KeepsUnheld};
-ghost use Rattle.slub_clients.specs.Asked.{DoesAsked, IsOpenTo, SpendsAsked, StaysOpen};
-ghost use Rattle.slub_clients.specs.BulkLines.{FreesAgain, SpendsAgain, SpendsTaking, TakesAll, allocs_of, replied};
-ghost use Rattle.slub_clients.specs.Laws.{IsNumber};
-ghost use Rattle.slub_clients.specs.Stopped.{IsStoppedWhere};
+ghost use Rattle.slub_rounds.specs.Asked.{DoesAsked, IsOpenTo, SpendsAsked, StaysOpen};
+ghost use Rattle.slub_rounds.specs.BulkLines.{FreesAgain, SpendsAgain, SpendsTaking, TakesAll, allocs_of, replied};
+ghost use Rattle.slub_rounds.specs.ClientLaws.{IsNumber};
+ghost use Rattle.slub_rounds.specs.ClientStopped.{IsStoppedWhere};
 
-use slub_answers::reply::{Kind, Reply};
-use slub_by_text::heap::Heap;
-use slub_clients::client::{Stopped, client_round};
 use slub_common::no_memory::NoMemory;
-use slub_events::event::Act;
-use slub_journal::client::{CacheRefusal, ClientRound};
+use slub_rounds::client::{Stopped, client_round};
+use slub_rounds::heap::Heap;
+use slub_slabinfo_text::client::{CacheRefusal, ClientRound};
+use slub_trace::event::Act;
+use slub_trace::reply::{Kind, Reply};
 use std::alloc::{AllocError, Global};
 
 /// Allocates an object under each of these numbers from the cache that the name at a place names, in one

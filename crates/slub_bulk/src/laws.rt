@@ -3,15 +3,15 @@
 ghost use Rattle.std.specs.Prelude.{◌≡◌, ◌+◌, ◌*◌, ◌<◌, ◌≤◌, ◌⊎◌, ℕ, List, length};
 ghost use Rattle.std.specs.List.{range_with_len};
 ghost use Rattle.slub_trace.specs.declared.trace.Trace.{Trace};
-ghost use Rattle.slub_journal.specs.declared.client.ClientAnswer.TheVariants.{All};
-ghost use Rattle.slub_journal.specs.declared.client.ClientDone.{ClientDone as Done};
-ghost use Rattle.slub_round_law.specs.Round.{NamesChecked};
-ghost use Rattle.slub_by_text.specs.Heap.{HeapState};
-ghost use Rattle.slub_clients.specs.Asked.{IsOpenTo};
-ghost use Rattle.slub_clients.specs.BulkLines.{AddsNumbers, LeavesBulk, LeavesBulkFree, ServesBulk, ServesBulkFree};
+ghost use Rattle.slub_slabinfo_text.specs.declared.client.ClientAnswer.TheVariants.{All};
+ghost use Rattle.slub_slabinfo_text.specs.declared.client.ClientDone.{ClientDone as Done};
+ghost use Rattle.slub_law_rounds.specs.Round.{NamesChecked};
+ghost use Rattle.slub_rounds.specs.Heap.{HeapState};
+ghost use Rattle.slub_rounds.specs.Asked.{IsOpenTo};
+ghost use Rattle.slub_rounds.specs.BulkLines.{AddsNumbers, LeavesBulk, LeavesBulkFree, ServesBulk, ServesBulkFree};
 ghost use Rattle.slub_bulk.specs.Taking.{IdsLastFor, MayTake};
 
-use slub_by_text::laws::rounds_by_text_are_lawful;
+use slub_rounds::text_laws::rounds_by_text_are_lawful;
 
 /// After a bulk that was given all, the board is the board before and the numbers, at different addresses:
 /// of every heap, whether ids stand beside its lists or not.

@@ -2,7 +2,7 @@
 //!
 //! `serve` does a `bulk` or a `bulkfree` on the heap that it is handed, and gives it back with what came of it:
 //! `all` takes all of some numbers or none, and `order` has the order in which a bulk free frees. The
-//! definitions are `specs/BulkLines.antt` of `slub_clients` and `specs/Bulk.antt` of `slub_journal`;
+//! definitions are `specs/BulkLines.antt` of `slub_rounds` and `specs/Bulk.antt` of `slub_slabinfo_text`;
 //! `specs/Taking.antt` says which numbers may be asked.
 //!
 //! # What it promises
@@ -20,5 +20,3 @@ pub mod all;
 pub mod laws;
 pub mod order;
 pub mod serve;
-#[cfg(test)]
-mod tests;

@@ -2,7 +2,7 @@
 
 ghost use Rattle.std.specs.Prelude.{◌≡◌, ◌+◌, ◌≤◌, ◌==◌, ◌++◌, drop, length, take};
 ghost use Rattle.std.specs.List.{list_any};
-ghost use Rattle.slub_journal.specs.Bulk.{free_order, objects_of_slab};
+ghost use Rattle.slub_slabinfo_text.specs.Bulk.{free_order, objects_of_slab};
 ghost use Rattle.slub_bulk.specs.Places.{places_of};
 
 /// Where an object stands: its number, and its slab's first frame.

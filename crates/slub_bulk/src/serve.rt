@@ -2,27 +2,27 @@
 
 ghost use Rattle.std.specs.Prelude.{◌≡◌, ◌+◌, ◌^◌, ◌<◌, ◌≤◌, [], length, count_by, All, IfErr, IfOk};
 ghost use Rattle.std.specs.List.{range_with_len};
-ghost use Rattle.slub_answers.specs.Kinds.{is_freed};
+ghost use Rattle.slub_trace.specs.Kinds.{is_freed};
 ghost use Rattle.slub_trace.specs.declared.trace.Trace.{Trace as Read};
 ghost use Rattle.slub_trace.specs.Sound.{asked_objects};
-ghost use Rattle.slub_journal.specs.Asked.{frees_of};
-ghost use Rattle.slub_journal.specs.Bulk.{free_order};
-ghost use Rattle.slub_journal.specs.Lawful.{IsUnheld};
+ghost use Rattle.slub_slabinfo_text.specs.Asked.{frees_of};
+ghost use Rattle.slub_slabinfo_text.specs.Bulk.{free_order};
+ghost use Rattle.slub_slabinfo_text.specs.Lawful.{IsUnheld};
 ghost use Rattle.slub_engine.specs.Steps.{KeepsUnheld};
-ghost use Rattle.slub_clients.specs.Asked.{IsOpenTo, IsServable, SpendsAsked, StaysOpen};
-ghost use Rattle.slub_clients.specs.BulkLines.{FreesInOrder, IsBulkLine, ServesBulk, ServesBulkFree, ServesBulkLines, SpendsBulkFree, SpendsBulkLines, SpendsTaking, bulk_answer, first_unheld, frame_under, places_under};
-ghost use Rattle.slub_clients.specs.Laws.{IsNumber};
-ghost use Rattle.slub_clients.specs.Stopped.{IsStoppedWhere};
+ghost use Rattle.slub_rounds.specs.Asked.{IsOpenTo, IsServable, SpendsAsked, StaysOpen};
+ghost use Rattle.slub_rounds.specs.BulkLines.{FreesInOrder, IsBulkLine, ServesBulk, ServesBulkFree, ServesBulkLines, SpendsBulkFree, SpendsBulkLines, SpendsTaking, bulk_answer, first_unheld, frame_under, places_under};
+ghost use Rattle.slub_rounds.specs.ClientLaws.{IsNumber};
+ghost use Rattle.slub_rounds.specs.ClientStopped.{IsStoppedWhere};
 ghost use Rattle.slub_bulk.specs.Places.{places_of};
 
 use crate::all::{free_round, take_all};
 use crate::order::{Place, free_order};
-use slub_answers::reply::{Kind, Reply};
-use slub_by_text::heap::Heap;
-use slub_clients::client::{Stopped, at_once};
 use slub_common::no_memory::NoMemory;
 use slub_common::sequence::Sequence;
-use slub_journal::client::{CacheRefusal, ClientAnswer, ClientDone};
+use slub_rounds::client::{Stopped, at_once};
+use slub_rounds::heap::Heap;
+use slub_slabinfo_text::client::{CacheRefusal, ClientAnswer, ClientDone};
+use slub_trace::reply::{Kind, Reply};
 use slub_trace::trace::{Client, Trace};
 use std::alloc::{AllocError, Global};
 

@@ -27,5 +27,3 @@ pub mod caches;
 pub mod laws;
 mod merging;
 pub mod settings;
-#[cfg(test)]
-mod tests;

@@ -14,10 +14,10 @@ use Rattle.std.proofs.lemmas.List.Sums.{sum_by-cons}
 use Rattle.slub_common.specs.Times.{times}
 use Rattle.slub_common.proofs.Times.{times-cons, times-cons_other, times-cons_same}
 use Rattle.slub_common.proofs.Sums.{sum_by-map, sum_by-same}
-use Rattle.slub_events.specs.declared.event.Act.{Act}
-use Rattle.slub_events.specs.declared.event.Act.TheVariants as act
-use Rattle.slub_events.specs.declared.event.Event.{Event}
-use Rattle.slub_events.specs.declared.event.Round.{Round}
+use Rattle.slub_trace.specs.declared.event.Act.{Act}
+use Rattle.slub_trace.specs.declared.event.Act.TheVariants as act
+use Rattle.slub_trace.specs.declared.event.Event.{Event}
+use Rattle.slub_trace.specs.declared.event.Round.{Round}
 use Rattle.slub_cache_create.specs.Table.{Table, cache_of, name_at}
 use Rattle.slub_cache_create.specs.declared.caches.Cache.{Cache}
 use Rattle.slub_cache_create.specs.Sound.{IsSound}
@@ -32,8 +32,8 @@ use Rattle.slub_core.specs.Accounted.{Fits, boarded}
 use Rattle.slub_core.specs.Local.{Local}
 use Rattle.slub_core.specs.Opening.{IsNew, IsRoom}
 use Rattle.slub_core.specs.Replies.{asked_in}
-use Rattle.slub_opening.specs.Opening.{Beside, board_word, setup_of}
-use Rattle.slub_opening.specs.Laws.{MayOpen}
+use Rattle.slub_law_opening.specs.Opening.{Beside, board_word, setup_of}
+use Rattle.slub_law_opening.specs.Laws.{MayOpen}
 use Rattle.slub_calls.specs.Calls.{cache_named, call_for, calls_for, events_by, numbers_in, object_named, room_for, rooms_for, worker_of, workers_of}
 use Rattle.slub_calls.specs.Laws.{RoundsMayBegin, WorkersAreNumbered}
 use Rattle.slub_calls.proofs.Numbers.{comes_all, distinct_all, each_all, place_inside, rooms}

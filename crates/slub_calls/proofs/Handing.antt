@@ -7,9 +7,9 @@ use Rattle.std.proofs.lemmas.List.{ext_get_or, get_or-set_other, get_or-set_same
 use Rattle.std.proofs.lemmas.List.Folds.{position_or_len_push}
 use Rattle.std.proofs.lemmas.List.FromFn.{get_or-map-range_with_len, length-map-range_with_len}
 use Rattle.indexmap.specs.IndexSet.{insert_key}
-use Rattle.slub_events.specs.declared.event.Act.{Act}
-use Rattle.slub_events.specs.declared.event.Act.TheVariants as act
-use Rattle.slub_events.specs.declared.event.Event.{Event}
+use Rattle.slub_trace.specs.declared.event.Act.{Act}
+use Rattle.slub_trace.specs.declared.event.Act.TheVariants as act
+use Rattle.slub_trace.specs.declared.event.Event.{Event}
 use Rattle.slub_cache_create.specs.Table.{Table}
 use Rattle.slub_core.specs.declared.call.Call.{Call}
 use Rattle.slub_core.specs.declared.local.Answered.{Answered}

@@ -5,3 +5,6 @@ pub mod Fitting
 pub mod Reading
 pub mod Walks
 pub mod Handing
+pub mod ChangesFew
+pub mod ChangeNumbers
+pub mod Grown

@@ -2,9 +2,9 @@
 use Rattle.std.proofs.Common.{◌≡◌, ℕ, Bool, true, false, ◌&&◌, ◌||◌, cond, if◌then◌else◌, List, [], ◌∷◌, map, refl, sym, subst, eqb, arith}
 use Rattle.std.proofs.lemmas.Bool.{false≢true}
 use Rattle.std.proofs.lemmas.Bool.Decides.{nat_tests}
-use Rattle.slub_events.specs.declared.event.Act.{Act}
-use Rattle.slub_events.specs.declared.event.Act.TheVariants as act
-use Rattle.slub_events.specs.declared.event.Event.{Event}
+use Rattle.slub_trace.specs.declared.event.Act.{Act}
+use Rattle.slub_trace.specs.declared.event.Act.TheVariants as act
+use Rattle.slub_trace.specs.declared.event.Event.{Event}
 use Rattle.slub_cache_create.specs.Table.{Table}
 use Rattle.slub_trace.specs.Sound.{AreReadable, IsReadable, is_written, written_after}
 use Rattle.slub_core.specs.declared.call.Call.{Call}

@@ -3,10 +3,10 @@
 use Rattle.std.specs.Prelude.{ℕ, nat_eq, ◌==◌, ◌<◌, List, [], length, map, filter, filter_map, Option, None, Some, ⊤}
 use Rattle.std.specs.List.{range_with_len}
 use Rattle.indexmap.specs.IndexSet.{insert_all}
-use Rattle.slub_events.specs.declared.event.Act.{Act}
-use Rattle.slub_events.specs.declared.event.Act.TheVariants as act
-use Rattle.slub_events.specs.declared.event.Event.{Event}
-use Rattle.slub_events.specs.declared.event.Round.{Round}
+use Rattle.slub_trace.specs.declared.event.Act.{Act}
+use Rattle.slub_trace.specs.declared.event.Act.TheVariants as act
+use Rattle.slub_trace.specs.declared.event.Event.{Event}
+use Rattle.slub_trace.specs.declared.event.Round.{Round}
 use Rattle.slub_cache_create.specs.Table.{Table, name_at, number_of}
 use Rattle.slub_core.specs.declared.call.Call.{Call}
 use Rattle.slub_core.specs.declared.call.CallKind.TheVariants.{Alloc, Free, Write, Read, Poke, Trim, Flush}

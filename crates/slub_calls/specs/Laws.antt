@@ -1,15 +1,15 @@
 -- When the workers of a round may begin.
 use Rattle.std.specs.Prelude.{◌≡◌, ℕ, ◌+◌, ◌^◌, ◌≤◌, length, map, slice_index, All, None, nat_eq}
 use Rattle.std.specs.List.{IsDistinct, range_with_len}
-use Rattle.slub_events.specs.declared.event.Round.{Round}
+use Rattle.slub_trace.specs.declared.event.Round.{Round}
 use Rattle.slub_cache_create.specs.Table.{Table}
 use Rattle.slub_trace.specs.declared.trace.Trace.{Trace}
 use Rattle.slub_trace.specs.Sound.{IsSoundRound, objects_of}
 use Rattle.slub_lists.specs.State.{State}
 use Rattle.slub_lists.specs.Coherent.{held_under}
 use Rattle.slub_core.specs.Local.{Local}
-use Rattle.slub_opening.specs.Opening.{Beside}
-use Rattle.slub_opening.specs.Laws.{MayOpen, MayBegin}
+use Rattle.slub_law_opening.specs.Opening.{Beside}
+use Rattle.slub_law_opening.specs.Laws.{MayOpen, MayBegin}
 use Rattle.slub_calls.specs.Calls.{workers_of}
 
 -- ---- a round

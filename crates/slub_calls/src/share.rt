@@ -1,20 +1,20 @@
 //! What a worker is to do, event by event.
 
 ghost use Rattle.std.specs.Prelude.{◌≡◌, ℕ, List, [], ◌∷◌, ◌++◌, IfOk, OnOk, map};
-ghost use Rattle.slub_events.specs.declared.event.Event.{Event};
+ghost use Rattle.slub_trace.specs.declared.event.Event.{Event};
 ghost use Rattle.slub_core.specs.Run.{idle};
 ghost use Rattle.slub_calls.specs.Calls.{IsNamedEvent, call_for, object_named, room_for, worker_with};
 ghost use Rattle.slub_calls.specs.Share.{gathered};
 
 use crate::number_hasher::NumberHasher;
 use indexmap::IndexSet;
-use slub_answers::reply::Reply;
 use slub_cache_create::caches::Caches;
 use slub_common::no_memory::NoMemory;
 use slub_core::call::{Call, CallKind};
 use slub_core::local::{Answered, Known};
-use slub_events::event::{Act, Event};
-use slub_local::local::{Local, NO_CALL};
+use slub_core::worker_local::{Local, NO_CALL};
+use slub_trace::event::{Act, Event};
+use slub_trace::reply::Reply;
 use std::alloc::Global;
 use std::hash::BuildHasherDefault;
 

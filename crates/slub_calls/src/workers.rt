@@ -9,8 +9,8 @@ ghost use Rattle.slub_calls.specs.Share.{gathered};
 use crate::share::Share;
 use slub_cache_create::caches::Caches;
 use slub_common::no_memory::NoMemory;
-use slub_events::event::{Event, Round};
-use slub_local::local::Local;
+use slub_core::worker_local::Local;
+use slub_trace::event::{Event, Round};
 use std::alloc::Global;
 
 /// All workers of a round, in rising number. An event of no worker of the round is no worker's call.

@@ -2,14 +2,14 @@
 use Rattle.std.proofs.Common.{◌≡◌, ℕ, Bool, true, false, Option, Some, None, if◌then◌else◌, refl, sym, ◌∙◌, ap, subst}
 use Rattle.slub_object_layout.specs.declared.layout.Layout.{Layout}
 use Rattle.slub_page_pool.specs.FreeFrames.{FreeFrames}
-use Rattle.slub_red_zone.specs.declared.zones.Damage.{Damage}
+use Rattle.slub_trace.specs.declared.damage.Damage.{Damage}
 use Rattle.slub_red_zone.specs.declared.checked.Slot.{Slot}
 use Rattle.slub_red_zone.specs.declared.checked.CheckedGive.{CheckedGive}
 use Rattle.slub_red_zone.specs.declared.checked.CheckedGive.TheVariants as give
 use Rattle.slub_red_zone.specs.State.{CheckedState}
 use Rattle.slub_red_zone.specs.Steps.{damage_of_used, with_taken}
-use Rattle.slub_answers.specs.declared.reply.Reply.{Reply}
-use Rattle.slub_answers.specs.declared.reply.Reply.TheVariants.{NoFrames, Corrupt}
+use Rattle.slub_trace.specs.declared.reply.Reply.{Reply}
+use Rattle.slub_trace.specs.declared.reply.Reply.TheVariants.{NoFrames, Corrupt}
 use Rattle.slub_core.specs.declared.call.CallKind.TheVariants.{Alloc, Free}
 use Rattle.slub_core.specs.declared.local.FrameRun.{FrameRun}
 use Rattle.slub_core.specs.declared.spot.Spot.TheVariants.{InChecked}
@@ -19,9 +19,9 @@ use Rattle.slub_core.specs.World.{LockValue, Checked, update}
 use Rattle.slub_core.specs.Local.{Local, Turn, Change, here, at}
 use Rattle.slub_core.specs.Alloc.{found_run, pool_with}
 use Rattle.slub_core.specs.Checked.{gave, took_back, with_slabs, slot_of, move_run, way_of_found}
-use Rattle.slub_local.specs.Facts.{Facts, setup_of, cache_of}
-use Rattle.slub_local.specs.Taken.{pool_left}
-use Rattle.slub_local.specs.Ways.{turned}
+use Rattle.slub_core.specs.Facts.{Facts, setup_of, cache_of}
+use Rattle.slub_core.specs.Taken.{pool_left}
+use Rattle.slub_core.specs.Ways.{turned}
 use Rattle.slub_checked_paths.specs.Slabs.{slabs_at, is_spare_by, spare_run, less_spare}
 use Rattle.slub_checked_paths.specs.Turns.{given_turn, freed_turn, way_of_spare}
 

@@ -1,13 +1,13 @@
 -- The calls of a checked cache's slabs, at the value of its lock.
 use Rattle.std.proofs.Common.{◌≡◌, ℕ, List, get_or, set, Option, Some, None, ◌∙◌, ap, subst}
 use Rattle.std.specs.Prelude.{Result, Ok, Err, MatchResult}
-use Rattle.slub_red_zone.specs.declared.zones.Damage.{Damage}
+use Rattle.slub_trace.specs.declared.damage.Damage.{Damage}
 use Rattle.slub_red_zone.specs.declared.checked.Slot.{Slot}
 use Rattle.slub_red_zone.specs.Steps.{damage_of_used, with_taken}
 use Rattle.slub_core.specs.declared.local.FrameRun.{FrameRun}
 use Rattle.slub_core.specs.World.{LockValue, Checked, update}
-use Rattle.slub_local.specs.declared.guarded.Guarded.{Guarded}
-use Rattle.slub_local.specs.Values.{value_in, values_of}
+use Rattle.slub_core.specs.declared.guarded.Guarded.{Guarded}
+use Rattle.slub_core.specs.Values.{value_in, values_of}
 use Rattle.slub_checked_paths.specs.Slabs.{IsCheckedValue, slabs_at, spare_run, less_spare}
 use Rattle.slub_checked_paths.proofs.Locks.{read, written, kept}
 

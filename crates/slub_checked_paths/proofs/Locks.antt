@@ -4,9 +4,9 @@ use Rattle.std.proofs.lemmas.Bool.{cases_eq}
 use Rattle.std.proofs.lemmas.List.{get_or_read, get_or-set_same, get_or-set_other}
 use Rattle.slub_core.specs.World.{LockValue, update}
 use Rattle.slub_core.proofs.Update.{update_at, update_other}
-use Rattle.slub_local.specs.declared.guarded.Guarded.{Guarded}
-use Rattle.slub_local.specs.declared.guarded.Guarded.TheVariants.{Nothing}
-use Rattle.slub_local.specs.Values.{value_in, values_of}
+use Rattle.slub_core.specs.declared.guarded.Guarded.{Guarded}
+use Rattle.slub_core.specs.declared.guarded.Guarded.TheVariants.{Nothing}
+use Rattle.slub_core.specs.Values.{value_in, values_of}
 use Rattle.slub_checked_paths.specs.Slabs.{IsCheckedValue}
 
 -- a checked cache's lock is one of the locks

@@ -1,4 +1,5 @@
--- What a change under the lock of a checked cache finds there.
+-- `alloc_single_from_partial`, `free_debug_processing`: what a change under the lock of a checked
+-- cache finds there.
 use Rattle.std.specs.Prelude.{◌+◌, ◌*◌, ◌<◌, ◌≤◌, List}
 use Rattle.slub_page_pool.specs.Block.{CanPut}
 use Rattle.slub_red_zone.specs.State.{CheckedState, Has, IsUsed}
@@ -11,8 +12,8 @@ use Rattle.slub_core.specs.Setup.{node_lock, pool_lock}
 use Rattle.slub_core.specs.World.{pool_in}
 use Rattle.slub_core.specs.Local.{Local, run_of, call_of}
 use Rattle.slub_core.specs.Checked.{slot_of}
-use Rattle.slub_local.specs.declared.guarded.Guarded.{Guarded}
-use Rattle.slub_local.specs.Values.{values_of, HasPool}
+use Rattle.slub_core.specs.declared.guarded.Guarded.{Guarded}
+use Rattle.slub_core.specs.Values.{values_of, HasPool}
 use Rattle.slub_checked_paths.specs.Slabs.{IsCheckedValue, slabs_at}
 
 -- the object is used, and the word lies in it

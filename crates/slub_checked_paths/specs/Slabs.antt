@@ -1,13 +1,13 @@
--- The slabs of a checked cache behind their lock, and what goes of them.
+-- `free_debug_processing`: the slabs of a checked cache behind their lock, and what goes of them.
 use Rattle.std.specs.Prelude.{ℕ, ◌==◌, ◌&&◌, Bool, true, false, nat_le, if◌then◌else◌, length, Option, Some, None}
 use Rattle.slub_red_zone.specs.State.{CheckedState, slab_of, objects_in}
 use Rattle.slub_red_zone.specs.Steps.{without_slab}
-use Rattle.slub_answers.specs.declared.reply.Reply.{Reply}
-use Rattle.slub_answers.specs.declared.reply.Reply.TheVariants.{NoMemory}
+use Rattle.slub_trace.specs.declared.reply.Reply.{Reply}
+use Rattle.slub_trace.specs.declared.reply.Reply.TheVariants.{NoMemory}
 use Rattle.slub_core.specs.declared.local.FrameRun.{FrameRun}
 use Rattle.slub_core.specs.World.{LockValue, Nothing, Node, Checked, Pool}
 use Rattle.slub_core.specs.Checked.{slabs_in, run_at}
-use Rattle.slub_local.specs.Facts.{no_layout}
+use Rattle.slub_core.specs.Facts.{no_layout}
 
 -- it is the slabs of a checked cache
 abbrev pub IsCheckedValue : LockValue → Type 0

@@ -1,16 +1,17 @@
--- Where a worker goes once the slabs of a checked cache have answered.
+-- `alloc_single_from_partial`, `free_debug_processing`: where a worker goes once the slabs of a
+-- checked cache have answered.
 use Rattle.std.specs.Prelude.{Option, Some, None}
 use Rattle.slub_object_layout.specs.Layout.{address_of}
 use Rattle.slub_red_zone.specs.declared.checked.CheckedGive.{CheckedGive}
 use Rattle.slub_red_zone.specs.declared.checked.CheckedGive.TheVariants as give
-use Rattle.slub_answers.specs.declared.reply.Reply.TheVariants.{Given, Freed}
+use Rattle.slub_trace.specs.declared.reply.Reply.TheVariants.{Given, Freed}
 use Rattle.slub_core.specs.declared.call.CallKind.TheVariants.{Alloc, Free}
 use Rattle.slub_core.specs.declared.local.FrameRun.{FrameRun}
 use Rattle.slub_core.specs.declared.spot.Spot.{Spot}
 use Rattle.slub_core.specs.declared.spot.Spot.TheVariants.{InChecked}
 use Rattle.slub_core.specs.declared.spot.CheckedSpot.TheVariants.{LockRun, GiveChecked}
 use Rattle.slub_core.specs.Local.{Local, Turn, here, at, gets, loses, goes, tells}
-use Rattle.slub_local.specs.Facts.{Facts, cache_of}
+use Rattle.slub_core.specs.Facts.{Facts, cache_of}
 
 -- it has the object that was given, or goes to look for a run
 abbrev pub given_turn : Facts → Local → CheckedGive → Turn

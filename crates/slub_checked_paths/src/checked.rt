@@ -1,28 +1,29 @@
-//! The calls of a checked cache (`alloc_single_from_partial`, `free_debug_processing`; the rest is profile).
+//! `alloc_single_from_partial`, `alloc_single_from_new_slab`, `free_debug_processing`: the calls of
+//! a checked cache, spot by spot (writes, reads and pokes are profile).
 
 ghost use Rattle.std.specs.Prelude.{◌≡◌};
 ghost use Rattle.slub_core.specs.Setup.{Means, node_lock, pool_lock};
 ghost use Rattle.slub_core.specs.World.{pool_in};
 ghost use Rattle.slub_core.specs.Checked as core;
 ghost use Rattle.slub_core.specs.Local.{goes};
-ghost use Rattle.slub_local.specs.Facts.{setup_of};
-ghost use Rattle.slub_local.specs.Values.{values_of, rooms_of};
-ghost use Rattle.slub_local.specs.Ways.{turned, changed};
+ghost use Rattle.slub_core.specs.Facts.{setup_of};
+ghost use Rattle.slub_core.specs.Values.{values_of, rooms_of};
+ghost use Rattle.slub_core.specs.Ways.{turned, changed};
 ghost use Rattle.slub_checked_paths.specs.Slabs.{slabs_at, is_refused};
 ghost use Rattle.slub_checked_paths.specs.Turns.{given_turn, freed_turn, way_of_spare};
 ghost use Rattle.slub_checked_paths.specs.Fits.{CheckedFits};
 
 use crate::slabs;
-use slub_answers::reply::Reply;
 use slub_core::call::CallKind;
+use slub_core::guarded::Guarded;
 use slub_core::local::FrameRun;
+use slub_core::setup::Setup;
 use slub_core::spot::{CheckedSpot, Spot};
 use slub_core::step::{Answer, Step};
-use slub_local::guarded::Guarded;
-use slub_local::local::Local;
-use slub_local::setup::Setup;
-use slub_local::{ops, values};
+use slub_core::worker_local::Local;
+use slub_core::{ops, values};
 use slub_red_zone::checked::CheckedGive;
+use slub_trace::reply::Reply;
 
 /// The step that a spot of such a call calls for.
 pub fn checked_step(local: &Local, spot: CheckedSpot) -> Step

@@ -1,4 +1,5 @@
-//! Calls of a checked cache's slabs, which stand behind its lock.
+//! `alloc_single_from_partial`, `alloc_single_from_new_slab`, `free_debug_processing`: calls of a
+//! checked cache's slabs, which stand behind its lock (writes, reads and pokes are profile).
 
 ghost use Rattle.std.specs.Prelude.{◌≡◌, ◌+◌, ◌*◌, ◌<◌, ◌≤◌, ◌&&◌, nat_lt, if◌then◌else◌, MatchResult, Some, None};
 ghost use Rattle.slub_red_zone.specs.State.{IsUsed, Has, slab_of, objects_in};
@@ -7,16 +8,16 @@ ghost use Rattle.slub_red_zone.specs.Steps.{Gives, damage_of_used, with_taken, w
 ghost use Rattle.slub_core.specs.Setup.{node_lock};
 ghost use Rattle.slub_core.specs.World.{Checked, update};
 ghost use Rattle.slub_core.specs.Checked as core;
-ghost use Rattle.slub_local.specs.Values.{value_in, values_of, room_in, rooms_of};
+ghost use Rattle.slub_core.specs.Values.{value_in, values_of, room_in, rooms_of};
 ghost use Rattle.slub_checked_paths.specs.Slabs.{IsCheckedValue, slabs_at, spare_run, less_spare};
 
-use slub_answers::reply::Reply;
 use slub_common::no_memory::NoMemory;
+use slub_core::guarded::Guarded;
 use slub_core::local::FrameRun;
-use slub_local::guarded::Guarded;
-use slub_local::local::Local;
+use slub_core::worker_local::Local;
 use slub_red_zone::checked::{CheckedGive, CheckedSlabs, Run, Slot};
-use slub_red_zone::zones::Damage;
+use slub_trace::damage::Damage;
+use slub_trace::reply::Reply;
 
 /// Where the object of the call is.
 pub fn slot_of(local: &Local) -> Slot

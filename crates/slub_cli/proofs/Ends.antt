@@ -21,20 +21,20 @@ use Rattle.slub_trace_reader.specs.declared.reading.Why.{Why}
 use Rattle.slub_trace_reader.specs.Grammar.{IsTrace}
 use Rattle.slub_trace_reader.specs.Reads.{IsBadIn, Spells}
 use Rattle.slub_trace.specs.Sound.{IsSound}
-use Rattle.slub_ways.specs.declared.way.Way.{Way}
-use Rattle.slub_ways.specs.declared.way.Way.TheVariants.{Serial, Schedule}
-use Rattle.slub_ways.specs.Runs.{IsLawful}
-use Rattle.slub_ways.proofs.WithoutIds.{HasNoTurns, never-spent, serial-without, threads-without}
-use Rattle.slub_journal.specs.declared.journal.Journal.{Journal}
+use Rattle.slub_law_replay.specs.declared.way.Way.{Way}
+use Rattle.slub_law_replay.specs.declared.way.Way.TheVariants.{Serial, Schedule}
+use Rattle.slub_law_replay.specs.Runs.{IsLawful}
+use Rattle.slub_law_replay.proofs.WithoutIds.{HasNoTurns, never-spent, serial-without, threads-without}
+use Rattle.slub_slabinfo_text.specs.declared.journal.Journal.{Journal}
 use Rattle.slub_cli.specs.declared.stop.Stop.{Stop}
 use Rattle.slub_cli.specs.declared.stop.Stop.TheVariants as stop
 use Rattle.slub_cli.specs.declared.status.Status.{Status}
 use Rattle.slub_cli.specs.declared.status.Status.TheVariants.{Fine, Refused, BadWords, BadTrace, ReadFault, WriteFault, NoMemory, TurnsSpent}
 use Rattle.slub_cli.specs.declared.status.Outcome.{Outcome}
-use Rattle.slub_laws.proofs.Moved.{freed_was_given, given_once}
-use Rattle.slub_laws.proofs.Totals.{given_is_live}
-use Rattle.slub_laws.proofs.Rounds.{lawful-rounds}
-use Rattle.slub_laws.proofs.Pokes.{poked-damages}
+use Rattle.slub_law_replay.proofs.Moved.{freed_was_given, given_once}
+use Rattle.slub_law_replay.proofs.Totals.{given_is_live}
+use Rattle.slub_law_replay.proofs.Rounds.{lawful-rounds}
+use Rattle.slub_law_replay.proofs.Pokes.{poked-damages}
 use Rattle.slub_cli.specs.Run.{AreBadWords, AsksReplay, Call, Ends, HasNoIds, IsAsked, IsBadInput, IsBadBytes, IsCauseOf, IsDone, IsFaultLine, IsJournalOf, IsLayoutAnswer, IsLayoutCause, IsLayoutText, IsReplayCause, HoldsOver, IsLoadCause, IsReplayJournal, IsRunOf, SpendsNextRound, IsSomeTrace, IsTextOf, IsWant, NoFault, TellsReads, TookAll, TookFront, Wrote, answer_status, done_status, is_refused, lacks_memory, last_in, text_in, way_asked, way_of}
 use Rattle.slub_cli.specs.Inner.{Finishes, StopsAtReadFault, StopsAtWriteFault, Worked, Works, stop_line, stop_status}
 use Rattle.slub_cli.proofs.OneText.{one_text_of}

@@ -6,12 +6,12 @@ use Rattle.slub_lists.specs.State.{State}
 use Rattle.slub_lists.specs.Coherent.{IsCoherent}
 use Rattle.slub_trace.specs.declared.trace.Item.{Item}
 use Rattle.slub_trace.specs.declared.trace.Trace.{Trace}
-use Rattle.slub_journal.specs.declared.journal.Done.{Done}
-use Rattle.slub_journal.specs.declared.journal.Journal.{Journal}
-use Rattle.slub_journal.specs.Lawful.{opening_of}
-use Rattle.slub_ways.specs.declared.way.Way.{Way}
-use Rattle.slub_ways.specs.Runs.{DoesAt, IsLawful, IsReadyMachine, MachineState, RunsItems, SpendsAt, machine_of}
-use Rattle.slub_ways.proofs.Runs.{run_more}
+use Rattle.slub_slabinfo_text.specs.declared.journal.Done.{Done}
+use Rattle.slub_slabinfo_text.specs.declared.journal.Journal.{Journal}
+use Rattle.slub_slabinfo_text.specs.Lawful.{opening_of}
+use Rattle.slub_law_replay.specs.declared.way.Way.{Way}
+use Rattle.slub_law_replay.specs.Runs.{DoesAt, IsLawful, IsReadyMachine, MachineState, RunsItems, SpendsAt, machine_of}
+use Rattle.slub_law_replay.proofs.Runs.{run_more}
 use Rattle.slub_cli.specs.declared.stop.Stop.{Stop}
 use Rattle.slub_cli.specs.declared.stop.Stop.TheVariants.{WriteFault, NoMemory, TurnsSpent}
 use Rattle.slub_cli.specs.Inner.{Adds, AddsTotal, DoesItem, IsMachineOf, IsSame, PutsItem, SameMachine, StopsSpent, Totals}

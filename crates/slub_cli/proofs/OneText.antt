@@ -7,9 +7,9 @@ use Rattle.slub_command.specs.declared.command.Command.{Command}
 use Rattle.slub_command.specs.declared.command.Command.TheVariants.{Replay, Layout, Load}
 use Rattle.slub_command.specs.Command.{IsCommand}
 use Rattle.slub_trace.specs.declared.trace.Trace.{Trace}
-use Rattle.slub_journal.specs.declared.journal.Journal.{Journal}
-use Rattle.slub_ways.specs.Runs.{IsLawful}
-use Rattle.slub_one_text.proofs.Items.{journals-one}
+use Rattle.slub_slabinfo_text.specs.declared.journal.Journal.{Journal}
+use Rattle.slub_law_replay.specs.Runs.{IsLawful}
+use Rattle.slub_law_replay.proofs.Items.{journals-one}
 use Rattle.slub_cli.specs.declared.status.Status.{Status}
 use Rattle.slub_cli.specs.declared.status.Status.TheVariants.{Fine, Refused, BadWords, BadTrace, ReadFault, WriteFault, NoMemory, TurnsSpent}
 use Rattle.slub_cli.specs.Run.{Call, Ends, IsAsked, IsCauseOf, IsJournalOf, TookAll, TookOneText, TookTextOf, Wrote, replies_asked, way_asked}

@@ -14,16 +14,16 @@ use Rattle.slub_trace.specs.declared.trace.Trace.{Trace}
 use Rattle.slub_trace_reader.specs.declared.reading.TraceFault.{TraceFault}
 use Rattle.slub_trace_reader.specs.declared.reading.TraceFault.TheVariants as fault
 use Rattle.slub_trace_reader.specs.Reads.{Reads}
-use Rattle.slub_journal.specs.declared.journal.Journal.{Journal}
-use Rattle.slub_journal.specs.Journal.{IsEmpty}
+use Rattle.slub_slabinfo_text.specs.declared.journal.Journal.{Journal}
+use Rattle.slub_slabinfo_text.specs.Journal.{IsEmpty}
 use Rattle.slub_cli.specs.declared.stop.Stop.{Stop}
 use Rattle.slub_cli.specs.declared.stop.Stop.TheVariants.{BadWords, BadLine, TooLong, ReadFault, WriteFault, NoMemory, TurnsSpent}
 use Rattle.slub_cli.specs.declared.status.Status.{Status}
 use Rattle.slub_trace.specs.Sound.{IsSound}
-use Rattle.slub_load.specs.Load.{load_of}
-use Rattle.slub_ways.specs.declared.way.Way.{Way}
-use Rattle.slub_ways.specs.declared.way.Way.TheVariants.{Schedule}
-use Rattle.slub_ways.specs.Runs.{IsLawful, MachineState}
+use Rattle.slub_trace_reader.specs.Load.{load_of}
+use Rattle.slub_law_replay.specs.declared.way.Way.{Way}
+use Rattle.slub_law_replay.specs.declared.way.Way.TheVariants.{Schedule}
+use Rattle.slub_law_replay.specs.Runs.{IsLawful, MachineState}
 use Rattle.slub_items.specs.declared.machine.Stopped.{Stopped}
 use Rattle.slub_items.specs.declared.machine.Stopped.TheVariants as stopped
 use Rattle.slub_items.specs.Stopped.{IsStopped}

@@ -9,10 +9,10 @@ use Rattle.slub_edges.specs.Edges.{AppendsFront}
 use Rattle.slub_edges.proofs.Told.{AppendsFront-after}
 use Rattle.slub_trace.specs.declared.trace.Item.{Item}
 use Rattle.slub_trace.specs.declared.trace.Trace.{Trace}
-use Rattle.slub_journal.specs.declared.journal.Done.{Done}
-use Rattle.slub_journal.specs.declared.journal.Total.{Total}
-use Rattle.slub_journal.specs.declared.journal.Journal.{Journal}
-use Rattle.slub_journal.specs.Text.{text_of, text_at, done_text, items_text, total_text}
+use Rattle.slub_slabinfo_text.specs.declared.journal.Done.{Done}
+use Rattle.slub_slabinfo_text.specs.declared.journal.Total.{Total}
+use Rattle.slub_slabinfo_text.specs.declared.journal.Journal.{Journal}
+use Rattle.slub_slabinfo_text.specs.Text.{text_of, text_at, done_text, items_text, total_text}
 use Rattle.slub_cli.specs.Run.{last_begins}
 use Rattle.slub_cli.specs.Inner.{GrowsText, GrowsFront, IsSame, Tells, TookText}
 use Rattle.slub_cli.specs.declared.stop.Stop.{Stop}

@@ -12,14 +12,14 @@ use Rattle.slub_lists.specs.State.{State}
 use Rattle.slub_trace.specs.declared.trace.Trace.{Trace}
 use Rattle.slub_trace_reader.specs.declared.reading.Why.{Why}
 use Rattle.slub_trace_reader.specs.Reads.{IsBadIn, IsTooLong, Spells}
-use Rattle.slub_journal.specs.declared.journal.Done.{Done}
-use Rattle.slub_journal.specs.declared.journal.Total.{Total}
-use Rattle.slub_journal.specs.declared.journal.Journal.{Journal}
-use Rattle.slub_journal.specs.Lawful.{IsTotal}
-use Rattle.slub_journal.specs.Text.{text_of}
-use Rattle.slub_ways.specs.declared.way.Way.{Way}
-use Rattle.slub_ways.specs.declared.way.Way.TheVariants.{Schedule}
-use Rattle.slub_ways.specs.Runs.{DoesAt, EndsSpent, IsReadyMachine, MachineState, RunsItems, SpendsAt, machine_of}
+use Rattle.slub_slabinfo_text.specs.declared.journal.Done.{Done}
+use Rattle.slub_slabinfo_text.specs.declared.journal.Total.{Total}
+use Rattle.slub_slabinfo_text.specs.declared.journal.Journal.{Journal}
+use Rattle.slub_slabinfo_text.specs.Lawful.{IsTotal}
+use Rattle.slub_slabinfo_text.specs.Text.{text_of}
+use Rattle.slub_law_replay.specs.declared.way.Way.{Way}
+use Rattle.slub_law_replay.specs.declared.way.Way.TheVariants.{Schedule}
+use Rattle.slub_law_replay.specs.Runs.{DoesAt, EndsSpent, IsReadyMachine, MachineState, RunsItems, SpendsAt, machine_of}
 use Rattle.slub_cli.specs.declared.stop.Stop.{Stop}
 use Rattle.slub_cli.specs.declared.stop.Stop.TheVariants.{BadWords, BadLine, TooLong, ReadFault, WriteFault, NoMemory, TurnsSpent}
 use Rattle.slub_cli.specs.declared.status.Status.{Status}

@@ -15,7 +15,7 @@ use Rattle.slub_command.specs.declared.command.How.{How}
 use Rattle.slub_command.specs.declared.command.How.TheVariants as hows
 use Rattle.slub_command.specs.Command.{IsCommand}
 use Rattle.slub_slabinfo_text.specs.Texts.{layout_lines}
-use Rattle.slub_answers.specs.Kinds.{is_no_memory, is_ok_reply}
+use Rattle.slub_trace.specs.Kinds.{is_no_memory, is_ok_reply}
 use Rattle.slub_trace.specs.declared.trace.Client.{Client as Asked}
 use Rattle.slub_trace.specs.declared.trace.Item.{Item}
 use Rattle.slub_trace.specs.declared.trace.Item.TheVariants as item
@@ -25,27 +25,27 @@ use Rattle.slub_trace_reader.specs.declared.reading.Why.{Why}
 use Rattle.slub_trace_reader.specs.Faults.{why_text}
 use Rattle.slub_trace_reader.specs.Reads.{IsBadIn, IsNoTrace, IsTooLong, Spells}
 use Rattle.slub_trace.specs.Sound.{IsSound}
-use Rattle.slub_journal.specs.declared.client.ClientAnswer.{ClientAnswer}
-use Rattle.slub_journal.specs.declared.client.ClientAnswer.TheVariants as answer
-use Rattle.slub_journal.specs.declared.client.ClientDone.{ClientDone}
-use Rattle.slub_journal.specs.declared.client.ClientRound.{ClientRound}
-use Rattle.slub_journal.specs.declared.journal.Done.{Done}
-use Rattle.slub_journal.specs.declared.journal.Done.TheVariants as done
-use Rattle.slub_journal.specs.declared.journal.Found.{Found}
-use Rattle.slub_journal.specs.declared.journal.Total.{Total}
-use Rattle.slub_journal.specs.declared.journal.Journal.{Journal}
-use Rattle.slub_journal.specs.Journal.{IsEmpty}
-use Rattle.slub_journal.specs.ClientText.{is_ok_client}
-use Rattle.slub_journal.specs.Text.{text_of, items_text}
-use Rattle.slub_laws.specs.Freed.{freed_times, given_times}
-use Rattle.slub_laws.specs.Poked.{HasPokedDamages}
-use Rattle.slub_laws.specs.Rounds.{HasLawfulRounds}
-use Rattle.slub_load.specs.Load.{load_of}
-use Rattle.slub_ways.specs.declared.way.Way.{Way}
-use Rattle.slub_ways.specs.declared.way.Way.TheVariants.{Serial, Schedule, Threads}
-use Rattle.slub_ways.specs.Runs.{EndsSpent, IsLawful}
-use Rattle.slub_one_text.specs.Journals.{TellAsMuch}
-use Rattle.slub_one_text.specs.Rounds.{IsFixed}
+use Rattle.slub_slabinfo_text.specs.declared.client.ClientAnswer.{ClientAnswer}
+use Rattle.slub_slabinfo_text.specs.declared.client.ClientAnswer.TheVariants as answer
+use Rattle.slub_slabinfo_text.specs.declared.client.ClientDone.{ClientDone}
+use Rattle.slub_slabinfo_text.specs.declared.client.ClientRound.{ClientRound}
+use Rattle.slub_slabinfo_text.specs.declared.journal.Done.{Done}
+use Rattle.slub_slabinfo_text.specs.declared.journal.Done.TheVariants as done
+use Rattle.slub_slabinfo_text.specs.declared.journal.Found.{Found}
+use Rattle.slub_slabinfo_text.specs.declared.journal.Total.{Total}
+use Rattle.slub_slabinfo_text.specs.declared.journal.Journal.{Journal}
+use Rattle.slub_slabinfo_text.specs.Journal.{IsEmpty}
+use Rattle.slub_slabinfo_text.specs.ClientText.{is_ok_client}
+use Rattle.slub_slabinfo_text.specs.Text.{text_of, items_text}
+use Rattle.slub_law_replay.specs.Freed.{freed_times, given_times}
+use Rattle.slub_law_replay.specs.Poked.{HasPokedDamages}
+use Rattle.slub_law_replay.specs.Rounds.{HasLawfulRounds}
+use Rattle.slub_trace_reader.specs.Load.{load_of}
+use Rattle.slub_law_replay.specs.declared.way.Way.{Way}
+use Rattle.slub_law_replay.specs.declared.way.Way.TheVariants.{Serial, Schedule, Threads}
+use Rattle.slub_law_replay.specs.Runs.{EndsSpent, IsLawful}
+use Rattle.slub_law_replay.specs.Journals.{TellAsMuch}
+use Rattle.slub_law_replay.specs.OneTextRounds.{IsFixed}
 use Rattle.slub_cli.specs.declared.status.Status.{Status}
 use Rattle.slub_cli.specs.declared.status.Status.TheVariants.{Fine, Refused, BadWords, BadTrace, ReadFault, WriteFault, NoMemory, TurnsSpent}
 use Rattle.slub_cli.specs.declared.status.Outcome.{Outcome}

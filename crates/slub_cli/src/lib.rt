@@ -36,15 +36,3 @@ mod replay;
 pub mod run;
 pub mod status;
 pub mod stop;
-#[cfg(test)]
-mod tests;
-#[cfg(test)]
-mod tests_commands;
-#[cfg(test)]
-mod tests_ids;
-#[cfg(test)]
-mod tests_pieces;
-#[cfg(test)]
-mod tests_schedule;
-#[cfg(test)]
-mod tests_threads;

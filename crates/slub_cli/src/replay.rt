@@ -7,22 +7,22 @@
 
 ghost use Rattle.std.specs.Prelude.{Bool, ◌≡◌, ◌<◌, ◌≤◌, [], None, Some, length, IfErr, IfOk, OnOk, IsSome};
 ghost use Rattle.slub_lists.specs.Coherent.{IsCoherent};
-ghost use Rattle.slub_journal.specs.Journal.{IsEmpty};
+ghost use Rattle.slub_slabinfo_text.specs.Journal.{IsEmpty};
 ghost use Rattle.slub_trace.specs.Sound.{IsSound};
-ghost use Rattle.slub_journal.specs.Lawful.{opening_of};
-ghost use Rattle.slub_ways.specs.Runs.{IsLawful, IsReadyMachine, RunsItems, machine_of};
+ghost use Rattle.slub_slabinfo_text.specs.Lawful.{opening_of};
+ghost use Rattle.slub_law_replay.specs.Runs.{IsLawful, IsReadyMachine, RunsItems, machine_of};
 ghost use Rattle.slub_cli.specs.Inner.{DoesItem, IsItemStop, IsMachineOf, LeavesMachine, PutsItem, StopsAtWriteFault, StopsSpent, Tells, TookText, Totals};
 
 use crate::stop::Stop;
 use slub_edges::edges::Sink;
 use slub_edges::gate::Gate;
 use slub_edges::pieces::write_lines;
-use slub_item_text::item::ItemText;
 use slub_items::machine::Machine;
-use slub_journal::journal::{Done, Journal};
-use slub_journal::text::push_sums;
+use slub_law_replay::way::Way;
+use slub_slabinfo_text::item::ItemText;
+use slub_slabinfo_text::journal::{Done, Journal};
+use slub_slabinfo_text::journal_text::push_sums;
 use slub_trace::trace::Trace;
-use slub_ways::way::Way;
 use std::alloc::Global;
 use std::sync::Wait;
 use std::thread::Threads;

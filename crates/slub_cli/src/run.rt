@@ -2,7 +2,7 @@
 
 ghost use Rattle.std.specs.Prelude.{◌≡◌, ◌≤◌, ℕ, List, None, map, string_bytes, IfOk};
 ghost use Rattle.slub_trace.specs.Sound.{IsSound};
-ghost use Rattle.slub_journal.specs.Journal.{IsEmpty};
+ghost use Rattle.slub_slabinfo_text.specs.Journal.{IsEmpty};
 ghost use Rattle.slub_cli.specs.Run.{AsksReplay, IsRunOf, way_of};
 ghost use Rattle.slub_cli.specs.Inner.{Finishes, Loaded, ReadsInput, Replayed, StopsAtReadFault, StopsAtWriteFault, Worked, stop_line, stop_status};
 
@@ -14,11 +14,11 @@ use slub_command::command::{Command, CommandFault, How, read};
 use slub_edges::edges::{Sink, Source};
 use slub_edges::gate::Gate;
 use slub_edges::pieces::write_lines;
-use slub_journal::journal::Journal;
-use slub_load::load::load_trace;
+use slub_law_replay::way::Way;
+use slub_slabinfo_text::journal::Journal;
 use slub_trace::trace::Trace;
+use slub_trace_reader::load::load_trace;
 use slub_trace_reader::reading::read_trace;
-use slub_ways::way::Way;
 use std::alloc::Global;
 use std::sync::Wait;
 use std::thread::Threads;

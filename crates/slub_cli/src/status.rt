@@ -2,15 +2,15 @@
 
 ghost use Rattle.std.specs.Prelude.{◌≡◌, not};
 ghost use Rattle.std.specs.List.{list_any, zip};
-ghost use Rattle.slub_answers.specs.Kinds.{is_no_memory, is_ok_reply};
+ghost use Rattle.slub_trace.specs.Kinds.{is_no_memory, is_ok_reply};
 ghost use Rattle.slub_cli.specs.Run.{answer_status, done_status, has_damage, has_refused, is_err, is_refused_client, items_in, lacks_memory, refuses_client};
 
-use slub_answers::create::{CreateRefusal, Created};
-use slub_answers::reply::{Kind, Reply};
-use slub_journal::client::{ClientAnswer, ClientDone, ClientRound};
-use slub_journal::client_text::is_ok_client;
-use slub_journal::journal::{Done, Journal};
 use slub_object_layout::layout::{Layout, LayoutRefusal};
+use slub_slabinfo_text::client::{ClientAnswer, ClientDone, ClientRound};
+use slub_slabinfo_text::client_text::is_ok_client;
+use slub_slabinfo_text::journal::{Done, Journal};
+use slub_trace::create::{CreateRefusal, Created};
+use slub_trace::reply::{Kind, Reply};
 use slub_trace::trace::{Client, Item, Trace};
 
 /// How a run ended.

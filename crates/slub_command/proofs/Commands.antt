@@ -4,7 +4,7 @@ use Rattle.std.specs.List.{list_all}
 use Rattle.std.specs.Str.{bytes_eq}
 use Rattle.std.proofs.lemmas.Bool.{false≢true, and_parts, cases_Bool, eqb-true, leb-true}
 use Rattle.std.proofs.lemmas.List.Folds.{list_all-append}
-use Rattle.slub_numbers.specs.Numbers.{is_digit, is_number}
+use Rattle.slub_common.specs.Numbers.{is_digit, is_number}
 use Rattle.slub_object_layout.specs.declared.layout.Spec.{Spec}
 use Rattle.slub_command.specs.declared.command.How.{How}
 use Rattle.slub_command.specs.declared.command.How.TheVariants.{Serial, Schedule, Threads}

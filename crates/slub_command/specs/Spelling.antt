@@ -2,7 +2,7 @@
 use Rattle.std.specs.Prelude.{◌≡◌, ◌≤◌, ℕ, ◌==◌, Bool, true, not, ◌&&◌, ◌||◌, List, length, codes, nat_le, count_by, slice_index}
 use Rattle.std.specs.List.{list_any, list_all}
 use Rattle.std.specs.Str.{bytes_eq}
-use Rattle.slub_numbers.specs.Numbers.{Writes}
+use Rattle.slub_common.specs.Numbers.{Writes}
 use Rattle.slub_object_layout.specs.declared.layout.Flags.{Flags}
 
 -- the bytes of a word

@@ -22,5 +22,3 @@ pub mod laws;
 mod options;
 mod places;
 mod spelling;
-#[cfg(test)]
-mod tests;

@@ -5,7 +5,7 @@ ghost use Rattle.std.specs.List.{list_all};
 ghost use Rattle.slub_object_layout.specs.declared.layout.Flags.{Flags};
 ghost use Rattle.slub_command.specs.Spelling.{IsFlags, IsNumber, are_letters, is_flag_word, is_letter, stands_in, stands_once};
 
-use slub_numbers::numbers::small_number;
+use slub_common::numbers::small_number;
 use slub_object_layout::layout::Flags;
 
 /// The number that a word spells, of those that 64 bits hold.

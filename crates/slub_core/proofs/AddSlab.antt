@@ -41,7 +41,7 @@ use Rattle.slub_core.proofs.PoolSpots.{sized-small, put-pool, some-run}
 use Rattle.slub_core.proofs.RemakeStep.{run-first, pow-some}
 use Rattle.slub_core.proofs.UnderLock.{Makes, takes-node, pool_step, known-same, locks-same}
 use Rattle.slub_core.proofs.Update.{term_le_sum}
-use Rattle.slub_core.proofs.Values.{value-slab}
+use Rattle.slub_core.proofs.StepValues.{value-slab}
 use Rattle.slub_core.proofs.ValueStep.{known-owned}
 
 -- ---- there is no memory for the slab's bytes

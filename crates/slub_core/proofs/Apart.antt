@@ -19,7 +19,7 @@ use Rattle.slub_core.proofs.MemoryStep.{IsApart}
 use Rattle.slub_core.proofs.Slots.{IsWordOf, pointer-word, word-index, word-frame, sized-fits, in_run-one, two_terms}
 use Rattle.slub_core.proofs.Spots.{run-cache}
 use Rattle.slub_core.proofs.Update.{term_le_sum}
-use Rattle.slub_core.proofs.Values.{word-objects}
+use Rattle.slub_core.proofs.StepValues.{word-objects}
 
 -- a slab covers the frame of each word of its objects
 pub slab-covers : (w : World) (xs : List Worker) (f i p : ℕ) (s : Stands w xs) → 1 ≤ exists_at w f i → IsWordOf (w.setup.layout (w.slab f).cache) f i p → covers w (p / 512) f ≡ 1

@@ -3,7 +3,7 @@ use Rattle.std.proofs.Common.{◌≡◌, ℕ, ◌<◌, ◌≤◌, ◌⊎◌, ◌
 use Rattle.std.specs.Prelude.{slice_index}
 use Rattle.std.proofs.lemmas.Bool.{cases_Bool, false≢true, eq-eqb, cases_eq}
 use Rattle.std.proofs.lemmas.Option.{none-some}
-use Rattle.slub_answers.specs.declared.reply.Reply.TheVariants as reply
+use Rattle.slub_trace.specs.declared.reply.Reply.TheVariants as reply
 use Rattle.slub_core.specs.declared.call.Call.{Call}
 use Rattle.slub_core.specs.declared.call.CallKind.{CallKind}
 use Rattle.slub_core.specs.declared.call.CallKind.TheVariants.{Alloc, Free, Write, Read, Poke, Trim, Flush}
@@ -28,7 +28,7 @@ use Rattle.slub_core.proofs.Counts.{places-cons}
 use Rattle.slub_core.proofs.LocalStep.{local_step}
 use Rattle.slub_core.proofs.Locks.{ComesTo}
 use Rattle.slub_core.proofs.Leads.{at_work}
-use Rattle.slub_core.proofs.Values.{object-within, cache-live}
+use Rattle.slub_core.proofs.StepValues.{object-within, cache-live}
 use Rattle.slub_core.proofs.ValueStep.{known-owned}
 
 -- whether the call is a try

@@ -34,7 +34,7 @@ use Rattle.slub_core.proofs.CheckedStep.{checked_step, held-used, shape-size}
 use Rattle.slub_core.proofs.Knowns.{held-gets, held-loses, known-set, here-set}
 use Rattle.slub_core.proofs.LocalStep.{local_step}
 use Rattle.slub_core.proofs.UnderLock.{Makes, cache-same_value, known-same, locks-same}
-use Rattle.slub_core.proofs.Values.{value-slab}
+use Rattle.slub_core.proofs.StepValues.{value-slab}
 use Rattle.slub_core.proofs.ValueStep.{known-owned}
 
 -- ---- the worker after it

@@ -21,7 +21,7 @@ use Rattle.slub_core.specs.Coherent.{Stands}
 use Rattle.slub_core.proofs.Counts.{places-cons}
 use Rattle.slub_core.proofs.UnderLock.{HasSameSlabs, checked-is, same_step, takes-node}
 use Rattle.slub_core.proofs.Update.{update_other, term_le_sum}
-use Rattle.slub_core.proofs.Values.{word-cache, unworded-cache, unworded-objects, object-within, in-value, checked-value}
+use Rattle.slub_core.proofs.StepValues.{word-cache, unworded-cache, unworded-objects, object-within, in-value, checked-value}
 
 -- ---- slabs of the same shape
 

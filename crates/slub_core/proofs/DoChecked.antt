@@ -2,7 +2,7 @@
 use Rattle.std.proofs.Common.{◌≡◌, ℕ, ◌==◌, ◌&&◌, Bool, true, false, Option, Some, None, List, ◌∷◌, length, refl, sym, ap, subst, inl, inr}
 use Rattle.std.specs.Prelude.{nat_le}
 use Rattle.std.proofs.lemmas.Bool.{cases_Bool, leb-true, eqb-true, false≢true}
-use Rattle.slub_red_zone.specs.declared.zones.Damage.{Damage}
+use Rattle.slub_trace.specs.declared.damage.Damage.{Damage}
 use Rattle.slub_red_zone.specs.State.{CheckedState, slab_of, objects_in}
 use Rattle.slub_red_zone.specs.Steps.{IsSpare, damage_of_used, with_taken}
 use Rattle.slub_core.specs.declared.call.CallKind.{CallKind}

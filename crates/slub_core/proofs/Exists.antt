@@ -14,7 +14,7 @@ use Rattle.slub_core.proofs.Chains.{IsChain-first}
 use Rattle.slub_core.proofs.Counts.{All-from_no_sum, places-cons}
 use Rattle.slub_core.proofs.Lists.{times-first}
 use Rattle.slub_core.proofs.Update.{term_le_sum}
-use Rattle.slub_core.proofs.Values.{word-objects, word-cache, object-within, checked-cache}
+use Rattle.slub_core.proofs.StepValues.{word-objects, word-cache, object-within, checked-cache}
 
 -- ---- one object at a place
 

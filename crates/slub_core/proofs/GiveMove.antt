@@ -24,7 +24,7 @@ use Rattle.slub_core.specs.Offline.{trimmed_cpu, flushed_cache}
 use Rattle.slub_core.specs.MoveSet.{move_set_advance}
 use Rattle.slub_core.specs.Fresh.{IsAtWork, IsCursor, IsKeptSlab, IsHeldString, AreHands, AreHeld}
 use Rattle.slub_core.specs.Coherent.{Stands}
-use Rattle.slub_core.proofs.Hands.{one-hand, in_chain-nil}
+use Rattle.slub_core.proofs.StepHands.{one-hand, in_chain-nil}
 use Rattle.slub_core.proofs.Lists.{times-first}
 use Rattle.slub_core.proofs.Locks.{ComesTo, HasSame, lent, give-node}
 

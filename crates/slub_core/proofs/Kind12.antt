@@ -21,7 +21,7 @@ use Rattle.slub_core.specs.Fresh.{AreHands, AreHeld, IsHeldString, IsAtWork}
 use Rattle.slub_core.specs.Coherent.{Stands}
 use Rattle.slub_core.proofs.Counts.{homes-cons}
 use Rattle.slub_core.proofs.Exists.{home-live}
-use Rattle.slub_core.proofs.Hands.{one-hand, two-hands, in_chain-nil}
+use Rattle.slub_core.proofs.StepHands.{one-hand, two-hands, in_chain-nil}
 use Rattle.slub_core.proofs.Homes.{mine-marked, live-most, off-some}
 use Rattle.slub_core.proofs.Lists.{times-first}
 use Rattle.slub_core.proofs.Locks.{ComesTo}

@@ -24,7 +24,7 @@ use Rattle.slub_core.specs.Coherent.{Stands}
 use Rattle.slub_core.proofs.Chains.{IsChain-none}
 use Rattle.slub_core.proofs.Changes.{own-word, grown, in_chain-same, current-slab}
 use Rattle.slub_core.proofs.CpuStep.{cpu_step}
-use Rattle.slub_core.proofs.Hands.{in_chain-nil}
+use Rattle.slub_core.proofs.StepHands.{in_chain-nil}
 use Rattle.slub_core.proofs.Locks.{ComesTo}
 
 -- no walk has begun

@@ -23,12 +23,12 @@ use Rattle.slub_core.proofs.Chains.{IsChain-first, IsChain-from, IsChain-none, L
 use Rattle.slub_core.proofs.Changes.{own-word, grown}
 use Rattle.slub_core.proofs.CpuStep.{cpu_step}
 use Rattle.slub_core.proofs.Exists.{in_chain-cons, in_chain-here, hands-exist, object-small, exists_at-within}
-use Rattle.slub_core.proofs.Hands.{one-hand, in_chain-nil}
+use Rattle.slub_core.proofs.StepHands.{one-hand, in_chain-nil}
 use Rattle.slub_core.proofs.Kind3.{given}
 use Rattle.slub_core.proofs.Knowns.{held-gets, here-set, known-set}
 use Rattle.slub_core.proofs.Lists.{times-first}
 use Rattle.slub_core.proofs.Locks.{ComesTo}
-use Rattle.slub_core.proofs.Values.{word-cache}
+use Rattle.slub_core.proofs.StepValues.{word-cache}
 
 -- what was loaded of the first object is where the rest of the chain begins
 second-is : (g : ℕ → ℕ) (h : Hand) (ys : List ℕ) → 1 ≤ h.head → IsLoaded h → IsWalk ((h.head - 1) ∷ ys) h → Leads g (g (h.head - 1)) ys 0 → second_of h ≡ g (h.head - 1)

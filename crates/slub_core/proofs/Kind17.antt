@@ -22,7 +22,7 @@ use Rattle.slub_core.specs.Listed.{home_of}
 use Rattle.slub_core.specs.Fresh.{IsWalk, IsLoaded, AreHands, AreHeld, IsAtWork}
 use Rattle.slub_core.specs.Coherent.{Stands}
 use Rattle.slub_core.proofs.Exists.{in_chain-here, hands-exist, object-small}
-use Rattle.slub_core.proofs.Hands.{one-hand, first-hand}
+use Rattle.slub_core.proofs.StepHands.{one-hand, first-hand}
 use Rattle.slub_core.proofs.LocalStep.{local_step}
 use Rattle.slub_core.proofs.Locks.{ComesTo}
 use Rattle.slub_core.proofs.Walks.{Leads-some, further, arrived, place_of, walk-further, walk-arrived, walk-step, walked-end, walked-more}

@@ -18,7 +18,7 @@ use Rattle.slub_core.specs.Listed.{home_of, marked_of, takes}
 use Rattle.slub_core.specs.Fresh.{AreHands, AreHeld, IsAtWork}
 use Rattle.slub_core.specs.Coherent.{Stands}
 use Rattle.slub_core.proofs.Exists.{in_chain-here, in_chain-away}
-use Rattle.slub_core.proofs.Hands.{one-hand, in_chain-nil}
+use Rattle.slub_core.proofs.StepHands.{one-hand, in_chain-nil}
 use Rattle.slub_core.proofs.Homes.{mine-marked, off-some}
 use Rattle.slub_core.proofs.Kind15.{fresh-walk}
 use Rattle.slub_core.proofs.Kind8.{hand-live}

@@ -23,7 +23,7 @@ use Rattle.slub_core.specs.Listed.{home_of, hands_count}
 use Rattle.slub_core.specs.Fresh.{AreHands, AreHeld, IsEmptied, IsWalk, IsAtWork}
 use Rattle.slub_core.specs.Coherent.{Stands}
 use Rattle.slub_core.proofs.Exists.{in_chain-here, in_chain-away}
-use Rattle.slub_core.proofs.Hands.{first-hand, in_chain-nil}
+use Rattle.slub_core.proofs.StepHands.{first-hand, in_chain-nil}
 use Rattle.slub_core.proofs.Homes.{off-some}
 use Rattle.slub_core.proofs.Kind29.{hand-once, frozen-unlisted}
 use Rattle.slub_core.proofs.Kind18.{known-kept}

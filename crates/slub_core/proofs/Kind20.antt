@@ -23,7 +23,7 @@ use Rattle.slub_core.specs.Fresh.{IsHeldRun, AreHands, AreHeld, IsAtWork, rising
 use Rattle.slub_core.specs.Coherent.{Stands}
 use Rattle.slub_core.proofs.Apart.{apart-object, apart-run}
 use Rattle.slub_core.proofs.Exists.{in_chain-here, owned-object, hands-exist, object_at-le}
-use Rattle.slub_core.proofs.Hands.{first-hand}
+use Rattle.slub_core.proofs.StepHands.{first-hand}
 use Rattle.slub_core.proofs.Kind4.{pointer-here}
 use Rattle.slub_core.proofs.Lists.{times-at}
 use Rattle.slub_core.proofs.LocalStep.{Settled}

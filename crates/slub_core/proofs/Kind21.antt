@@ -21,13 +21,13 @@ use Rattle.slub_core.specs.Listed.{home_of, covered_by, IsSized}
 use Rattle.slub_core.specs.Fresh.{AreHands, AreHeld, IsHeldRun, IsWalk, IsAtWork, rising_next}
 use Rattle.slub_core.specs.Coherent.{Stands}
 use Rattle.slub_core.proofs.Counts.{places-cons, homes-cons, roles-cons}
-use Rattle.slub_core.proofs.Hands.{no-hands}
+use Rattle.slub_core.proofs.StepHands.{no-hands}
 use Rattle.slub_core.proofs.Lists.{times-first}
 use Rattle.slub_core.proofs.Locks.{ComesTo}
 use Rattle.slub_core.proofs.Pigeon.{sum_below-none}
 use Rattle.slub_core.proofs.RemakeStep.{remake_step, unseen, run-first, pow-some, cache-elsewhere, covers-new, covers-none}
 use Rattle.slub_core.proofs.Update.{update_same, term_le_sum}
-use Rattle.slub_core.proofs.Values.{value-slab}
+use Rattle.slub_core.proofs.StepValues.{value-slab}
 use Rattle.slub_core.proofs.ValueStep.{known-owned}
 
 -- ---- the chain of a new slab

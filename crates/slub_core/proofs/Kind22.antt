@@ -24,14 +24,14 @@ use Rattle.slub_core.specs.Listed.{hands_count}
 use Rattle.slub_core.specs.Fresh.{AreHands, AreHeld, IsHeldRun, IsHeldString, IsEmptied, IsAtWork}
 use Rattle.slub_core.specs.Coherent.{Stands}
 use Rattle.slub_core.proofs.Counts.{places-cons, homes-cons}
-use Rattle.slub_core.proofs.Hands.{first-hand}
+use Rattle.slub_core.proofs.StepHands.{first-hand}
 use Rattle.slub_core.proofs.Homes.{mine-marked, off-some}
 use Rattle.slub_core.proofs.Locks.{ComesTo}
 use Rattle.slub_core.proofs.Pigeon.{full-chain}
 use Rattle.slub_core.proofs.RemakeStep.{remake_step, unseen, run-first, pow-some, objects-new, cache-elsewhere, covers-none}
 use Rattle.slub_core.proofs.SlabStep.{held-apart, string-apart}
 use Rattle.slub_core.proofs.Update.{update_same, term_le_sum}
-use Rattle.slub_core.proofs.Values.{word-objects, word-order}
+use Rattle.slub_core.proofs.StepValues.{word-objects, word-order}
 use Rattle.slub_core.proofs.ValueStep.{known-owned}
 
 -- where no object of a slab is in use, each is on the slab's own freelist

@@ -35,7 +35,7 @@ use Rattle.slub_core.specs.Coherent.{Stands}
 use Rattle.slub_core.proofs.Changes.{own-word}
 use Rattle.slub_core.proofs.Exists.{times-self}
 use Rattle.slub_core.proofs.GiveMove.{single-cursor}
-use Rattle.slub_core.proofs.Hands.{one-hand, in_chain-nil}
+use Rattle.slub_core.proofs.StepHands.{one-hand, in_chain-nil}
 use Rattle.slub_core.proofs.Kind25.{kept-alone, list-real, listed-below}
 use Rattle.slub_core.proofs.Lists.{times-first}
 use Rattle.slub_core.proofs.ListStep.{list_step}

@@ -26,7 +26,7 @@ use Rattle.slub_core.specs.Coherent.{Stands}
 use Rattle.slub_core.proofs.Changes.{own-word}
 use Rattle.slub_core.proofs.Counts.{homes-cons}
 use Rattle.slub_core.proofs.Exists.{times-self}
-use Rattle.slub_core.proofs.Hands.{one-hand}
+use Rattle.slub_core.proofs.StepHands.{one-hand}
 use Rattle.slub_core.proofs.Homes.{live-most}
 use Rattle.slub_core.proofs.Kind25.{list-real, string-real}
 use Rattle.slub_core.proofs.Lists.{times-first, times-at}

@@ -32,14 +32,14 @@ use Rattle.slub_core.proofs.Changes.{own-word}
 use Rattle.slub_core.proofs.Counts.{homes-cons}
 use Rattle.slub_core.proofs.Exists.{home-live, times-self}
 use Rattle.slub_core.proofs.GiveMove.{single-cursor, alone-held}
-use Rattle.slub_core.proofs.Hands.{one-hand, in_chain-nil}
+use Rattle.slub_core.proofs.StepHands.{one-hand, in_chain-nil}
 use Rattle.slub_core.proofs.Homes.{live-most, on-list}
 use Rattle.slub_core.proofs.Lists.{times-first}
 use Rattle.slub_core.proofs.LocalStep.{local_step}
 use Rattle.slub_core.proofs.Locks.{ComesTo}
 use Rattle.slub_core.proofs.Pigeon.{length-below}
 use Rattle.slub_core.proofs.Update.{term_le_sum}
-use Rattle.slub_core.proofs.Values.{word-objects}
+use Rattle.slub_core.proofs.StepValues.{word-objects}
 
 -- ---- what a list word says of its slabs
 

@@ -20,7 +20,7 @@ use Rattle.slub_core.specs.MoveSet.{move_set_advance}
 use Rattle.slub_core.specs.Spots.{Role, Kept, beside_move}
 use Rattle.slub_core.specs.Fresh.{AreHands, AreHeld, IsCursor, IsStringOf, IsHeldString, IsLinked, IsAtWork}
 use Rattle.slub_core.specs.Coherent.{Stands}
-use Rattle.slub_core.proofs.Hands.{in_chain-nil}
+use Rattle.slub_core.proofs.StepHands.{in_chain-nil}
 use Rattle.slub_core.proofs.Lists.{times-first}
 use Rattle.slub_core.proofs.LocalStep.{local_step}
 use Rattle.slub_core.proofs.Locks.{ComesTo, one-self}

@@ -20,7 +20,7 @@ use Rattle.slub_core.specs.Fresh.{AreHands, AreHeld, IsHeldString, IsAtWork}
 use Rattle.slub_core.specs.Coherent.{Stands}
 use Rattle.slub_core.proofs.Chains.{IsChain-from}
 use Rattle.slub_core.proofs.Counts.{homes-cons}
-use Rattle.slub_core.proofs.Hands.{first-hand}
+use Rattle.slub_core.proofs.StepHands.{first-hand}
 use Rattle.slub_core.proofs.Homes.{live-most, off-some}
 use Rattle.slub_core.proofs.Kind8.{hand-live}
 use Rattle.slub_core.proofs.Kind18.{marked-away, known-kept}

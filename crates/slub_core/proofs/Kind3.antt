@@ -22,7 +22,7 @@ use Rattle.slub_core.proofs.Exists.{in_chain-cons, in_chain-here, chain-exists, 
 use Rattle.slub_core.proofs.Knowns.{held-gets, here-set, known-set}
 use Rattle.slub_core.proofs.Lists.{times-first}
 use Rattle.slub_core.proofs.Locks.{ComesTo}
-use Rattle.slub_core.proofs.Values.{word-cache}
+use Rattle.slub_core.proofs.StepValues.{word-cache}
 
 -- the object that a worker gets, as it then knows it
 abbrev pub given : Local → ℕ → ℕ → Known

@@ -22,7 +22,7 @@ use Rattle.slub_core.proofs.BoardStep.{board_step}
 use Rattle.slub_core.proofs.Knowns.{held-gets, here-set, known-set}
 use Rattle.slub_core.proofs.LocalStep.{Settled}
 use Rattle.slub_core.proofs.Locks.{ComesTo}
-use Rattle.slub_core.proofs.Values.{object-within, cache-live}
+use Rattle.slub_core.proofs.StepValues.{object-within, cache-live}
 use Rattle.slub_core.proofs.ValueStep.{board-object}
 
 -- the object of a board word, as the worker then knows it

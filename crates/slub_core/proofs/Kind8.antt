@@ -32,7 +32,7 @@ use Rattle.slub_core.specs.Fresh.{AreHands, AreHeld, IsEmptied, IsAtWork}
 use Rattle.slub_core.specs.Coherent.{Stands}
 use Rattle.slub_core.proofs.Counts.{places-cons, homes-cons}
 use Rattle.slub_core.proofs.Exists.{home-live, word-object, object_at-le, in_chain-here}
-use Rattle.slub_core.proofs.Hands.{first-hand, two-hands}
+use Rattle.slub_core.proofs.StepHands.{first-hand, two-hands}
 use Rattle.slub_core.proofs.Homes.{on-node}
 use Rattle.slub_core.proofs.Lists.{times-at}
 use Rattle.slub_core.proofs.Pigeon.{sum_below-add, sum_below-le, length-as_sum}

@@ -28,7 +28,7 @@ use Rattle.slub_core.specs.Fresh.{AreHands, AreHeld, IsEmptied, IsAtWork, end_of
 use Rattle.slub_core.specs.Coherent.{Stands}
 use Rattle.slub_core.proofs.Chains.{IsChain-from}
 use Rattle.slub_core.proofs.Exists.{owned-object, exists-none, object-small}
-use Rattle.slub_core.proofs.Hands.{in_chain-nil}
+use Rattle.slub_core.proofs.StepHands.{in_chain-nil}
 use Rattle.slub_core.proofs.Homes.{off-some, lock-alone}
 use Rattle.slub_core.proofs.Kind18.{known-kept}
 use Rattle.slub_core.proofs.Knowns.{held-loses, here-set, known-set}
@@ -38,7 +38,7 @@ use Rattle.slub_core.proofs.Locks.{ComesTo, one-self}
 use Rattle.slub_core.proofs.PopNode.{bare-walk}
 use Rattle.slub_core.proofs.SlabStep.{keeps_marks, is_mine, slab_step}
 use Rattle.slub_core.proofs.Update.{update_same}
-use Rattle.slub_core.proofs.Values.{word-objects}
+use Rattle.slub_core.proofs.StepValues.{word-objects}
 
 -- the object that it holds no more
 abbrev lost : Local → Known

@@ -19,12 +19,12 @@ use Rattle.slub_core.specs.Accounted.{IsAccounted}
 use Rattle.slub_core.proofs.Accounts.{Reaches}
 use Rattle.slub_core.proofs.Locks.{ComesTo}
 use Rattle.slub_core.proofs.Exists.{home-live}
-use Rattle.slub_core.proofs.Values.{word-objects, object-within}
+use Rattle.slub_core.proofs.StepValues.{word-objects, object-within}
 use Rattle.slub_core.proofs.ValueStep.{known-owned}
 use Rattle.slub_core.proofs.Counts.{places-cons, homes-cons}
 use Rattle.slub_core.proofs.Update.{update_same}
 use Rattle.slub_core.proofs.Packed.{IsCpuFit, IsSlabFit, IsListFit}
-use Rattle.slub_core.proofs.Words.{IsTable}
+use Rattle.slub_core.proofs.StepWords.{IsTable}
 use Rattle.slub_core.proofs.WordSteps.{AfterStep}
 
 abbrev pub Leads : World → Setup → (ℕ → LockValue) → List ℕ → Worker → List Worker → Spot → Type 0

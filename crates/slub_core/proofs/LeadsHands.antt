@@ -20,11 +20,11 @@ use Rattle.slub_core.specs.Fresh.{AreHands}
 use Rattle.slub_core.specs.Listed.{home_of}
 use Rattle.slub_core.specs.Steps.{advance_at}
 use Rattle.slub_core.specs.Coherent.{Stands}
-use Rattle.slub_core.proofs.Hands.{first-hand}
+use Rattle.slub_core.proofs.StepHands.{first-hand}
 use Rattle.slub_core.proofs.Leads.{AtSpot, at_work, home_below}
 use Rattle.slub_core.proofs.Lists.{times-at}
 use Rattle.slub_core.proofs.UnderLock.{stocked-within}
-use Rattle.slub_core.proofs.Words.{slab-read}
+use Rattle.slub_core.proofs.StepWords.{slab-read}
 use Rattle.slub_core.proofs.WordSteps.{load}
 use Rattle.slub_core.proofs.Kind8.{at_LoadTaken, at_LoadKept, at_LoadPopped, at_LoadAway, at_LoadMoved, at_LoadScanned}
 use Rattle.slub_core.proofs.Accounts.{Reaches}

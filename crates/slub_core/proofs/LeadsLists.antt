@@ -16,7 +16,7 @@ use Rattle.slub_core.specs.PutOnList.{longer_list}
 use Rattle.slub_core.specs.Steps.{advance_at}
 use Rattle.slub_core.proofs.Leads.{AtSpot, at_work, cpu_below, list_fits}
 use Rattle.slub_core.proofs.LeadsStrings.{cursor_below}
-use Rattle.slub_core.proofs.Words.{list-read}
+use Rattle.slub_core.proofs.StepWords.{list-read}
 use Rattle.slub_core.proofs.WordSteps.{list_exchange, list_swap, link_store}
 use Rattle.slub_core.proofs.Kind24.{at_PushString-won, at_LinkString}
 use Rattle.slub_core.proofs.LostWords.{at_PushString-lost}

@@ -25,7 +25,7 @@ use Rattle.slub_core.specs.Fresh.{IsHeldRun, AreHands, AreHeld, rising_next}
 use Rattle.slub_core.specs.Coherent.{Stands}
 use Rattle.slub_core.proofs.Apart.{word-inside}
 use Rattle.slub_core.proofs.Exists.{in_chain-here, hands-exist, owned-object}
-use Rattle.slub_core.proofs.Hands.{one-hand, first-hand}
+use Rattle.slub_core.proofs.StepHands.{one-hand, first-hand}
 use Rattle.slub_core.proofs.Kind4.{at_LinkOwn, at_LinkSlab, at_LinkLocked, at_WriteWord}
 use Rattle.slub_core.proofs.Kind17.{at_LoadReady, at_WalkChain}
 use Rattle.slub_core.proofs.Kind20.{at_LinkNew, at_LinkLast}
@@ -35,7 +35,7 @@ use Rattle.slub_core.proofs.Loads.{held-object, freed-object}
 use Rattle.slub_core.proofs.Locks.{ComesTo}
 use Rattle.slub_core.proofs.Slots.{IsWordOf, pointer-word, word-word, word-frame, sized-fits}
 use Rattle.slub_core.proofs.Walks.{Leads-some, place_of, reached-at}
-use Rattle.slub_core.proofs.Words.{memory-read}
+use Rattle.slub_core.proofs.StepWords.{memory-read}
 use Rattle.slub_core.proofs.WordSteps.{load, memory_store}
 use Rattle.slub_core.proofs.Accounts.{Reaches}
 use Rattle.slub_core.proofs.TaleSteps.{quietly}

@@ -20,7 +20,7 @@ use Rattle.slub_core.specs.Coherent.{Stands}
 use Rattle.slub_core.proofs.Exists.{times-self}
 use Rattle.slub_core.proofs.Lists.{times-at}
 use Rattle.slub_core.proofs.Leads.{AtSpot, at_work, cpu_below, home_below}
-use Rattle.slub_core.proofs.Words.{list-read, link-read}
+use Rattle.slub_core.proofs.StepWords.{list-read, link-read}
 use Rattle.slub_core.proofs.WordSteps.{load}
 use Rattle.slub_core.proofs.Kind25.{at_LoadList, at_LoadCount}
 use Rattle.slub_core.proofs.Kind27.{at_FollowFront, at_FollowSet, at_WalkString}

@@ -19,7 +19,7 @@ use Rattle.slub_core.specs.Free.{board_taken}
 use Rattle.slub_core.specs.Steps.{step_at, advance_at, told}
 use Rattle.slub_core.proofs.Locks.{ComesTo}
 use Rattle.slub_core.proofs.Leads.{AtSpot, at_work, cpu_below, slab_below, held_below}
-use Rattle.slub_core.proofs.Words.{cpu-read, slab-read, board-read, memory-read}
+use Rattle.slub_core.proofs.StepWords.{cpu-read, slab-read, board-read, memory-read}
 use Rattle.slub_core.proofs.WordSteps.{load, board_swap, slab_store}
 use Rattle.slub_core.proofs.Kind1.{at_LoadCpu, at_LoadAgain, at_LoadOwn, at_LoadCurrent}
 use Rattle.slub_core.proofs.Kind7.{at_TakeBoard}

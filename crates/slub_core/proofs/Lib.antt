@@ -39,15 +39,15 @@ pub mod BoardStep
 pub mod SlabStep
 pub mod ListStep
 pub mod ValueStep
-pub mod Hands
-pub mod Values
+pub mod StepHands
+pub mod StepValues
 pub mod Knowns
 pub mod Exists
 pub mod MemoryStep
 pub mod Apart
 pub mod RemakeStep
 pub mod Locks
-pub mod Words
+pub mod StepWords
 pub mod Packed
 pub mod WordSteps
 pub mod Among
@@ -115,3 +115,8 @@ pub mod Kind25
 pub mod Kind23
 pub mod Kind24
 pub mod Kind18
+pub mod Takes
+pub mod Gifts
+pub mod Orders
+pub mod Runs
+pub mod Updates

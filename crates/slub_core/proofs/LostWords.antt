@@ -22,7 +22,7 @@ use Rattle.slub_core.specs.MoveSet.{move_set_advance}
 use Rattle.slub_core.specs.Spots.{Popped, Ready}
 use Rattle.slub_core.specs.Fresh.{IsAtWork}
 use Rattle.slub_core.specs.Coherent.{Stands}
-use Rattle.slub_core.proofs.Hands.{one-hand, two-hands}
+use Rattle.slub_core.proofs.StepHands.{one-hand, two-hands}
 use Rattle.slub_core.proofs.LocalStep.{local_step}
 use Rattle.slub_core.proofs.Locks.{ComesTo}
 

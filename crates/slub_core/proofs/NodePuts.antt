@@ -24,7 +24,7 @@ use Rattle.slub_core.specs.Spots.{Loose, Kept, beside_away, beside_move}
 use Rattle.slub_core.specs.Listed.{takes, IsStocked}
 use Rattle.slub_core.specs.Fresh.{AreHands, AreHeld, IsHeldString, IsStringOf, IsAtWork}
 use Rattle.slub_core.specs.Coherent.{Stands}
-use Rattle.slub_core.proofs.Hands.{first-hand, in_chain-nil}
+use Rattle.slub_core.proofs.StepHands.{first-hand, in_chain-nil}
 use Rattle.slub_core.proofs.Lists.{times-first}
 use Rattle.slub_core.proofs.LocalStep.{local_step}
 use Rattle.slub_core.proofs.PopNode.{bare-walk}

@@ -25,7 +25,7 @@ use Rattle.slub_core.specs.Listed.{takes, IsStocked}
 use Rattle.slub_core.specs.Fresh.{AreHands, AreHeld, IsEmptied, IsAtWork}
 use Rattle.slub_core.specs.Coherent.{Stands}
 use Rattle.slub_core.proofs.Counts.{homes-cons}
-use Rattle.slub_core.proofs.Hands.{no-hands, in_chain-nil}
+use Rattle.slub_core.proofs.StepHands.{no-hands, in_chain-nil}
 use Rattle.slub_core.proofs.Homes.{live-most}
 use Rattle.slub_core.proofs.Lists.{times-first}
 use Rattle.slub_core.proofs.LocalStep.{local_step}

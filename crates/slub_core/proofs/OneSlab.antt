@@ -15,7 +15,7 @@ use Rattle.slub_core.specs.Coherent.{Stands}
 use Rattle.slub_core.proofs.CheckedStep.{shape-size, shape-order}
 use Rattle.slub_core.proofs.RemakeStep.{no_value-objects}
 use Rattle.slub_core.proofs.Update.{update_same, update_other, update_at, sum_below_change, sum_below_same}
-use Rattle.slub_core.proofs.Values.{alone-in}
+use Rattle.slub_core.proofs.StepValues.{alone-in}
 use Rattle.slub_core.proofs.ValueStep.{value_step}
 
 -- how many values have a slab at a frame

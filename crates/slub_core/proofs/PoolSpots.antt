@@ -35,7 +35,7 @@ use Rattle.slub_core.proofs.Pools.{IsFound, AllFound, all-found, dry-pool, in-ru
 use Rattle.slub_core.proofs.RemakeStep.{run-first, pow-some}
 use Rattle.slub_core.proofs.UnderLock.{Makes, pool-is, pool_step, known-same, locks-same}
 use Rattle.slub_core.proofs.Update.{update_other, term_le_sum}
-use Rattle.slub_core.proofs.Values.{word-objects}
+use Rattle.slub_core.proofs.StepValues.{word-objects}
 
 -- ---- frames that are free, or in a run in hand
 

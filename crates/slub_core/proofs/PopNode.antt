@@ -15,7 +15,7 @@ use Rattle.slub_core.specs.Spots.{Popped, ready_of, roles}
 use Rattle.slub_core.specs.Listed.{takes, IsStocked}
 use Rattle.slub_core.specs.Fresh.{AreHands, AreHeld, IsWalk, IsAtWork}
 use Rattle.slub_core.specs.Coherent.{Stands}
-use Rattle.slub_core.proofs.Hands.{in_chain-nil}
+use Rattle.slub_core.proofs.StepHands.{in_chain-nil}
 use Rattle.slub_core.proofs.Lists.{times-first}
 use Rattle.slub_core.proofs.LocalStep.{local_step}
 use Rattle.slub_core.proofs.Update.{term_le_sum}

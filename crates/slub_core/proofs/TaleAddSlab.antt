@@ -2,7 +2,7 @@
 use Rattle.std.proofs.Common.{◌≡◌, ℕ, ◌/◌, ◌<◌, ◌≤◌, true, false, Some, None, List, ◌∷◌, get_or, refl, sym, ap, ◌∙◌, subst, arith, inl, inr}
 use Rattle.std.proofs.lemmas.List.Elements.{All-head}
 use Rattle.slub_object_layout.specs.Layout.{address_of}
-use Rattle.slub_answers.specs.declared.reply.Reply.TheVariants as reply
+use Rattle.slub_trace.specs.declared.reply.Reply.TheVariants as reply
 use Rattle.slub_core.specs.declared.call.CallKind.{CallKind}
 use Rattle.slub_core.specs.declared.call.CallKind.TheVariants.{Alloc}
 use Rattle.slub_core.specs.declared.local.FrameRun.{FrameRun}
@@ -23,7 +23,7 @@ use Rattle.slub_core.proofs.PoolSpots.{some-run}
 use Rattle.slub_core.proofs.Kind21.{run-some}
 use Rattle.slub_core.proofs.Slots.{IsWordOf, sized-fits}
 use Rattle.slub_core.proofs.Update.{term_le_sum}
-use Rattle.slub_core.proofs.Values.{object-within, cache-live}
+use Rattle.slub_core.proofs.StepValues.{object-within, cache-live}
 use Rattle.slub_core.proofs.ValueStep.{board-object}
 use Rattle.slub_core.proofs.TaleAddress.{address-word, object-covers}
 use Rattle.slub_core.proofs.TaleReplies.{spoken}

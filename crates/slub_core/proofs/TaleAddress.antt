@@ -13,7 +13,7 @@ use Rattle.slub_core.specs.Local.{Worker}
 use Rattle.slub_core.specs.Listed.{IsCheckedOf}
 use Rattle.slub_core.specs.Coherent.{Stands}
 use Rattle.slub_core.proofs.Exists.{word-object}
-use Rattle.slub_core.proofs.Values.{word-cache, object-within, in-value, unworded-objects, unworded-cache, checked-value, cache-live}
+use Rattle.slub_core.proofs.StepValues.{word-cache, object-within, in-value, unworded-objects, unworded-cache, checked-value, cache-live}
 use Rattle.slub_core.proofs.Slots.{IsWordOf, word-index, word-frame, in_run-one, two_terms}
 use Rattle.slub_core.proofs.Apart.{slab-covers, role-most}
 

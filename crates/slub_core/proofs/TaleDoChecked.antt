@@ -5,7 +5,7 @@ use Rattle.std.proofs.lemmas.Bool.{cases_Bool, lt-ltb, eq-eqb, false≢true}
 use Rattle.std.proofs.lemmas.List.Elements.{All-head}
 use Rattle.slub_object_layout.specs.declared.layout.Layout.{Layout}
 use Rattle.slub_object_layout.specs.Layout.{address_of}
-use Rattle.slub_red_zone.specs.declared.zones.Damage.{Damage}
+use Rattle.slub_trace.specs.declared.damage.Damage.{Damage}
 use Rattle.slub_red_zone.specs.declared.checked.Slot.{Slot}
 use Rattle.slub_red_zone.specs.declared.checked.CheckedGive.{CheckedGive}
 use Rattle.slub_red_zone.specs.declared.checked.CheckedGive.TheVariants as give
@@ -18,7 +18,7 @@ use Rattle.slub_red_zone.proofs.Parts.{taken-tells}
 use Rattle.slub_red_zone.proofs.Taken.{used-object, used-inside}
 use Rattle.slub_red_zone.proofs.Whole.{frame-positive}
 use Rattle.slub_red_zone.proofs.Written.{slot-long}
-use Rattle.slub_answers.specs.declared.reply.Reply.TheVariants as reply
+use Rattle.slub_trace.specs.declared.reply.Reply.TheVariants as reply
 use Rattle.slub_core.specs.declared.call.CallKind.{CallKind}
 use Rattle.slub_core.specs.declared.call.CallKind.TheVariants.{Alloc, Free, Write, Read, Poke, Trim, Flush}
 use Rattle.slub_core.specs.declared.spot.Spot.TheVariants.{InChecked}
@@ -35,7 +35,7 @@ use Rattle.slub_core.specs.Accounted.{IsAccounted}
 use Rattle.slub_core.proofs.Accounts.{Tells, TellsAt}
 use Rattle.slub_core.proofs.CheckedStep.{the-slabs, shape-size, held-used}
 use Rattle.slub_core.proofs.CheckedSpots.{held-object}
-use Rattle.slub_core.proofs.Values.{value-slab}
+use Rattle.slub_core.proofs.StepValues.{value-slab}
 use Rattle.slub_core.proofs.ValueStep.{known-owned}
 use Rattle.slub_core.proofs.TaleReplies.{spoken, told-of, told_freed, told_corrupt}
 use Rattle.slub_core.proofs.TaleGiven.{IsUnheld, told_given}

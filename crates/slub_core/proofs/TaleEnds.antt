@@ -8,7 +8,7 @@ use Rattle.slub_common.specs.Times.{times}
 use Rattle.slub_object_layout.specs.Layout.{address_of}
 use Rattle.slub_words.specs.declared.cpu.CpuWord.{CpuWord}
 use Rattle.slub_words.specs.Words.{IsSpent}
-use Rattle.slub_answers.specs.declared.reply.Reply.TheVariants as reply
+use Rattle.slub_trace.specs.declared.reply.Reply.TheVariants as reply
 use Rattle.slub_core.specs.declared.call.CallKind.TheVariants.{Alloc, Flush}
 use Rattle.slub_core.specs.declared.local.Hand.{Hand}
 use Rattle.slub_core.specs.declared.spot.Spot.TheVariants.{InAlloc}
@@ -29,8 +29,8 @@ use Rattle.slub_core.proofs.Counts.{places-cons}
 use Rattle.slub_core.proofs.Update.{update_other, term_le_sum}
 use Rattle.slub_core.proofs.Chains.{IsChain-first}
 use Rattle.slub_core.proofs.Exists.{object_at-le, word-object, exists_at-within, hands-exist, in_chain-here, times-self}
-use Rattle.slub_core.proofs.Values.{word-cache}
-use Rattle.slub_core.proofs.Hands.{one-hand}
+use Rattle.slub_core.proofs.StepValues.{word-cache}
+use Rattle.slub_core.proofs.StepHands.{one-hand}
 use Rattle.slub_core.proofs.TaleQuiet.{Unseen}
 use Rattle.slub_core.proofs.TaleReplies.{AnswersKept, spoken, told-of, told_same}
 use Rattle.slub_core.proofs.TaleGiven.{IsUnheld, place-unheld, told_given}

@@ -23,7 +23,7 @@ use Rattle.slub_core.specs.Coherent.{Stands}
 use Rattle.slub_core.specs.Accounted.{IsAccounted}
 use Rattle.slub_core.proofs.Accounts.{Accounts}
 use Rattle.slub_core.proofs.Exists.{in_chain-here, hands-exist}
-use Rattle.slub_core.proofs.Hands.{first-hand}
+use Rattle.slub_core.proofs.StepHands.{first-hand}
 use Rattle.slub_core.proofs.Leads.{at_work}
 use Rattle.slub_core.proofs.Lists.{times-at}
 use Rattle.slub_core.proofs.Slots.{IsWordOf, pointer-word}

@@ -1,6 +1,6 @@
 -- What is done at once up to a spot that calls for a step keeps all, the account too.
 use Rattle.std.proofs.Common.{Bool, Option, List, refl, subst}
-use Rattle.slub_answers.specs.declared.reply.Reply.{Reply}
+use Rattle.slub_trace.specs.declared.reply.Reply.{Reply}
 use Rattle.slub_core.specs.World.{World}
 use Rattle.slub_core.specs.Local.{Local, Worker, noted}
 use Rattle.slub_core.specs.Steps.{at_once, settled}

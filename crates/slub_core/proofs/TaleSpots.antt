@@ -8,7 +8,7 @@ use Rattle.slub_words.specs.declared.cpu.CpuWord.{CpuWord}
 use Rattle.slub_words.specs.declared.slab.SlabWord.{SlabWord}
 use Rattle.slub_words.specs.declared.board.BoardWord.{BoardWord}
 use Rattle.slub_cpu_partial.specs.declared.words.ListWord.{ListWord}
-use Rattle.slub_answers.specs.declared.reply.Reply.TheVariants as reply
+use Rattle.slub_trace.specs.declared.reply.Reply.TheVariants as reply
 use Rattle.slub_core.specs.declared.call.CallKind.TheVariants.{Free, Trim}
 use Rattle.slub_core.specs.declared.spot.Spot.{Spot}
 use Rattle.slub_core.specs.declared.spot.Spot.TheVariants.{InAlloc, InFree, InTrim}
@@ -31,7 +31,7 @@ use Rattle.slub_core.specs.Coherent.{Stands}
 use Rattle.slub_core.specs.Accounted.{boarded, public, IsDoing, IsTold, IsAccounted}
 use Rattle.slub_core.proofs.Update.{each_updated, term_le_sum}
 use Rattle.slub_core.proofs.Exists.{object_at-le, word-object, head-exists, head-slab, exists_at-within, nothing-there, owned-object}
-use Rattle.slub_core.proofs.Values.{word-cache}
+use Rattle.slub_core.proofs.StepValues.{word-cache}
 use Rattle.slub_core.proofs.ValueStep.{known-owned, board-object}
 use Rattle.slub_core.proofs.Changes.{own-word}
 use Rattle.slub_core.proofs.TaleQuiet.{Unseen, told_quiet}

@@ -5,8 +5,8 @@ use Rattle.std.proofs.lemmas.Bool.{cases_eq, cases_Bool, eq-eqb, ne_eqb, falseâ‰
 use Rattle.std.proofs.lemmas.List.Elements.{All-cons, All-head, All-tail}
 use Rattle.slub_words.specs.declared.board.BoardWord.{BoardWord}
 use Rattle.slub_object_layout.specs.declared.layout.Layout.{Layout}
-use Rattle.slub_answers.specs.declared.reply.Reply.{Reply}
-use Rattle.slub_answers.specs.declared.reply.Reply.TheVariants as reply
+use Rattle.slub_trace.specs.declared.reply.Reply.{Reply}
+use Rattle.slub_trace.specs.declared.reply.Reply.TheVariants as reply
 use Rattle.slub_core.specs.declared.call.Call.{Call}
 use Rattle.slub_core.specs.declared.call.CallKind.{CallKind}
 use Rattle.slub_core.specs.declared.call.CallKind.TheVariants.{Alloc, Write, Read, Poke, Trim, Flush}
@@ -29,7 +29,7 @@ use Rattle.slub_core.specs.Accounted.{public, known_of, calls_of, written, writt
 use Rattle.slub_core.proofs.Counts.{roles-cons}
 use Rattle.slub_core.proofs.Update.{update_same, update_other, term_le_sum}
 use Rattle.slub_core.proofs.Exists.{IsPlainObject, plain-object, owned-object, object_at-le, exists_at-within}
-use Rattle.slub_core.proofs.Values.{word-objects}
+use Rattle.slub_core.proofs.StepValues.{word-objects}
 use Rattle.slub_core.proofs.ValueStep.{known-owned}
 use Rattle.slub_core.proofs.Slots.{IsWordOf, pointer-word, word-word, sized-fits}
 use Rattle.slub_core.proofs.Apart.{slab-covers, run-covers, held-run, run-live, role-most}

@@ -21,7 +21,7 @@ use Rattle.slub_core.proofs.Homes.{live-most}
 use Rattle.slub_core.proofs.Locks.{one-self}
 use Rattle.slub_core.proofs.Pigeon.{length-below}
 use Rattle.slub_core.proofs.Update.{update_same, update_other, update_at, sum_below_same, term_le_sum}
-use Rattle.slub_core.proofs.Values.{word-objects}
+use Rattle.slub_core.proofs.StepValues.{word-objects}
 use Rattle.slub_core.proofs.ValueStep.{value_step}
 
 -- what is done at once leads a worker to this local and these values, and all stands after it

@@ -16,7 +16,7 @@ use Rattle.slub_core.specs.declared.step.Place.TheVariants.{LockOf, ListOf, CpuO
 use Rattle.slub_core.specs.Setup.{Setup}
 use Rattle.slub_core.specs.Words.{no_list_word, list_base, cpu_base, slab_base, board_base, number_of, after_op, answer_of, cpu_in, slab_in, board_in, list_in}
 use Rattle.slub_core.specs.World.{World, LockValue, set_cpu, set_list, set_slab, set_link, set_board, set_memory, set_lock, world_of}
-use Rattle.slub_core.proofs.Words.{IsTable, world_of-lock, world_of-list, world_of-cpu, world_of-slab, world_of-board, world_of-memory, world_of-link, lock-read, list-read, cpu-read, slab-read}
+use Rattle.slub_core.proofs.StepWords.{IsTable, world_of-lock, world_of-list, world_of-cpu, world_of-slab, world_of-board, world_of-memory, world_of-link, lock-read, list-read, cpu-read, slab-read}
 use Rattle.slub_core.proofs.Packed.{IsCpuFit, IsSlabFit, IsListFit, cpu_in-bits, slab_in-bits, list_in-bits}
 
 -- what is so after a step on the words: of the state and the answer

@@ -6,12 +6,12 @@ use Rattle.slub_object_layout.specs.declared.layout.Layout.{Layout}
 use Rattle.slub_object_layout.specs.Layout.{address_of}
 use Rattle.slub_red_zone.specs.State.{CheckedState, slab_of, objects_in}
 use Rattle.slub_red_zone.specs.Steps.{damage_of_used, with_taken, without_slab, with_new_slab, with_given, with_byte, with_word, word_of, place_of}
-use Rattle.slub_red_zone.specs.declared.zones.Damage.{Damage}
+use Rattle.slub_trace.specs.declared.damage.Damage.{Damage}
 use Rattle.slub_red_zone.specs.declared.checked.Slot.{Slot}
 use Rattle.slub_red_zone.specs.declared.checked.CheckedGive.{CheckedGive}
 use Rattle.slub_red_zone.specs.declared.checked.CheckedGive.TheVariants as give
-use Rattle.slub_answers.specs.declared.reply.Reply.{Reply}
-use Rattle.slub_answers.specs.declared.reply.Reply.TheVariants.{Given, NoMemory, Freed, NotHeld, Corrupt, Wrote, Value, Poked, OutOfSlot}
+use Rattle.slub_trace.specs.declared.reply.Reply.{Reply}
+use Rattle.slub_trace.specs.declared.reply.Reply.TheVariants.{Given, NoMemory, Freed, NotHeld, Corrupt, Wrote, Value, Poked, OutOfSlot}
 use Rattle.slub_core.specs.declared.call.CallKind.{CallKind}
 use Rattle.slub_core.specs.declared.call.CallKind.TheVariants.{Alloc, Free, Write, Read, Poke}
 use Rattle.slub_core.specs.declared.local.FrameRun.{FrameRun}
@@ -29,7 +29,7 @@ use Rattle.slub_core.specs.Ops.{take_node, give_node, take_pool, give_pool, no_s
 use Rattle.slub_core.specs.Alloc.{run_taken, found_run, pool_with}
 use Rattle.slub_core.specs.Discard.{with_put}
 
--- the slabs of a checked cache that are another's, or of no cache
+-- the slabs of a checked cache that are another's, or of no cache (profile)
 abbrev pub no_checked : Layout → CheckedState
 no_checked layout = record {
   layout = layout;
@@ -49,24 +49,29 @@ no_checked layout = record {
   reports = [];
 }
 
+-- the checked slabs that stand behind a lock (profile: the kernel has its lists of a node)
 abbrev pub slabs_in : Layout → LockValue → CheckedState
 slabs_in layout Nothing = no_checked layout
 slabs_in layout (Node frames) = no_checked layout
 slabs_in layout (Checked slabs) = slabs
 slabs_in layout (Pool pool) = no_checked layout
 
+-- those of the call's cache (`get_node`)
 abbrev pub slabs_of : Setup → (ℕ → LockValue) → Local → CheckedState
 slabs_of m value l = slabs_in (m.layout l.cache) (value (node_lock l.cache))
 
+-- the values of the locks with other such slabs (profile)
 abbrev pub with_slabs : (ℕ → LockValue) → Local → CheckedState → ℕ → LockValue
 with_slabs value l slabs = update value (node_lock l.cache) (Checked slabs)
 
--- the object of the call
+-- the object of the call (profile)
 abbrev pub slot_of : Local → Slot
 slot_of l = record { frame = (here l).frame; index = (here l).index }
 
 -- ---- an allocation (`alloc_single_from_partial`)
 
+-- an object was given (`alloc_single_from_partial`); or no slab has one, and a new slab is looked
+-- for (`___slab_alloc`)
 abbrev pub gave : Setup → (ℕ → LockValue) → Local → CheckedState → CheckedGive → Change
 gave m value l after (give.Given slot) =
     record {
@@ -79,12 +84,14 @@ gave m value l after give.Empty = stays (with_slabs value l after) (at l (InChec
 
 -- ---- a free (`free_debug_processing`)
 
--- an empty slab is taken out, where enough slabs are listed (`remove_partial`, `slab_free`)
+-- an empty slab is taken out, where enough slabs are listed (`slab_free` of
+-- `free_debug_processing`)
 abbrev pub is_spare : Setup → CheckedState → ℕ → ℕ → Bool
 is_spare m s cache frame =
     (length (slab_of s frame).free == objects_in (slab_of s frame))
     && nat_le (m.layout cache).min_partial (length s.listed)
 
+-- the frames of such a slab (`free_slab`)
 abbrev pub run_at : CheckedState → ℕ → FrameRun
 run_at s frame = record {
   frame = frame;
@@ -92,6 +99,7 @@ run_at s frame = record {
   objects = objects_in (slab_of s frame);
 }
 
+-- the object is free, and its slab may go (`free_debug_processing`)
 abbrev pub taken_back : Setup → (ℕ → LockValue) → Local → CheckedState → Change
 taken_back m value l s =
     let frame = (here l).frame in
@@ -105,7 +113,7 @@ taken_back m value l s =
       reply = Some (Freed (address_in m (here l)));
     }
 
--- a damaged object is reported, and its worker holds it still
+-- a damaged object is reported (`free_debug_processing`), and its worker holds it still (profile)
 abbrev pub took_back : Setup → (ℕ → LockValue) → Local → CheckedState → Option Damage → Change
 took_back m value l s None = taken_back m value l (with_taken s (slot_of l))
 took_back m value l s (Some damage) =
@@ -117,17 +125,20 @@ took_back m value l s (Some damage) =
 
 -- ---- a byte of the slot
 
+-- the byte lies in the object's slot (profile: the kernel has no pokes)
 abbrev pub is_offset : Layout → ℤ → Bool
 is_offset layout offset =
     int_le (pos 0) (place_of layout offset) && int_lt (place_of layout offset) (pos layout.size)
 
--- in this order: the byte lies outside of the slot, the slab is there no more, it is written
+-- the reply of a poke, in this order (profile): the byte lies outside of the slot, the slab is
+-- there no more, it is written
 abbrev pub poked_reply : Local → CheckedState → Reply
 poked_reply l s =
     if is_offset s.layout (call_of l).offset
     then (if nat_lt (here l).index (objects_in (slab_of s (here l).frame)) then Poked
     else NotHeld) else OutOfSlot
 
+-- the slabs with that byte (profile)
 abbrev pub poked : Local → CheckedState → CheckedState
 poked l s =
     if is_offset s.layout (call_of l).offset
@@ -136,7 +147,7 @@ poked l s =
 
 -- ---- a new slab (`alloc_single_from_new_slab`)
 
--- its first object is given; or there is no memory for its bytes, and the frames are put back
+-- the first object of a new slab is given (`alloc_single_from_new_slab`)
 abbrev pub slab_added : Setup → (ℕ → LockValue) → Local → CheckedState → FrameRun → Change
 slab_added m value l s run =
     let slot : Slot = record { frame = run.frame; index = 0 } in
@@ -149,6 +160,7 @@ slab_added m value l s run =
       reply = Some (Given (address_of run.frame 0 (m.layout l.cache)));
     }
 
+-- there is no memory for the bytes of a new slab, and the frames are put back (profile)
 abbrev pub slab_refused : (ℕ → LockValue) → Local → FreeFrames → FrameRun → Change
 slab_refused value l pool run =
     record {
@@ -157,13 +169,15 @@ slab_refused value l pool run =
       reply = Some NoMemory;
     }
 
--- where a run that was found or not leads to
+-- where a run that was found or not leads to (`new_slab` of `___slab_alloc`)
 abbrev pub way_of_found : Option FrameRun → Spot
 way_of_found None = InChecked GiveRun Alloc
 way_of_found (Some run) = InChecked AddSlab Alloc
 
 -- ---- spot by spot
 
+-- the step at each spot of a call of a checked cache: locks alone (`get_partial_node`,
+-- `free_debug_processing`; profile for the other calls)
 abbrev pub checked_step : Local → CheckedSpot → Step
 checked_step l LockChecked = take_node l
 checked_step l DoChecked = no_step
@@ -173,6 +187,7 @@ checked_step l AddSlab = no_step
 checked_step l GiveRun = give_pool l
 checked_step l GiveChecked = give_node l
 
+-- where its answer leads (`get_partial_node`, `free_debug_processing`; profile for the other calls)
 abbrev pub checked_advance : Local → CheckedSpot → CallKind → Answer → Turn
 checked_advance l LockChecked kind Won = goes (at l (InChecked DoChecked kind))
 checked_advance l LockRun kind Won = goes (at l (InChecked MoveRun kind))
@@ -180,6 +195,8 @@ checked_advance l GiveRun kind Done = goes (at l (InChecked GiveChecked kind))
 checked_advance l GiveChecked kind Done = goes (at l Between)
 checked_advance l s kind a = goes l
 
+-- the call itself, under the lock: `alloc_single_from_partial`, `free_debug_processing`, and
+-- writes, reads and pokes (profile)
 abbrev pub do_checked : Setup → (ℕ → LockValue) → Local → CallKind → CheckedState → Change
 do_checked m value l Alloc s = gave m value l (m.means.give s) (m.means.gave s)
 do_checked m value l Free s = took_back m value l s (damage_of_used s (slot_of l))
@@ -205,7 +222,7 @@ do_checked m value l Poke s =
     }
 do_checked m value l kind s = stays value l
 
--- a run is looked for, or put back
+-- a run is looked for (`allocate_slab`), or put back (`free_slab`)
 abbrev pub move_run : Setup → (ℕ → LockValue) → Local → CallKind → FreeFrames → Change
 move_run m value l Alloc pool =
     let found = found_run m pool (m.layout l.cache) in
@@ -216,7 +233,8 @@ move_run m value l kind pool =
       spot = InChecked GiveRun kind;
     })
 
--- `refused`: there was no memory for the bytes of a new slab
+-- what is done under the locks (`alloc_single_from_partial`, `alloc_single_from_new_slab`,
+-- `free_debug_processing`); `refused`: there was no memory for the bytes of a new slab (profile)
 abbrev pub checked_at_once : Setup → Bool → (ℕ → LockValue) → Local → CheckedSpot → CallKind
     → Change
 checked_at_once m refused value l DoChecked kind = do_checked m value l kind (slabs_of m value l)

@@ -26,7 +26,7 @@ use Rattle.slub_core.specs.Ops.{store_slab, take_pool, give_pool, no_step}
 use Rattle.slub_core.specs.Alloc.{pool_with}
 use Rattle.slub_core.specs.Offline.{if_trimming}
 
--- 1 where the slab is one that a trim tells of
+-- 1 where the slab is one that a trim tells of (profile)
 abbrev pub counts_for : Discard → ℕ
 counts_for (FromAway ForInstall) = 0
 counts_for (FromAway ForSpent) = 0
@@ -36,7 +36,8 @@ counts_for (FromMove ForFree) = 0
 counts_for (FromMove (ForOffline sweep)) = if_trimming sweep 1
 counts_for FromTrim = 1
 
--- the slab's frames: their order is that of a slab of as many objects
+-- the slab's frames (`folio_order` of `__free_slab`): their order is that of a slab of as many
+-- objects
 abbrev pub run_of_slab : Setup → Local → FrameRun
 run_of_slab m l = record {
   frame = (hand_of l).frame;
@@ -44,7 +45,8 @@ run_of_slab m l = record {
   objects = l.slab_word.objects;
 }
 
--- where a discarded slab leads to
+-- where a discarded slab leads to: on in `deactivate_slab`, `__slab_free`, `__unfreeze_partials` or
+-- `__kmem_cache_do_shrink`
 abbrev pub way_of_discarded : Discard → Spot
 way_of_discarded (FromAway away) = InPutAway GiveAway away
 way_of_discarded FromFree = InFree GiveFree
@@ -53,12 +55,15 @@ way_of_discarded FromTrim = InTrim ScanNode
 
 -- ---- spot by spot
 
+-- the step at each spot of a discard (`discard_slab`, `__free_slab`; that the node lock is kept is
+-- profile)
 abbrev pub discard_step : Local → DiscardSpot → Step
 discard_step l Unmake = store_slab (hand_of l).frame no_slab_word
 discard_step l LockDiscard = take_pool l
 discard_step l PutRun = no_step
 discard_step l GiveDiscard = give_pool l
 
+-- where its answer leads (`discard_slab`, `__free_slab`)
 abbrev pub discard_advance : Setup → Local → DiscardSpot → Discard → Answer → Turn
 discard_advance m l Unmake discard Done =
     goes (record (less_hand l) {
@@ -74,6 +79,7 @@ discard_advance m l s discard a = goes l
 abbrev pub with_put : FreeFrames → FrameRun → FreeFrames
 with_put pool run = record pool { free = with_run pool.free run.frame run.order }
 
+-- the run is put back under the pool's lock (`__free_pages` of `__free_slab`)
 abbrev pub discard_at_once : (ℕ → LockValue) → Local → DiscardSpot → Discard → Change
 discard_at_once value l PutRun discard =
     stays (pool_with value (with_put (pool_in (value pool_lock)) (run_of l)))

@@ -4,7 +4,7 @@ use Rattle.slub_words.specs.declared.cpu.CpuWord.{CpuWord}
 use Rattle.slub_words.specs.declared.slab.SlabWord.{SlabWord}
 use Rattle.slub_words.specs.declared.board.BoardWord.{BoardWord}
 use Rattle.slub_cpu_partial.specs.declared.words.ListWord.{ListWord}
-use Rattle.slub_answers.specs.declared.reply.Reply.TheVariants.{Freed, NotHeld}
+use Rattle.slub_trace.specs.declared.reply.Reply.TheVariants.{Freed, NotHeld}
 use Rattle.slub_core.specs.declared.call.CallKind.TheVariants as kind
 use Rattle.slub_core.specs.declared.local.Hand.{Hand}
 use Rattle.slub_core.specs.declared.step.Step.{Step}
@@ -31,7 +31,7 @@ use Rattle.slub_core.specs.PutAway.{has_enough}
 
 -- ---- the words that a free leaves
 
--- the object is the head of the CPU freelist
+-- the object is the head of the CPU freelist (`do_slab_free`, `next_tid`)
 abbrev pub pushed_word : Setup → Local → CpuWord
 pushed_word m l = record {
   tid = l.cpu_word.tid + m.step;
@@ -39,7 +39,7 @@ pushed_word m l = record {
   head = (here l).index + 1;
 }
 
--- the object is the head of its slab's freelist, and one object less is in use
+-- the object is the head of its slab's freelist, and one object less is in use (`__slab_free`)
 abbrev pub freed_word : Local → SlabWord
 freed_word l = record l.slab_word { head = (here l).index + 1; inuse = l.slab_word.inuse - 1 }
 
@@ -50,13 +50,14 @@ freed_word l = record l.slab_word { head = (here l).index + 1; inuse = l.slab_wo
 abbrev pub is_last_listed : SlabWord → Bool
 is_last_listed s = not s.frozen && s.listed && not (s.head == 0) && (s.inuse == 1)
 
--- a full slab that is on no list: the free takes it in hand, for the CPU's partial list
+-- a full slab that is on no list: the free takes it in hand, for the CPU's partial list (`!prior`
+-- of `__slab_free`, which freezes it: not to is profile)
 abbrev pub was_full : SlabWord → Bool
 was_full s = not s.frozen && (s.head == 0)
 
 -- ---- ways
 
--- what was on the board goes the way of its cache
+-- what was on the board goes the way of its cache (profile)
 abbrev pub board_taken : Setup → Local → Option BoardWord → Turn
 board_taken m l None = tells (at l Between) NotHeld
 board_taken m l (Some b) =
@@ -65,40 +66,48 @@ board_taken m l (Some b) =
       spot = (if m.checks b.cache then InChecked LockChecked kind.Free else InFree LoadOwn);
     })
 
--- to the CPU freelist, where the object's slab is current (`likely(slab == c->slab)`)
+-- to the CPU freelist, where the object's slab is current (`slab != c->slab` of `do_slab_free`) and
+-- the transaction ids aren't spent (profile)
 abbrev pub way_of_own : Setup → Local → CpuWord → Spot
 way_of_own m l c = if (c.frame == (here l).frame) && not (is_spent m c) then InFree LinkOwn
     else InFree LoadSlab
 
+-- the node lock is taken first for the last object of a listed slab (`__slab_free`)
 abbrev pub way_of_slab : SlabWord → Spot
 way_of_slab s = if is_last_listed s then InFree LockFree else InFree LinkSlab
 
+-- the second look at the slab word, under the node lock: where the slab changed the lock is given
+-- back (profile: `__slab_free` doesn't load the word again before its exchange)
 abbrev pub way_of_locked : SlabWord → Spot
 way_of_locked s = if is_last_listed s then InFree LinkLocked else InFree GoBack
 
+-- a slab that was full goes on to the CPU's partial list (`__slab_free`)
 abbrev pub way_of_freed : SlabWord → Spot
 way_of_freed s = if was_full s then InFree LoadCount else Between
 
+-- a slab that was full is in hand (`__slab_free` freezes it: profile)
 abbrev pub hands_of_freed : Local → List Hand
 hands_of_freed l = if was_full l.slab_word then bare_hand (here l).frame ∷ l.hands else l.hands
 
--- the freed slab in hand becomes a string of one
+-- the freed slab in hand becomes a string of one (`put_cpu_partial`)
 abbrev pub alone : Local → Local
 alone l = record (less_hand l) {
   string = Some (single_string (hand_of l).frame);
   spot = InPutOnList LoadList OfFree;
 }
 
--- a list that holds enough is moved to the node before the slab is put on it (`pobjects >=
--- s->cpu_partial` of `put_cpu_partial`)
+-- a list that holds enough is moved to the node before the slab is put on it (`oldslab->slabs >=
+-- s->cpu_partial_slabs` of `put_cpu_partial`; that it is moved first is profile)
 abbrev pub is_long : Setup → Local → ListWord → Bool
 is_long m l list = nat_lt 0 list.count && nat_le (m.layout l.cache).cpu_partial_slabs list.count
 
+-- the list is taken where it is long, else the slab is put on it (`put_cpu_partial`)
 abbrev pub count_loaded : Setup → Local → ListWord → Local
 count_loaded m l list = if is_long m l list
     then record l { list_word = list; spot = InFree TakeSet }
     else alone (record l { list_word = list })
 
+-- the slabs that were taken are moved to the node (`slab_to_unfreeze` of `put_cpu_partial`)
 abbrev pub set_taken : Local → ListWord → Local
 set_taken l list =
     if list.count == 0 then alone l
@@ -109,6 +118,7 @@ set_taken l list =
 
 -- ---- spot by spot
 
+-- the step at each spot of a free (`do_slab_free`, `__slab_free`)
 abbrev pub free_step : Setup → Local → FreeSpot → Step
 free_step m l TakeBoard = take_board l
 -- the fast path
@@ -131,6 +141,7 @@ free_step m l GiveFree = give_node l
 free_step m l LoadCount = load_list l
 free_step m l TakeSet = take_list l
 
+-- where its answer leads (`do_slab_free`, `__slab_free`)
 abbrev pub free_advance : Setup → Local → FreeSpot → Answer → Turn
 free_advance m l TakeBoard (Word x) = board_taken m l (board_in x)
 free_advance m l LoadOwn (Word x) =

@@ -23,3 +23,14 @@ pub mod Coherent
 pub mod Opening
 pub mod Round
 pub mod Law
+pub mod Takes
+pub mod Gifts
+pub mod Orders
+pub mod Laws
+pub mod Facts
+pub mod Hands
+pub mod Script
+pub mod WorkerSteps
+pub mod Taken
+pub mod Values
+pub mod Ways

@@ -4,7 +4,7 @@ use Rattle.slub_words.specs.declared.cpu.CpuWord.{CpuWord}
 use Rattle.slub_words.specs.declared.slab.SlabWord.{SlabWord}
 use Rattle.slub_cpu_partial.specs.declared.words.ListWord.{ListWord}
 use Rattle.slub_object_layout.specs.Layout.{address_of}
-use Rattle.slub_answers.specs.declared.reply.Reply.{Reply}
+use Rattle.slub_trace.specs.declared.reply.Reply.{Reply}
 use Rattle.slub_core.specs.declared.call.Call.{Call}
 use Rattle.slub_core.specs.declared.call.CallKind.TheVariants.{Flush}
 use Rattle.slub_core.specs.declared.local.Known.{Known}

@@ -24,16 +24,19 @@ use Rattle.slub_core.specs.Offline.{next_swept}
 use Rattle.slub_core.specs.PutAway.{has_enough}
 use Rattle.slub_core.specs.Free.{alone}
 
+-- a slab that is to stand on the node list is marked (profile: `__unfreeze_partials` takes its
+-- frozen mark away)
 abbrev pub listed_word : SlabWord → SlabWord
 listed_word s = record s { listed = true }
 
--- an empty slab is discarded, where the list has enough without it
+-- an empty slab is discarded, where the list has enough without it (`__unfreeze_partials`)
 abbrev pub way_of_moved : Setup → (ℕ → LockValue) → Local → MoveSet → SlabWord → Spot
 way_of_moved m value l move s =
     if (s.inuse == 0) && has_enough m value l then InDiscard Unmake (FromMove move)
     else InMoveSet ListSlab move
 
 -- the front is taken off the string; the last slab of it at once, since nothing follows
+-- (`__unfreeze_partials`)
 abbrev pub front_taken : Local → MoveSet → Option PartialString → Local
 front_taken l move None = at l (InMoveSet GiveMove move)
 front_taken l move (Some string) =
@@ -43,13 +46,15 @@ front_taken l move (Some string) =
     }
     else at l (InMoveSet FollowSet move)
 
--- a free goes on with the slab that it has in hand, a sweep with the next CPU or cache
+-- a free goes on with the slab that it has in hand (`put_cpu_partial`; the kernel has pushed it
+-- already), a sweep with the next CPU (`flush_all_cpus_locked`) or cache (`slub_cpu_dead`)
 abbrev pub after_move : Setup → Local → MoveSet → Turn
 after_move m l ForFree = goes (alone l)
 after_move m l (ForOffline sweep) = next_swept m l sweep
 
 -- ---- spot by spot
 
+-- the step at each spot of moving a string (`__unfreeze_partials`)
 abbrev pub move_set_step : Local → MoveSetSpot → Step
 move_set_step l LockMove = take_node l
 move_set_step l ChooseFront = no_step
@@ -59,6 +64,7 @@ move_set_step l ListSlab = change_slab l (hand_of l).frame (listed_word l.slab_w
 move_set_step l PutTail = no_step
 move_set_step l GiveMove = give_node l
 
+-- where its answer leads (`__unfreeze_partials`)
 abbrev pub move_set_advance : Setup → (ℕ → LockValue) → Local → MoveSetSpot → MoveSet → Answer
     → Turn
 move_set_advance m value l LockMove move Won = goes (at l (InMoveSet ChooseFront move))
@@ -75,6 +81,8 @@ move_set_advance m value l ListSlab move (Lost x) = goes (at l (InMoveSet LoadMo
 move_set_advance m value l GiveMove move Done = after_move m l move
 move_set_advance m value l s move a = goes l
 
+-- what is done under the node lock without a step: a front is taken off the string, a slab goes to
+-- the list's tail (`add_partial` of `__unfreeze_partials`)
 abbrev pub move_set_at_once : (ℕ → LockValue) → Local → MoveSetSpot → MoveSet → Change
 move_set_at_once value l ChooseFront move = stays value (front_taken l move l.string)
 move_set_at_once value l PutTail move =

@@ -79,7 +79,8 @@ has_pool _ = false
 
 -- ---- slabs in hand
 
--- what a slab in hand is to the worker
+-- what a slab in hand is to the worker (profile; the kernel has a local variable `slab` of
+-- `___slab_alloc`, `deactivate_slab`, `__slab_free` and `__unfreeze_partials`)
 pub data Role : Type 0 where
   -- off a CPU whose freelist was empty: frozen, with no chain in hand
   Taken : Role
@@ -99,34 +100,40 @@ pub data Role : Type 0 where
   -- to be listed or discarded: unfrozen, with a free object
   Loose : Role
 
--- a slab that is ready, where there is one slab or more
+-- a slab that is ready, where there is one slab or more (`object` of `get_partial_node`)
 abbrev pub ready_of : ℕ → List Role
 ready_of zero = []
 ready_of (suc n) = Ready ∷ []
 
--- what a worker keeps beside the slab that it puts away, discards or moves
+-- what a worker keeps beside the slab that it puts away: the one that is to be installed
+-- (`retry_load_slab:` of `___slab_alloc`)
 abbrev pub beside_away : Away → List Role
 beside_away ForInstall = Loaded ∷ []
 beside_away ForSpent = []
 beside_away (ForSweep sweep) = []
 
+-- beside those that it moves: the freed one (`put_cpu_partial`; the kernel has pushed it already)
 abbrev pub beside_move : MoveSet → List Role
 beside_move ForFree = Kept ∷ []
 beside_move (ForOffline sweep) = []
 
+-- beside one that it discards, by what it discards it in (`deactivate_slab`, `__unfreeze_partials`)
 abbrev pub beside_discard : Discard → List Role
 beside_discard (FromAway away) = beside_away away
 beside_discard FromFree = []
 beside_discard (FromMove move) = beside_move move
 beside_discard FromTrim = []
 
+-- a slab beside the string that is put on a CPU's list (`___slab_alloc`, `get_partial_node`,
+-- `__slab_free`)
 abbrev pub beside_put : PutOnList → List Role
 beside_put OfRest = Kept ∷ []
 beside_put OfNode = Ready ∷ []
 beside_put OfFree = []
 
--- the roles of the slabs in hand, the one that the worker works on first. Only while it asks the
--- node list for slabs it may have one more or not: n is how many it has
+-- the roles of the slabs in hand, the one that the worker works on first (profile). Only while it
+-- asks the node list for slabs (`get_partial_node`) it may have one more or not: n is how many it
+-- has
 abbrev pub roles : Spot → ℕ → List Role
 roles (InAlloc LoadTaken) n = Taken ∷ []
 roles (InAlloc TakeAll) n = Taken ∷ []
@@ -165,7 +172,7 @@ roles (InMoveSet FollowSet move) n = beside_move move
 roles (InMoveSet GiveMove move) n = beside_move move
 roles _ n = []
 
--- the slab that the worker works on is marked as listed, though it is on no list
+-- the slab that the worker works on is marked as listed, though it is on no list (profile)
 abbrev pub is_marked : Spot → Bool
 is_marked (InAlloc LoadPopped) = true
 is_marked (InAlloc FreezePopped) = true
@@ -176,16 +183,17 @@ is_marked (InDiscard Unmake FromTrim) = true
 is_marked (InMoveSet PutTail move) = true
 is_marked _ = false
 
--- of a chain in hand the end is stored: it leads to the slab's own head
+-- of a chain in hand the end is stored: it leads to the slab's own head (`deactivate_slab`)
 abbrev pub is_linked : Spot → Bool
 is_linked (InPutAway Unfreeze away) = true
 is_linked _ = false
 
--- the chain in hand is to be walked on, or was walked to its end where it isn't empty
+-- the chain in hand is to be walked on (stage one of `deactivate_slab`)
 abbrev pub is_walking : Spot → Bool
 is_walking (InPutAway WalkChain away) = true
 is_walking _ = false
 
+-- it was walked to its end, where it isn't empty (stage two of `deactivate_slab`)
 abbrev pub is_walked : Spot → Bool
 is_walked (InPutAway LockAway away) = true
 is_walked (InPutAway LoadAway away) = true
@@ -193,14 +201,14 @@ is_walked (InPutAway LinkLast away) = true
 is_walked (InPutAway Unfreeze away) = true
 is_walked _ = false
 
--- a slab without an object in use is about to be discarded
+-- a slab without an object in use is about to be discarded (`discard_slab`)
 abbrev pub is_emptied : Spot → Bool
 is_emptied (InDiscard Unmake discard) = true
 is_emptied _ = false
 
 -- ---- strings and runs in hand
 
--- how many slabs a string in hand has at least, where there is to be one
+-- how many slabs a string in hand has at least, where there is to be one (profile)
 abbrev pub least_string : Spot → ℕ
 least_string (InAlloc FollowFront) = 2
 least_string (InPutOnList s put) = 1
@@ -208,7 +216,7 @@ least_string (InMoveSet LockMove move) = 1
 least_string (InMoveSet FollowSet move) = 2
 least_string _ = 0
 
--- a string may be in hand
+-- a string may be in hand (`partial_slab` of `__unfreeze_partials`; of an allocation profile)
 abbrev pub may_string : Spot → Bool
 may_string (InAlloc FollowFront) = true
 may_string (InPutOnList s put) = true
@@ -222,13 +230,14 @@ may_string (InDiscard s (FromMove move)) = true
 may_string _ = false
 
 -- the last slab of the string in hand leads to nothing, as that of a list does
+-- (`__unfreeze_partials`)
 abbrev pub ends_string : Spot → Bool
 ends_string (InAlloc FollowFront) = true
 ends_string (InMoveSet s move) = true
 ends_string (InDiscard s (FromMove move)) = true
 ends_string _ = false
 
--- a run is in hand; at any other spot none is
+-- a run is in hand; at any other spot none is (`allocate_slab`, `__free_slab`)
 abbrev pub has_run : Spot → Bool
 has_run (InAlloc GivePool) = true
 has_run (InAlloc (LinkNew i)) = true
@@ -242,13 +251,13 @@ has_run (InChecked MoveRun kind) = true
 has_run (InChecked AddSlab kind) = true
 has_run _ = false
 
--- how many free pointers of a run in hand were stored, of so many objects
+-- how many free pointers of a run in hand were stored, of so many objects (`allocate_slab`)
 abbrev pub stored_in : Spot → ℕ → ℕ
 stored_in (InAlloc (LinkNew i)) objects = i
 stored_in (InAlloc Make) objects = objects
 stored_in _ objects = 0
 
--- the next free pointer of it is to be stored
+-- the next free pointer of it is to be stored (`allocate_slab`)
 abbrev pub links_new : Spot → Bool
 links_new (InAlloc (LinkNew i)) = true
 links_new _ = false
@@ -256,6 +265,7 @@ links_new _ = false
 -- ---- notes
 
 -- a noted CPU word is relied on: where its transaction id stands, nothing has changed
+-- (`this_cpu_cmpxchg_double` of `slab_alloc_node` and `do_slab_free`; at the other spots profile)
 abbrev pub notes_cpu : Spot → Bool
 notes_cpu (InAlloc LoadNext) = true
 notes_cpu (InAlloc Pop) = true
@@ -267,7 +277,7 @@ notes_cpu (InFree Push) = true
 notes_cpu (InOffline DetachCurrent sweep) = true
 notes_cpu _ = false
 
--- and its transaction id isn't spent
+-- and its transaction id isn't spent (profile)
 abbrev pub is_fresh : Spot → Bool
 is_fresh (InAlloc LoadNext) = true
 is_fresh (InAlloc Pop) = true
@@ -278,106 +288,114 @@ is_fresh (InFree LinkOwn) = true
 is_fresh (InFree Push) = true
 is_fresh _ = false
 
--- it has an object to take, a slab to take off, or neither
+-- it has an object to take (`slab_alloc_node`)
 abbrev pub takes_head : Spot → Bool
 takes_head (InAlloc LoadNext) = true
 takes_head (InAlloc Pop) = true
 takes_head _ = false
 
+-- it has a slab to take off (`___slab_alloc`, `flush_slab`)
 abbrev pub detaches : Spot → Bool
 detaches (InAlloc Detach) = true
 detaches (InAlloc DetachOther) = true
 detaches (InOffline DetachCurrent sweep) = true
 detaches _ = false
 
--- and that slab has no object on the CPU freelist
+-- and that slab has no object on the CPU freelist (`___slab_alloc`)
 abbrev pub detaches_empty : Spot → Bool
 detaches_empty (InAlloc Detach) = true
 detaches_empty _ = false
 
+-- it has neither (`load_freelist:` of `___slab_alloc`)
 abbrev pub installs : Spot → Bool
 installs (InAlloc Install) = true
 installs _ = false
 
--- the noted next is that of the noted head
+-- the noted next is that of the noted head (`get_freepointer_safe` of `slab_alloc_node`)
 abbrev pub notes_next : Spot → Bool
 notes_next (InAlloc Pop) = true
 notes_next _ = false
 
--- the noted CPU word is of the slab of the object that is freed
+-- the noted CPU word is of the slab of the object that is freed (`do_slab_free`)
 abbrev pub pushes : Spot → Bool
 pushes (InFree LinkOwn) = true
 pushes (InFree Push) = true
 pushes _ = false
 
--- the noted slab word has a free object, or none
+-- the noted slab word has a free object (`get_freelist`)
 abbrev pub notes_some : Spot → Bool
 notes_some (InAlloc TakeAll) = true
 notes_some _ = false
 
+-- or has none (`get_freelist`)
 abbrev pub notes_none : Spot → Bool
 notes_none (InAlloc MarkFull) = true
 notes_none _ = false
 
--- as many objects are in use as the chain in hand has, at least
+-- as many objects are in use as the chain in hand has, at least (`free_delta` of `deactivate_slab`)
 abbrev pub notes_away : Spot → Bool
 notes_away (InPutAway LinkLast away) = true
 notes_away (InPutAway Unfreeze away) = true
 notes_away _ = false
 
--- the chain in hand isn't empty
+-- the chain in hand isn't empty (`freelist_tail` of `deactivate_slab`)
 abbrev pub links_last : Spot → Bool
 links_last (InPutAway LinkLast away) = true
 links_last _ = false
 
 -- the noted slab word is of the slab of the object that is freed, which is in use: without the node
--- lock, or with it
+-- lock (`__slab_free`)
 abbrev pub frees_open : Spot → Bool
 frees_open (InFree LinkSlab) = true
 frees_open (InFree FreeSlab) = true
 frees_open _ = false
 
+-- the same with the node lock (`__slab_free`)
 abbrev pub frees_locked : Spot → Bool
 frees_locked (InFree LinkLocked) = true
 frees_locked (InFree FreeLocked) = true
 frees_locked _ = false
 
--- the slab of the freed object is empty: it was the last one of a listed slab
+-- the slab of the freed object is empty: it was the last one of a listed slab (`!new.inuse` of
+-- `__slab_free`)
 abbrev pub has_freed_last : Spot → Bool
 has_freed_last (InFree TakeOff) = true
 has_freed_last _ = false
 
--- the noted slab word is unfrozen and unmarked, with a free object
+-- the noted slab word is unfrozen and unmarked, with a free object (profile: in
+-- `__unfreeze_partials` it is frozen)
 abbrev pub notes_kept : Spot → Bool
 notes_kept (InMoveSet ListSlab move) = true
 notes_kept _ = false
 
--- the noted slab of the node list has no object in use
+-- the noted slab of the node list has no object in use (`__kmem_cache_do_shrink`)
 abbrev pub notes_scanned : Spot → Bool
 notes_scanned (InTrim DropScanned) = true
 notes_scanned _ = false
 
--- the noted list word is that which the string is put before; the walk along the string is to go
--- on, has come to its end, or needn't
+-- the noted list word is that which the string is put before (`put_cpu_partial`)
 abbrev pub notes_list : Spot → Bool
 notes_list (InPutOnList WalkString put) = true
 notes_list (InPutOnList LinkString put) = true
 notes_list (InPutOnList PushString put) = true
 notes_list _ = false
 
+-- the walk along the string is to go on (profile)
 abbrev pub walks_string : Spot → Bool
 walks_string (InPutOnList WalkString put) = true
 walks_string _ = false
 
+-- it has come to its end (`slab->next = oldslab` of `put_cpu_partial`)
 abbrev pub links_string : Spot → Bool
 links_string (InPutOnList LinkString put) = true
 links_string _ = false
 
+-- or needn't go on (`put_cpu_partial`)
 abbrev pub pushes_string : Spot → Bool
 pushes_string (InPutOnList PushString put) = true
 pushes_string _ = false
 
--- the scan of a trim is under way, and has a slab before it
+-- the scan of a trim is under way (`__kmem_cache_do_shrink`)
 abbrev pub scans : Spot → Bool
 scans (InTrim ScanNode) = true
 scans (InTrim LoadScanned) = true
@@ -385,6 +403,7 @@ scans (InTrim DropScanned) = true
 scans (InDiscard s FromTrim) = true
 scans _ = false
 
+-- and has a slab before it (`__kmem_cache_do_shrink`)
 abbrev pub scans_next : Spot → Bool
 scans_next (InTrim LoadScanned) = true
 scans_next (InTrim DropScanned) = true
@@ -392,17 +411,19 @@ scans_next _ = false
 
 -- ---- the object of the call
 
--- the head of a freelist is stored in the object, which is the CPU's or the slab's
+-- the head of the CPU's freelist is stored in the object (`do_slab_free`)
 abbrev pub links_cpu : Spot → Bool
 links_cpu (InFree Push) = true
 links_cpu _ = false
 
+-- or the head of the slab's (`__slab_free`)
 abbrev pub links_slab : Spot → Bool
 links_slab (InFree FreeSlab) = true
 links_slab (InFree FreeLocked) = true
 links_slab _ = false
 
 -- an object of an unchecked cache is held, and is being freed: a free pointer may stand in it
+-- (`do_slab_free`, `__slab_free`)
 abbrev pub frees : Spot → Bool
 frees (InFree LoadOwn) = true
 frees (InFree LinkOwn) = true
@@ -417,19 +438,19 @@ frees (InFree LinkLocked) = true
 frees (InFree FreeLocked) = true
 frees _ = false
 
--- the same, of an object of an unchecked or of a checked cache
+-- the same, of an object of an unchecked or of a checked cache (`free_debug_processing`)
 abbrev pub is_freeing : Spot → Bool
 is_freeing (InChecked LockChecked Free) = true
 is_freeing (InChecked DoChecked Free) = true
 is_freeing s = frees s
 
--- it is held, and written or read
+-- it is held, and written or read (profile)
 abbrev pub uses : Spot → Bool
 uses WriteWord = true
 uses ReadWord = true
 uses _ = false
 
--- the word that is written or read lies in the object
+-- the word that is written or read lies in the object (profile)
 abbrev pub uses_word : Spot → Bool
 uses_word WriteWord = true
 uses_word ReadWord = true
@@ -439,30 +460,33 @@ uses_word (InChecked DoChecked Write) = true
 uses_word (InChecked DoChecked Read) = true
 uses_word _ = false
 
--- an object of a checked cache is held, and freed, written or read
+-- a call of this kind is of an object that is held (profile)
 abbrev pub keeps_kind : CallKind → Bool
 keeps_kind Free = true
 keeps_kind Write = true
 keeps_kind Read = true
 keeps_kind _ = false
 
+-- an object of a checked cache is held, and freed (`free_debug_processing`), written or read
+-- (profile)
 abbrev pub keeps : Spot → Bool
 keeps (InChecked LockChecked kind) = keeps_kind kind
 keeps (InChecked DoChecked kind) = keeps_kind kind
 keeps _ = false
 
--- it is known, and poked
+-- it is known, and poked (profile)
 abbrev pub pokes : Spot → Bool
 pokes (InChecked LockChecked Poke) = true
 pokes (InChecked DoChecked Poke) = true
 pokes _ = false
 
--- it is to be taken from the board, where it has a number from 1 on
+-- it is to be taken from the board, where it has a number from 1 on (profile)
 abbrev pub takes_board : Spot → Bool
 takes_board (InFree TakeBoard) = true
 takes_board _ = false
 
--- it isn't held, since it is to be given or to be taken from the board
+-- it isn't held, since it is to be given (`slab_alloc_node`) or to be taken from the board
+-- (profile)
 abbrev pub awaits : Spot → Bool
 awaits (InAlloc GiveDry) = false
 awaits (InAlloc s) = true
@@ -480,38 +504,43 @@ awaits _ = false
 
 -- ---- the call
 
--- its cache is live and checked; else live and unchecked, but where its object isn't known yet
+-- its cache is live and checked (`kmem_cache_debug`)
 abbrev pub in_checked : Spot → Bool
 in_checked (InChecked s kind) = true
 in_checked _ = false
 
+-- its cache is live and unchecked; where its object isn't known yet it is neither (profile)
 abbrev pub in_plain : Spot → Bool
 in_plain Between = false
 in_plain (InFree TakeBoard) = false
 in_plain (InChecked s kind) = false
 in_plain _ = true
 
--- it is a flush, and stands at a place in the order of caches
+-- what a sweep is part of: a trim (`flush_all`) or a flush (`slub_cpu_dead`)
 abbrev pub of_sweep : Sweep → Option CallKind
 of_sweep Trimming = Some Trim
 of_sweep Flushing = Some Flush
 
+-- what putting a slab away is part of, while that call has no reply yet (`___slab_alloc`,
+-- `__flush_cpu_slab`)
 abbrev pub of_away : Away → Option CallKind
 of_away ForInstall = Some Alloc
 of_away ForSpent = None
 of_away (ForSweep sweep) = of_sweep sweep
 
+-- the same of a string that is moved (`put_cpu_partial`, `unfreeze_partials`)
 abbrev pub of_move : MoveSet → Option CallKind
 of_move ForFree = None
 of_move (ForOffline sweep) = of_sweep sweep
 
+-- and of a slab that is discarded (`discard_slab`)
 abbrev pub of_discard : Discard → Option CallKind
 of_discard (FromAway away) = of_away away
 of_discard FromFree = None
 of_discard (FromMove move) = of_move move
 of_discard FromTrim = Some Trim
 
--- the call that has no reply yet
+-- the kind of the call that has no reply yet (profile)
 abbrev pub doing : Spot → Option CallKind
 doing Between = None
 doing (InAlloc GiveDry) = None

@@ -1,7 +1,7 @@
 //! What a worker has: objects that it knows, slabs in hand, a string of slabs, a run of frames.
 
 use crate::call::Call;
-use slub_answers::reply::Reply;
+use slub_trace::reply::Reply;
 
 /// An object that a worker was given or took from the board in this round.
 ///

@@ -1,4 +1,5 @@
-//! Where a worker stands: one spot for each step that it may have to make next.
+//! `slab_alloc_node`, `___slab_alloc`, `__slab_free`, `deactivate_slab` and the rest, spot by spot:
+//! where a worker stands, one spot for each step that it may have to make next.
 //!
 //! The last slab in hand is the one that a spot speaks of. Spots that say *at once* call for no
 //! step: the worker changes a list, a pool or a checked cache whose lock it has, and goes on.
@@ -35,7 +36,8 @@ pub enum AllocSpot {
     LoadNext,
     /// Takes the head off the CPU freelist (`this_cpu_cmpxchg_double` of `slab_alloc_node`).
     Pop,
-    /// Takes a slab whose CPU freelist is empty off the CPU (`deactivate_slab` of `___slab_alloc`).
+    /// Takes a slab whose CPU freelist is empty off the CPU (profile: in `___slab_alloc` it stays
+    /// current while `get_freelist` takes its objects).
     Detach,
     /// Loads the slab word of that slab (`get_freelist`).
     LoadTaken,
@@ -43,7 +45,8 @@ pub enum AllocSpot {
     TakeAll,
     /// Unfreezes a slab with no free object, which is then on no list (`get_freelist`).
     MarkFull,
-    /// Takes the CPU's partial list (`slub_percpu_partial` of `___slab_alloc`).
+    /// Takes the CPU's whole partial list (`slub_percpu_partial` of `___slab_alloc`; that all of it
+    /// is taken is profile).
     TakeList,
     /// Loads the link of its front slab (`slub_set_percpu_partial`).
     FollowFront,
@@ -59,7 +62,8 @@ pub enum AllocSpot {
     LoadPopped,
     /// Freezes the first popped slab with its whole freelist (`acquire_slab`).
     FreezePopped,
-    /// Unmarks a later popped slab, which goes to the CPU's partial list (`acquire_slab`).
+    /// Unmarks a later popped slab, which goes to the CPU's partial list (profile: `acquire_slab`
+    /// freezes it).
     Unlist,
     /// Gives the node lock back (`get_partial_node`).
     GiveNode,
@@ -88,11 +92,11 @@ pub enum AllocSpot {
 /// What a slab is put away for.
 #[derive(Clone, Copy, Debug, PartialEq, Eq)]
 pub enum Away {
-    /// It was current where a slab in hand is to be installed.
+    /// It was current where a slab in hand is to be installed (`retry_load_slab`).
     ForInstall,
-    /// It was to be installed, but the CPU's transaction ids are spent.
+    /// It was to be installed, but the CPU's transaction ids are spent (profile).
     ForSpent,
-    /// Its CPU is flushed.
+    /// Its CPU is flushed (`flush_slab`, `__flush_cpu_slab`).
     ForSweep(Sweep),
 }
 
@@ -101,7 +105,7 @@ pub enum Away {
 pub enum PutAwaySpot {
     /// Loads the next free pointer of the chain in hand (stage one).
     WalkChain,
-    /// Takes the node lock.
+    /// Takes the node lock (`n->list_lock` of `deactivate_slab`; always: profile).
     LockAway,
     /// Loads the slab word (stage two).
     LoadAway,
@@ -180,9 +184,9 @@ pub enum FreeSpot {
     FreeSlab,
     /// Takes the node lock, since this may be the listed slab's last object (`__slab_free`).
     LockFree,
-    /// Loads the slab word once more under it.
+    /// Loads the slab word once more under it: the second look (profile).
     LoadLocked,
-    /// Gives the node lock back, since the slab changed.
+    /// Gives the node lock back, since the slab changed (`__slab_free`, after a lost exchange).
     GoBack,
     /// Stores the slab's own head in the object, under the lock.
     LinkLocked,
@@ -218,7 +222,7 @@ pub enum MoveSetSpot {
     FollowSet,
     /// Loads the front slab's word.
     LoadMoved,
-    /// Marks the slab as listed (`__cmpxchg_double_slab`).
+    /// Marks the slab as listed (profile: `__unfreeze_partials` unfreezes it).
     ListSlab,
     /// At once: puts it at the tail of the node list (`add_partial`).
     PutTail,

@@ -14,8 +14,8 @@ use Rattle.slub_lists.specs.Coherent.{IsCoherent}
 use Rattle.slub_slabinfo_text.specs.declared.counts.Counts.{Counts}
 use Rattle.slub_slabinfo_text.specs.declared.counts.InfoRow.{InfoRow}
 use Rattle.slub_slabinfo_text.specs.Counts.{counts_of, row_of, row_with}
-use Rattle.slub_journal.specs.Lawful.{counted}
-use Rattle.slub_journal.proofs.Rows.{reversed_rows}
+use Rattle.slub_slabinfo_text.specs.Lawful.{counted}
+use Rattle.slub_slabinfo_text.proofs.Rows.{reversed_rows}
 use Rattle.slub_engine.specs.declared.sums.CacheSums.{CacheSums}
 use Rattle.slub_engine.specs.Sums.{AreSums, IsAtMost}
 use Rattle.slub_engine.proofs.Few.{counts_few}

@@ -11,13 +11,13 @@ use Rattle.std.proofs.lemmas.List.Sums.{sum_by-cons, sum_by-le}
 use Rattle.std.proofs.Math.ListN.{get_or-map}
 use Rattle.slub_red_zone.specs.Objects.{findable}
 use Rattle.slub_red_zone.specs.State.{CheckedState}
-use Rattle.slub_red_zone.specs.declared.zones.Report.{Report}
+use Rattle.slub_trace.specs.declared.damage.Report.{Report}
 use Rattle.slub_lists.specs.Alloc.{checked_of}
 use Rattle.slub_lists.specs.Coherent.{AddsReportsOf, findable_in}
 use Rattle.slub_lists.specs.State.{State}
-use Rattle.slub_journal.specs.declared.journal.Found.{Found}
-use Rattle.slub_journal.specs.Lawful.{cache_numbers, found_in, found_of, reports_of}
-use Rattle.slub_journal.proofs.Numbers.{sum_numbers}
+use Rattle.slub_slabinfo_text.specs.declared.journal.Found.{Found}
+use Rattle.slub_slabinfo_text.specs.Lawful.{cache_numbers, found_in, found_of, reports_of}
+use Rattle.slub_slabinfo_text.proofs.Numbers.{sum_numbers}
 use Rattle.slub_engine.specs.Steps.{found_past, found_since, listed_in, most_found, told_in}
 
 -- ---- one after the other

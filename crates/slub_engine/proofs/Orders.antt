@@ -9,7 +9,7 @@ use Rattle.slub_cache_create.specs.Table.{Table, cache_of as live_cache, number_
 use Rattle.slub_cache_create.specs.Sound.{IsLiveCache, IsSound as IsSoundTable}
 use Rattle.slub_lists.specs.Alloc.{cache_of, named}
 use Rattle.slub_lists.specs.State.{State}
-use Rattle.slub_journal.specs.Lawful.{min_order_of}
+use Rattle.slub_slabinfo_text.specs.Lawful.{min_order_of}
 
 -- what a name names is live
 pub named_live : (table : Table) (name : List ℕ) (cache : ℕ) → IsSoundTable table → number_of table name ≡ Some cache → IsSome (live_cache table cache)

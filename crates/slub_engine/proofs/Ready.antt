@@ -4,7 +4,7 @@ use Rattle.std.specs.List.{IsDistinct}
 use Rattle.std.specs.Option.{option_map}
 use Rattle.std.proofs.lemmas.List.{drop_more, take-append-drop}
 use Rattle.std.proofs.lemmas.List.Concat.{flat_map-append}
-use Rattle.slub_events.specs.declared.event.Round.{Round}
+use Rattle.slub_trace.specs.declared.event.Round.{Round}
 use Rattle.slub_lists.specs.declared.lists.Held.{Held}
 use Rattle.slub_lists.specs.State.{State}
 use Rattle.slub_lists.specs.Coherent.{IsCoherent, KeepsMachine, all_on_board, laid_down}
@@ -12,8 +12,8 @@ use Rattle.slub_trace.specs.declared.trace.Item.{Item}
 use Rattle.slub_trace.specs.declared.trace.Item.TheVariants as item
 use Rattle.slub_trace.specs.declared.trace.Trace.{Trace}
 use Rattle.slub_trace.specs.Sound.{IsSound, objects_in, objects_of}
-use Rattle.slub_journal.specs.Lawful.{IsAtRest, IsReady, IsUnheld, coming}
-use Rattle.slub_journal.proofs.Laws.{no_held}
+use Rattle.slub_slabinfo_text.specs.Lawful.{IsAtRest, IsReady, IsUnheld, coming}
+use Rattle.slub_slabinfo_text.proofs.Laws.{no_held}
 use Rattle.slub_engine.specs.Steps.{KeepsSizes, KeepsUnheld}
 use Rattle.slub_engine.proofs.Parts.{All-back, All-front, distinct_back, distinct_front}
 use Rattle.slub_engine.proofs.Unheld.{board_keeps, still_unheld}

@@ -6,14 +6,14 @@ use Rattle.std.proofs.lemmas.List.{get_or-set_other, get_or-set_same, length-set
 use Rattle.std.proofs.lemmas.List.Sums.{sum_by-append, count_by-le-length}
 use Rattle.std.proofs.lemmas.Option.{get_or_from_slice_get, slice_get-get_or}
 use Rattle.std.proofs.lemmas.Slice.Zip.{length-zip}
-use Rattle.slub_events.specs.declared.event.Act.{Act}
-use Rattle.slub_events.specs.declared.event.Act.TheVariants.{Alloc}
-use Rattle.slub_events.specs.declared.event.Event.{Event}
-use Rattle.slub_answers.specs.declared.reply.Reply.{Reply}
+use Rattle.slub_trace.specs.declared.event.Act.{Act}
+use Rattle.slub_trace.specs.declared.event.Act.TheVariants.{Alloc}
+use Rattle.slub_trace.specs.declared.event.Event.{Event}
+use Rattle.slub_trace.specs.declared.reply.Reply.{Reply}
 use Rattle.slub_lists.specs.State.{State}
-use Rattle.slub_answers.specs.declared.ledger.Ledger.{Ledger}
-use Rattle.slub_journal.specs.Lawful.{AreLedgers, IsLedger, is_by, is_order, lacks, least_order_of}
-use Rattle.slub_answers.specs.Kinds.{is_freed, is_given, is_no_frames}
+use Rattle.slub_trace.specs.declared.ledger.Ledger.{Ledger}
+use Rattle.slub_slabinfo_text.specs.Lawful.{AreLedgers, IsLedger, is_by, is_order, lacks, least_order_of}
+use Rattle.slub_trace.specs.Kinds.{is_freed, is_given, is_no_frames}
 use Rattle.slub_engine.specs.Steps.{IsBelow, IsBlank, Notes, NotesOwn}
 
 -- the table of names and caches decides which least order an act asks for

@@ -4,15 +4,15 @@ use Rattle.std.specs.List.{IsDistinct}
 use Rattle.std.specs.Option.{option_map}
 use Rattle.std.proofs.lemmas.Bool.{cases_eq}
 use Rattle.std.proofs.lemmas.List.Elements.{Contains-append_left, Contains-append_right, Contains-get_or}
-use Rattle.slub_events.specs.declared.event.Act.TheVariants.{Alloc}
-use Rattle.slub_events.specs.declared.event.Event.{Event}
+use Rattle.slub_trace.specs.declared.event.Act.TheVariants.{Alloc}
+use Rattle.slub_trace.specs.declared.event.Event.{Event}
 use Rattle.slub_lists.specs.declared.lists.Held.{Held}
-use Rattle.slub_answers.specs.declared.reply.Reply.{Reply}
+use Rattle.slub_trace.specs.declared.reply.Reply.{Reply}
 use Rattle.slub_lists.specs.Freeing.{Frees}
 use Rattle.slub_lists.specs.State.{State}
 use Rattle.slub_lists.specs.Coherent.{KeepsOthers, all_on_board, laid_down}
 use Rattle.slub_trace.specs.Sound.{objects_of}
-use Rattle.slub_journal.specs.Lawful.{IsUnheld}
+use Rattle.slub_slabinfo_text.specs.Lawful.{IsUnheld}
 use Rattle.slub_engine.specs.Steps.{KeepsUnheld}
 use Rattle.slub_engine.proofs.Parts.{apart}
 

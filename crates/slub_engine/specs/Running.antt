@@ -1,13 +1,13 @@
 -- A round in the order of the text while it is under way.
 use Rattle.std.specs.Prelude.{◌≡◌, ℕ, ◌+◌, ◌^◌, ◌<◌, ◌≤◌, List, [], ◌∷◌, length, vec_capacity, All}
 use Rattle.std.specs.List.{zip}
-use Rattle.slub_events.specs.declared.event.Event.{Event}
-use Rattle.slub_answers.specs.declared.reply.Reply.{Reply}
+use Rattle.slub_trace.specs.declared.event.Event.{Event}
+use Rattle.slub_trace.specs.declared.reply.Reply.{Reply}
 use Rattle.slub_lists.specs.State.{State}
 use Rattle.slub_lists.specs.Alloc.{checked_of}
 use Rattle.slub_lists.specs.Coherent.{AddsReportsOf, IsCoherent, findable_in}
 use Rattle.slub_trace.specs.Sound.{objects_of}
-use Rattle.slub_journal.specs.Lawful.{AreLedgers, IsUnheld, RunsEvents}
+use Rattle.slub_slabinfo_text.specs.Lawful.{AreLedgers, IsUnheld, RunsEvents}
 use Rattle.slub_engine.specs.Steps.{IsKnown, KeepsCaches, KeepsUnheld, most_found, told_in}
 use Rattle.slub_engine.specs.declared.running.Running.{Running}
 

@@ -2,16 +2,16 @@
 use Rattle.std.specs.Prelude.{◌≡◌, ℕ, ◌+◌, ◌<◌, ◌≤◌, List, length, drop, flat_map, is_some, map, sum_by, if◌then◌else◌, slice_index, slice_index_or, slice_set}
 use Rattle.std.specs.List.{Contains, list_any}
 use Rattle.std.specs.Option.{option_map_or}
-use Rattle.slub_events.specs.declared.event.Act.{Act}
-use Rattle.slub_events.specs.declared.event.Act.TheVariants.{Alloc, Free, Write, Read, Poke, Trim, Flush}
-use Rattle.slub_events.specs.declared.event.Event.{Event}
-use Rattle.slub_red_zone.specs.declared.zones.Report.{Report}
-use Rattle.slub_answers.specs.declared.reply.Reply.{Reply}
+use Rattle.slub_trace.specs.declared.event.Act.{Act}
+use Rattle.slub_trace.specs.declared.event.Act.TheVariants.{Alloc, Free, Write, Read, Poke, Trim, Flush}
+use Rattle.slub_trace.specs.declared.event.Event.{Event}
+use Rattle.slub_trace.specs.declared.damage.Report.{Report}
+use Rattle.slub_trace.specs.declared.reply.Reply.{Reply}
 use Rattle.slub_lists.specs.State.{State}
-use Rattle.slub_journal.specs.declared.journal.Found.{Found}
-use Rattle.slub_answers.specs.declared.ledger.Ledger.{Ledger}
-use Rattle.slub_journal.specs.Lawful.{IsUnheld, cache_numbers, lacks, reports_of, title_of}
-use Rattle.slub_answers.specs.Kinds.{is_freed, is_given}
+use Rattle.slub_slabinfo_text.specs.declared.journal.Found.{Found}
+use Rattle.slub_trace.specs.declared.ledger.Ledger.{Ledger}
+use Rattle.slub_slabinfo_text.specs.Lawful.{IsUnheld, cache_numbers, lacks, reports_of, title_of}
+use Rattle.slub_trace.specs.Kinds.{is_freed, is_given}
 
 -- an act under a number that the machine has, an allocation or a trim of a name of it
 abbrev pub IsKnownAct : State → Act → Type 0

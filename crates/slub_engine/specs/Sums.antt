@@ -2,7 +2,7 @@
 use Rattle.std.specs.Prelude.{◌≡◌, ℕ, ◌≤◌, List}
 use Rattle.slub_lists.specs.State.{State}
 use Rattle.slub_slabinfo_text.specs.declared.counts.Counts.{Counts}
-use Rattle.slub_journal.specs.Lawful.{counted}
+use Rattle.slub_slabinfo_text.specs.Lawful.{counted}
 use Rattle.slub_engine.specs.declared.sums.CacheSums.{CacheSums}
 
 -- the sums of the counts of these caches, as far as they are live

@@ -4,15 +4,15 @@ ghost use Rattle.std.specs.Prelude.{◌≡◌, ℕ, ◌+◌, ◌^◌, ◌<◌, �
 ghost use Rattle.std.specs.List.{list_any};
 ghost use Rattle.std.specs.Option.{option_map_or};
 ghost use Rattle.slub_lists.specs.Coherent.{IsCoherent};
-ghost use Rattle.slub_journal.specs.Lawful.{reports_of};
+ghost use Rattle.slub_slabinfo_text.specs.Lawful.{reports_of};
 ghost use Rattle.slub_engine.specs.Steps.{found_past, found_since, found_with, most_found, told_in};
 
 use slub_common::no_memory::NoMemory;
-use slub_journal::journal::Found;
 use slub_list_machine::lists::Lists;
 use slub_object_layout::name::Name;
 use slub_red_zone::checked::CheckedSlabs;
-use slub_red_zone::zones::Report;
+use slub_slabinfo_text::journal::Found;
+use slub_trace::damage::Report;
 use std::alloc::Global;
 
 /// How much was found of each cache so far, by cache number.

@@ -4,24 +4,24 @@ ghost use Rattle.std.specs.Prelude.{◌≡◌, ◌+◌, ◌-◌, ◌^◌, ◌<�
 ghost use Rattle.std.specs.List.{IsDistinct};
 ghost use Rattle.slub_lists.specs.Coherent.{IsCoherent, KeepsMachine, KeepsOthers};
 ghost use Rattle.slub_trace.specs.Sound.{IsSound, objects_of};
-ghost use Rattle.slub_journal.specs.Lawful.{Answers, CreatesName, DoesPlainAt, DoesRound, IsPlainAt, IsReady, IsTotal, IsUnheld, TakesMemoryAt, all_freed, all_given, least_order_of};
+ghost use Rattle.slub_slabinfo_text.specs.Lawful.{Answers, CreatesName, DoesPlainAt, DoesRound, IsPlainAt, IsReady, IsTotal, IsUnheld, TakesMemoryAt, all_freed, all_given, least_order_of};
 ghost use Rattle.slub_engine.specs.Steps.{IsBelow, IsBlank, IsKnown, IsKnownAct, KeepsSizes, KeepsUnheld, Notes, NotesOwn, object_of};
 
 use crate::counts::info_rows;
 use crate::running::Running;
 use crate::sums::{self, CacheSums};
-use slub_answers::create::{CreateRefusal, Created};
-use slub_answers::ledger::Ledger;
-use slub_answers::reply::{Kind, Reply};
 use slub_cache_create::caches;
 use slub_common::no_memory::NoMemory;
 use slub_common::sequence::Sequence;
-use slub_events::event::{Act, Event, Round};
-use slub_journal::journal::{Done, RoundResult, Total};
-use slub_journal::names::name_of;
 use slub_list_machine::lists::Lists;
 use slub_object_layout::layout::Spec;
 use slub_object_layout::name::Name;
+use slub_slabinfo_text::journal::{Done, RoundResult, Total};
+use slub_slabinfo_text::names::name_of;
+use slub_trace::create::{CreateRefusal, Created};
+use slub_trace::event::{Act, Event, Round};
+use slub_trace::ledger::Ledger;
+use slub_trace::reply::{Kind, Reply};
 use slub_trace::trace::{Item, Trace};
 use std::alloc::Global;
 

@@ -1,7 +1,7 @@
 //! Doing the items of a trace on the plain machine.
 //!
 //! `item` does one item of a trace on the lists, but a round and a client's line, as `specs/Lawful.antt` of
-//! `slub_journal` says, `serial` a round in the order of the text, and `total` sums up; `running` has such a
+//! `slub_slabinfo_text` says, `serial` a round in the order of the text, and `total` sums up; `running` has such a
 //! round event by event, for a loop of a crate above; and `counts` counts what slabinfo says of a cache.
 //! The crate owns no machine: it works on the `Lists` that it is handed.
 //! `specs/Steps.antt` has the steps of a round and `specs/Sums.antt` the sums, for the clauses of

@@ -1,24 +1,24 @@
 //! A round in the order of the text, event by event.
 
 ghost use Rattle.std.specs.Prelude.{◌≡◌, ℕ, ◌^◌, ◌<◌, List, [], ◌∷◌, ◌++◌, IfOk};
-ghost use Rattle.slub_events.specs.declared.event.Event.{Event};
-ghost use Rattle.slub_events.specs.declared.event.Round.{Round};
+ghost use Rattle.slub_trace.specs.declared.event.Event.{Event};
+ghost use Rattle.slub_trace.specs.declared.event.Round.{Round};
 ghost use Rattle.slub_lists.specs.State.{State};
 ghost use Rattle.slub_lists.specs.Coherent.{IsCoherent, KeepsOthers, all_on_board};
 ghost use Rattle.slub_trace.specs.Sound.{objects_of};
-ghost use Rattle.slub_journal.specs.Lawful.{Answers, DoesRound};
+ghost use Rattle.slub_slabinfo_text.specs.Lawful.{Answers, DoesRound};
 ghost use Rattle.slub_engine.specs.Steps.{KeepsUnheld, object_of};
 ghost use Rattle.slub_engine.specs.Running.{HasRun, MayAnswer, replies_in};
 
 use crate::found::{counts_told, push_found, room_to_find};
 use crate::item::{answer, blank_ledgers, note_own};
-use slub_answers::ledger::Ledger;
-use slub_answers::reply::Reply;
 use slub_common::no_memory::NoMemory;
 use slub_common::sequence::Sequence;
-use slub_events::event::Event;
-use slub_journal::journal::{Found, RoundResult};
 use slub_list_machine::lists::Lists;
+use slub_slabinfo_text::journal::{Found, RoundResult};
+use slub_trace::event::Event;
+use slub_trace::ledger::Ledger;
+use slub_trace::reply::Reply;
 use std::alloc::Global;
 
 /// A round whose events are answered one after the other, each to its end, while it is under way.

@@ -2,14 +2,14 @@
 
 ghost use Rattle.std.specs.Prelude.{◌≡◌, ◌+◌, ◌*◌, ◌^◌, ◌<◌, reverse};
 ghost use Rattle.slub_lists.specs.Coherent.{IsCoherent};
-ghost use Rattle.slub_journal.specs.Lawful.{all_freed, all_given, freed_by, freed_in, freed_of, given_by, given_in, given_of};
+ghost use Rattle.slub_slabinfo_text.specs.Lawful.{all_freed, all_given, freed_by, freed_in, freed_of, given_by, given_in, given_of};
 
 use crate::counts::cache_counts;
-use slub_answers::ledger::Ledger;
-use slub_journal::client::ClientRound;
-use slub_journal::journal::Done;
 use slub_list_machine::lists::Lists;
+use slub_slabinfo_text::client::ClientRound;
 use slub_slabinfo_text::counts::Counts;
+use slub_slabinfo_text::journal::Done;
+use slub_trace::ledger::Ledger;
 
 /// Sums of the counts of caches.
 #[derive(Clone, Copy)]

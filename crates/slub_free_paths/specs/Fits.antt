@@ -1,4 +1,5 @@
--- Where the numbers of a step fit into their words, and what a change under a lock finds there.
+-- `do_slab_free`, `__slab_free`, `deactivate_slab` and their kin: where the numbers of a step fit
+-- into their words, and what a change under a lock finds there.
 use Rattle.std.specs.Prelude.{ℕ, ◌≡◌, ◌+◌, ◌<◌, ◌^◌, List, length}
 use Rattle.slub_common.specs.Times.{times}
 use Rattle.slub_page_pool.specs.Block.{CanPut}
@@ -20,9 +21,9 @@ use Rattle.slub_core.specs.Local.{Local, here, hand_of, string_of, run_of}
 use Rattle.slub_core.specs.Alloc.{node_of}
 use Rattle.slub_core.specs.PutOnList.{puts}
 use Rattle.slub_core.specs.Discard.{counts_for}
-use Rattle.slub_local.specs.declared.guarded.Guarded.{Guarded}
-use Rattle.slub_local.specs.Values.{values_of, HasRoomAt, HasPool}
-use Rattle.slub_local.specs.Ways.{HasTid}
+use Rattle.slub_core.specs.declared.guarded.Guarded.{Guarded}
+use Rattle.slub_core.specs.Values.{values_of, HasRoomAt, HasPool}
+use Rattle.slub_core.specs.Ways.{HasTid}
 
 -- a push has room for one step of the transaction id, and what is put before a freelist has an
 -- index that leaves room for one more

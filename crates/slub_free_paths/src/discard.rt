@@ -1,24 +1,24 @@
-//! Discarding an empty slab in hand, under the node lock (`discard_slab`).
+//! `discard_slab`, `__free_slab`: discarding an empty slab in hand, under the node lock.
 
 ghost use Rattle.std.specs.Prelude.{◌≡◌, None};
 ghost use Rattle.slub_core.specs.Setup.{Means, order_for};
 ghost use Rattle.slub_core.specs.Discard as core;
 ghost use Rattle.slub_core.specs.Offline.{if_trimming};
 ghost use Rattle.slub_core.specs.Local.{goes};
-ghost use Rattle.slub_local.specs.Facts.{setup_of, cache_of};
-ghost use Rattle.slub_local.specs.Values.{values_of, rooms_of};
-ghost use Rattle.slub_local.specs.Ways.{changed};
+ghost use Rattle.slub_core.specs.Facts.{setup_of, cache_of};
+ghost use Rattle.slub_core.specs.Values.{values_of, rooms_of};
+ghost use Rattle.slub_core.specs.Ways.{changed};
 ghost use Rattle.slub_free_paths.specs.Fits.{DiscardFits, PutsRun};
 
+use slub_core::guarded::Guarded;
 use slub_core::local::FrameRun;
+use slub_core::setup::Setup;
 use slub_core::spot::{
     Away, Discard, DiscardSpot, FreeSpot, MoveSet, MoveSetSpot, PutAwaySpot, Spot, Sweep, TrimSpot,
 };
 use slub_core::step::{Answer, Step};
-use slub_local::guarded::Guarded;
-use slub_local::local::Local;
-use slub_local::setup::Setup;
-use slub_local::{ops, values};
+use slub_core::worker_local::Local;
+use slub_core::{ops, values};
 use slub_words::slab::SlabWord;
 
 /// The word of a frame that is no first frame of an unchecked slab.

@@ -1,30 +1,30 @@
-//! The free of an object of an unchecked cache (`do_slab_free`, `__slab_free`).
+//! `do_slab_free`, `__slab_free`: the free of an object of an unchecked cache.
 
 ghost use Rattle.std.specs.Prelude.{◌≡◌, ◌<◌, ◌==◌, ◌&&◌, not, nat_lt, nat_le, length, if◌then◌else◌, None};
 ghost use Rattle.slub_object_layout.specs.Layout.{address_of};
 ghost use Rattle.slub_core.specs.Setup.{Means};
 ghost use Rattle.slub_core.specs.Free as free;
 ghost use Rattle.slub_core.specs.Local.{here, at, goes, loses};
-ghost use Rattle.slub_local.specs.Facts.{setup_of, cache_of};
-ghost use Rattle.slub_local.specs.Values.{values_of, rooms_of};
+ghost use Rattle.slub_core.specs.Facts.{setup_of, cache_of};
+ghost use Rattle.slub_core.specs.Values.{values_of, rooms_of};
 ghost use Rattle.slub_free_paths.specs.Fits.{FreeFits, TakesOff};
-ghost use Rattle.slub_local.specs.Ways.{turned, is_spent_by, changed};
+ghost use Rattle.slub_core.specs.Ways.{turned, is_spent_by, changed};
 
 use crate::lists::take_off;
-use slub_answers::reply::Reply;
 use slub_core::call::CallKind;
+use slub_core::guarded::Guarded;
+use slub_core::ops;
+use slub_core::setup::Setup;
 use slub_core::spot::{
     CheckedSpot, Discard, DiscardSpot, FreeSpot, MoveSet, MoveSetSpot, PutOnList, PutOnListSpot,
     Spot,
 };
 use slub_core::step::{Answer, Step};
+use slub_core::ways::{bare_hand, has_enough, is_spent, raised_word, single_string, taken_string};
+use slub_core::words::{board_in, cpu_in, list_in, slab_in};
+use slub_core::worker_local::Local;
 use slub_cpu_partial::words::ListWord;
-use slub_local::guarded::Guarded;
-use slub_local::local::Local;
-use slub_local::ops;
-use slub_local::setup::Setup;
-use slub_local::ways::{bare_hand, has_enough, is_spent, raised_word, single_string, taken_string};
-use slub_local::words::{board_in, cpu_in, list_in, slab_in};
+use slub_trace::reply::Reply;
 use slub_words::board::BoardWord;
 use slub_words::cpu::CpuWord;
 use slub_words::slab::SlabWord;

@@ -1,18 +1,23 @@
-//! The paths by which a worker of a round frees, step by step, and the ways that it shares with the other paths.
+//! `do_slab_free`, `__slab_free` and what they call, by atomic steps: the free of an unchecked
+//! cache, and the ways that it shares with the other paths.
 //!
-//! Of each path of the step machine (`slub_core`) there are three functions: `.._step` gives the step that a spot
-//! calls for, `.._advance` takes the answer and changes the worker in place, and `.._at_once` makes the change under a
-//! lock that calls for no step. Contracts say that each gives what the definition of that name gives, in every
-//! machine of the setup's facts: the step, the worker after it, the reply that its call has by it, and the values of
-//! the locks. `requires` ask only that numbers fit into their words, and that what a change under a lock takes or
-//! puts may be taken or put there.
+//! - `free` is the free itself, `put_on_list` puts a slab on a CPU's partial list
+//!   (`put_cpu_partial`), `move_set` moves such a list to the node (`__unfreeze_partials`),
+//!   `put_away` puts a slab away that was current (`deactivate_slab`), `discard` gives an empty one
+//!   back (`discard_slab`), and `lists` takes a slab off a node list (`remove_partial`).
+//! - `sweep` is where a trim or a flush goes on, `uses` writes and reads words of objects
+//!   (profile).
 //!
-//! No call takes memory.
+//! Of each path there are three functions: `.._step` gives the step that a spot calls for,
+//! `.._advance` takes the answer and changes the worker in place, and `.._at_once` makes the change
+//! under a lock that calls for no step. No call takes memory.
 //!
 //! # What it promises
 //!
-//! `free`, `put_on_list`, `put_away`, `discard`, `move_set` and `uses` are the paths of those names in the
-//! definitions, and `sweep` is where a trim or a flush goes on.
+//! Each function gives what the definition of its name in the step machine (`slub_core`) gives, in
+//! every machine of the setup's facts: the step, the worker after it, the reply that its call has
+//! by it, and the values of the locks. `requires` ask only that numbers fit into their words, and
+//! that what a change under a lock takes or puts may be taken or put there (`specs/Fits.antt`).
 #![tactic(auto)]
 
 pub mod discard;

@@ -1,4 +1,4 @@
-//! A slab that is taken off a node list, wherever it stands.
+//! `remove_partial`: a slab that is taken off a node list, wherever it stands.
 
 ghost use Rattle.std.specs.Prelude.{◌≡◌};
 ghost use Rattle.slub_common.specs.Times.{times};
@@ -6,9 +6,9 @@ ghost use Rattle.slub_core.specs.Setup.{node_lock};
 ghost use Rattle.slub_core.specs.World as value;
 ghost use Rattle.slub_core.specs.World.{update, frames_in};
 ghost use Rattle.slub_core.specs.Free.{without};
-ghost use Rattle.slub_local.specs.Values.{value_in, values_of, room_in, rooms_of};
+ghost use Rattle.slub_core.specs.Values.{value_in, values_of, room_in, rooms_of};
 
-use slub_local::guarded::Guarded;
+use slub_core::guarded::Guarded;
 
 /// Takes a slab off the node list of a cache (`remove_partial`), where it stands once.
 pub fn take_off(values: &mut [Guarded], cache: u8, frame: u16)

@@ -1,26 +1,26 @@
-//! Moving a string of slabs to the node list, its empty slabs to the pool (`__unfreeze_partials`).
+//! `__unfreeze_partials`: moving a string of slabs to the node list, its empty slabs to the pool.
 
 ghost use Rattle.std.specs.Prelude.{◌≡◌, ◌<◌, ◌^◌, ◌%◌, ◌-◌, ◌==◌, ◌&&◌, nat_le, length, if◌then◌else◌, Some, None};
 ghost use Rattle.slub_core.specs.Setup.{Means};
 ghost use Rattle.slub_core.specs.MoveSet as core;
 ghost use Rattle.slub_core.specs.Alloc as alloc;
 ghost use Rattle.slub_core.specs.Local.{at, goes, with_hand, bare_hand, string_of};
-ghost use Rattle.slub_local.specs.Facts.{setup_of, cache_of};
-ghost use Rattle.slub_local.specs.Values.{values_of, rooms_of};
-ghost use Rattle.slub_local.specs.Ways.{turned, changed};
+ghost use Rattle.slub_core.specs.Facts.{setup_of, cache_of};
+ghost use Rattle.slub_core.specs.Values.{values_of, rooms_of};
+ghost use Rattle.slub_core.specs.Ways.{turned, changed};
 ghost use Rattle.slub_free_paths.specs.Fits.{MoveSetFits, PutsTail};
 
 use crate::free::alone;
 use crate::sweep::next_swept;
-use slub_answers::reply::Reply;
+use slub_core::guarded::Guarded;
+use slub_core::setup::Setup;
 use slub_core::spot::{Discard, DiscardSpot, MoveSet, MoveSetSpot, Spot};
 use slub_core::step::{Answer, Step};
-use slub_local::guarded::Guarded;
-use slub_local::local::Local;
-use slub_local::setup::Setup;
-use slub_local::ways::{bare_hand, has_enough, taken_string};
-use slub_local::words::slab_in;
-use slub_local::{ops, values};
+use slub_core::ways::{bare_hand, has_enough, taken_string};
+use slub_core::words::slab_in;
+use slub_core::worker_local::Local;
+use slub_core::{ops, values};
+use slub_trace::reply::Reply;
 use slub_words::slab::SlabWord;
 
 /// The step that a spot of it calls for.

@@ -1,24 +1,24 @@
-//! Putting away a slab in hand with its chain (`deactivate_slab`).
+//! `deactivate_slab`: putting away a slab in hand with its chain.
 
 ghost use Rattle.std.specs.Prelude.{◌≡◌, ℕ, ◌==◌, ◌&&◌, ◌||◌, not, if◌then◌else◌, false, None};
 ghost use Rattle.slub_core.specs.Setup.{Means};
 ghost use Rattle.slub_core.specs.PutAway as core;
 ghost use Rattle.slub_core.specs.World.{LockValue};
 ghost use Rattle.slub_core.specs.Local.{goes, hand_of};
-ghost use Rattle.slub_local.specs.Facts.{setup_of};
-ghost use Rattle.slub_local.specs.Values.{values_of, rooms_of};
-ghost use Rattle.slub_local.specs.Ways.{changed};
+ghost use Rattle.slub_core.specs.Facts.{setup_of};
+ghost use Rattle.slub_core.specs.Values.{values_of, rooms_of};
+ghost use Rattle.slub_core.specs.Ways.{changed};
 ghost use Rattle.slub_free_paths.specs.Fits.{PutAwayFits, PutsAway};
 
+use slub_core::guarded::Guarded;
 use slub_core::local::Hand;
+use slub_core::setup::Setup;
 use slub_core::spot::{AllocSpot, Away, Discard, DiscardSpot, OfflineSpot, PutAwaySpot, Spot};
 use slub_core::step::{Answer, Step};
-use slub_local::guarded::Guarded;
-use slub_local::local::Local;
-use slub_local::setup::Setup;
-use slub_local::ways::{bare_hand, has_enough, reached, walked_on, way_of_away};
-use slub_local::words::slab_in;
-use slub_local::{ops, values};
+use slub_core::ways::{bare_hand, has_enough, reached, walked_on, way_of_away};
+use slub_core::words::slab_in;
+use slub_core::worker_local::Local;
+use slub_core::{ops, values};
 use slub_words::slab::SlabWord;
 
 /// The step that a spot of it calls for.

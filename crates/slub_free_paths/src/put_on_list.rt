@@ -1,4 +1,4 @@
-//! Putting a string of slabs before a CPU's partial list (`put_cpu_partial`), without a lock.
+//! `put_cpu_partial`: putting a string of slabs before a CPU's partial list, without a lock.
 
 ghost use Rattle.std.specs.Prelude.{◌≡◌};
 ghost use Rattle.slub_core.specs.PutOnList as put_on_list;
@@ -6,11 +6,11 @@ ghost use Rattle.slub_core.specs.Local.{goes};
 ghost use Rattle.slub_free_paths.specs.Fits.{PutOnListFits};
 
 use slub_core::local::PartialString;
+use slub_core::ops;
 use slub_core::spot::{AllocSpot, PutOnList, PutOnListSpot, Spot};
 use slub_core::step::{Answer, Step};
-use slub_local::local::Local;
-use slub_local::ops;
-use slub_local::words::list_in;
+use slub_core::words::list_in;
+use slub_core::worker_local::Local;
 
 /// The step that a spot of it calls for.
 #[inline(always)]

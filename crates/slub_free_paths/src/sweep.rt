@@ -1,15 +1,15 @@
-//! The next CPU of a trim, and the next cache of a flush.
+//! `flush_all_cpus_locked`, `slub_cpu_dead`: the next CPU of a trim, and the next cache of a flush.
 
 ghost use Rattle.std.specs.Prelude.{◌≡◌};
 ghost use Rattle.slub_core.specs.Setup.{Means};
 ghost use Rattle.slub_core.specs.Offline as core;
-ghost use Rattle.slub_local.specs.Facts.{setup_of};
-ghost use Rattle.slub_local.specs.Ways.{turned};
+ghost use Rattle.slub_core.specs.Facts.{setup_of};
+ghost use Rattle.slub_core.specs.Ways.{turned};
 
-use slub_answers::reply::Reply;
+use slub_core::setup::Setup;
 use slub_core::spot::{OfflineSpot, Spot, Sweep, TrimSpot};
-use slub_local::local::Local;
-use slub_local::setup::Setup;
+use slub_core::worker_local::Local;
+use slub_trace::reply::Reply;
 
 /// A trim goes on to the next CPU, and from the last one to the node list; a flush goes on to the next unchecked cache,
 /// and ends after the last one.

@@ -1,19 +1,20 @@
-//! Writing and reading a word of an object of an unchecked cache (profile).
+//! Profile, with no function of `mm/slub.c`: writing and reading a word of an object of an
+//! unchecked cache.
 
 ghost use Rattle.std.specs.Prelude.{◌≡◌, ℕ, ◌≤◌};
 ghost use Rattle.slub_core.specs.Setup.{Means};
 ghost use Rattle.slub_core.specs.World.{LockValue};
 ghost use Rattle.slub_core.specs.Steps as core;
 ghost use Rattle.slub_core.specs.Local.{call_of};
-ghost use Rattle.slub_local.specs.Facts.{setup_of};
-ghost use Rattle.slub_local.specs.Ways.{turned};
+ghost use Rattle.slub_core.specs.Facts.{setup_of};
+ghost use Rattle.slub_core.specs.Ways.{turned};
 
-use slub_answers::reply::Reply;
+use slub_core::ops;
+use slub_core::setup::Setup;
 use slub_core::spot::Spot;
 use slub_core::step::{Answer, Step};
-use slub_local::local::Local;
-use slub_local::ops;
-use slub_local::setup::Setup;
+use slub_core::worker_local::Local;
+use slub_trace::reply::Reply;
 
 /// The step of a write.
 #[inline(always)]

@@ -1,12 +1,12 @@
 -- A round of several workers by steps where no ids stand beside the lists: it begins with new ones, which aren't kept.
 use Rattle.std.proofs.Common.{ℕ, ◌≡◌, List, refl, arith, Some, None, inl, inr}
-use Rattle.slub_events.specs.declared.event.Round.{Round}
+use Rattle.slub_trace.specs.declared.event.Round.{Round}
 use Rattle.slub_lists.specs.State.{State}
-use Rattle.slub_into_words.specs.Ids.{first_ids}
-use Rattle.slub_journal.specs.declared.journal.RoundResult.{RoundResult}
-use Rattle.slub_ways.specs.declared.way.Way.{Way}
-use Rattle.slub_ways.specs.declared.way.Way.TheVariants.{Serial, Schedule, Threads}
-use Rattle.slub_ways.specs.Ways.{DoesRoundBy, IsOfSeveral, SpendsTurnsBy}
+use Rattle.slub_open_close.specs.Ids.{first_ids}
+use Rattle.slub_slabinfo_text.specs.declared.journal.RoundResult.{RoundResult}
+use Rattle.slub_law_replay.specs.declared.way.Way.{Way}
+use Rattle.slub_law_replay.specs.declared.way.Way.TheVariants.{Serial, Schedule, Threads}
+use Rattle.slub_law_replay.specs.Ways.{DoesRoundBy, IsOfSeveral, SpendsTurnsBy}
 
 -- it is done
 pub anew : (way : Way) (rounds : ℕ) (s : State) (round : Round) (result : RoundResult) (after : State) (kept : List ℕ) → IsOfSeveral round → (way ≡ Serial → ⊥) → DoesRoundBy way rounds s (Some (first_ids 0 s.cpus)) round result after (Some kept)

@@ -5,15 +5,15 @@ use Rattle.std.specs.Option.{option_map_or}
 use Rattle.std.specs.Str.{bytes_eq}
 use Rattle.std.proofs.lemmas.List.Elements.{All-cons, All-head, All-nil}
 use Rattle.std.proofs.lemmas.List.Quantifiers.{position-Some}
-use Rattle.slub_events.specs.declared.event.Act.TheVariants.{Alloc, Free}
+use Rattle.slub_trace.specs.declared.event.Act.TheVariants.{Alloc, Free}
 use Rattle.slub_object_layout.specs.Layout.{address_of, is_checked}
 use Rattle.slub_object_layout.specs.declared.layout.Spec.{Spec}
-use Rattle.slub_answers.specs.declared.create.Created.{Created}
-use Rattle.slub_answers.specs.declared.create.Created.TheVariants.{New, Merged}
-use Rattle.slub_answers.specs.declared.create.CreateRefusal.{CreateRefusal}
-use Rattle.slub_answers.specs.declared.reply.Reply.{Reply}
-use Rattle.slub_answers.specs.declared.reply.Reply.TheVariants as reply
-use Rattle.slub_answers.specs.Kinds.{is_freed, is_given}
+use Rattle.slub_trace.specs.declared.create.Created.{Created}
+use Rattle.slub_trace.specs.declared.create.Created.TheVariants.{New, Merged}
+use Rattle.slub_trace.specs.declared.create.CreateRefusal.{CreateRefusal}
+use Rattle.slub_trace.specs.declared.reply.Reply.{Reply}
+use Rattle.slub_trace.specs.declared.reply.Reply.TheVariants as reply
+use Rattle.slub_trace.specs.Kinds.{is_freed, is_given}
 use Rattle.slub_cache_create.specs.Table.{cache_of as live_cache}
 use Rattle.slub_cache_create.specs.declared.caches.Cache.{Cache}
 use Rattle.slub_lists.specs.declared.lists.Held.{Held}
@@ -27,27 +27,27 @@ use Rattle.slub_trace.specs.declared.trace.Client.TheVariants as line
 use Rattle.slub_trace.specs.declared.trace.Trace.{Trace}
 use Rattle.slub_trace.specs.Classes.{class_names}
 use Rattle.slub_calls.specs.Laws.{MayDo}
-use Rattle.slub_journal.specs.declared.client.CacheRefusal.{CacheRefusal}
-use Rattle.slub_journal.specs.declared.client.CacheRefusal.TheVariants as why
-use Rattle.slub_journal.specs.declared.client.ClientAnswer.{ClientAnswer}
-use Rattle.slub_journal.specs.declared.client.ClientAnswer.TheVariants as answer
-use Rattle.slub_journal.specs.declared.client.ClientDone.{ClientDone}
-use Rattle.slub_journal.specs.declared.client.ClientRound.{ClientRound}
-use Rattle.slub_journal.specs.Asked.{refusal_of, round_of}
-use Rattle.slub_journal.specs.Classes.{class_place}
-use Rattle.slub_journal.specs.Lawful.{CreatesName, IsUnheld}
-use Rattle.slub_round_law.specs.Round.{IsRound}
-use Rattle.slub_round_law.proofs.Steps.{match_bool, match_either, match_some}
-use Rattle.slub_round_law.proofs.Times.{once_times}
-use Rattle.slub_by_text.specs.Heap.{HeapState}
-use Rattle.slub_by_text.specs.Laws.{RoundsByTextAreLawful}
-use Rattle.slub_clients.specs.Asked.{AnswersAtOnce, DoesAsked, IsOpenTo, IsServable}
-use Rattle.slub_clients.specs.BulkLines.{AddsNumbers}
-use Rattle.slub_clients.specs.Kmalloc.{CreatesClasses, MovesOn, ServesClasses, ServesKget, ServesKrealloc, TakesOfClass, class_name, given_answer, is_enough, is_kmalloc, names_cache, place_of_class}
-use Rattle.slub_clients.specs.Laws.{AllocationsMayBeDone, FreesMayBeDone, IsNumber}
-use Rattle.slub_clients.proofs.Allowed.{one-differs}
-use Rattle.slub_clients.proofs.Replies.{one_reply}
-use Rattle.slub_clients.proofs.Staying.{open-fewer}
+use Rattle.slub_slabinfo_text.specs.declared.client.CacheRefusal.{CacheRefusal}
+use Rattle.slub_slabinfo_text.specs.declared.client.CacheRefusal.TheVariants as why
+use Rattle.slub_slabinfo_text.specs.declared.client.ClientAnswer.{ClientAnswer}
+use Rattle.slub_slabinfo_text.specs.declared.client.ClientAnswer.TheVariants as answer
+use Rattle.slub_slabinfo_text.specs.declared.client.ClientDone.{ClientDone}
+use Rattle.slub_slabinfo_text.specs.declared.client.ClientRound.{ClientRound}
+use Rattle.slub_slabinfo_text.specs.Asked.{refusal_of, round_of}
+use Rattle.slub_slabinfo_text.specs.Classes.{class_place}
+use Rattle.slub_slabinfo_text.specs.Lawful.{CreatesName, IsUnheld}
+use Rattle.slub_law_rounds.specs.Round.{IsRound}
+use Rattle.slub_law_rounds.proofs.Steps.{match_bool, match_either, match_some}
+use Rattle.slub_law_rounds.proofs.Times.{once_times}
+use Rattle.slub_rounds.specs.Heap.{HeapState}
+use Rattle.slub_rounds.specs.TextLaws.{RoundsByTextAreLawful}
+use Rattle.slub_rounds.specs.Asked.{AnswersAtOnce, DoesAsked, IsOpenTo, IsServable}
+use Rattle.slub_rounds.specs.BulkLines.{AddsNumbers}
+use Rattle.slub_rounds.specs.Kmalloc.{CreatesClasses, MovesOn, ServesClasses, ServesKget, ServesKrealloc, TakesOfClass, class_name, given_answer, is_enough, is_kmalloc, names_cache, place_of_class}
+use Rattle.slub_rounds.specs.ClientLaws.{AllocationsMayBeDone, FreesMayBeDone, IsNumber}
+use Rattle.slub_rounds.proofs.Allowed.{one-differs}
+use Rattle.slub_rounds.proofs.ClientReplies.{one_reply}
+use Rattle.slub_rounds.proofs.Staying.{open-fewer}
 use Rattle.slub_bulk.proofs.Boards.{asked_lawful, frees-follow}
 use Rattle.slub_bulk.proofs.Plain.{IsPlain, frees-plain, held-plain}
 use Rattle.slub_items.specs.Leaves.{LeavesClasses, MovesNumber}

@@ -1,7 +1,7 @@
 -- Where the machine stands before and after an item: a round, a client's line or another.
 use Rattle.std.proofs.Common.{◌≡◌, ℕ, ◌+◌, ◌^◌, ◌<◌, ◌≤◌, List, length, get_or, refl, sym, ◌∙◌, ap, subst, arith, Option, Some, None, MatchOption, slice_get, slice_index}
 use Rattle.std.proofs.lemmas.Option.{slice_get_read}
-use Rattle.slub_events.specs.declared.event.Round.{Round}
+use Rattle.slub_trace.specs.declared.event.Round.{Round}
 use Rattle.slub_cache_create.specs.Table.{Table}
 use Rattle.slub_lists.specs.State.{State}
 use Rattle.slub_trace.specs.declared.trace.Client.{Client as Asked}
@@ -9,19 +9,19 @@ use Rattle.slub_trace.specs.declared.trace.Item.{Item}
 use Rattle.slub_trace.specs.declared.trace.Item.TheVariants as item
 use Rattle.slub_trace.specs.declared.trace.Trace.{Trace}
 use Rattle.slub_trace.specs.Sound.{IsSound, asked_objects, objects_in}
-use Rattle.slub_journal.specs.declared.journal.RoundResult.{RoundResult}
-use Rattle.slub_journal.specs.Lawful.{IsPlain, IsPlainAt, IsReady, TakesMemory, coming}
-use Rattle.slub_journal.proofs.Items.{takes_at}
-use Rattle.slub_round_law.specs.Round.{IsRound}
+use Rattle.slub_slabinfo_text.specs.declared.journal.RoundResult.{RoundResult}
+use Rattle.slub_slabinfo_text.specs.Lawful.{IsPlain, IsPlainAt, IsReady, TakesMemory, coming}
+use Rattle.slub_slabinfo_text.proofs.Items.{takes_at}
+use Rattle.slub_law_rounds.specs.Round.{IsRound}
 use Rattle.slub_engine.specs.Steps.{KeepsSizes, KeepsUnheld}
 use Rattle.slub_engine.proofs.Ready.{ready_next}
-use Rattle.slub_by_text.specs.Heap.{HeapState, IsSoundHeap}
-use Rattle.slub_clients.specs.Asked.{IsOpenTo, IsServable}
-use Rattle.slub_clients.specs.Reserves.{AreSoundReserves}
-use Rattle.slub_clients.proofs.Staying.{round-unheld}
-use Rattle.slub_ways.specs.declared.way.Way.{Way}
-use Rattle.slub_ways.specs.Runs.{AreIdsFor, IsReadyMachine, ItemSpendsTurns, KeepsReserves, KeepsRounds, MachineState, SpendsLine, heap_of}
-use Rattle.slub_ways.specs.Ways.{DoesRoundBy}
+use Rattle.slub_rounds.specs.Heap.{HeapState, IsSoundHeap}
+use Rattle.slub_rounds.specs.Asked.{IsOpenTo, IsServable}
+use Rattle.slub_rounds.specs.Reserves.{AreSoundReserves}
+use Rattle.slub_rounds.proofs.Staying.{round-unheld}
+use Rattle.slub_law_replay.specs.declared.way.Way.{Way}
+use Rattle.slub_law_replay.specs.Runs.{AreIdsFor, IsReadyMachine, ItemSpendsTurns, KeepsReserves, KeepsRounds, MachineState, SpendsLine, heap_of}
+use Rattle.slub_law_replay.specs.Ways.{DoesRoundBy}
 use Rattle.slub_items.specs.declared.machine.Stopped.{Stopped}
 use Rattle.slub_items.specs.declared.machine.Stopped.TheVariants.{NoMemory, TurnsSpent}
 use Rattle.slub_items.specs.Stopped.{IsClient, IsClientAt, IsMachineStopped, IsStopped}

@@ -7,12 +7,12 @@ use Rattle.std.proofs.lemmas.List.Elements.{All-cons, All-nil}
 use Rattle.std.proofs.lemmas.List.Sums.{sum_by-cons}
 use Rattle.slub_common.specs.Times.{times}
 use Rattle.slub_common.proofs.Times.{Contains-times, times-absent, times-contained}
-use Rattle.slub_events.specs.declared.event.Act.TheVariants.{Alloc, Free}
-use Rattle.slub_events.specs.declared.event.Event.{Event}
+use Rattle.slub_trace.specs.declared.event.Act.TheVariants.{Alloc, Free}
+use Rattle.slub_trace.specs.declared.event.Event.{Event}
 use Rattle.slub_object_layout.specs.Layout.{address_of}
-use Rattle.slub_answers.specs.declared.reply.Reply.{Reply}
-use Rattle.slub_answers.specs.declared.reply.Reply.TheVariants as reply
-use Rattle.slub_answers.specs.Kinds.{is_freed, is_given}
+use Rattle.slub_trace.specs.declared.reply.Reply.{Reply}
+use Rattle.slub_trace.specs.declared.reply.Reply.TheVariants as reply
+use Rattle.slub_trace.specs.Kinds.{is_freed, is_given}
 use Rattle.slub_cache_create.specs.declared.caches.Cache.{Cache}
 use Rattle.slub_lists.specs.declared.lists.Held.{Held}
 use Rattle.slub_lists.specs.State.{State}
@@ -21,14 +21,14 @@ use Rattle.slub_lists.specs.Coherent.{held_under}
 use Rattle.slub_lists.specs.Places.{layout_at, no_layout}
 use Rattle.slub_lists.proofs.CheckedSlabs.{at_some}
 use Rattle.slub_lists.proofs.ObjectWords.{held-cache}
-use Rattle.slub_journal.specs.declared.journal.RoundResult.{RoundResult}
-use Rattle.slub_journal.specs.Asked.{event_of, round_of}
-use Rattle.slub_journal.specs.Lawful.{IsUnheld}
-use Rattle.slub_round_law.specs.Answered.{Answered, did_free, gave, times_freed, times_given}
-use Rattle.slub_round_law.specs.Round.{IsGiftOf, IsRound, Spot, WasGivenAt, spot_of, spot_under}
-use Rattle.slub_round_law.proofs.Tale.{injected}
-use Rattle.slub_round_law.proofs.Times.{events_given}
-use Rattle.slub_clients.specs.BulkLines.{AddsNumbers, address_under}
+use Rattle.slub_slabinfo_text.specs.declared.journal.RoundResult.{RoundResult}
+use Rattle.slub_slabinfo_text.specs.Asked.{event_of, round_of}
+use Rattle.slub_slabinfo_text.specs.Lawful.{IsUnheld}
+use Rattle.slub_law_rounds.specs.Answered.{Answered, did_free, gave, times_freed, times_given}
+use Rattle.slub_law_rounds.specs.Round.{IsGiftOf, IsRound, Spot, WasGivenAt, spot_of, spot_under}
+use Rattle.slub_law_rounds.proofs.Tale.{injected}
+use Rattle.slub_law_rounds.proofs.Times.{events_given}
+use Rattle.slub_rounds.specs.BulkLines.{AddsNumbers, address_under}
 use Rattle.slub_bulk.proofs.Boards.{allocs_free_none, allocs_give_all, answers_of, frees_few, frees_give_none}
 use Rattle.slub_bulk.proofs.Leaving.{either-way, nobody, not-some}
 

@@ -4,27 +4,27 @@ use Rattle.std.specs.Prelude.{IfSome}
 use Rattle.std.proofs.lemmas.Bool.{cond-false, ne_eqb}
 use Rattle.std.specs.Option.{option_map}
 use native.Mathlib.Nat.{zero-mod}
-use Rattle.slub_events.specs.declared.event.Round.{Round}
+use Rattle.slub_trace.specs.declared.event.Round.{Round}
 use Rattle.slub_lists.specs.State.{State}
 use Rattle.slub_lists.specs.Coherent.{IsCoherent}
-use Rattle.slub_into_words.specs.Ids.{AreIds, IsStepOf, first_ids}
-use Rattle.slub_into_words.proofs.Firsts.{first-ids-fit, step-below}
-use Rattle.slub_ids.specs.Growth.{ids_after}
-use Rattle.slub_ids.proofs.Items.{items-keep}
-use Rattle.slub_ids.proofs.Steps.{is-step}
+use Rattle.slub_open_close.specs.Ids.{AreIds, IsStepOf, first_ids}
+use Rattle.slub_open_close.proofs.Firsts.{first-ids-fit, step-below}
+use Rattle.slub_open_close.specs.Growth.{ids_after}
+use Rattle.slub_open_close.proofs.Items.{items-keep}
+use Rattle.slub_open_close.proofs.Steps.{is-step}
 use Rattle.slub_trace.specs.declared.trace.Item.{Item}
 use Rattle.slub_trace.specs.declared.trace.Trace.{Trace}
 use Rattle.slub_trace.specs.Ranges.{step_of}
 use Rattle.slub_trace.specs.Sound.{IsSound}
-use Rattle.slub_journal.specs.declared.journal.Done.{Done}
-use Rattle.slub_journal.specs.declared.journal.RoundResult.{RoundResult}
-use Rattle.slub_journal.specs.Lawful.{DoesPlain, DoesPlainAt, IsReady}
-use Rattle.slub_by_text.specs.ByText.{DoesByText}
-use Rattle.slub_clients.specs.Asked.{AreGiven}
-use Rattle.slub_ways.specs.declared.way.Way.{Way}
-use Rattle.slub_ways.specs.declared.way.Way.TheVariants.{Serial, Schedule, Threads}
-use Rattle.slub_ways.specs.Runs.{AreIdsFor, opening_ids}
-use Rattle.slub_ways.specs.Ways.{AreLeft, DoesRoundBy}
+use Rattle.slub_slabinfo_text.specs.declared.journal.Done.{Done}
+use Rattle.slub_slabinfo_text.specs.declared.journal.RoundResult.{RoundResult}
+use Rattle.slub_slabinfo_text.specs.Lawful.{DoesPlain, DoesPlainAt, IsReady}
+use Rattle.slub_rounds.specs.ByText.{DoesByText}
+use Rattle.slub_rounds.specs.Asked.{AreGiven}
+use Rattle.slub_law_replay.specs.declared.way.Way.{Way}
+use Rattle.slub_law_replay.specs.declared.way.Way.TheVariants.{Serial, Schedule, Threads}
+use Rattle.slub_law_replay.specs.Runs.{AreIdsFor, opening_ids}
+use Rattle.slub_law_replay.specs.Ways.{AreLeft, DoesRoundBy}
 use Rattle.slub_items.specs.Ids.{LeavesIdsAt}
 
 -- they fit where they stand

@@ -2,9 +2,9 @@
 use Rattle.std.specs.Prelude.{◌≡◌, ℕ, List, Option, MatchOption, slice_get}
 use Rattle.std.specs.Option.{option_map}
 use Rattle.slub_lists.specs.State.{State}
-use Rattle.slub_ids.specs.Growth.{ids_after}
+use Rattle.slub_open_close.specs.Growth.{ids_after}
 use Rattle.slub_trace.specs.declared.trace.Trace.{Trace}
-use Rattle.slub_journal.specs.declared.journal.Done.{Done}
+use Rattle.slub_slabinfo_text.specs.declared.journal.Done.{Done}
 
 -- the ids, where there are some, are those that the item of this number leaves
 abbrev pub LeavesIdsAt

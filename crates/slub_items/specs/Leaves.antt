@@ -4,9 +4,9 @@ use Rattle.slub_lists.specs.State.{State}
 use Rattle.slub_lists.specs.Coherent.{held_under}
 use Rattle.slub_trace.specs.declared.trace.Client.{Client as Asked}
 use Rattle.slub_trace.specs.declared.trace.Client.TheVariants as line
-use Rattle.slub_journal.specs.declared.client.ClientAnswer.{ClientAnswer}
-use Rattle.slub_journal.specs.declared.client.ClientAnswer.TheVariants as answer
-use Rattle.slub_clients.specs.BulkLines.{AddsNumbers, address_under}
+use Rattle.slub_slabinfo_text.specs.declared.client.ClientAnswer.{ClientAnswer}
+use Rattle.slub_slabinfo_text.specs.declared.client.ClientAnswer.TheVariants as answer
+use Rattle.slub_rounds.specs.BulkLines.{AddsNumbers, address_under}
 
 -- the board before, but that the object of a number is gone, and that a fresh number has one at
 -- this address

@@ -1,19 +1,19 @@
 -- Why a round, or an item, wasn't done.
 use Rattle.std.specs.Prelude.{◌≡◌, ℕ, List, Option, Some, None, MatchOption, ⊤, slice_get}
-use Rattle.slub_events.specs.declared.event.Round.{Round}
+use Rattle.slub_trace.specs.declared.event.Round.{Round}
 use Rattle.slub_lists.specs.State.{State}
 use Rattle.slub_trace.specs.declared.trace.Item.{Item}
 use Rattle.slub_trace.specs.declared.trace.Item.TheVariants as item
 use Rattle.slub_trace.specs.declared.trace.Trace.{Trace}
-use Rattle.slub_journal.specs.Lawful.{TakesMemoryAt}
+use Rattle.slub_slabinfo_text.specs.Lawful.{TakesMemoryAt}
 use Rattle.slub_rounds.specs.declared.scheduled.Stopped.{Stopped as StepsStopped}
 use Rattle.slub_rounds.specs.declared.scheduled.Stopped.TheVariants as steps_stopped
-use Rattle.slub_by_text.specs.Heap.{HeapState}
-use Rattle.slub_by_text.specs.declared.heap.Stopped.{Stopped as RoundStopped}
-use Rattle.slub_by_text.specs.declared.heap.Stopped.TheVariants as round_stopped
-use Rattle.slub_ways.specs.declared.way.Way.{Way}
-use Rattle.slub_ways.specs.Runs.{MachineState, SpendsAt}
-use Rattle.slub_ways.specs.Ways.{SpendsTurnsBy}
+use Rattle.slub_rounds.specs.Heap.{HeapState}
+use Rattle.slub_rounds.specs.declared.heap.Stopped.{Stopped as RoundStopped}
+use Rattle.slub_rounds.specs.declared.heap.Stopped.TheVariants as round_stopped
+use Rattle.slub_law_replay.specs.declared.way.Way.{Way}
+use Rattle.slub_law_replay.specs.Runs.{MachineState, SpendsAt}
+use Rattle.slub_law_replay.specs.Ways.{SpendsTurnsBy}
 use Rattle.slub_items.specs.declared.machine.Stopped.{Stopped}
 use Rattle.slub_items.specs.declared.machine.Stopped.TheVariants.{NoMemory, TurnsSpent}
 

@@ -2,14 +2,14 @@
 
 ghost use Rattle.slub_trace.specs.declared.trace.Client.{Client as Asked};
 ghost use Rattle.slub_trace.specs.declared.trace.Trace.{Trace as Read};
-ghost use Rattle.slub_journal.specs.declared.client.ClientDone.{ClientDone as Done};
-ghost use Rattle.slub_by_text.specs.Heap.{HeapState};
-ghost use Rattle.slub_clients.specs.Asked.{IsServable};
-ghost use Rattle.slub_clients.specs.Kmalloc.{ServesClasses};
+ghost use Rattle.slub_slabinfo_text.specs.declared.client.ClientDone.{ClientDone as Done};
+ghost use Rattle.slub_rounds.specs.Heap.{HeapState};
+ghost use Rattle.slub_rounds.specs.Asked.{IsServable};
+ghost use Rattle.slub_rounds.specs.Kmalloc.{ServesClasses};
 ghost use Rattle.slub_items.specs.Leaves.{LeavesClasses};
 
-use slub_by_text::laws::rounds_by_text_are_lawful;
-use slub_clients::laws::{allocations_may_be_done, frees_may_be_done};
+use slub_rounds::client_laws::{allocations_may_be_done, frees_may_be_done};
+use slub_rounds::text_laws::rounds_by_text_are_lawful;
 
 /// After a `kget` that was given an address its number is there besides, at that address. After a
 /// `krealloc` that moved its fresh number is there at the address that is told, the other one is gone, and all others

@@ -1,15 +1,17 @@
 //! Doing the items of a trace on the machine, rounds and clients' lines among them.
 //!
-//! `Machine` is the machine between two items: a heap, that is, the plain lists and beside them the transaction ids of
-//! the CPU words, where the trace gives the first one; the reserves of clients; and how many `round` lines were done.
-//! Its definitions are `specs/Runs.antt` of `slub_ways`, and contracts see it as a `MachineState` of that file. A round
-//! is done by the way that the caller names (`Way` of `slub_ways`): in the order of the text by `slub_by_text`, and two
-//! or more workers by a seed or in threads by `slub_rounds`. The seed of a round is that of the way plus how many
-//! `round` lines were before, modulo 2^64. A client's line is done by the crate of its request: `slub_kmalloc`,
-//! `slub_bulk` or `slub_mempool`; every other item by `slub_engine`.
+//! `Machine` is the machine between two items: a heap, that is, the plain lists and beside them the
+//! transaction ids of the CPU words, where the trace gives the first one; the reserves of clients;
+//! and how many `round` lines were done. Its definitions are `specs/Runs.antt` of
+//! `slub_law_replay`, and contracts see it as a `MachineState` of that file. A round is done by
+//! `slub_rounds` in the way that the caller names (`Way` of `slub_law_replay`): in the order of the
+//! text, or, of two or more workers, by a seed or in threads. The seed of a round is that of the
+//! way plus how many `round` lines were before, modulo 2^64. A client's line is done by the crate
+//! of its request: `slub_kmalloc`, `slub_bulk` or `slub_mempool`; every other item by
+//! `slub_engine`.
 //!
 //! Where ids stand beside the lists, rounds go on from them and leave others, clients' lines' too, and what other items
-//! leave of the ids is worked out by `slub_ids`.
+//! leave of the ids is worked out by `slub_open_close`.
 //!
 //! # What it promises
 //!

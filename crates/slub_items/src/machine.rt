@@ -5,37 +5,39 @@ ghost use Rattle.slub_lists.specs.Coherent.{IsCoherent};
 ghost use Rattle.slub_trace.specs.declared.trace.Trace.{Trace as Read};
 ghost use Rattle.slub_trace.specs.Sound.{IsSound, asked_objects};
 ghost use Rattle.slub_calls.specs.Laws.{MayDo};
-ghost use Rattle.slub_ids.specs.Due.{AreAfter};
-ghost use Rattle.slub_into_words.specs.Ids.{AreIds};
-ghost use Rattle.slub_journal.specs.Lawful.{DoesPlainAt, IsAtRest, IsPlainAt, IsReady, IsTotal, TakesMemoryAt, all_freed, all_given, opening_of};
-ghost use Rattle.slub_round_law.specs.Round.{IsRound};
+ghost use Rattle.slub_open_close.specs.Due.{AreAfter};
+ghost use Rattle.slub_open_close.specs.Ids.{AreIds};
+ghost use Rattle.slub_slabinfo_text.specs.Lawful.{DoesPlainAt, IsAtRest, IsPlainAt, IsReady, IsTotal, TakesMemoryAt, all_freed, all_given, opening_of};
+ghost use Rattle.slub_law_rounds.specs.Round.{IsRound};
 ghost use Rattle.slub_engine.specs.Steps.{KeepsUnheld};
-ghost use Rattle.slub_by_text.specs.Heap.{IsSoundHeap};
-ghost use Rattle.slub_clients.specs.Asked.{IsServable, StaysOpen};
-ghost use Rattle.slub_clients.specs.Reserves.{AreSoundReserves};
-ghost use Rattle.slub_clients.specs.Stopped.{IsStoppedWhere};
-ghost use Rattle.slub_ways.specs.Ways.{DoesRoundBy};
-ghost use Rattle.slub_ways.specs.Runs.{DoesAt, IsReadyMachine, KeepsReserves, KeepsRounds, Serves, SpendsLine, heap_of, machine_of, opening_ids};
+ghost use Rattle.slub_rounds.specs.Heap.{IsSoundHeap};
+ghost use Rattle.slub_rounds.specs.Asked.{IsServable, StaysOpen};
+ghost use Rattle.slub_rounds.specs.Reserves.{AreSoundReserves};
+ghost use Rattle.slub_rounds.specs.ClientStopped.{IsStoppedWhere};
+ghost use Rattle.slub_law_replay.specs.Ways.{DoesRoundBy};
+ghost use Rattle.slub_law_replay.specs.Runs.{DoesAt, IsReadyMachine, KeepsReserves, KeepsRounds, Serves, SpendsLine, heap_of, machine_of, opening_ids};
 ghost use Rattle.slub_items.specs.Ids.{LeavesIdsAt};
 ghost use Rattle.slub_items.specs.Parts.{machine_on};
 ghost use Rattle.slub_items.specs.Stopped.{IsMachineStopped, IsStopped};
 
 use crate::round::by_way;
-use slub_by_text::heap::{Heap, Stopped as RoundStopped};
-use slub_clients::client::Stopped as LineStopped;
 use slub_common::no_memory::NoMemory;
 use slub_edges::gate::Gate;
 use slub_engine::item;
-use slub_events::event::Round;
-use slub_ids::growth::{Due, settle};
-use slub_into_words::ids::Ids;
-use slub_journal::client::ClientDone;
-use slub_journal::journal::{Done, RoundResult, Total};
+use slub_law_replay::laws::{
+    items_leave_room, ready_lines_may_be_served, ready_rounds_may_be_done,
+};
+use slub_law_replay::way::Way;
 use slub_list_machine::lists::Lists;
 use slub_mempool::reserves::Reserves;
+use slub_open_close::growth::{Due, settle};
+use slub_open_close::ids::Ids;
+use slub_rounds::client::Stopped as LineStopped;
+use slub_rounds::heap::{Heap, Stopped as RoundStopped};
+use slub_slabinfo_text::client::ClientDone;
+use slub_slabinfo_text::journal::{Done, RoundResult, Total};
+use slub_trace::event::Round;
 use slub_trace::trace::{Client, Item, Trace};
-use slub_ways::laws::{items_leave_room, ready_lines_may_be_served, ready_rounds_may_be_done};
-use slub_ways::way::Way;
 use std::alloc::Global;
 use std::marker::Model;
 use std::sync::Wait;
@@ -51,7 +53,7 @@ pub struct Machine {
 }
 
 impl Model for Machine {
-    ghost use Rattle.slub_ways.specs.Runs.{MachineState};
+    ghost use Rattle.slub_law_replay.specs.Runs.{MachineState};
     ghost use Rattle.slub_items.specs.Parts.{machine_on};
 
     ghost Value = { MachineState };

@@ -1,12 +1,12 @@
 -- The caches of classes, created one after the other.
 use Rattle.std.proofs.Common.{◌≡◌, ℕ, zero, suc, ◌+◌, List, [], ◌∷◌, ◌++◌, refl, ◌∙◌, ap, subst, Result, arith}
 use Rattle.std.specs.List.{range_with_len}
-use Rattle.slub_answers.specs.declared.create.Created.{Created}
-use Rattle.slub_answers.specs.declared.create.CreateRefusal.{CreateRefusal}
+use Rattle.slub_trace.specs.declared.create.Created.{Created}
+use Rattle.slub_trace.specs.declared.create.CreateRefusal.{CreateRefusal}
 use Rattle.slub_trace.specs.declared.trace.Trace.{Trace}
-use Rattle.slub_journal.specs.Classes.{class_spec}
-use Rattle.slub_by_text.specs.Heap.{HeapState}
-use Rattle.slub_clients.specs.Kmalloc.{CreatesClasses, CreatesFor, class_name}
+use Rattle.slub_slabinfo_text.specs.Classes.{class_spec}
+use Rattle.slub_rounds.specs.Heap.{HeapState}
+use Rattle.slub_rounds.specs.Kmalloc.{CreatesClasses, CreatesFor, class_name}
 
 pub creates_more : (h : HeapState) (trace : Trace) (classes : List ℕ) (answers : List (Result Created CreateRefusal)) (mid after : HeapState) (class : ℕ) (made : Result Created CreateRefusal)
     → CreatesClasses h trace classes answers mid → CreatesFor mid trace (class_name class) (class_spec class) made after

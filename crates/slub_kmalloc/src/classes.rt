@@ -1,7 +1,7 @@
 //! The classes of sizes, in bytes.
 
 ghost use Rattle.std.specs.Prelude.{◌≡◌, ◌<◌, IfSome, length, position, nat_le, slice_index};
-ghost use Rattle.slub_journal.specs.Classes.{class_aligns, class_of, class_place, class_sizes, class_spec, no_flags};
+ghost use Rattle.slub_slabinfo_text.specs.Classes.{class_aligns, class_of, class_place, class_sizes, class_spec, no_flags};
 
 use slub_object_layout::layout::{Flags, Spec};
 
@@ -37,7 +37,7 @@ pub fn class_place(size: u32) -> Option<u32>
 }
 
 /// The classes, in rising order.
-#[tactic(auto, unfolding(slub_journal::specs::Classes::class_sizes))]
+#[tactic(auto, unfolding(slub_slabinfo_text::specs::Classes::class_sizes))]
 fn sizes() -> &'static [u32]
     ensures value { result.now ≡ class_sizes }
     ensures count { length result.now ≡ 13 }
@@ -54,7 +54,7 @@ fn first_enough(classes: &[u32], size: u32) -> Option<usize>
 }
 
 /// The class at a place, in bytes.
-#[tactic(auto, unfolding(slub_journal::specs::Classes::class_sizes))]
+#[tactic(auto, unfolding(slub_slabinfo_text::specs::Classes::class_sizes))]
 fn size_of(place: u32) -> u32
     requires { place < 13 }
     ensures { result ≡ slice_index class_sizes place }
@@ -63,7 +63,7 @@ fn size_of(place: u32) -> u32
 }
 
 /// The alignment of its cache, in bytes.
-#[tactic(auto, unfolding(slub_journal::specs::Classes::class_aligns))]
+#[tactic(auto, unfolding(slub_slabinfo_text::specs::Classes::class_aligns))]
 fn align_of(place: u32) -> u32
     requires { place < 13 }
     ensures { result ≡ slice_index class_aligns place }

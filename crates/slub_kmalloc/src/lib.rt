@@ -1,7 +1,7 @@
 //! Classes of sizes, from which the kernel's `kmalloc` allocates.
 //!
 //! `class_of` finds the class of a size. `serve` does a `kmalloc`, a `kget` or a `krealloc` on the heap that it is
-//! handed; its definitions are `specs/Classes.antt` of `slub_journal` and `specs/Kmalloc.antt` of `slub_clients`.
+//! handed; its definitions are `specs/Classes.antt` of `slub_slabinfo_text` and `specs/Kmalloc.antt` of `slub_rounds`.
 //!
 //! # What it promises
 //!
@@ -12,5 +12,3 @@
 
 pub mod classes;
 pub mod serve;
-#[cfg(test)]
-mod tests;

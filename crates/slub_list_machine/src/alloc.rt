@@ -1,4 +1,4 @@
-//! Allocation, after `___slab_alloc`.
+//! `slab_alloc_node`, `___slab_alloc`, `new_slab`: allocation.
 
 ghost use Rattle.std.specs.Prelude.{◌≡◌, ◌<◌, ◌≤◌, length, None, IsSome, IfSome, slice_index_or};
 ghost use Rattle.std.specs.Bool.{OnTrue};
@@ -9,10 +9,10 @@ ghost use Rattle.slub_lists.specs.Coherent.{IsCoherent, IsConsistent, KeepsOther
 ghost use Rattle.slub_lists.specs.Steps.{IsRelisted, KeepsFound};
 
 use crate::lists::Lists;
-use slub_answers::reply::Reply;
 use slub_lists::lists::{Held, Run, Slab};
 use slub_object_layout::layout::{Layout, address};
 use slub_page_pool::Pool;
+use slub_trace::reply::Reply;
 
 /// A run for a new slab: of the layout's order, or where none is there of its least order
 /// (`allocate_slab`). Where none is there either, the want of the least order is noted.

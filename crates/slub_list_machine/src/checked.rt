@@ -1,5 +1,5 @@
-//! Allocating from a checked cache and freeing to it, after `alloc_debug_processing` and
-//! `free_debug_processing`.
+//! `alloc_single_from_partial`, `alloc_single_from_new_slab`, `free_debug_processing`: allocating
+//! from a checked cache and freeing to it.
 
 ghost use Rattle.std.specs.Prelude.{◌≡◌, ◌<◌, ◌≤◌, ◌^◌, length, IsSome, MatchOption, None, Some, slice_index_or, slice_set};
 ghost use Rattle.slub_object_layout.specs.Layout.{address_of};
@@ -15,12 +15,12 @@ ghost use Rattle.slub_lists.specs.Steps.{KeepsFound};
 
 use crate::alloc::find_run;
 use crate::lists::Lists;
-use slub_answers::reply::Reply;
 use slub_common::no_memory::NoMemory;
 use slub_lists::lists::{Held, Run, Slab};
 use slub_object_layout::layout::{Layout, address};
 use slub_red_zone::checked::{self, CheckedGive, Slot};
-use slub_red_zone::zones::Damage;
+use slub_trace::damage::Damage;
+use slub_trace::reply::Reply;
 
 impl Lists {
     /// Allocates an object of a checked cache (`alloc_debug_processing`): one of a listed slab, else

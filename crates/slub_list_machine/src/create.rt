@@ -1,4 +1,4 @@
-//! Creating caches, after `kmem_cache_create_usercopy`.
+//! `kmem_cache_create_usercopy`: creating caches.
 
 ghost use Rattle.std.specs.Prelude.{◌≡◌, ◌↔◌, ◌<◌, length, IsOk, IsSome, IfOk, IfSome, IsErrOf, OnErr};
 ghost use Rattle.slub_object_layout.specs.Layout.{IsAccepted, IsAlign, IsSize, IsSupported};

@@ -1,4 +1,4 @@
-//! Destroying caches, after `kmem_cache_destroy`.
+//! `kmem_cache_destroy`, `__kmem_cache_shutdown`: destroying caches.
 
 ghost use Rattle.std.specs.Prelude.{◌≡◌, ◌<◌, ◌≤◌, false, IsSome, Some};
 ghost use Rattle.std.specs.Option.{option_map_or};
@@ -11,8 +11,8 @@ ghost use Rattle.slub_lists.specs.Destroy.{Destroys, without};
 ghost use Rattle.slub_lists.specs.Shrink.{busy_of, has_slab};
 
 use crate::lists::Lists;
-use slub_answers::destroy::{DestroyRefusal, Destroyed};
 use slub_object_layout::name::Name;
+use slub_trace::destroy::{DestroyRefusal, Destroyed};
 
 impl Lists {
     /// Ends a name, and with its last name a cache. After a refusal nothing has changed.

@@ -1,4 +1,4 @@
-//! Slabs that go (`discard_slab`).
+//! `discard_slab`, `free_slab`: slabs that go.
 
 ghost use Rattle.std.specs.Prelude.{◌≡◌, ◌+◌, ◌<◌, ◌==◌, length, IsSome};
 ghost use Rattle.slub_lists.specs.Alloc.{slab_of};

@@ -1,4 +1,4 @@
-//! What CPUs have of a cache goes to the node list (`flush_cpu_slab`, `deactivate_slab`).
+//! `flush_cpu_slab`, `deactivate_slab`: what CPUs have of a cache goes to the node list.
 
 ghost use Rattle.std.specs.Prelude.{◌≡◌, ℕ, ◌+◌, ◌<◌, ◌==◌, ◌∷◌, List, length, None, Some, MatchOption};
 ghost use Rattle.slub_lists.specs.Alloc.{checked_of, lists_of, no_lists, node_of, slab_of, with_node};

@@ -1,4 +1,4 @@
-//! Emptying a CPU in the midst of a round (`__flush_cpu_slab`).
+//! `slub_cpu_dead`, `__flush_cpu_slab`: emptying a CPU in the midst of a round.
 
 ghost use Rattle.std.specs.Prelude.{◌≡◌, ℕ, ◌<◌, ◌≤◌, IsSome};
 ghost use Rattle.slub_lists.specs.Alloc.{cache_of, lists_of};
@@ -7,7 +7,7 @@ ghost use Rattle.slub_lists.specs.Flush.{Flushes, flushed_cpu, flushed_of, slabs
 ghost use Rattle.slub_lists.specs.Shrinking.{KeepsChecked};
 
 use crate::lists::Lists;
-use slub_answers::reply::Reply;
+use slub_trace::reply::Reply;
 
 impl Lists {
     /// Takes what a CPU has of the caches that are not checked to their node lists, the oldest cache first,

@@ -1,4 +1,4 @@
-//! Freeing, after `do_slab_free` and `__slab_free`.
+//! `slab_free`, `do_slab_free`, `__slab_free`: freeing.
 
 ghost use Rattle.std.specs.Prelude.{◌≡◌, ◌<◌, length, None, Some, slice_index_or};
 ghost use Rattle.slub_lists.specs.Alloc.{checked_of, lists_of, HasLayout};
@@ -8,9 +8,9 @@ ghost use Rattle.slub_lists.specs.Freeing.{Frees, FreesHeld};
 ghost use Rattle.slub_lists.specs.Steps.{KeepsFound};
 
 use crate::lists::Lists;
-use slub_answers::reply::Reply;
 use slub_lists::lists::Held;
 use slub_object_layout::layout::{Layout, address};
+use slub_trace::reply::Reply;
 
 impl Lists {
     /// Frees the object under a number, on a CPU, for a worker (`__slab_free`).

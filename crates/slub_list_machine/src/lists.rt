@@ -1,4 +1,4 @@
-//! The whole machine on plain lists.
+//! Profile, with no function of `mm/slub.c`: the whole machine on plain lists, opened and read.
 
 ghost use Rattle.std.specs.Prelude.{◌≡◌, ◌≤◌, [], length, replicate, IfOk, None};
 ghost use Rattle.slub_page_pool.specs.FreeFrames as pool;
@@ -13,10 +13,10 @@ use slub_common::front_list::FrontList;
 use slub_common::limits::{CACHES_MAX, FRAME_WORDS};
 use slub_common::no_memory::NoMemory;
 use slub_lists::lists::{CpuLists, Held, Slab};
-use slub_memory::memory::Memory;
 use slub_object_layout::name::Name;
 use slub_page_pool::Pool;
 use slub_red_zone::checked::CheckedSlabs;
+use slub_words::memory::Memory;
 use std::alloc::Global;
 use std::marker::Model;
 

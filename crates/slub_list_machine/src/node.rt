@@ -1,4 +1,5 @@
-//! A node's partial list as the plain list of its frames.
+//! `struct kmem_cache_node` (`n->partial`; `add_partial`, `remove_partial`): a node's partial list
+//! as the plain list of its frames.
 
 ghost use Rattle.std.specs.Prelude.{◌≡◌, ◌<◌, ◌≤◌, ◌++◌, ◌==◌, [], ◌∷◌, length, map, filter, not, nat_lt, slice_index_or, vec_capacity, IfOk, MatchOption};
 ghost use Rattle.slub_common.specs.Times.{times};

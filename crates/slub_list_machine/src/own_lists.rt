@@ -1,10 +1,10 @@
-//! The slabs' own freelists, which stand in one room.
+//! `slab->freelist`: the slabs' own freelists, which stand in one room (profile).
 
 ghost use Rattle.std.specs.Prelude.{◌≡◌, ◌+◌, ◌<◌, ◌≤◌, ◌==◌, ◌++◌, [], ◌∷◌, length, replicate, take, drop, reverse, slice_get, slice_index_or, slice_set, IfOk};
 
 use slub_common::no_memory::NoMemory;
 use slub_lists::lists::FreeList;
-use slub_memory::memory::store_up_to;
+use slub_words::memory::store_up_to;
 use std::alloc::Global;
 use std::marker::Model;
 

@@ -1,4 +1,5 @@
-//! The partial lists: slabs that come to one, and a set that is moved from a CPU's to the node's.
+//! `put_cpu_partial`, `__unfreeze_partials`: slabs that come to a partial list, and a set that is
+//! moved from a CPU's to the node's.
 
 ghost use Rattle.std.specs.Prelude.{◌≡◌, ◌+◌, ◌<◌, ◌++◌, [], ◌∷◌, nat_lt, MatchOption};
 ghost use Rattle.slub_common.specs.Times.{times};

@@ -1,4 +1,5 @@
-//! The machine taken apart, for a round of several workers, and put together again.
+//! Profile, with no function of `mm/slub.c`: the machine taken apart, for a round of several
+//! workers, and put together again.
 
 ghost use Rattle.std.specs.Prelude.{◌≡◌};
 ghost use Rattle.slub_list_machine.specs.Parts.{state_of};
@@ -8,9 +9,9 @@ use crate::node::Node;
 use crate::own_lists::OwnLists;
 use slub_cache_create::caches::Caches;
 use slub_lists::lists::{CpuLists, Held, Slab};
-use slub_memory::memory::Memory;
 use slub_page_pool::Pool;
 use slub_red_zone::checked::CheckedSlabs;
+use slub_words::memory::Memory;
 
 /// What a machine on plain lists is made of. Contracts see the machine that has these parts by
 /// `state_of`.

@@ -1,4 +1,4 @@
-//! Shrinking caches, after `__kmem_cache_do_shrink`.
+//! `__kmem_cache_shrink`, `__kmem_cache_do_shrink`: shrinking caches.
 
 ghost use Rattle.std.specs.Prelude.{◌≡◌, ℕ, ◌<◌, ◌==◌, false, length, None, IsSome, MatchOption, ◌≤◌, slice_index};
 ghost use Rattle.slub_common.specs.Times.{times};

@@ -1,4 +1,4 @@
-//! Shrinking checked caches, whose slabs stand on no list but their own.
+//! `__kmem_cache_do_shrink`: shrinking checked caches, whose slabs stand on no list but their own.
 
 ghost use Rattle.std.specs.Prelude.{◌≡◌, ℕ, ◌<◌, ◌≤◌, false, length, IsSome, MatchOption, slice_index};
 ghost use Rattle.slub_common.specs.Times.{times};

@@ -1,4 +1,5 @@
-//! A slab with an object to give: the current one, or one of the partial lists.
+//! `___slab_alloc`, `get_freelist`, `get_partial_node`: a slab with an object to give, the current
+//! one or one of the partial lists.
 
 ghost use Rattle.std.specs.Prelude.{◌≡◌, ◌+◌, ◌<◌, ◌≤◌, ◌++◌, [], drop, reverse, take, None, Some, length, MatchBool, MatchOption};
 ghost use Rattle.slub_lists.specs.Alloc.{IsStocked, cpu_place, from_current, from_free, from_node, from_partial, lists_of, node_of, own_free, retired, taken_up, with_frozen};

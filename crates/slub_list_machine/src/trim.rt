@@ -1,4 +1,4 @@
-//! Shrinking caches in the midst of a round.
+//! `shrink_store`, `__kmem_cache_do_shrink`: shrinking caches in the midst of a round.
 
 ghost use Rattle.std.specs.Prelude.{◌≡◌, ℕ, ◌+◌, ◌<◌, None, IsSome, length};
 ghost use Rattle.slub_lists.specs.Alloc.{cache_of, checked_of};
@@ -8,7 +8,7 @@ ghost use Rattle.slub_lists.specs.Shrinking.{KeepsChecked};
 ghost use Rattle.slub_lists.specs.Trim.{Trims};
 
 use crate::lists::Lists;
-use slub_answers::reply::Reply;
+use slub_trace::reply::Reply;
 
 impl Lists {
     /// Shrinks the cache that the name at a place names, and answers how many of its slabs were discarded.

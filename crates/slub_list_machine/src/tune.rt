@@ -1,4 +1,4 @@
-//! Settings of live caches, after `min_partial_store` and `cpu_partial_store`.
+//! `min_partial_store`, `cpu_partial_store`: settings of live caches.
 
 ghost use Rattle.std.specs.Prelude.{◌≡◌, ◌≤◌, None, IsSome, MatchResult};
 ghost use Rattle.slub_cache_create.specs.Tune.{IsSetting};
@@ -7,9 +7,9 @@ ghost use Rattle.slub_lists.specs.Coherent.{IsCoherent, KeepsMachine};
 ghost use Rattle.slub_lists.specs.Tune.{IsRefused, Tunes, TunesCache, with_setting};
 
 use crate::lists::Lists;
-use slub_answers::tune::TuneRefusal;
 use slub_object_layout::layout::Setting;
 use slub_object_layout::name::Name;
+use slub_trace::tune::TuneRefusal;
 
 impl Lists {
     /// Sets a number of a live cache, at most 4096, by one of its names. Where it is how many objects a

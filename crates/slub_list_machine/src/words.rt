@@ -1,4 +1,4 @@
-//! Words and bytes of objects.
+//! Profile, with no function of `mm/slub.c`: words and bytes of objects, written, read and poked.
 
 ghost use Rattle.std.specs.Prelude.{◌≡◌, ◌<◌, ◌≤◌, ◌+◌, ◌*◌, ◌↔◌, length, true, nat_lt, IsSome, IsTrue, MatchOption};
 ghost use Rattle.std.specs.Option.{option_and_then};
@@ -11,10 +11,10 @@ ghost use Rattle.slub_lists.specs.Words.{Pokes, PokesChecked, Reads, Writes, hel
 ghost use Rattle.slub_lists.specs.WordSteps.{IsHeld, KeepsAll, PokesIn, WritesIn};
 
 use crate::lists::Lists;
-use slub_answers::reply::Reply;
 use slub_lists::lists::Held;
 use slub_object_layout::layout::{Layout, address};
 use slub_red_zone::checked::{OutOfSlot, Slot};
+use slub_trace::reply::Reply;
 
 impl Lists {
     /// Writes a word, of eight bytes, of an object that the worker holds.

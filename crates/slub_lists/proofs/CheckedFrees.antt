@@ -6,12 +6,12 @@ use Rattle.slub_page_pool.specs.FreeFrames.{IsPool}
 use Rattle.slub_object_layout.specs.declared.layout.Layout.{Layout}
 use Rattle.slub_object_layout.specs.Layout.{address_of}
 use Rattle.slub_red_zone.specs.declared.checked.Run.{Run}
-use Rattle.slub_red_zone.specs.declared.zones.Damage.{Damage}
+use Rattle.slub_trace.specs.declared.damage.Damage.{Damage}
 use Rattle.slub_red_zone.specs.Objects.{findable, shape_of}
 use Rattle.slub_red_zone.specs.State.{CheckedState, Has, IsUsed, SlabState, slab_of as checked_slab}
 use Rattle.slub_red_zone.specs.Steps.{TakesEmpty}
 use Rattle.slub_lists.specs.declared.lists.Held.{Held}
-use Rattle.slub_answers.specs.declared.reply.Reply.TheVariants.{Corrupt, Freed}
+use Rattle.slub_trace.specs.declared.reply.Reply.TheVariants.{Corrupt, Freed}
 use Rattle.slub_lists.specs.State.{State}
 use Rattle.slub_lists.specs.Alloc.{checked_of, HasLayout}
 use Rattle.slub_lists.specs.Checked.{FreesChecked, discarded_where, kept_by, slot_of_held, with_checked}

@@ -12,8 +12,8 @@ use Rattle.slub_red_zone.specs.Sound.{IsSized}
 use Rattle.slub_red_zone.specs.State.{CheckedState, Has}
 use Rattle.slub_red_zone.specs.Steps.{with_given as slab_given, with_new_slab}
 use Rattle.slub_lists.specs.declared.lists.Run.{Run}
-use Rattle.slub_answers.specs.declared.reply.Reply.{Reply}
-use Rattle.slub_answers.specs.declared.reply.Reply.TheVariants.{Given, NoFrames, NoMemory as NoMemoryLeft}
+use Rattle.slub_trace.specs.declared.reply.Reply.{Reply}
+use Rattle.slub_trace.specs.declared.reply.Reply.TheVariants.{Given, NoFrames, NoMemory as NoMemoryLeft}
 use Rattle.slub_lists.specs.State.{State}
 use Rattle.slub_lists.specs.Alloc.{cache_of, checked_of, held_here, with_held, HasLayout}
 use Rattle.slub_lists.specs.Checked.{AllocatesChecked, AllocatesNewChecked, first_slot, new_given, put_back, with_checked}

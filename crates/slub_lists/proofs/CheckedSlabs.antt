@@ -9,7 +9,7 @@ use Rattle.slub_page_pool.specs.FreeFrames.{FreeFrames, IsPool}
 use Rattle.slub_object_layout.specs.Layout.{is_checked}
 use Rattle.slub_object_layout.specs.declared.layout.Flags.{Flags}
 use Rattle.slub_object_layout.specs.declared.layout.Layout.{Layout}
-use Rattle.slub_red_zone.specs.declared.zones.Report.{Report}
+use Rattle.slub_trace.specs.declared.damage.Report.{Report}
 use Rattle.slub_red_zone.specs.Objects.{AddsReports, KeepsIdle, KeepsSlabs, findable, idle}
 use Rattle.slub_red_zone.specs.Sound.{IsSound}
 use Rattle.slub_red_zone.specs.State.{CheckedState}

@@ -8,8 +8,8 @@ use Rattle.slub_page_pool.specs.FreeFrames as pool
 use Rattle.slub_common.proofs.Lists.{IsStrictlyIncreasing-range_with_len}
 use Rattle.slub_object_layout.specs.declared.layout.Layout.{Layout}
 use Rattle.slub_cache_create.specs.declared.caches.Cache.{Cache}
-use Rattle.slub_answers.specs.declared.reply.Reply.{Reply}
-use Rattle.slub_answers.specs.declared.reply.Reply.TheVariants.{NoSuchCache}
+use Rattle.slub_trace.specs.declared.reply.Reply.{Reply}
+use Rattle.slub_trace.specs.declared.reply.Reply.TheVariants.{NoSuchCache}
 use Rattle.slub_lists.specs.State.{State}
 use Rattle.slub_lists.specs.Alloc.{Allocates, AllocatesNew, Gives, batch_of, cache_of, checked_of, from_current, from_free, from_node, from_partial, from_slabs, lists_of, named, node_of, own_free, retired, stocked, with_given, with_new_slab, with_held}
 use Rattle.slub_lists.specs.Checked.{AllocatesChecked, AllocatesNewChecked, GivesOrMakes, GivesSlot, first_slot, put_back, with_checked, with_checked_slab}

@@ -5,8 +5,8 @@ use Rattle.slub_common.specs.Times.{times}
 use Rattle.slub_object_layout.specs.declared.layout.Layout.{Layout}
 use Rattle.slub_cache_create.specs.declared.caches.Cache.{Cache}
 use Rattle.slub_lists.specs.declared.lists.Held.{Held}
-use Rattle.slub_answers.specs.declared.reply.Reply.{Reply}
-use Rattle.slub_answers.specs.declared.reply.Reply.TheVariants.{NotHeld}
+use Rattle.slub_trace.specs.declared.reply.Reply.{Reply}
+use Rattle.slub_trace.specs.declared.reply.Reply.TheVariants.{NotHeld}
 use Rattle.slub_lists.specs.State.{State}
 use Rattle.slub_lists.specs.Alloc.{cache_of, checked_of, lists_of, node_of, own_free, with_node}
 use Rattle.slub_lists.specs.Coherent.{KeepsOthers}
@@ -15,7 +15,7 @@ use Rattle.slub_lists.specs.Freeing.{Frees, FreesHeld}
 use Rattle.slub_lists.specs.Checked.{FreesChecked, IsFreedOrKept, kept_by, with_checked}
 use Rattle.slub_lists.specs.Steps.{KeepsFound}
 use Rattle.slub_red_zone.specs.State.{CheckedState}
-use Rattle.slub_red_zone.specs.declared.zones.Damage.{Damage}
+use Rattle.slub_trace.specs.declared.damage.Damage.{Damage}
 use Rattle.slub_lists.proofs.Found.{found-same}
 use Rattle.slub_lists.proofs.Keeps.{IsSame, KeepsBoard, keeps-board, keeps-others, keeps-written}
 use Rattle.slub_lists.proofs.Moving.{pick}

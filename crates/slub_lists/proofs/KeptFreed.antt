@@ -10,8 +10,8 @@ use Rattle.slub_object_layout.specs.declared.layout.Layout.{Layout}
 use Rattle.slub_lists.specs.declared.lists.CpuLists.{CpuLists}
 use Rattle.slub_cache_create.specs.declared.caches.Cache.{Cache}
 use Rattle.slub_lists.specs.declared.lists.Held.{Held}
-use Rattle.slub_answers.specs.declared.reply.Reply.{Reply}
-use Rattle.slub_answers.specs.declared.reply.Reply.TheVariants.{NotHeld}
+use Rattle.slub_trace.specs.declared.reply.Reply.{Reply}
+use Rattle.slub_trace.specs.declared.reply.Reply.TheVariants.{NotHeld}
 use Rattle.slub_lists.specs.State.{State}
 use Rattle.slub_lists.specs.Alloc.{cache_of, checked_of, cpu_place, lists_of, node_of, own_free, with_node}
 use Rattle.slub_lists.specs.Coherent.{IsCoherent, IsKept, IsListed, IsShaped, times_current, times_partial}
@@ -19,7 +19,7 @@ use Rattle.slub_lists.specs.Free.{FreesUnchecked, discarded, drained, freed, fre
 use Rattle.slub_lists.specs.Freeing.{Frees, FreesHeld}
 use Rattle.slub_lists.specs.Checked.{FreesChecked, IsFreedOrKept}
 use Rattle.slub_red_zone.specs.State.{CheckedState}
-use Rattle.slub_red_zone.specs.declared.zones.Damage.{Damage}
+use Rattle.slub_trace.specs.declared.damage.Damage.{Damage}
 use Rattle.slub_lists.proofs.Times.{current-same, current-other}
 use Rattle.slub_lists.proofs.Listed.{current-written, partial-written}
 use Rattle.slub_lists.proofs.Coherence.{live-inside, place-inside, IsSome-live}

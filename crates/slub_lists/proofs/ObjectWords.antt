@@ -15,7 +15,7 @@ use Rattle.slub_red_zone.specs.State.{CheckedState, IsUsed}
 use Rattle.slub_red_zone.specs.Steps.{with_word as slab_word, word_of as slab_word_of}
 use Rattle.slub_lists.specs.declared.lists.Held.{Held}
 use Rattle.slub_lists.specs.declared.lists.Slab.{Slab}
-use Rattle.slub_answers.specs.declared.reply.Reply.TheVariants.{NotHeld, OutOfObject, Value, Wrote}
+use Rattle.slub_trace.specs.declared.reply.Reply.TheVariants.{NotHeld, OutOfObject, Value, Wrote}
 use Rattle.slub_lists.specs.State.{State}
 use Rattle.slub_lists.specs.Alloc.{cache_of, checked_of, slab_of, HasLayout, IsLive}
 use Rattle.slub_lists.specs.Checked.{slot_of_held, with_checked}

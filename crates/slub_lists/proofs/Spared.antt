@@ -16,8 +16,8 @@ use Rattle.slub_red_zone.specs.Sound.{IsSlab}
 use Rattle.slub_red_zone.specs.State.{CheckedState, Has, SlabState, no_slab, objects_in, slab_of as checked_slab}
 use Rattle.slub_red_zone.specs.Steps.{with_word as slab_word, word_of as slab_word_of, word_place}
 use Rattle.slub_lists.specs.declared.lists.Held.{Held}
-use Rattle.slub_answers.specs.declared.reply.Reply.{Reply}
-use Rattle.slub_answers.specs.declared.reply.Reply.TheVariants.{NotHeld, OutOfObject, Wrote}
+use Rattle.slub_trace.specs.declared.reply.Reply.{Reply}
+use Rattle.slub_trace.specs.declared.reply.Reply.TheVariants.{NotHeld, OutOfObject, Wrote}
 use Rattle.slub_lists.specs.State.{State}
 use Rattle.slub_lists.specs.Alloc.{cache_of, checked_of, IsLive}
 use Rattle.slub_lists.specs.Checked.{slot_of_held, with_checked}

@@ -1,4 +1,5 @@
--- Allocation on plain lists, after `___slab_alloc` of Linux 6.1.
+-- `slab_alloc_node`, `___slab_alloc`, `get_freelist`, `get_partial_node`, `new_slab` of Linux 6.1:
+-- allocation on plain lists.
 use Rattle.std.specs.Prelude.{◌≡◌, ◌≢◌, ℕ, ◌+◌, ◌*◌, ◌/◌, Bool, true, false, List, [], ◌∷◌, take, drop, reverse, Option, Some, None, MatchOption, Result, Ok, Err, MatchResult, slice_set, slice_index_or, ◌⊎◌, sum_by, ◌&&◌, ◌==◌, if◌then◌else◌}
 use Rattle.std.specs.Option.{option_map}
 use Rattle.std.specs.List.{range_with_len}
@@ -15,8 +16,8 @@ use Rattle.slub_lists.specs.declared.lists.Slab.{Slab}
 use Rattle.slub_lists.specs.declared.lists.CpuLists.{CpuLists}
 use Rattle.slub_lists.specs.declared.lists.Held.{Held}
 use Rattle.slub_lists.specs.declared.lists.Run.{Run}
-use Rattle.slub_answers.specs.declared.reply.Reply.{Reply}
-use Rattle.slub_answers.specs.declared.reply.Reply.TheVariants.{Given, NoFrames}
+use Rattle.slub_trace.specs.declared.reply.Reply.{Reply}
+use Rattle.slub_trace.specs.declared.reply.Reply.TheVariants.{Given, NoFrames}
 use Rattle.slub_lists.specs.State.{State}
 
 -- ---- what the machine has

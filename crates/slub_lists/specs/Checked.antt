@@ -1,5 +1,5 @@
--- Allocating from a checked cache and freeing to it, after `alloc_debug_processing`,
--- `alloc_single_from_new_slab` and `free_debug_processing` of Linux 6.1.
+-- `alloc_single_from_partial`, `alloc_single_from_new_slab`, `free_debug_processing` of Linux 6.1:
+-- allocating from a checked cache and freeing to it.
 use Rattle.std.specs.Prelude.{◌≡◌, ℕ, false, Option, Some, None, MatchOption, Result, Ok, Err, ◌⊎◌, sum_by, slice_set}
 use Rattle.slub_page_pool.specs.FreeFrames.{FreeFrames}
 use Rattle.slub_page_pool.specs.Block.{with_run}
@@ -11,12 +11,12 @@ use Rattle.slub_red_zone.specs.declared.checked.CheckedGive.{CheckedGive}
 use Rattle.slub_red_zone.specs.declared.checked.CheckedGive.TheVariants as give
 use Rattle.slub_red_zone.specs.declared.checked.Run.{Run as SlabRun}
 use Rattle.slub_red_zone.specs.declared.checked.Slot.{Slot}
-use Rattle.slub_red_zone.specs.declared.zones.Damage.{Damage}
+use Rattle.slub_trace.specs.declared.damage.Damage.{Damage}
 use Rattle.slub_lists.specs.declared.lists.Held.{Held}
 use Rattle.slub_lists.specs.declared.lists.Run.{Run}
 use Rattle.slub_lists.specs.declared.lists.Slab.{Slab}
-use Rattle.slub_answers.specs.declared.reply.Reply.{Reply}
-use Rattle.slub_answers.specs.declared.reply.Reply.TheVariants.{Given, NoFrames, NoMemory, Freed, Corrupt}
+use Rattle.slub_trace.specs.declared.reply.Reply.{Reply}
+use Rattle.slub_trace.specs.declared.reply.Reply.TheVariants.{Given, NoFrames, NoMemory, Freed, Corrupt}
 use Rattle.slub_lists.specs.State.{State}
 use Rattle.slub_lists.specs.Alloc.{FindsRun, held_here, with_held}
 use Rattle.slub_lists.specs.Free.{discarded, with_gone, with_taken}

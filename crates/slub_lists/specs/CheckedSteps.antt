@@ -1,5 +1,5 @@
--- For proofs and private clauses: what the steps of an operation on a checked cache hand to one
--- another.
+-- `alloc_single_from_partial`, `free_debug_processing`, for proofs and private clauses: what the
+-- steps of an operation on a checked cache hand to one another.
 use Rattle.std.specs.Prelude.{◌≡◌, ℕ, ◌≤◌, false, Option, Some, Result, IfOk, OnSome}
 use Rattle.slub_page_pool.specs.FreeFrames.{FreeFrames, IsPool}
 use Rattle.slub_object_layout.specs.declared.layout.Layout.{Layout}
@@ -11,7 +11,7 @@ use Rattle.slub_red_zone.specs.declared.checked.CheckedGive.{CheckedGive}
 use Rattle.slub_red_zone.specs.declared.checked.Run.{Run as SlabRun}
 use Rattle.slub_red_zone.specs.declared.checked.Slot.{Slot}
 use Rattle.slub_common.specs.declared.no_memory.NoMemory.{NoMemory}
-use Rattle.slub_red_zone.specs.declared.zones.Damage.{Damage}
+use Rattle.slub_trace.specs.declared.damage.Damage.{Damage}
 use Rattle.slub_lists.specs.declared.lists.Run.{Run}
 use Rattle.slub_lists.specs.declared.lists.Slab.{Slab}
 use Rattle.slub_lists.specs.State.{State}

@@ -1,4 +1,5 @@
--- What holds of the machine between any two operations, and between their steps.
+-- Profile, the invariant: what holds of the machine between any two operations, and between their
+-- steps.
 use Rattle.std.specs.Prelude.{◌≡◌, ◌≢◌, ℕ, ◌+◌, ◌*◌, ◌%◌, ◌^◌, ◌<◌, ◌≤◌, ◌↔◌, ◌&&◌, ◌==◌, nat_lt, nat_le, if◌then◌else◌, List, [], ◌∷◌, length, map, sum_by, replicate, Option, Some, None, IsSome, IfSome, IsTrue, ⊤, MatchOption, is_some, ◌⊎◌, slice_index_or}
 use Rattle.std.specs.Option.{option_map, option_map_or}
 use Rattle.slub_page_pool.specs.FreeFrames as pool

@@ -1,4 +1,4 @@
--- The creation of a cache, after `kmem_cache_create_usercopy` of Linux 6.1.
+-- `kmem_cache_create_usercopy` of Linux 6.1 (`mm/slab_common.c`): the creation of a cache.
 use Rattle.std.specs.Prelude.{◌≡◌, ℕ, List, Some, MatchOption, if◌then◌else◌, slice_set}
 use Rattle.slub_object_layout.specs.declared.layout.Spec.{Spec}
 use Rattle.slub_object_layout.specs.Layout.{is_checked}

@@ -1,11 +1,11 @@
--- Destroying a cache, after `kmem_cache_destroy` and `__kmem_cache_shutdown` of Linux 6.1.
+-- `kmem_cache_destroy`, `__kmem_cache_shutdown` of Linux 6.1: destroying a cache.
 use Rattle.std.specs.Prelude.{◌≡◌, ℕ, ◌<◌, false, List, None, MatchOption, Result, Ok, Err, slice_set}
 use Rattle.slub_cache_create.specs.Drop.{without_alias, without_cache}
 use Rattle.slub_cache_create.specs.Table.{names_of, number_of}
-use Rattle.slub_answers.specs.declared.destroy.Destroyed.{Destroyed}
-use Rattle.slub_answers.specs.declared.destroy.Destroyed.TheVariants.{NameDropped, Gone}
-use Rattle.slub_answers.specs.declared.destroy.DestroyRefusal.{DestroyRefusal}
-use Rattle.slub_answers.specs.declared.destroy.DestroyRefusal.TheVariants.{NoSuchCache, Busy}
+use Rattle.slub_trace.specs.declared.destroy.Destroyed.{Destroyed}
+use Rattle.slub_trace.specs.declared.destroy.Destroyed.TheVariants.{NameDropped, Gone}
+use Rattle.slub_trace.specs.declared.destroy.DestroyRefusal.{DestroyRefusal}
+use Rattle.slub_trace.specs.declared.destroy.DestroyRefusal.TheVariants.{NoSuchCache, Busy}
 use Rattle.slub_lists.specs.State.{State}
 use Rattle.slub_lists.specs.Leaving.{FreesAll}
 use Rattle.slub_lists.specs.Shrink.{ShrinksCache, busy_of, has_slab}

@@ -1,8 +1,7 @@
--- Emptying a CPU in the midst of a round, after `slub_cpu_dead` and `__flush_cpu_slab` of Linux
--- 6.1.
+-- `slub_cpu_dead`, `__flush_cpu_slab` of Linux 6.1: emptying a CPU in the midst of a round.
 use Rattle.std.specs.Prelude.{◌≡◌, ℕ, ◌+◌, if◌then◌else◌, is_some, length, sum_by, fold}
-use Rattle.slub_answers.specs.declared.reply.Reply.{Reply}
-use Rattle.slub_answers.specs.declared.reply.Reply.TheVariants.{Flushed}
+use Rattle.slub_trace.specs.declared.reply.Reply.{Reply}
+use Rattle.slub_trace.specs.declared.reply.Reply.TheVariants.{Flushed}
 use Rattle.slub_lists.specs.declared.lists.CpuLists.{CpuLists}
 use Rattle.slub_lists.specs.State.{State}
 use Rattle.slub_lists.specs.Alloc.{checked_of, lists_of}

@@ -1,5 +1,5 @@
--- Freeing on plain lists, after `do_slab_free`, `__slab_free`, `put_cpu_partial` and
--- `__unfreeze_partials` of Linux 6.1.
+-- `do_slab_free`, `__slab_free`, `put_cpu_partial`, `__unfreeze_partials` of Linux 6.1: freeing on
+-- plain lists.
 use Rattle.std.specs.Prelude.{◌≡◌, ℕ, ◌-◌, ◌&&◌, ◌==◌, not, nat_lt, nat_le, if◌then◌else◌, Bool, true, false, List, [], ◌∷◌, ◌++◌, length, filter, fold, Option, Some, None, slice_set, slice_index_or}
 use Rattle.std.specs.Option.{option_map_or}
 use Rattle.slub_page_pool.specs.Block.{with_run}
@@ -7,8 +7,8 @@ use Rattle.slub_common.specs.Times.{times}
 use Rattle.slub_object_layout.specs.declared.layout.Layout.{Layout}
 use Rattle.slub_object_layout.specs.Layout.{address_of}
 use Rattle.slub_lists.specs.declared.lists.Held.{Held}
-use Rattle.slub_answers.specs.declared.reply.Reply.{Reply}
-use Rattle.slub_answers.specs.declared.reply.Reply.TheVariants.{Freed}
+use Rattle.slub_trace.specs.declared.reply.Reply.{Reply}
+use Rattle.slub_trace.specs.declared.reply.Reply.TheVariants.{Freed}
 use Rattle.slub_lists.specs.State.{State}
 use Rattle.slub_lists.specs.Alloc.{lists_of, node_of, own_free, slab_of, with_lists, with_node}
 

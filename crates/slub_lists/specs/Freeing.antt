@@ -1,8 +1,8 @@
--- Freeing what a number names.
+-- `kmem_cache_free`, `slab_free` of Linux 6.1: freeing what a number names (numbers are profile).
 use Rattle.std.specs.Prelude.{◌≡◌, ℕ, None, MatchBool, MatchOption, slice_index_or}
 use Rattle.slub_lists.specs.declared.lists.Held.{Held}
-use Rattle.slub_answers.specs.declared.reply.Reply.{Reply}
-use Rattle.slub_answers.specs.declared.reply.Reply.TheVariants.{NotHeld}
+use Rattle.slub_trace.specs.declared.reply.Reply.{Reply}
+use Rattle.slub_trace.specs.declared.reply.Reply.TheVariants.{NotHeld}
 use Rattle.slub_lists.specs.State.{State}
 use Rattle.slub_lists.specs.Alloc.{cache_of, checked_of}
 use Rattle.slub_lists.specs.Checked.{FreesChecked}

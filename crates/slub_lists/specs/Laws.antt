@@ -1,4 +1,4 @@
--- What the laws of the machine speak of.
+-- Profile: what the laws of the machine speak of.
 use Rattle.std.specs.Prelude.{◌≡◌, ◌≢◌, ℕ, true, Some}
 use Rattle.slub_object_layout.specs.declared.layout.Layout.{Layout}
 use Rattle.slub_object_layout.specs.Layout.{IsInSlot}

@@ -1,4 +1,4 @@
--- What shrinking a cache leaves, and which frames come free.
+-- `__kmem_cache_shrink` of Linux 6.1: what shrinking a cache leaves, and which frames come free.
 use Rattle.std.specs.Prelude.{◌≡◌, ℕ, ◌+◌, ◌^◌, ◌<◌, ◌≤◌, ◌↔◌, ◌⊎◌, false, Option, Some, None, Contains}
 use Rattle.slub_lists.specs.declared.lists.Slab.{Slab}
 use Rattle.slub_lists.specs.State.{State}

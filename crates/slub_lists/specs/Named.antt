@@ -1,8 +1,8 @@
--- Allocating from the cache that a name names.
+-- `kmem_cache_alloc`, `slab_alloc_node` of Linux 6.1: allocating from the cache that a name names.
 use Rattle.std.specs.Prelude.{◌≡◌, ℕ, MatchOption}
 use Rattle.slub_object_layout.specs.declared.layout.Layout.{Layout}
-use Rattle.slub_answers.specs.declared.reply.Reply.{Reply}
-use Rattle.slub_answers.specs.declared.reply.Reply.TheVariants.{NoSuchCache}
+use Rattle.slub_trace.specs.declared.reply.Reply.{Reply}
+use Rattle.slub_trace.specs.declared.reply.Reply.TheVariants.{NoSuchCache}
 use Rattle.slub_lists.specs.State.{State}
 use Rattle.slub_lists.specs.Alloc.{Allocates, cache_of, checked_of, named}
 use Rattle.slub_lists.specs.Checked.{AllocatesChecked}

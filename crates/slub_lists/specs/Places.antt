@@ -1,5 +1,5 @@
--- Where objects, their words and their free pointers stand, and what a slab and a list have of
--- them.
+-- Profile: where objects, their words and their free pointers stand, and what a slab and a list
+-- have of them.
 use Rattle.std.specs.Prelude.{◌≡◌, ℕ, ◌+◌, ◌/◌, ◌^◌, ◌<◌, ◌≤◌, ◌==◌, if◌then◌else◌, [], true, false, Some, None}
 use Rattle.std.specs.Option.{option_map_or}
 use Rattle.slub_object_layout.specs.declared.layout.Layout.{Layout}

@@ -1,5 +1,5 @@
--- Shrinking a cache, after `__kmem_cache_do_shrink`, `flush_all` and `deactivate_slab` of Linux
--- 6.1.
+-- `__kmem_cache_shrink`, `flush_all`, `deactivate_slab`, `__kmem_cache_do_shrink` of Linux 6.1:
+-- shrinking a cache.
 use Rattle.std.specs.Prelude.{◌≡◌, ℕ, ◌+◌, ◌==◌, nat_lt, if◌then◌else◌, Bool, false, List, [], ◌∷◌, ◌++◌, length, map, fold, count_by, Option, Some, None, MatchOption, Result, Ok, Err, slice_index_or, slice_set}
 use Rattle.std.specs.List.{range_with_len}
 use Rattle.std.specs.Option.{option_map_or}

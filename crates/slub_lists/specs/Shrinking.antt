@@ -1,4 +1,4 @@
--- For proofs and private clauses: what the steps of shrinking leave.
+-- `__kmem_cache_shrink`, for proofs and private clauses: what the steps of shrinking leave.
 use Rattle.std.specs.Prelude.{◌≡◌, ℕ, ◌<◌, Bool, false, List, []}
 use Rattle.std.specs.Option.{option_map_or}
 use Rattle.slub_common.specs.Times.{times}

@@ -1,4 +1,5 @@
--- What contracts see of the machine on plain lists.
+-- `struct kmem_cache`, `kmem_cache_cpu`, `kmem_cache_node` and `slab` as plain lists: what
+-- contracts see of the machine.
 use Rattle.std.specs.Prelude.{ℕ, List, Option}
 use Rattle.slub_page_pool.specs.FreeFrames.{FreeFrames}
 use Rattle.slub_cache_create.specs.Table.{Table}

@@ -1,4 +1,5 @@
--- For proofs and private clauses: what the steps of an operation hand to one another.
+-- `___slab_alloc`, `__unfreeze_partials`, for proofs and private clauses: what the steps of an
+-- operation hand to one another.
 use Rattle.std.specs.Prelude.{◌≡◌, ℕ, ◌+◌, ◌<◌, ◌≤◌, Bool, true, false, length, List, [], ◌∷◌, take, drop, reverse, Some, None, MatchOption, ◌⊎◌}
 use Rattle.slub_lists.specs.State.{State}
 use Rattle.slub_lists.specs.Alloc.{checked_of, lists_of, node_of, own_free, slab_of, with_lists, with_node}

@@ -1,8 +1,7 @@
--- Shrinking a cache in the midst of a round, after `shrink_store` and `__kmem_cache_do_shrink` of
--- Linux 6.1.
+-- `shrink_store`, `__kmem_cache_do_shrink` of Linux 6.1: shrinking a cache in the midst of a round.
 use Rattle.std.specs.Prelude.{◌≡◌, ℕ, ◌+◌, MatchOption}
-use Rattle.slub_answers.specs.declared.reply.Reply.{Reply}
-use Rattle.slub_answers.specs.declared.reply.Reply.TheVariants.{NoSuchCache, Checked, Trimmed}
+use Rattle.slub_trace.specs.declared.reply.Reply.{Reply}
+use Rattle.slub_trace.specs.declared.reply.Reply.TheVariants.{NoSuchCache, Checked, Trimmed}
 use Rattle.slub_lists.specs.State.{State}
 use Rattle.slub_lists.specs.Alloc.{checked_of, named}
 use Rattle.slub_lists.specs.Shrink.{ShrinksCache, slabs_of}

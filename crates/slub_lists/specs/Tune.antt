@@ -1,11 +1,11 @@
--- Settings of a live cache, after `min_partial_store` and `cpu_partial_store` of Linux 6.1.
+-- `min_partial_store`, `cpu_partial_store` of Linux 6.1: settings of a live cache.
 use Rattle.std.specs.Prelude.{◌≡◌, ℕ, ◌<◌, if◌then◌else◌, is_some, IsSome, List, None, MatchOption, Result, Ok, Err}
 use Rattle.slub_object_layout.specs.declared.layout.Setting.{Setting}
 use Rattle.slub_object_layout.specs.declared.layout.Setting.TheVariants.{MinPartial, CpuPartial}
 use Rattle.slub_cache_create.specs.Table.{number_of}
 use Rattle.slub_cache_create.specs.Tune.{with_setting as table_with_setting}
-use Rattle.slub_answers.specs.declared.tune.TuneRefusal.{TuneRefusal}
-use Rattle.slub_answers.specs.declared.tune.TuneRefusal.TheVariants.{NoSuchCache, Checked}
+use Rattle.slub_trace.specs.declared.tune.TuneRefusal.{TuneRefusal}
+use Rattle.slub_trace.specs.declared.tune.TuneRefusal.TheVariants.{NoSuchCache, Checked}
 use Rattle.slub_lists.specs.State.{State}
 use Rattle.slub_lists.specs.Alloc.{checked_of}
 use Rattle.slub_lists.specs.Leaving.{FreesLost, LeavesSlabs}

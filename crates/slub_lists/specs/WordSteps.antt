@@ -1,4 +1,5 @@
--- For proofs and private clauses: what the steps of a write, a read and a poke hand to one another.
+-- Profile, for proofs and private clauses: what the steps of a write, a read and a poke hand to one
+-- another.
 use Rattle.std.specs.Prelude.{◌≡◌, ℕ, ℤ, Some, Result}
 use Rattle.slub_red_zone.specs.Objects.{KeepsObjects}
 use Rattle.slub_red_zone.specs.State.{CheckedState}

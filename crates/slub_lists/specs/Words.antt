@@ -1,4 +1,4 @@
--- Words and bytes of objects: writes, reads and pokes.
+-- Profile: words and bytes of objects, that is writes, reads and pokes.
 use Rattle.std.specs.Prelude.{◌≡◌, ℕ, ◌+◌, ◌*◌, ◌/◌, ◌==◌, ℤ, nat_le, nat_lt, if◌then◌else◌, Bool, false, Option, Some, None, MatchBool, MatchOption, slice_set, slice_index_or}
 use Rattle.std.specs.Option.{option_and_then, option_or, option_map_or}
 use Rattle.slub_object_layout.specs.declared.layout.Layout.{Layout}
@@ -6,8 +6,8 @@ use Rattle.slub_object_layout.specs.Layout.{address_of}
 use Rattle.slub_red_zone.specs.State.{CheckedState, objects_in, slab_of as checked_slab}
 use Rattle.slub_red_zone.specs.Steps.{IsOffset, with_byte, with_word as slab_word, word_of as slab_word_of}
 use Rattle.slub_lists.specs.declared.lists.Held.{Held}
-use Rattle.slub_answers.specs.declared.reply.Reply.{Reply}
-use Rattle.slub_answers.specs.declared.reply.Reply.TheVariants.{NotHeld, Wrote, Value, OutOfObject, Poked, OutOfSlot, NotChecked}
+use Rattle.slub_trace.specs.declared.reply.Reply.{Reply}
+use Rattle.slub_trace.specs.declared.reply.Reply.TheVariants.{NotHeld, Wrote, Value, OutOfObject, Poked, OutOfSlot, NotChecked}
 use Rattle.slub_lists.specs.State.{State}
 use Rattle.slub_lists.specs.Alloc.{cache_of, checked_of}
 use Rattle.slub_lists.specs.Checked.{slot_of_held, with_checked}

@@ -8,7 +8,7 @@ ghost use Rattle.slub_lists.specs.Places.{IsByteOf, IsOff, IsWithin};
 ghost use Rattle.slub_lists.specs.State.{State};
 ghost use Rattle.slub_lists.specs.declared.lists.Slab.{Slab as LiveSlab};
 ghost use Rattle.slub_lists.specs.Words.{Writes};
-ghost use Rattle.slub_answers.specs.declared.reply.Reply.{Reply as Answer};
+ghost use Rattle.slub_trace.specs.declared.reply.Reply.{Reply as Answer};
 
 /// No byte lies in the slots of two objects that are on the board, whoever holds them.
 pub fn held_objects_are_apart()

@@ -1,4 +1,5 @@
-//! The sequential semantics: caches, slabs and freelists as plain lists, one operation at a time.
+//! `mm/slub.c` one operation at a time (`___slab_alloc`, `__slab_free`, ..): caches, slabs and
+//! freelists as plain lists.
 //!
 //! This is the allocator as `mm/slub.c` of Linux 6.1 behaves when one event is made after the
 //! other: what each CPU has of a cache (a current slab, a CPU freelist and a partial list), the

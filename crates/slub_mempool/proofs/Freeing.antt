@@ -2,17 +2,17 @@
 use Rattle.std.proofs.Common.{◌≡◌, ℕ, ◌&&◌, ◌||◌, cond, eqb, Bool, true, false, List, [], ◌∷◌, refl, sym, subst, arith, IsSome, inl, inr}
 use Rattle.std.specs.List.{zip}
 use Rattle.std.proofs.lemmas.List.Sums.{sum_by-cons}
-use Rattle.slub_events.specs.declared.event.Act.TheVariants.{Free}
-use Rattle.slub_answers.specs.declared.reply.Reply.{Reply}
-use Rattle.slub_answers.specs.declared.reply.Reply.TheVariants as reply
+use Rattle.slub_trace.specs.declared.event.Act.TheVariants.{Free}
+use Rattle.slub_trace.specs.declared.reply.Reply.{Reply}
+use Rattle.slub_trace.specs.declared.reply.Reply.TheVariants as reply
 use Rattle.slub_lists.specs.State.{State}
 use Rattle.slub_lists.specs.Coherent.{held_under}
-use Rattle.slub_journal.specs.declared.journal.RoundResult.{RoundResult}
-use Rattle.slub_journal.specs.Asked.{event_of, round_of}
-use Rattle.slub_round_law.specs.Answered.{Answered, did_free, found_bad, times_taken}
-use Rattle.slub_round_law.specs.Round.{FreeCause, HaveCauses, IsRound}
-use Rattle.slub_clients.proofs.Replies.{one_reply}
-use Rattle.slub_clients.proofs.Staying.{held-or-none}
+use Rattle.slub_slabinfo_text.specs.declared.journal.RoundResult.{RoundResult}
+use Rattle.slub_slabinfo_text.specs.Asked.{event_of, round_of}
+use Rattle.slub_law_rounds.specs.Answered.{Answered, did_free, found_bad, times_taken}
+use Rattle.slub_law_rounds.specs.Round.{FreeCause, HaveCauses, IsRound}
+use Rattle.slub_rounds.proofs.ClientReplies.{one_reply}
+use Rattle.slub_rounds.proofs.Staying.{held-or-none}
 use Rattle.slub_mempool.specs.Serving.{FreesHeld, IsFreeOfHeld}
 
 -- that it isn't held is no answer that takes it

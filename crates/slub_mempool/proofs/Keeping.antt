@@ -12,9 +12,9 @@ use Rattle.slub_lists.specs.State.{State}
 use Rattle.slub_lists.specs.Coherent.{held_under}
 use Rattle.slub_trace.specs.declared.trace.Trace.{Trace}
 use Rattle.slub_common.proofs.Writes.{inside-of}
-use Rattle.slub_clients.proofs.Staying.{held-or-none}
+use Rattle.slub_rounds.proofs.Staying.{held-or-none}
 use Rattle.slub_mempool.specs.Serving.{AreKnown, IsUsable}
-use Rattle.slub_clients.specs.Reserves.{AreReserves, AreSoundReserves, IsSoundReserve, Reserve, has_number, kept_in, kept_of, no_reserve, reserve_at, times_in, with_numbers}
+use Rattle.slub_rounds.specs.Reserves.{AreReserves, AreSoundReserves, IsSoundReserve, Reserve, has_number, kept_in, kept_of, no_reserve, reserve_at, times_in, with_numbers}
 
 -- ---- numbers that are no longer on the board are dropped
 

@@ -5,13 +5,13 @@ use Rattle.std.specs.Prelude.{nat_le, nat_lt}
 use Rattle.std.proofs.lemmas.Bool.Decides.{nat_tests}
 use Rattle.slub_lists.specs.declared.lists.Held.{Held}
 use Rattle.slub_lists.specs.Coherent.{held_under}
-use Rattle.slub_journal.specs.declared.client.CacheRefusal.{CacheRefusal}
-use Rattle.slub_journal.specs.declared.client.ClientAnswer.{ClientAnswer}
-use Rattle.slub_journal.specs.declared.client.ClientAnswer.TheVariants as answer
-use Rattle.slub_journal.specs.declared.client.ClientDone.{ClientDone}
-use Rattle.slub_by_text.specs.Heap.{HeapState}
-use Rattle.slub_clients.specs.BulkLines.{SpendsTaking}
-use Rattle.slub_clients.specs.Reserves.{Fills, IsTurnedAway, Makes, PutsBack, Reserve, ServesMempool, ServesMput, SpendsMempool, has_number, is_of_cache, place_of, reserve_at}
+use Rattle.slub_slabinfo_text.specs.declared.client.CacheRefusal.{CacheRefusal}
+use Rattle.slub_slabinfo_text.specs.declared.client.ClientAnswer.{ClientAnswer}
+use Rattle.slub_slabinfo_text.specs.declared.client.ClientAnswer.TheVariants as answer
+use Rattle.slub_slabinfo_text.specs.declared.client.ClientDone.{ClientDone}
+use Rattle.slub_rounds.specs.Heap.{HeapState}
+use Rattle.slub_rounds.specs.BulkLines.{SpendsTaking}
+use Rattle.slub_rounds.specs.Reserves.{Fills, IsTurnedAway, Makes, PutsBack, Reserve, ServesMempool, ServesMput, SpendsMempool, has_number, is_of_cache, place_of, reserve_at}
 
 -- all were given
 pub made-all : (reserves : List Reserve) (fresh : Reserve) (refusal : Option CacheRefusal) (told : ClientAnswer) (left : List Reserve) → refusal ≡ None → told ≡ answer.Made → left ≡ reserves ++ fresh ∷ [] → Makes reserves fresh refusal told left

@@ -8,27 +8,27 @@ use Rattle.std.proofs.lemmas.List.Elements.{All-cons, All-contains, All-nil}
 use Rattle.std.proofs.lemmas.List.FromFn.{length-range_with_len}
 use Rattle.std.proofs.lemmas.List.Quantifiers.{position-Some}
 use Rattle.slub_common.proofs.Times.{Contains-times}
-use Rattle.slub_events.specs.declared.event.Act.TheVariants.{Free}
+use Rattle.slub_trace.specs.declared.event.Act.TheVariants.{Free}
 use Rattle.slub_lists.specs.State.{State}
 use Rattle.slub_lists.specs.Coherent.{held_under}
 use Rattle.slub_trace.specs.declared.trace.Client.{Client as Asked}
 use Rattle.slub_trace.specs.declared.trace.Client.TheVariants as line
 use Rattle.slub_trace.specs.declared.trace.Trace.{Trace}
-use Rattle.slub_journal.specs.declared.client.CacheRefusal.{CacheRefusal}
-use Rattle.slub_journal.specs.declared.client.ClientAnswer.{ClientAnswer}
-use Rattle.slub_journal.specs.declared.client.ClientDone.{ClientDone}
-use Rattle.slub_journal.specs.Asked.{round_of}
-use Rattle.slub_journal.specs.Lawful.{IsUnheld}
-use Rattle.slub_round_law.specs.Round.{IsRound}
-use Rattle.slub_round_law.proofs.Steps.{match_bool, match_either}
-use Rattle.slub_round_law.proofs.Times.{once_times}
-use Rattle.slub_by_text.specs.Heap.{HeapState}
-use Rattle.slub_by_text.specs.Laws.{RoundsByTextAreLawful}
-use Rattle.slub_clients.specs.Asked.{IsOpenTo, IsServable}
-use Rattle.slub_clients.specs.BulkLines.{TakesAll}
-use Rattle.slub_clients.specs.Laws.{IsNumber}
-use Rattle.slub_clients.specs.Reserves.{AreReserves, Asks, Fills, Gets, Lends, Makes, Pops, PutsBack, Reserve, ServesKept, ServesMempool, ServesMget, ServesMput, fresh_reserve, has_number, is_of_cache, no_reserve, place_of, reserve_at, times_in}
-use Rattle.slub_clients.proofs.Allowed.{frees-may}
+use Rattle.slub_slabinfo_text.specs.declared.client.CacheRefusal.{CacheRefusal}
+use Rattle.slub_slabinfo_text.specs.declared.client.ClientAnswer.{ClientAnswer}
+use Rattle.slub_slabinfo_text.specs.declared.client.ClientDone.{ClientDone}
+use Rattle.slub_slabinfo_text.specs.Asked.{round_of}
+use Rattle.slub_slabinfo_text.specs.Lawful.{IsUnheld}
+use Rattle.slub_law_rounds.specs.Round.{IsRound}
+use Rattle.slub_law_rounds.proofs.Steps.{match_bool, match_either}
+use Rattle.slub_law_rounds.proofs.Times.{once_times}
+use Rattle.slub_rounds.specs.Heap.{HeapState}
+use Rattle.slub_rounds.specs.TextLaws.{RoundsByTextAreLawful}
+use Rattle.slub_rounds.specs.Asked.{IsOpenTo, IsServable}
+use Rattle.slub_rounds.specs.BulkLines.{TakesAll}
+use Rattle.slub_rounds.specs.ClientLaws.{IsNumber}
+use Rattle.slub_rounds.specs.Reserves.{AreReserves, Asks, Fills, Gets, Lends, Makes, Pops, PutsBack, Reserve, ServesKept, ServesMempool, ServesMget, ServesMput, fresh_reserve, has_number, is_of_cache, no_reserve, place_of, reserve_at, times_in}
+use Rattle.slub_rounds.proofs.Allowed.{frees-may}
 use Rattle.slub_bulk.specs.Taking.{MayTake}
 use Rattle.slub_bulk.proofs.Boards.{allocs_lawful, asked_lawful, one_may, one_stays, others_stay, takes_come, takes_stay}
 use Rattle.slub_bulk.proofs.Bulking.{range_differs, range_known}

@@ -1,10 +1,10 @@
 -- What the parts of serving a line ask and give.
 use Rattle.std.specs.Prelude.{ℕ, ◌<◌, ◌≤◌, List, MatchOption, length, slice_get, ⊤}
-use Rattle.slub_answers.specs.declared.reply.Reply.{Reply}
-use Rattle.slub_answers.specs.declared.reply.Reply.TheVariants as reply
+use Rattle.slub_trace.specs.declared.reply.Reply.{Reply}
+use Rattle.slub_trace.specs.declared.reply.Reply.TheVariants as reply
 use Rattle.slub_lists.specs.State.{State}
-use Rattle.slub_journal.specs.declared.client.ClientAnswer.{ClientAnswer}
-use Rattle.slub_clients.specs.Reserves.{Reserve, TellsFree, times_in}
+use Rattle.slub_slabinfo_text.specs.declared.client.ClientAnswer.{ClientAnswer}
+use Rattle.slub_rounds.specs.Reserves.{Reserve, TellsFree, times_in}
 
 -- the name of its cache is one that the machine knows, and there is room for what it may keep
 abbrev pub IsUsable : State → Reserve → Type 0

@@ -3,12 +3,12 @@
 ghost use Rattle.std.specs.Prelude.{List};
 ghost use Rattle.slub_trace.specs.declared.trace.Client.{Client as Asked};
 ghost use Rattle.slub_trace.specs.declared.trace.Trace.{Trace as Read};
-ghost use Rattle.slub_journal.specs.declared.client.ClientDone.{ClientDone as Done};
-ghost use Rattle.slub_by_text.specs.Heap.{HeapState};
-ghost use Rattle.slub_clients.specs.Asked.{IsServable};
-ghost use Rattle.slub_clients.specs.Reserves.{AreReserves, AreSoundReserves, Reserve, ServesReserves};
+ghost use Rattle.slub_slabinfo_text.specs.declared.client.ClientDone.{ClientDone as Done};
+ghost use Rattle.slub_rounds.specs.Heap.{HeapState};
+ghost use Rattle.slub_rounds.specs.Asked.{IsServable};
+ghost use Rattle.slub_rounds.specs.Reserves.{AreReserves, AreSoundReserves, Reserve, ServesReserves};
 
-use slub_by_text::laws::rounds_by_text_are_lawful;
+use slub_rounds::text_laws::rounds_by_text_are_lawful;
 
 /// After a `mempool`, an `mget` or an `mput` each reserve has at most as many numbers as it may keep, no
 /// number stands twice in all of them, and each is on the board, whatever became of the numbers before: of

@@ -3,7 +3,7 @@
 //! `Reserves` keeps numbers of objects that are on the board, for the time when a cache gives none: it owns
 //! the room of its lists and no machine. `Reserves::serve` does a `mempool`, an `mget` or an `mput` on the
 //! heap that it is handed, and gives it back with what came of it. The definitions are `specs/Reserves.antt` of
-//! `slub_clients`.
+//! `slub_rounds`.
 //!
 //! # What it promises
 //!
@@ -16,5 +16,3 @@
 pub mod laws;
 mod reserve;
 pub mod reserves;
-#[cfg(test)]
-mod tests;

@@ -2,7 +2,7 @@
 
 ghost use Rattle.std.specs.Prelude.{◌≡◌, ◌+◌, ◌<◌, ◌≤◌, ◌++◌, ◌∷◌, [], length, is_some, nat_lt, vec_capacity};
 ghost use Rattle.slub_lists.specs.Coherent.{held_under};
-ghost use Rattle.slub_clients.specs.Reserves.{Pops, has_number, kept_of};
+ghost use Rattle.slub_rounds.specs.Reserves.{Pops, has_number, kept_of};
 
 use slub_list_machine::lists::Lists;
 use slub_object_layout::name::Name;
@@ -21,7 +21,7 @@ pub struct Reserve {
 
 impl Model for Reserve {
     ghost use Rattle.std.specs.Prelude.{◌≤◌, vec_capacity};
-    ghost use Rattle.slub_clients.specs.Reserves.{Reserve as Seen};
+    ghost use Rattle.slub_rounds.specs.Reserves.{Reserve as Seen};
 
     ghost Value = { Seen };
 

@@ -2,33 +2,33 @@
 
 ghost use Rattle.std.specs.Prelude.{◌≡◌, ◌+◌, ◌<◌, ◌≤◌, ◌++◌, ◌∷◌, [], length, All, Err, IfErr, IfOk, IfSome, IsSome, OnErr, vec_capacity};
 ghost use Rattle.std.specs.List.{list_any, range_with_len};
-ghost use Rattle.slub_events.specs.declared.event.Act.TheVariants.{Alloc, Free};
+ghost use Rattle.slub_trace.specs.declared.event.Act.TheVariants.{Alloc, Free};
 ghost use Rattle.slub_lists.specs.Coherent.{IsCoherent, held_under};
 ghost use Rattle.slub_trace.specs.declared.trace.Trace.{Trace as Read};
 ghost use Rattle.slub_trace.specs.Sound.{asked_objects};
-ghost use Rattle.slub_journal.specs.Lawful.{IsUnheld};
+ghost use Rattle.slub_slabinfo_text.specs.Lawful.{IsUnheld};
 ghost use Rattle.slub_engine.specs.Steps.{KeepsUnheld};
-ghost use Rattle.slub_clients.specs.Asked.{IsOpenTo, IsServable, SpendsAsked, StaysOpen};
-ghost use Rattle.slub_clients.specs.BulkLines.{SpendsTaking, address_under};
-ghost use Rattle.slub_clients.specs.Laws.{IsNumber};
-ghost use Rattle.slub_clients.specs.Reserves.{AreReserves, AreSoundReserves, Fills, Gets, IsReserveLine, PutsBack, ServesKept, ServesMempool, ServesMget, ServesMput, ServesReserves, SpendsKept, SpendsMempool, SpendsMget, SpendsMput, SpendsReserves, TakesOne, fresh_reserve, has_number, is_of_cache, kept_in, numbers_of, place_of, reserve_at};
-ghost use Rattle.slub_clients.specs.Stopped.{IsStoppedWhere};
+ghost use Rattle.slub_rounds.specs.Asked.{IsOpenTo, IsServable, SpendsAsked, StaysOpen};
+ghost use Rattle.slub_rounds.specs.BulkLines.{SpendsTaking, address_under};
+ghost use Rattle.slub_rounds.specs.ClientLaws.{IsNumber};
+ghost use Rattle.slub_rounds.specs.Reserves.{AreReserves, AreSoundReserves, Fills, Gets, IsReserveLine, PutsBack, ServesKept, ServesMempool, ServesMget, ServesMput, ServesReserves, SpendsKept, SpendsMempool, SpendsMget, SpendsMput, SpendsReserves, TakesOne, fresh_reserve, has_number, is_of_cache, kept_in, numbers_of, place_of, reserve_at};
+ghost use Rattle.slub_rounds.specs.ClientStopped.{IsStoppedWhere};
 ghost use Rattle.slub_mempool.specs.Serving.{AreKnown, FreesHeld, IsUsable, TellsFreed};
 
 use crate::reserve::Reserve;
-use slub_answers::reply::Reply;
 use slub_bulk::all::take_all;
 use slub_bulk::serve::numbers_from;
-use slub_by_text::heap::Heap;
-use slub_by_text::laws::rounds_by_text_are_lawful;
-use slub_clients::client::{Stopped, at_once, client_round, told};
 use slub_common::no_memory::NoMemory;
 use slub_common::sequence::Sequence;
-use slub_events::event::Act;
-use slub_journal::client::{CacheRefusal, ClientAnswer, ClientDone, ClientRound};
 use slub_list_machine::lists::Lists;
 use slub_object_layout::layout::address;
 use slub_object_layout::name::Name;
+use slub_rounds::client::{Stopped, at_once, client_round, told};
+use slub_rounds::heap::Heap;
+use slub_rounds::text_laws::rounds_by_text_are_lawful;
+use slub_slabinfo_text::client::{CacheRefusal, ClientAnswer, ClientDone, ClientRound};
+use slub_trace::event::Act;
+use slub_trace::reply::Reply;
 use slub_trace::trace::{Client, Trace};
 use std::alloc::Global;
 use std::marker::Model;
@@ -49,7 +49,7 @@ pub struct Reserves {
 
 impl Model for Reserves {
     ghost use Rattle.std.specs.Prelude.{◌≡◌, ◌+◌, ◌≤◌, [], List, All, length, vec_capacity};
-    ghost use Rattle.slub_clients.specs.Reserves.{Reserve as Seen};
+    ghost use Rattle.slub_rounds.specs.Reserves.{Reserve as Seen};
 
     ghost Value = { List Seen };
 

@@ -135,6 +135,3 @@ impl NodeList {
         self.window.frames()
     }
 }
-
-#[cfg(test)]
-mod tests;

@@ -20,5 +20,3 @@
 pub mod laws;
 pub mod layout;
 pub mod name;
-#[cfg(test)]
-mod tests;

@@ -1,5 +1,5 @@
--- Where the numbers of a step fit into their words, and what a change under the node lock finds
--- there.
+-- `__flush_cpu_slab`, `__kmem_cache_do_shrink`: where the numbers of a step fit into their words,
+-- and what a change under the node lock finds there.
 use Rattle.std.specs.Prelude.{◌≡◌, ℕ, ◌+◌, ◌<◌, ◌≤◌, ◌^◌, length}
 use Rattle.slub_common.specs.Times.{times}
 use Rattle.slub_core.specs.declared.spot.OfflineSpot.{OfflineSpot}
@@ -11,7 +11,7 @@ use Rattle.slub_core.specs.World.{LockValue, Nothing, Node, Checked, Pool}
 use Rattle.slub_core.specs.Local.{Local}
 use Rattle.slub_core.specs.Alloc.{node_of}
 use Rattle.slub_core.specs.Offline.{scanned_slab}
-use Rattle.slub_local.specs.Ways.{HasTid}
+use Rattle.slub_core.specs.Ways.{HasTid}
 
 -- a detach has room for one step of the transaction id
 abbrev pub OfflineFits : ℕ → Local → OfflineSpot → Type 0

@@ -1,14 +1,14 @@
-//! A node list in the order in which shrinking leaves it.
+//! `__kmem_cache_do_shrink`: a node list in the order in which shrinking leaves it.
 
 ghost use Rattle.std.specs.Prelude.{◌≡◌, length};
 ghost use Rattle.slub_node_partial.specs.Promotion.{IsPromoted};
 ghost use Rattle.slub_core.specs.Setup.{node_lock};
 ghost use Rattle.slub_core.specs.World as value;
 ghost use Rattle.slub_core.specs.World.{update, frames_in};
-ghost use Rattle.slub_local.specs.Values.{value_in, values_of, room_in, rooms_of};
+ghost use Rattle.slub_core.specs.Values.{value_in, values_of, room_in, rooms_of};
 ghost use Rattle.slub_offline.specs.Fits.{IsNodeList};
 
-use slub_local::guarded::Guarded;
+use slub_core::guarded::Guarded;
 
 /// Puts the node list of a cache into that order, by how many objects of each slab are free.
 pub fn promote(values: &mut [Guarded], cache: u8, free: &[u16])

@@ -1,24 +1,24 @@
-//! Putting away what a CPU has of a cache (`__flush_cpu_slab`).
+//! `flush_slab`, `__flush_cpu_slab`: putting away what a CPU has of a cache.
 
 ghost use Rattle.std.specs.Prelude.{◌≡◌, ◌+◌, ◌≤◌};
 ghost use Rattle.slub_core.specs.Setup.{Means};
 ghost use Rattle.slub_core.specs.Offline as core;
 ghost use Rattle.slub_core.specs.Local.{with_hand, hand_from};
 ghost use Rattle.slub_core.specs.Alloc as alloc;
-ghost use Rattle.slub_local.specs.Facts.{setup_of};
-ghost use Rattle.slub_local.specs.Ways.{turned};
+ghost use Rattle.slub_core.specs.Facts.{setup_of};
+ghost use Rattle.slub_core.specs.Ways.{turned};
 ghost use Rattle.slub_offline.specs.Fits.{OfflineFits, OfflineRoom};
 
-use slub_answers::reply::Reply;
+use slub_core::ops;
+use slub_core::setup::Setup;
 use slub_core::spot::{Away, MoveSet, MoveSetSpot, OfflineSpot, Spot, Sweep};
 use slub_core::step::{Answer, Step};
+use slub_core::ways::{hand_from, raised_word, taken_string, way_of_away};
+use slub_core::words::{cpu_in, list_in};
+use slub_core::worker_local::Local;
 use slub_cpu_partial::words::ListWord;
 use slub_free_paths::sweep::next_swept;
-use slub_local::local::Local;
-use slub_local::ops;
-use slub_local::setup::Setup;
-use slub_local::ways::{hand_from, raised_word, taken_string, way_of_away};
-use slub_local::words::{cpu_in, list_in};
+use slub_trace::reply::Reply;
 use slub_words::cpu::CpuWord;
 
 /// The step that a spot of it calls for.

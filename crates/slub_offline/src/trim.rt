@@ -1,24 +1,24 @@
-//! The end of a trim, under the node lock (`__kmem_cache_do_shrink`).
+//! `__kmem_cache_do_shrink`: the end of a trim, under the node lock.
 
 ghost use Rattle.std.specs.Prelude.{◌≡◌, ◌<◌, length, None};
 ghost use Rattle.slub_core.specs.Setup.{Means};
 ghost use Rattle.slub_core.specs.Offline as core;
-ghost use Rattle.slub_local.specs.Facts.{setup_of};
-ghost use Rattle.slub_local.specs.Values.{values_of, rooms_of};
-ghost use Rattle.slub_local.specs.Ways.{turned, changed};
+ghost use Rattle.slub_core.specs.Facts.{setup_of};
+ghost use Rattle.slub_core.specs.Values.{values_of, rooms_of};
+ghost use Rattle.slub_core.specs.Ways.{turned, changed};
 ghost use Rattle.slub_offline.specs.Fits.{TrimFits, MayScan};
 
 use crate::lists::promote;
-use slub_answers::reply::Reply;
+use slub_core::guarded::Guarded;
+use slub_core::setup::Setup;
 use slub_core::spot::{Discard, DiscardSpot, Spot, TrimSpot};
 use slub_core::step::{Answer, Step};
+use slub_core::ways::bare_hand;
+use slub_core::words::slab_in;
+use slub_core::worker_local::Local;
+use slub_core::{ops, values};
 use slub_free_paths::lists::take_off;
-use slub_local::guarded::Guarded;
-use slub_local::local::Local;
-use slub_local::setup::Setup;
-use slub_local::ways::bare_hand;
-use slub_local::words::slab_in;
-use slub_local::{ops, values};
+use slub_trace::reply::Reply;
 use slub_words::slab::SlabWord;
 
 /// The step that a spot of it calls for.

@@ -24,8 +24,6 @@ ghost use Rattle.slub_page_pool.specs.Block.{Takes, TakesOrNotes, CanPut, Puts};
 
 pub mod history;
 mod marks;
-#[cfg(test)]
-mod plain;
 mod tree;
 
 use slub_common::no_memory::NoMemory;
@@ -162,6 +160,3 @@ impl Pool {
         marks::write_marked(&self.marks, out);
     }
 }
-
-#[cfg(test)]
-mod tests;

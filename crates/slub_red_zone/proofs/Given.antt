@@ -1,6 +1,6 @@
 -- Giving an object, and setting a slab aside.
 use Rattle.std.proofs.Common.{◌≡◌, ℕ, ◌+◌, ◌*◌, ◌-◌, ◌<◌, ◌≤◌, ◌++◌, [], ◌∷◌, length, get_or, drop, Option, None, Some, IfSome, is_some, unwrap_or, refl, ap, arith, subst, sym, ◌∙◌, length-append}
-use Rattle.slub_red_zone.specs.declared.zones.Damage.{Damage}
+use Rattle.slub_trace.specs.declared.damage.Damage.{Damage}
 use Rattle.slub_red_zone.specs.declared.checked.Slot.{Slot}
 use Rattle.slub_red_zone.specs.declared.totals.Totals.{Totals}
 use Rattle.slub_red_zone.specs.State.{SlabState, CheckedState, no_slab, slab_of, free_in, used_in, aside_in, objects_in}

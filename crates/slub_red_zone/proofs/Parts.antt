@@ -8,7 +8,7 @@ use Rattle.slub_object_layout.specs.declared.layout.Flags.{Flags}
 use Rattle.slub_object_layout.specs.declared.layout.Layout.{Layout}
 use Rattle.slub_object_layout.specs.declared.layout.Spec.{Spec}
 use Rattle.slub_object_layout.specs.Layout.{IsWithinBounds, offset_of, inuse_of}
-use Rattle.slub_red_zone.specs.declared.zones.Damage.{Damage}
+use Rattle.slub_trace.specs.declared.damage.Damage.{Damage}
 use Rattle.slub_red_zone.specs.declared.zones.Part.{Part}
 use Rattle.slub_red_zone.specs.Zones.{red_inactive, red_active, padding_byte, left_zone, right_zone, poison_but_end, poison_last, padding_part, red_zones, poison, padding, written, examined_free, examined_used, first_damage, damage_when_given, damage_when_taken, set_up, fill_byte, new_slot}
 use Rattle.slub_red_zone.specs.Bytes.{IsInSome, IsWhole, AreWhole, IsWritten, Tells}

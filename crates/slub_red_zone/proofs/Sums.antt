@@ -5,7 +5,7 @@ use Rattle.std.proofs.lemmas.Grind.{get_or-set_at}
 use Rattle.slub_object_layout.specs.declared.layout.Flags.{Flags}
 use Rattle.slub_object_layout.specs.declared.layout.Layout.{Layout}
 use Rattle.slub_object_layout.specs.Layout.{IsWithinBounds}
-use Rattle.slub_red_zone.specs.declared.zones.Report.{Report}
+use Rattle.slub_trace.specs.declared.damage.Report.{Report}
 use Rattle.slub_red_zone.specs.declared.totals.Totals.{Totals}
 use Rattle.slub_red_zone.specs.State.{SlabState, CheckedState, no_slab, slab_at, free_in, used_in, aside_in, objects_in, aside_count, free_count, used_count}
 use Rattle.slub_red_zone.specs.Sound.{IsSound, IsSlab}

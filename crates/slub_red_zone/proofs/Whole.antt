@@ -5,7 +5,7 @@ use Rattle.std.proofs.lemmas.Bool.Decides.{nat_tests}
 use Rattle.std.proofs.lemmas.Grind.{get_or-set_at}
 use Rattle.std.proofs.lemmas.List.{get_or-set_other, get_or_past}
 use Rattle.std.proofs.lemmas.List.Sums.{sum_by-set}
-use Rattle.slub_red_zone.specs.declared.zones.Report.{Report}
+use Rattle.slub_trace.specs.declared.damage.Report.{Report}
 use Rattle.slub_red_zone.specs.State.{SlabState, CheckedState, no_slab, slab_of, slab_at, aside_in, objects_in}
 use Rattle.slub_common.specs.Times.{times}
 use Rattle.slub_red_zone.specs.Sound.{IsSound, IsSlab, is_stocked}

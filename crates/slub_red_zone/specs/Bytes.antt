@@ -1,7 +1,7 @@
 -- Slots byte by byte: what is whole, what is written, and what is told.
 use Rattle.std.specs.Prelude.{◌≡◌, ◌≢◌, ℕ, ◌<◌, ◌≤◌, List, length, slice_index, All, Any, Contains, pos}
 use Rattle.slub_object_layout.specs.declared.layout.Layout.{Layout}
-use Rattle.slub_red_zone.specs.declared.zones.Damage.{Damage}
+use Rattle.slub_trace.specs.declared.damage.Damage.{Damage}
 use Rattle.slub_red_zone.specs.declared.zones.Part.{Part}
 use Rattle.slub_red_zone.specs.Steps.{place_of}
 

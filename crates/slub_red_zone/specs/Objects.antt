@@ -1,7 +1,7 @@
 -- What the calls leave of the objects and slabs of a checked cache.
 use Rattle.std.specs.Prelude.{◌≡◌, ◌≢◌, ℕ, ◌+◌, ◌<◌, ◌≤◌, ◌++◌, ◌==◌, ◌&&◌, nat_lt, if◌then◌else◌, Bool, true, false, List, length, slice_index_or, Option, None, Some, option_map, Result, Ok, Err}
-use Rattle.slub_red_zone.specs.declared.zones.Damage.{Damage}
-use Rattle.slub_red_zone.specs.declared.zones.Report.{Report}
+use Rattle.slub_trace.specs.declared.damage.Damage.{Damage}
+use Rattle.slub_trace.specs.declared.damage.Report.{Report}
 use Rattle.slub_red_zone.specs.declared.slab.ObjectState.{ObjectState}
 use Rattle.slub_red_zone.specs.declared.slab.ObjectState.TheVariants.{Free, Used, Aside}
 use Rattle.slub_red_zone.specs.declared.checked.CheckedGive.{CheckedGive}

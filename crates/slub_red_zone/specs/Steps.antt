@@ -5,8 +5,8 @@ use Rattle.std.specs.List.{range_with_len, concat}
 use Rattle.slub_object_layout.specs.declared.layout.Flags.{Flags}
 use Rattle.slub_object_layout.specs.declared.layout.Layout.{Layout}
 use Rattle.slub_object_layout.specs.Layout.{address_of}
-use Rattle.slub_red_zone.specs.declared.zones.Damage.{Damage}
-use Rattle.slub_red_zone.specs.declared.zones.Report.{Report}
+use Rattle.slub_trace.specs.declared.damage.Damage.{Damage}
+use Rattle.slub_trace.specs.declared.damage.Report.{Report}
 use Rattle.slub_red_zone.specs.declared.slab.ObjectState.{ObjectState}
 use Rattle.slub_red_zone.specs.declared.slab.ObjectState.TheVariants.{Free, Used, Aside}
 use Rattle.slub_red_zone.specs.declared.checked.CheckedGive.{CheckedGive}

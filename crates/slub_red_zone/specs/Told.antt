@@ -1,7 +1,7 @@
 -- What giving tells of the objects that it examined.
 use Rattle.std.specs.Prelude.{◌≡◌, ℕ, ◌<◌, ◌≤◌, ◌++◌, List, Some, All, Any}
 use Rattle.slub_object_layout.specs.Layout.{address_of}
-use Rattle.slub_red_zone.specs.declared.zones.Report.{Report}
+use Rattle.slub_trace.specs.declared.damage.Report.{Report}
 use Rattle.slub_red_zone.specs.declared.slab.ObjectState.TheVariants.{Free}
 use Rattle.slub_red_zone.specs.declared.checked.Slot.{Slot}
 use Rattle.slub_red_zone.specs.State.{CheckedState, slab_of, state_of, aside_in, bytes_of}

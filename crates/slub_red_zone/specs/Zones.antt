@@ -4,9 +4,9 @@ use Rattle.std.specs.Prelude.{ℕ, ◌+◌, ◌-◌, List, [], ◌∷◌, ◌++�
 use Rattle.std.specs.Option.{option_or}
 use Rattle.slub_object_layout.specs.declared.layout.Flags.{Flags}
 use Rattle.slub_object_layout.specs.declared.layout.Layout.{Layout}
-use Rattle.slub_red_zone.specs.declared.zones.Damage.{Damage}
+use Rattle.slub_trace.specs.declared.damage.Damage.{Damage}
 use Rattle.slub_red_zone.specs.declared.zones.Part.{Part}
-use Rattle.slub_red_zone.specs.declared.zones.Zone.TheVariants.{Left, Right, Poison, End, Padding}
+use Rattle.slub_trace.specs.declared.damage.Zone.TheVariants.{Left, Right, Poison, End, Padding}
 
 -- ---- the bytes (`include/linux/poison.h`)
 

@@ -9,13 +9,13 @@ ghost use Rattle.slub_red_zone.specs.Steps as step;
 ghost use Rattle.slub_red_zone.specs.Objects.{GivesObject, TakesObject, KeepsObjects};
 
 use crate::slab::{ObjectState, Slab};
-use crate::slabs;
 use crate::totals::Totals;
-use crate::zones::{self, Damage, Report};
+use crate::{slabs, zones};
 use slub_common::limits::FRAMES_MAX;
 use slub_common::no_memory::NoMemory;
 use slub_node_partial::NodeList;
 use slub_object_layout::layout::{self, Flags, Layout};
+use slub_trace::damage::{Damage, Report};
 use std::alloc::Global;
 use std::marker::Model;
 

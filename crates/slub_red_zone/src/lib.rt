@@ -42,7 +42,5 @@ pub mod laws;
 pub mod slab;
 mod slabs;
 mod supply;
-#[cfg(test)]
-mod tests;
 mod totals;
 pub mod zones;

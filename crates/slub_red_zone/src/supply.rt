@@ -9,8 +9,8 @@ ghost use Rattle.slub_red_zone.specs.Objects.{AddsSlab, AddsGivenSlab, TakesSlab
 use crate::checked::{CheckedSlabs, Run, Slot};
 use crate::slab::Slab;
 use crate::slabs;
-use crate::zones::Report;
 use slub_common::no_memory::NoMemory;
+use slub_trace::damage::Report;
 use std::alloc::AllocError;
 
 impl CheckedSlabs {

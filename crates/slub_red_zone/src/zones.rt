@@ -6,6 +6,7 @@ ghost use Rattle.slub_object_layout.specs.Layout.{IsWithinBounds};
 ghost use Rattle.slub_red_zone.specs.Zones as spec;
 
 use slub_object_layout::layout::{Flags, Layout};
+use slub_trace::damage::{Damage, Zone};
 
 /// In the red zones of a free object (`SLUB_RED_INACTIVE`).
 pub const RED_INACTIVE: u8 = 0xbb;
@@ -24,41 +25,6 @@ pub const POISON_END: u8 = 0xa5;
 
 /// The bytes of a free pointer.
 const POINTER: u32 = 8;
-
-/// The parts of a slot whose bytes are checked.
-#[derive(Clone, Copy, Debug, PartialEq, Eq)]
-pub enum Zone {
-    /// The left red zone, before the object.
-    Left,
-    /// The right red zone, behind the object.
-    Right,
-    /// The poison of a free object.
-    Poison,
-    /// The last byte of that poison.
-    End,
-    /// The padding behind the free pointer.
-    Padding,
-}
-
-/// A byte that isn't what it has to be (`check_bytes_and_report`).
-#[derive(Clone, Copy, Debug, PartialEq, Eq)]
-pub struct Damage {
-    pub zone: Zone,
-    /// Where the byte is, in bytes from the object's address.
-    pub offset: i32,
-    pub found: u8,
-    pub wanted: u8,
-}
-
-/// A damage of an object that was to be given.
-#[derive(Clone, Copy, Debug, PartialEq, Eq)]
-pub struct Report {
-    /// The number of the cache.
-    pub cache: u8,
-    /// The address of the object, in bytes.
-    pub address: u32,
-    pub damage: Damage,
-}
 
 /// A part of a slot: the bytes at the places from `from` up to `to`, counted from the slot's first
 /// byte, and what each of them has to be.

@@ -1,15 +1,15 @@
 -- What came of a round on words, clause by clause.
 use Rattle.std.proofs.Common.{ℕ, List, Result, Ok, Err}
 use Rattle.std.specs.Prelude.{IfOk, IfErr, MatchResult}
-use Rattle.slub_events.specs.declared.event.Round.{Round}
+use Rattle.slub_trace.specs.declared.event.Round.{Round}
 use Rattle.slub_lists.specs.State.{State}
 use Rattle.slub_lists.specs.Coherent.{IsCoherent}
 use Rattle.slub_core.specs.Setup.{Setup}
 use Rattle.slub_core.specs.Run.{System, Pick}
-use Rattle.slub_opening.specs.Opening.{IsLaidDown}
-use Rattle.slub_into_words.specs.Ids.{AreIds}
-use Rattle.slub_journal.specs.declared.journal.RoundResult.{RoundResult}
-use Rattle.slub_round_law.specs.Round.{IsRound}
+use Rattle.slub_law_opening.specs.Opening.{IsLaidDown}
+use Rattle.slub_open_close.specs.Ids.{AreIds}
+use Rattle.slub_slabinfo_text.specs.declared.journal.RoundResult.{RoundResult}
+use Rattle.slub_law_rounds.specs.Round.{IsRound}
 use Rattle.slub_rounds.specs.declared.ended.Ended.{Ended}
 use Rattle.slub_rounds.specs.Machine.{IsDone}
 use Rattle.slub_rounds.specs.Rounds.{DoesRoundBySteps}

@@ -12,8 +12,8 @@ use Rattle.std.proofs.Math.ListN.{get_or-map}
 use mir.Syntax.{w64}
 use mir.Val.{Fits}
 use Rattle.slub_common.proofs.Writes.{get_or-replicate_any}
-use Rattle.slub_events.specs.declared.event.Event.{Event}
-use Rattle.slub_events.specs.declared.event.Round.{Round}
+use Rattle.slub_trace.specs.declared.event.Event.{Event}
+use Rattle.slub_trace.specs.declared.event.Round.{Round}
 use Rattle.slub_trace.specs.declared.trace.Trace.{Trace}
 use Rattle.slub_cache_create.specs.Table.{Table}
 use Rattle.slub_lists.specs.State.{State}
@@ -32,12 +32,12 @@ use Rattle.slub_core.proofs.Update.{update_same, update_other}
 use Rattle.slub_schedule.specs.Schedule.{is_between, unfinished, IsCall}
 use Rattle.slub_schedule.specs.Turns.{turns_of}
 use Rattle.slub_schedule.proofs.Picks.{all_finished}
-use Rattle.slub_bounds.proofs.Turns.{get_or-beyond}
+use Rattle.slub_law_opening.proofs.Turns.{get_or-beyond}
 use Rattle.slub_calls.specs.Calls.{events_by, worker_of, workers_of}
-use Rattle.slub_into_words.specs.declared.beside.Beside.{Beside}
-use Rattle.slub_into_words.specs.declared.opened.Rest.{Rest}
+use Rattle.slub_open_close.specs.declared.beside.Beside.{Beside}
+use Rattle.slub_open_close.specs.declared.opened.Rest.{Rest}
 use Rattle.slub_turns.specs.declared.machine.Machine.{Machine}
-use Rattle.slub_opening.specs.Opening.{setup_of}
+use Rattle.slub_law_opening.specs.Opening.{setup_of}
 use Rattle.slub_rounds.specs.Doing.{AreUnder, AwaitsEvents, ComesThrough, HasTurned, StaysUnder, is_through, local_at}
 use Rattle.slub_rounds.specs.InOrder.{AreInOrder, EndsInOrder, IsSpentInOrder, answered, busy_from, next_in, next_worker}
 use Rattle.slub_rounds.specs.Machine.{IsBegun, MayRun, beside_in}

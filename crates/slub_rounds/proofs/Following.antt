@@ -5,7 +5,7 @@ use Rattle.std.proofs.lemmas.Bool.{cases_lt, false≢true}
 use Rattle.std.proofs.lemmas.List.Sums.{count_by-le-length}
 use Rattle.std.proofs.lemmas.Slice.Zip.{length-zip}
 use Rattle.slub_common.specs.Times.{times}
-use Rattle.slub_events.specs.declared.event.Round.{Round}
+use Rattle.slub_trace.specs.declared.event.Round.{Round}
 use Rattle.slub_cache_create.specs.Table.{Table}
 use Rattle.slub_red_zone.proofs.Comings.{counted-there}
 use Rattle.slub_trace.specs.declared.trace.Trace.{Trace}
@@ -13,13 +13,13 @@ use Rattle.slub_trace.specs.Sound.{objects_of}
 use Rattle.slub_lists.specs.declared.lists.Held.{Held}
 use Rattle.slub_lists.specs.State.{State}
 use Rattle.slub_lists.specs.Coherent.{held_under}
-use Rattle.slub_bounds.proofs.Turns.{get_or-beyond}
+use Rattle.slub_law_opening.proofs.Turns.{get_or-beyond}
 use Rattle.slub_calls.specs.Laws.{MayDo}
-use Rattle.slub_journal.specs.declared.journal.RoundResult.{RoundResult}
-use Rattle.slub_journal.specs.Lawful.{lacks}
-use Rattle.slub_round_law.specs.Answered.{Answered, times_freed, times_given}
-use Rattle.slub_round_law.specs.Round.{IsRound}
-use Rattle.slub_round_law.proofs.Times.{events_given}
+use Rattle.slub_slabinfo_text.specs.declared.journal.RoundResult.{RoundResult}
+use Rattle.slub_slabinfo_text.specs.Lawful.{lacks}
+use Rattle.slub_law_rounds.specs.Answered.{Answered, times_freed, times_given}
+use Rattle.slub_law_rounds.specs.Round.{IsRound}
+use Rattle.slub_law_rounds.proofs.Times.{events_given}
 use Rattle.slub_rounds.specs.Laws.{MayFollow}
 
 none-of : (x : Option Held) → (IsSome x → ⊥) → x ≡ None

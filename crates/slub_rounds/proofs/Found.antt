@@ -8,7 +8,7 @@ use Rattle.std.proofs.lemmas.List.{length-append}
 use Rattle.std.proofs.lemmas.List.Sums.{length-filter, count_by-le-length, sum_by-set, sum_by-cons}
 use Rattle.slub_page_pool.specs.FreeFrames.{FreeFrames}
 use Rattle.slub_object_layout.specs.declared.layout.Layout.{Layout}
-use Rattle.slub_answers.specs.declared.reply.Reply.{Reply}
+use Rattle.slub_trace.specs.declared.reply.Reply.{Reply}
 use Rattle.slub_red_zone.specs.State.{SlabState, CheckedState, slab_of, objects_in}
 use Rattle.slub_red_zone.specs.Sound.{IsSound}
 use Rattle.slub_red_zone.specs.Objects.{findable}
@@ -17,7 +17,7 @@ use Rattle.slub_red_zone.specs.declared.checked.CheckedGive.{CheckedGive}
 use Rattle.slub_red_zone.specs.declared.checked.CheckedGive.TheVariants as give
 use Rattle.slub_red_zone.specs.declared.checked.Run.{Run}
 use Rattle.slub_red_zone.specs.declared.checked.Slot.{Slot}
-use Rattle.slub_red_zone.specs.declared.zones.Damage.{Damage}
+use Rattle.slub_trace.specs.declared.damage.Damage.{Damage}
 use Rattle.slub_red_zone.proofs.Objects.{gives-object}
 use Rattle.slub_core.specs.declared.call.Call.{Call}
 use Rattle.slub_core.specs.declared.call.CallKind.{CallKind}
@@ -53,10 +53,10 @@ use Rattle.slub_core.proofs.TaleSettled.{comes_once}
 use Rattle.slub_core.proofs.Tells.{turn-tells}
 use Rattle.slub_core.proofs.Turns.{turn_keeps}
 use Rattle.slub_core.proofs.Update.{update_same, update_other, sum_below_change}
-use Rattle.slub_opening.specs.Closing.{checked_in}
-use Rattle.slub_bounds.proofs.Carried.{rested-keeps}
-use Rattle.slub_bounds.proofs.Sets.{Sets, once-sets}
-use Rattle.slub_bounds.proofs.Turns.{has-begun, no-turn}
+use Rattle.slub_law_opening.specs.Closing.{checked_in}
+use Rattle.slub_law_opening.proofs.Carried.{rested-keeps}
+use Rattle.slub_law_opening.proofs.Sets.{Sets, once-sets}
+use Rattle.slub_law_opening.proofs.Turns.{has-begun, no-turn}
 
 -- ---- what is found, and what can be found yet
 

@@ -1,6 +1,6 @@
 -- A round by whatever picks by which each worker is finished is lawful.
 use Rattle.std.proofs.Common.{◌≡◌, ℕ, List, sym, subst}
-use Rattle.slub_events.specs.declared.event.Round.{Round}
+use Rattle.slub_trace.specs.declared.event.Round.{Round}
 use Rattle.slub_trace.specs.declared.trace.Trace.{Trace}
 use Rattle.slub_lists.specs.State.{State}
 use Rattle.slub_lists.specs.Coherent.{IsCoherent}
@@ -8,13 +8,13 @@ use Rattle.slub_core.specs.Setup.{Setup}
 use Rattle.slub_core.specs.Law.{replies_of}
 use Rattle.slub_core.specs.Run.{System, Pick, run}
 use Rattle.slub_schedule.specs.Rounds.{IsFinishedSystem}
-use Rattle.slub_opening.specs.Opening.{IsLaidDown}
-use Rattle.slub_opening.specs.Closing.{Closes}
+use Rattle.slub_law_opening.specs.Opening.{IsLaidDown}
+use Rattle.slub_law_opening.specs.Closing.{Closes}
 use Rattle.slub_calls.specs.Laws.{MayDo}
-use Rattle.slub_journal.specs.declared.journal.RoundResult.{RoundResult}
-use Rattle.slub_round_law.specs.Round.{IsRound}
-use Rattle.slub_round_causes.specs.Laws.{RoundsAreLawful}
-use Rattle.slub_round_causes.specs.Ran.{AreReplies}
+use Rattle.slub_slabinfo_text.specs.declared.journal.RoundResult.{RoundResult}
+use Rattle.slub_law_rounds.specs.Round.{IsRound}
+use Rattle.slub_law_rounds.specs.Laws.{RoundsAreLawful}
+use Rattle.slub_law_rounds.specs.Ran.{AreReplies}
 use Rattle.slub_rounds.specs.InOrder.{EndsInOrder}
 use Rattle.slub_rounds.specs.Laws.{RoundsByThreadsAreLawful, RoundsInOrderAreLawful}
 use Rattle.slub_rounds.specs.Rounds.{DoesRoundBySteps, Finishes}

@@ -12,3 +12,16 @@ pub mod Lawful
 pub mod Doing
 pub mod OneInOrder
 pub mod Coming
+pub mod Going
+pub mod Growing
+pub mod Heaped
+pub mod TextLawful
+pub mod Raised
+pub mod Standing
+pub mod Allowed
+pub mod Chosen
+pub mod Created
+pub mod ClientReplies
+pub mod Staying
+pub mod Stopping
+pub mod Wanted

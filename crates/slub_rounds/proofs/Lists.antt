@@ -9,11 +9,11 @@ use Rattle.slub_lists.specs.Alloc.{lists_of, no_lists}
 use Rattle.slub_lists.specs.Coherent.{held_of}
 use Rattle.slub_core.specs.Setup.{Setup}
 use Rattle.slub_core.specs.Run.{System}
-use Rattle.slub_opening.specs.Opening.{Beside, setup_of, cpu_at}
-use Rattle.slub_opening.specs.Closing.{AreAlike, Closes}
-use Rattle.slub_opening.proofs.Cpus.{number-block}
-use Rattle.slub_opening.proofs.Telling.{words-tell}
-use Rattle.slub_into_lists.specs.Closing.{KeepsWords}
+use Rattle.slub_law_opening.specs.Opening.{Beside, setup_of, cpu_at}
+use Rattle.slub_law_opening.specs.Closing.{AreAlike, Closes}
+use Rattle.slub_law_opening.proofs.Cpus.{number-block}
+use Rattle.slub_law_opening.proofs.Telling.{words-tell}
+use Rattle.slub_open_close.specs.Closing.{KeepsWords}
 
 -- ---- numbers of caches and CPUs
 

@@ -2,7 +2,7 @@
 use Rattle.std.proofs.Common.{◌≡◌, ℕ, zero, suc, List, [], ◌∷◌, length, map, get_or, refl, sym, ap, ◌∙◌, subst, arith, All}
 use Rattle.std.specs.List.{range_with_len}
 use Rattle.std.proofs.lemmas.List.FromFn.{get_or-map-range_with_len}
-use Rattle.slub_events.specs.declared.event.Round.{Round}
+use Rattle.slub_trace.specs.declared.event.Round.{Round}
 use Rattle.slub_trace.specs.declared.trace.Trace.{Trace}
 use Rattle.slub_lists.specs.State.{State}
 use Rattle.slub_lists.specs.Coherent.{IsCoherent, all_on_board}
@@ -12,23 +12,23 @@ use Rattle.slub_core.specs.Run.{System, Pick, turn, run, IsFinished}
 use Rattle.slub_core.specs.Law.{IsCoherentSystem}
 use Rattle.slub_core.proofs.Opens.{opens, rounds_keep}
 use Rattle.slub_core.proofs.Turns.{turn_keeps}
-use Rattle.slub_local.specs.Facts as local
+use Rattle.slub_core.specs.Facts as local
 use Rattle.slub_schedule.specs.Turns.{turns_of}
-use Rattle.slub_opening.specs.Opening.{IsLaidDown, setup_of}
-use Rattle.slub_opening.specs.Opening as opening
-use Rattle.slub_opening.specs.Laws.{MayOpen}
-use Rattle.slub_opening.specs.Closing.{MayClose, Closes}
-use Rattle.slub_bounds.proofs.Closes.{machines-may_close}
-use Rattle.slub_bounds.proofs.Opens.{begins-bounded}
+use Rattle.slub_law_opening.specs.Opening.{IsLaidDown, setup_of}
+use Rattle.slub_law_opening.specs.Opening as opening
+use Rattle.slub_law_opening.specs.Laws.{MayOpen}
+use Rattle.slub_law_opening.specs.Closing.{MayClose, Closes}
+use Rattle.slub_law_opening.proofs.BoundCloses.{machines-may_close}
+use Rattle.slub_law_opening.proofs.Opens.{begins-bounded}
 use Rattle.slub_calls.specs.Calls.{workers_of}
 use Rattle.slub_calls.proofs.Fitting.{may_begin}
-use Rattle.slub_fits.specs.Fits.{HasRooms}
-use Rattle.slub_into_words.specs.declared.beside.Beside.{Beside}
-use Rattle.slub_into_words.specs.declared.opened.Opened.{Opened}
-use Rattle.slub_into_words.specs.declared.opened.Rest.{Rest}
-use Rattle.slub_into_words.specs.Ids.{AreIds, IsStepOf}
-use Rattle.slub_into_words.specs.Opened.{IsOpened, room_of}
-use Rattle.slub_into_lists.specs.Closing.{IsEnded, IsClosed}
+use Rattle.slub_turns.specs.Fits.{HasRooms}
+use Rattle.slub_open_close.specs.declared.beside.Beside.{Beside}
+use Rattle.slub_open_close.specs.declared.opened.Opened.{Opened}
+use Rattle.slub_open_close.specs.declared.opened.Rest.{Rest}
+use Rattle.slub_open_close.specs.Ids.{AreIds, IsStepOf}
+use Rattle.slub_open_close.specs.Opened.{IsOpened, room_of}
+use Rattle.slub_open_close.specs.Closing.{IsEnded, IsClosed}
 use Rattle.slub_turns.specs.declared.machine.Machine.{Machine}
 use Rattle.slub_turns.specs.Means.{the_means}
 use Rattle.slub_turns.specs.Ready.{IsReady, MayTurn, rooms_for, room_for}

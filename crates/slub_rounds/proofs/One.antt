@@ -4,12 +4,12 @@ use Rattle.std.specs.List.{flat_map, zip}
 use Rattle.std.specs.Option.{option_map_or}
 use Rattle.std.proofs.lemmas.Bool.{cases_eq, cases_lt, eq-eqb, ne_eqb}
 use Rattle.std.proofs.lemmas.List.{ext_get_or}
-use Rattle.slub_events.specs.declared.event.Event.{Event}
-use Rattle.slub_events.specs.declared.event.Round.{Round}
+use Rattle.slub_trace.specs.declared.event.Event.{Event}
+use Rattle.slub_trace.specs.declared.event.Round.{Round}
 use Rattle.slub_cache_create.specs.Table.{Table, cache_of as live_cache}
 use Rattle.slub_red_zone.specs.State.{CheckedState}
-use Rattle.slub_answers.specs.declared.ledger.Ledger.{Ledger}
-use Rattle.slub_answers.specs.declared.reply.Reply.{Reply}
+use Rattle.slub_trace.specs.declared.ledger.Ledger.{Ledger}
+use Rattle.slub_trace.specs.declared.reply.Reply.{Reply}
 use Rattle.slub_lists.specs.State.{State}
 use Rattle.slub_lists.specs.Alloc.{checked_of}
 use Rattle.slub_lists.specs.Coherent.{all_on_board}
@@ -20,16 +20,16 @@ use Rattle.slub_core.specs.World.{world_of}
 use Rattle.slub_schedule.specs.Schedule.{AreRefusedAlike}
 use Rattle.slub_schedule.specs.Rounds.{Ends, IsSpent}
 use Rattle.slub_schedule.proofs.Picks.{rounds_unique}
-use Rattle.slub_opening.specs.Opening.{Beside, setup_of}
-use Rattle.slub_opening.specs.Table.{RestsIn}
-use Rattle.slub_opening.specs.Closing.{AreAlike, Closes}
-use Rattle.slub_bounds.proofs.Turns.{get_or-beyond}
-use Rattle.slub_into_lists.specs.Closing.{KeepsWords}
-use Rattle.slub_into_words.proofs.Firsts.{one-step}
-use Rattle.slub_journal.specs.Lawful.{AreLedgers, IsLedger, cache_numbers, found_in, reports_of, title_of}
-use Rattle.slub_journal.specs.declared.journal.RoundResult.{RoundResult}
+use Rattle.slub_law_opening.specs.Opening.{Beside, setup_of}
+use Rattle.slub_law_opening.specs.Table.{RestsIn}
+use Rattle.slub_law_opening.specs.Closing.{AreAlike, Closes}
+use Rattle.slub_law_opening.proofs.Turns.{get_or-beyond}
+use Rattle.slub_open_close.specs.Closing.{KeepsWords}
+use Rattle.slub_open_close.proofs.Firsts.{one-step}
+use Rattle.slub_slabinfo_text.specs.Lawful.{AreLedgers, IsLedger, cache_numbers, found_in, reports_of, title_of}
+use Rattle.slub_slabinfo_text.specs.declared.journal.RoundResult.{RoundResult}
 use Rattle.slub_turns.specs.Means.{the_means}
-use Rattle.slub_round_causes.specs.Ran.{replies_by, told_to}
+use Rattle.slub_law_rounds.specs.Ran.{replies_by, told_to}
 use Rattle.slub_rounds.specs.Rounds.{DoesRoundBySteps, StandsBeside, system_begun}
 use Rattle.slub_rounds.specs.Laws.{AreOneRound, CountAlike, RoundsBySeedAreOne}
 use Rattle.slub_rounds.proofs.Lists.{same-close}

@@ -7,8 +7,8 @@ use Rattle.std.proofs.lemmas.Option.{none-some, same_Some}
 use Rattle.std.proofs.lemmas.List.{length-map, length-reverse}
 use Rattle.std.proofs.lemmas.List.Elements.{All-head, All-tail}
 use Rattle.std.proofs.Math.ListN.{get_or-map}
-use Rattle.slub_events.specs.declared.event.Event.{Event}
-use Rattle.slub_answers.specs.declared.reply.Reply.{Reply}
+use Rattle.slub_trace.specs.declared.event.Event.{Event}
+use Rattle.slub_trace.specs.declared.reply.Reply.{Reply}
 use Rattle.slub_core.specs.declared.local.Answered.{Answered}
 use Rattle.slub_core.specs.declared.spot.Spot.TheVariants.{Between}
 use Rattle.slub_core.specs.Law.{replies_of}
@@ -19,8 +19,8 @@ use Rattle.slub_core.specs.World.{update}
 use Rattle.slub_core.proofs.Update.{update_same, update_other}
 use Rattle.slub_schedule.specs.Schedule.{AreRefusedAlike, is_finished, marks_of, places_from, unfinished}
 use Rattle.slub_schedule.specs.Rounds.{IsFinishedSystem}
-use Rattle.slub_opening.specs.Opening.{Beside, setup_of}
-use Rattle.slub_round_causes.specs.Ran.{AreReplies, replies_by, told_to}
+use Rattle.slub_law_opening.specs.Opening.{Beside, setup_of}
+use Rattle.slub_law_rounds.specs.Ran.{AreReplies, replies_by, told_to}
 use Rattle.slub_rounds.specs.Rounds.{system_begun}
 use Rattle.slub_rounds.specs.InOrder.{AreInOrder, EndsInOrder, answered, next_in, next_worker}
 use Rattle.slub_rounds.specs.Laws.{RoundsInOrderAreOne}

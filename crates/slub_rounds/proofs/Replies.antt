@@ -6,19 +6,19 @@ use Rattle.std.proofs.lemmas.List.{append-nil, get_or-replicate, get_or-set_othe
 use Rattle.std.proofs.lemmas.List.Elements.{filter-append}
 use Rattle.indexmap.proofs.ReorderLemmas.{map-reverse}
 use Rattle.std.proofs.Math.ListN.{get_or-map}
-use Rattle.slub_events.specs.declared.event.Event.{Event}
-use Rattle.slub_answers.specs.declared.reply.Reply.{Reply}
-use Rattle.slub_answers.specs.declared.ledger.Ledger.{Ledger}
+use Rattle.slub_trace.specs.declared.event.Event.{Event}
+use Rattle.slub_trace.specs.declared.reply.Reply.{Reply}
+use Rattle.slub_trace.specs.declared.ledger.Ledger.{Ledger}
 use Rattle.slub_lists.specs.State.{State}
 use Rattle.slub_core.specs.declared.local.Answered.{Answered}
 use Rattle.slub_core.specs.Local.{Local}
 use Rattle.slub_core.specs.Run.{idle}
 use Rattle.slub_calls.specs.Calls.{events_by}
-use Rattle.slub_journal.specs.Lawful.{AreLedgers, is_by, lacks}
-use Rattle.slub_journal.proofs.Zips.{length-snoc, zip-snoc}
+use Rattle.slub_slabinfo_text.specs.Lawful.{AreLedgers, is_by, lacks}
+use Rattle.slub_slabinfo_text.proofs.Zips.{length-snoc, zip-snoc}
 use Rattle.slub_engine.specs.Steps.{IsBelow, IsBlank, IsKnown, NotesOwn}
 use Rattle.slub_engine.proofs.Rounds.{blank_ledgers, lacks_kept, ledgers_below, ledgers_more}
-use Rattle.slub_round_causes.specs.Ran.{AreReplies, replies_by, told_to}
+use Rattle.slub_law_rounds.specs.Ran.{AreReplies, replies_by, told_to}
 use Rattle.slub_rounds.specs.Answers.{AreAnswered, dones_of, told_by}
 
 -- how many events of a worker are among the first so many

@@ -9,14 +9,14 @@ use Rattle.std.proofs.lemmas.List.FromFn.{get_or-map-range_with_len, get_or-rang
 use Rattle.std.proofs.lemmas.List.Sums.{sum_by-cons}
 use Rattle.std.proofs.Math.ListN.{get_or-map}
 use Rattle.slub_common.proofs.Sums.{sum_by-map, sum_by-same}
-use Rattle.slub_events.specs.declared.event.Act.{Act}
-use Rattle.slub_events.specs.declared.event.Act.TheVariants as act
-use Rattle.slub_events.specs.declared.event.Event.{Event}
-use Rattle.slub_events.specs.declared.event.Round.{Round}
+use Rattle.slub_trace.specs.declared.event.Act.{Act}
+use Rattle.slub_trace.specs.declared.event.Act.TheVariants as act
+use Rattle.slub_trace.specs.declared.event.Event.{Event}
+use Rattle.slub_trace.specs.declared.event.Round.{Round}
 use Rattle.slub_cache_create.specs.Table.{Table}
 use Rattle.slub_red_zone.specs.State.{CheckedState}
 use Rattle.slub_red_zone.specs.Objects.{findable}
-use Rattle.slub_red_zone.specs.declared.zones.Report.{Report}
+use Rattle.slub_trace.specs.declared.damage.Report.{Report}
 use Rattle.slub_trace.specs.declared.trace.Trace.{Trace}
 use Rattle.slub_trace.specs.Sound.{IsSoundAct, IsSoundEvent}
 use Rattle.slub_lists.specs.State.{State}
@@ -36,17 +36,17 @@ use Rattle.slub_core.specs.Law.{replies_of, calls_to_come}
 use Rattle.slub_core.proofs.Opens.{opens}
 use Rattle.slub_core.proofs.RoundEnds.{rounds_end}
 use Rattle.slub_core.proofs.Update.{sum_below_same}
-use Rattle.slub_opening.specs.Opening.{Beside, IsLaidDown, IsBeside, setup_of, node_value, value_of}
-use Rattle.slub_opening.specs.Closing.{Closes}
-use Rattle.slub_opening.specs.Laws.{MayOpen}
-use Rattle.slub_opening.proofs.Systems.{opened-rest}
-use Rattle.slub_bounds.specs.Laws.{AreNumbered}
-use Rattle.slub_bounds.proofs.Turns.{get_or-beyond}
+use Rattle.slub_law_opening.specs.Opening.{Beside, IsLaidDown, IsBeside, setup_of, node_value, value_of}
+use Rattle.slub_law_opening.specs.Closing.{Closes}
+use Rattle.slub_law_opening.specs.Laws.{MayOpen}
+use Rattle.slub_law_opening.proofs.Systems.{opened-rest}
+use Rattle.slub_law_opening.specs.BoundLaws.{AreNumbered}
+use Rattle.slub_law_opening.proofs.Turns.{get_or-beyond}
 use Rattle.slub_calls.specs.Calls.{events_by, worker_of, workers_of}
 use Rattle.slub_calls.specs.Laws.{MayDo}
 use Rattle.slub_calls.proofs.Fitting.{may_begin, numbered}
 use Rattle.slub_calls.proofs.Shares.{share, shares}
-use Rattle.slub_contents.proofs.Turns.{rounds_end as contents_end}
+use Rattle.slub_law_rounds.proofs.Turns.{rounds_end as contents_end}
 use Rattle.slub_engine.specs.Steps.{IsKnown, IsKnownAct}
 use Rattle.slub_rounds.specs.Rounds.{system_before, system_begun, world_before}
 use Rattle.slub_rounds.specs.Answers.{AreAnswered, IsRoomFor, MayTell}

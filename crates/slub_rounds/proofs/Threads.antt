@@ -2,9 +2,9 @@
 use Rattle.std.proofs.Common.{◌≡◌, ℕ, ◌-◌, List, [], ◌∷◌, ◌++◌, length, replicate, get_or, refl, sym, ap, ◌∙◌, subst, All, Option, None, Some, arith}
 use Rattle.std.proofs.lemmas.List.Elements.{All-map}
 use Rattle.std.specs.List.{range_with_len}
-use Rattle.slub_events.specs.declared.event.Round.{Round}
+use Rattle.slub_trace.specs.declared.event.Round.{Round}
 use Rattle.slub_trace.specs.declared.trace.Trace.{Trace}
-use Rattle.slub_answers.specs.declared.reply.Reply.{Reply}
+use Rattle.slub_trace.specs.declared.reply.Reply.{Reply}
 use Rattle.slub_lists.specs.State.{State}
 use Rattle.slub_lists.specs.Coherent.{IsCoherent}
 use Rattle.slub_core.specs.declared.call.Call.{Call}
@@ -14,20 +14,20 @@ use Rattle.slub_core.specs.Setup.{Setup}
 use Rattle.slub_core.specs.Local.{Local, answered}
 use Rattle.slub_core.specs.Run.{System}
 use Rattle.slub_core.specs.Steps.{or_step, rested, rested_at, rested_with}
-use Rattle.slub_local.specs.Facts as local
-use Rattle.slub_local.specs.Facts.{Facts}
-use Rattle.slub_local.specs.Values.{rooms_of, values_of}
-use Rattle.slub_opening.specs.Opening.{IsLaidDown, setup_of}
+use Rattle.slub_core.specs.Facts as local
+use Rattle.slub_core.specs.Facts.{Facts}
+use Rattle.slub_core.specs.Values.{rooms_of, values_of}
+use Rattle.slub_law_opening.specs.Opening.{IsLaidDown, setup_of}
 use Rattle.slub_calls.specs.Calls.{worker_of, workers_of}
 use Rattle.slub_calls.specs.Laws.{MayDo}
-use Rattle.slub_into_words.specs.declared.beside.Beside.{Beside}
-use Rattle.slub_into_words.specs.declared.opened.Opened.{Opened}
-use Rattle.slub_into_words.specs.declared.opened.Rest.{Rest}
-use Rattle.slub_into_words.specs.Opened.{IsOpened}
-use Rattle.slub_into_words.specs.Rest.{IsRestOf, IsUntouched}
+use Rattle.slub_open_close.specs.declared.beside.Beside.{Beside}
+use Rattle.slub_open_close.specs.declared.opened.Opened.{Opened}
+use Rattle.slub_open_close.specs.declared.opened.Rest.{Rest}
+use Rattle.slub_open_close.specs.Opened.{IsOpened}
+use Rattle.slub_open_close.specs.Rest.{IsRestOf, IsUntouched}
 use Rattle.slub_turns.specs.declared.machine.Machine.{Machine}
 use Rattle.slub_turns.specs.Means.{the_means}
-use Rattle.slub_memory.specs.Stored.{AreStored}
+use Rattle.slub_words.specs.Stored.{AreStored}
 use Rattle.slub_schedule.specs.Table.{WordTable}
 use Rattle.slub_workers.specs.Round.{HasWorked, IsUnchanged, MayWork}
 use Rattle.slub_rounds.specs.declared.answers.Answers.{Answers}

@@ -5,10 +5,10 @@ use Rattle.std.proofs.lemmas.List.{length-map}
 use Rattle.std.proofs.lemmas.List.FromFn.{length-range_with_len}
 use Rattle.std.proofs.lemmas.List.Sums.{sum_by-cons}
 use Rattle.slub_common.proofs.Sums.{sum_by-map, sum_by-same}
-use Rattle.slub_events.specs.declared.event.Act.{Act}
-use Rattle.slub_events.specs.declared.event.Act.TheVariants as act
-use Rattle.slub_events.specs.declared.event.Event.{Event}
-use Rattle.slub_events.specs.declared.event.Round.{Round}
+use Rattle.slub_trace.specs.declared.event.Act.{Act}
+use Rattle.slub_trace.specs.declared.event.Act.TheVariants as act
+use Rattle.slub_trace.specs.declared.event.Event.{Event}
+use Rattle.slub_trace.specs.declared.event.Round.{Round}
 use Rattle.slub_cache_create.specs.Table.{Table}
 use Rattle.slub_lists.specs.State.{State}
 use Rattle.slub_core.specs.declared.call.Call.{Call}
@@ -21,7 +21,7 @@ use Rattle.slub_core.specs.Round.{in_order}
 use Rattle.slub_core.specs.Accounted.{calls_of}
 use Rattle.slub_core.proofs.CallsStay.{rested_at-script}
 use Rattle.slub_schedule.specs.Turns.{weight, events_in, events_of, turns_for, turns_of}
-use Rattle.slub_opening.specs.Opening.{Beside, setup_of}
+use Rattle.slub_law_opening.specs.Opening.{Beside, setup_of}
 use Rattle.slub_calls.specs.Calls.{call_for, calls_for, events_by, rooms_for, worker_of, workers_of}
 use Rattle.slub_calls.proofs.Shares.{share, shares}
 use Rattle.slub_rounds.specs.Rounds.{system_begun}

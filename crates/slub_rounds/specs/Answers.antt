@@ -1,9 +1,9 @@
 -- What a round answers, as the crate's own functions have it. The promise doesn't speak of it.
 use Rattle.std.specs.Prelude.{◌≡◌, ℕ, ◌+◌, ◌≤◌, List, [], length, map, replicate, reverse, slice_index_or, vec_capacity, All}
 use Rattle.std.specs.List.{zip}
-use Rattle.slub_events.specs.declared.event.Event.{Event}
-use Rattle.slub_events.specs.declared.event.Round.{Round}
-use Rattle.slub_answers.specs.declared.reply.Reply.{Reply}
+use Rattle.slub_trace.specs.declared.event.Event.{Event}
+use Rattle.slub_trace.specs.declared.event.Round.{Round}
+use Rattle.slub_trace.specs.declared.reply.Reply.{Reply}
 use Rattle.slub_core.specs.declared.local.Answered.{Answered}
 use Rattle.slub_lists.specs.State.{State}
 use Rattle.slub_lists.specs.Alloc.{checked_of}
@@ -11,11 +11,11 @@ use Rattle.slub_lists.specs.Coherent.{IsCoherent, AddsReportsOf, findable_in}
 use Rattle.slub_core.specs.Local.{Local}
 use Rattle.slub_core.specs.Run.{idle}
 use Rattle.slub_calls.specs.Calls.{events_by}
-use Rattle.slub_journal.specs.Lawful.{AreLedgers, found_in}
-use Rattle.slub_journal.specs.declared.journal.RoundResult.{RoundResult}
+use Rattle.slub_slabinfo_text.specs.Lawful.{AreLedgers, found_in}
+use Rattle.slub_slabinfo_text.specs.declared.journal.RoundResult.{RoundResult}
 use Rattle.slub_engine.specs.Steps.{IsBlank, IsKnown, most_found, told_in}
 use Rattle.slub_rounds.specs.declared.answers.Answers.{Answers}
-use Rattle.slub_round_causes.specs.Ran.{AreReplies}
+use Rattle.slub_law_rounds.specs.Ran.{AreReplies}
 
 -- room for the answers to so many events of so many workers, on a machine before their round
 pub record IsRoomFor (s : State) (events workers : ℕ) (a : Answers) : Type 0 where

@@ -1,7 +1,7 @@
 -- A round by steps in the order of the text: each event is done to its end before the next begins.
 use Rattle.std.specs.Prelude.{◌≡◌, ℕ, suc, ◌-◌, ◌≤◌, ◌==◌, if◌then◌else◌, List, [], ◌∷◌, length, slice_index_or, Option, Some, None}
 use Rattle.std.specs.Option.{option_or}
-use Rattle.slub_events.specs.declared.event.Event.{Event}
+use Rattle.slub_trace.specs.declared.event.Event.{Event}
 use Rattle.slub_core.specs.Setup.{Setup}
 use Rattle.slub_core.specs.World.{update}
 use Rattle.slub_core.specs.Local.{Local}

@@ -1,17 +1,17 @@
 -- What holds of rounds by steps: by a seed, by threads, and in the order of the text.
 use Rattle.std.specs.Prelude.{◌≡◌, ℕ, ◌+◌, ◌^◌, ◌<◌, ◌≤◌, List, length, slice_index, slice_index_or, All, Contains, None, nat_eq}
 use Rattle.std.specs.List.{IsDistinct}
-use Rattle.slub_events.specs.declared.event.Round.{Round}
-use Rattle.slub_answers.specs.declared.ledger.Ledger.{Ledger}
+use Rattle.slub_trace.specs.declared.event.Round.{Round}
+use Rattle.slub_trace.specs.declared.ledger.Ledger.{Ledger}
 use Rattle.slub_trace.specs.declared.trace.Trace.{Trace}
 use Rattle.slub_trace.specs.Sound.{IsSoundRound, objects_of}
 use Rattle.slub_lists.specs.State.{State}
 use Rattle.slub_lists.specs.Coherent.{IsCoherent, held_under}
-use Rattle.slub_opening.specs.Opening.{IsLaidDown}
+use Rattle.slub_law_opening.specs.Opening.{IsLaidDown}
 use Rattle.slub_schedule.specs.Schedule.{AreRefusedAlike}
 use Rattle.slub_calls.specs.Laws.{MayDo}
-use Rattle.slub_journal.specs.declared.journal.RoundResult.{RoundResult}
-use Rattle.slub_round_law.specs.Round.{IsRound}
+use Rattle.slub_slabinfo_text.specs.declared.journal.RoundResult.{RoundResult}
+use Rattle.slub_law_rounds.specs.Round.{IsRound}
 use Rattle.slub_rounds.specs.Rounds.{DoesRoundBySeed, DoesRoundByThreads, DoesRoundInOrder, SpendsTurns, SpendsTurnsInOrder}
 
 -- a round that a seed draws is lawful in the words of the text, without a step

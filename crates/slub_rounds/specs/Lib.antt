@@ -6,3 +6,14 @@ pub mod Room
 pub mod Machine
 pub mod Scheduled
 pub mod Laws
+pub mod ByText
+pub mod Heap
+pub mod TextLaws
+pub mod Raising
+pub mod Stopped
+pub mod Asked
+pub mod BulkLines
+pub mod Kmalloc
+pub mod ClientLaws
+pub mod Reserves
+pub mod ClientStopped

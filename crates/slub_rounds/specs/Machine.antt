@@ -1,31 +1,31 @@
 -- The machine of a round, as the crate's own functions have it. The promise doesn't speak of it.
 use Rattle.std.specs.Prelude.{◌≡◌, ℕ, ◌*◌, List, length, map, All}
 use Rattle.std.specs.List.{range_with_len}
-use Rattle.slub_events.specs.declared.event.Round.{Round}
+use Rattle.slub_trace.specs.declared.event.Round.{Round}
 use Rattle.slub_trace.specs.declared.trace.Trace.{Trace}
 use Rattle.slub_lists.specs.State.{State}
 use Rattle.slub_lists.specs.Coherent.{IsCoherent, all_on_board}
 use Rattle.slub_core.specs.Setup.{Setup}
 use Rattle.slub_core.specs.Local.{Local}
 use Rattle.slub_core.specs.Run.{System, Pick, run, IsFinished}
-use Rattle.slub_local.specs.Facts as local
-use Rattle.slub_local.specs.Values.{rooms_of}
-use Rattle.slub_memory.specs.Stored.{AreStored}
+use Rattle.slub_core.specs.Facts as local
+use Rattle.slub_core.specs.Values.{rooms_of}
+use Rattle.slub_words.specs.Stored.{AreStored}
 use Rattle.slub_schedule.specs.Rounds.{Ends}
-use Rattle.slub_opening.specs.Opening.{IsLaidDown, setup_of}
-use Rattle.slub_opening.specs.Opening as opening
-use Rattle.slub_opening.specs.Closing.{Closes}
-use Rattle.slub_into_lists.specs.Closing.{KeepsWords}
-use Rattle.slub_into_lists.specs.Undoing.{WasOpened}
+use Rattle.slub_law_opening.specs.Opening.{IsLaidDown, setup_of}
+use Rattle.slub_law_opening.specs.Opening as opening
+use Rattle.slub_law_opening.specs.Closing.{Closes}
+use Rattle.slub_open_close.specs.Closing.{KeepsWords}
+use Rattle.slub_open_close.specs.Undoing.{WasOpened}
 use Rattle.slub_calls.specs.Calls.{workers_of}
 use Rattle.slub_calls.specs.Laws.{MayDo}
-use Rattle.slub_into_words.specs.declared.beside.Beside.{Beside}
-use Rattle.slub_into_words.specs.declared.opened.Opened.{Opened}
-use Rattle.slub_into_words.specs.declared.opened.Rest.{Rest}
-use Rattle.slub_into_words.specs.Beside.{beside_of, IsBesideOf}
-use Rattle.slub_into_words.specs.Ids.{AreIds}
-use Rattle.slub_into_words.specs.Opened.{IsOpened, room_of}
-use Rattle.slub_into_words.specs.Rest.{IsRestOf, IsUntouched}
+use Rattle.slub_open_close.specs.declared.beside.Beside.{Beside}
+use Rattle.slub_open_close.specs.declared.opened.Opened.{Opened}
+use Rattle.slub_open_close.specs.declared.opened.Rest.{Rest}
+use Rattle.slub_open_close.specs.Beside.{beside_of, IsBesideOf}
+use Rattle.slub_open_close.specs.Ids.{AreIds}
+use Rattle.slub_open_close.specs.Opened.{IsOpened, room_of}
+use Rattle.slub_open_close.specs.Rest.{IsRestOf, IsUntouched}
 use Rattle.slub_turns.specs.declared.machine.Machine.{Machine}
 use Rattle.slub_turns.specs.Means.{the_means}
 use Rattle.slub_turns.specs.System.{system_of, IsTableFor}

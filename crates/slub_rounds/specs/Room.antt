@@ -1,15 +1,15 @@
 -- The memory of a round, as the crate's own functions have it. The promise doesn't speak of it.
 use Rattle.std.specs.Prelude.{◌≡◌, ℕ, true, List, length, replicate, sum_by}
-use Rattle.slub_events.specs.declared.event.Act.{Act}
-use Rattle.slub_events.specs.declared.event.Act.TheVariants.{Trim, Flush}
-use Rattle.slub_events.specs.declared.event.Event.{Event}
-use Rattle.slub_events.specs.declared.event.Round.{Round}
+use Rattle.slub_trace.specs.declared.event.Act.{Act}
+use Rattle.slub_trace.specs.declared.event.Act.TheVariants.{Trim, Flush}
+use Rattle.slub_trace.specs.declared.event.Event.{Event}
+use Rattle.slub_trace.specs.declared.event.Round.{Round}
 use Rattle.slub_lists.specs.State.{State}
 use Rattle.slub_core.specs.Setup.{Means}
 use Rattle.slub_schedule.specs.Schedule.{places_of}
 use Rattle.slub_schedule.specs.Turns.{turns_for}
 use Rattle.slub_calls.specs.Calls.{workers_of}
-use Rattle.slub_into_words.specs.Beside.{beside_of, IsBesideOf}
+use Rattle.slub_open_close.specs.Beside.{beside_of, IsBesideOf}
 use Rattle.slub_rounds.specs.declared.room.Room.{Room}
 use Rattle.slub_rounds.specs.Answers.{IsRoomFor}
 use Rattle.slub_rounds.specs.Rounds.{StandsBeside}

@@ -2,7 +2,7 @@
 -- whatever order threads make their steps, or in the order of the text.
 use Rattle.std.specs.Prelude.{◌≡◌, ℕ, List, All}
 use Rattle.std.specs.List.{zip}
-use Rattle.slub_events.specs.declared.event.Round.{Round}
+use Rattle.slub_trace.specs.declared.event.Round.{Round}
 use Rattle.slub_lists.specs.State.{State}
 use Rattle.slub_lists.specs.Coherent.{all_on_board}
 use Rattle.slub_core.specs.World.{World, world_of}
@@ -12,17 +12,17 @@ use Rattle.slub_core.specs.Opening.{opened as begun}
 use Rattle.slub_core.specs.Law.{CoherentAlong, replies_of}
 use Rattle.slub_schedule.specs.Schedule.{IsCall}
 use Rattle.slub_schedule.specs.Rounds.{Ends, IsFinishedSystem, IsSpent}
-use Rattle.slub_opening.specs.Opening.{Beside, IsBeside, setup_of}
-use Rattle.slub_opening.specs.Table.{system_of}
-use Rattle.slub_opening.specs.Closing.{Closes}
-use Rattle.slub_into_lists.specs.Closing.{KeepsWords}
+use Rattle.slub_law_opening.specs.Opening.{Beside, IsBeside, setup_of}
+use Rattle.slub_law_opening.specs.Table.{system_of}
+use Rattle.slub_law_opening.specs.Closing.{Closes}
+use Rattle.slub_open_close.specs.Closing.{KeepsWords}
 use Rattle.slub_calls.specs.Calls.{workers_of}
-use Rattle.slub_into_words.specs.Beside.{first_links}
-use Rattle.slub_into_words.specs.Ids.{IsStepOf}
+use Rattle.slub_open_close.specs.Beside.{first_links}
+use Rattle.slub_open_close.specs.Ids.{IsStepOf}
 use Rattle.slub_turns.specs.Means.{the_means}
-use Rattle.slub_journal.specs.Lawful.{AreLedgers, found_in}
-use Rattle.slub_journal.specs.declared.journal.RoundResult.{RoundResult}
-use Rattle.slub_round_causes.specs.Ran.{AreReplies}
+use Rattle.slub_slabinfo_text.specs.Lawful.{AreLedgers, found_in}
+use Rattle.slub_slabinfo_text.specs.declared.journal.RoundResult.{RoundResult}
+use Rattle.slub_law_rounds.specs.Ran.{AreReplies}
 use Rattle.slub_rounds.specs.InOrder.{EndsInOrder, IsSpentInOrder}
 
 -- ---- the machine in words

@@ -1,6 +1,6 @@
 -- Why a round wasn't done.
 use Rattle.std.specs.Prelude.{◌≡◌, ℕ, List}
-use Rattle.slub_events.specs.declared.event.Round.{Round}
+use Rattle.slub_trace.specs.declared.event.Round.{Round}
 use Rattle.slub_lists.specs.State.{State}
 use Rattle.slub_rounds.specs.declared.scheduled.Stopped.{Stopped}
 use Rattle.slub_rounds.specs.declared.scheduled.Stopped.TheVariants.{NoMemory, TurnsSpent}

@@ -5,21 +5,21 @@ ghost use Rattle.std.specs.List.{zip};
 ghost use Rattle.slub_lists.specs.State.{State};
 ghost use Rattle.slub_lists.specs.Coherent.{IsCoherent};
 ghost use Rattle.slub_core.specs.Run.{idle};
-ghost use Rattle.slub_journal.specs.Lawful.{AreLedgers};
+ghost use Rattle.slub_slabinfo_text.specs.Lawful.{AreLedgers};
 ghost use Rattle.slub_engine.specs.Steps.{IsBlank, IsKnown};
-ghost use Rattle.slub_round_causes.specs.Ran.{AreReplies};
+ghost use Rattle.slub_law_rounds.specs.Ran.{AreReplies};
 ghost use Rattle.slub_rounds.specs.Answers.{AreAnswered, IsRoomFor, IsTold, MayTell, dones_of, told_by};
 
-use slub_answers::ledger::Ledger;
-use slub_answers::reply::Reply;
 use slub_common::no_memory::NoMemory;
 use slub_common::sequence::Sequence;
+use slub_core::worker_local::Local;
 use slub_engine::found::{counts_told, push_found, room_to_find};
 use slub_engine::item::{blank_ledgers, note_own};
-use slub_events::event::{Event, Round};
-use slub_journal::journal::{Found, RoundResult};
 use slub_list_machine::lists::Lists;
-use slub_local::local::Local;
+use slub_slabinfo_text::journal::{Found, RoundResult};
+use slub_trace::event::{Event, Round};
+use slub_trace::ledger::Ledger;
+use slub_trace::reply::Reply;
 use std::alloc::Global;
 
 /// Room for what a round answers.

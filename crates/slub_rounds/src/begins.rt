@@ -1,15 +1,15 @@
 //! The begin of a round on words, once the lists are opened.
 
 ghost use Rattle.std.specs.Prelude.{◌≡◌};
-ghost use Rattle.slub_events.specs.declared.event.Round.{Round as Events};
+ghost use Rattle.slub_trace.specs.declared.event.Round.{Round as Events};
 ghost use Rattle.slub_lists.specs.State.{State};
 ghost use Rattle.slub_calls.specs.Calls.{workers_of};
-ghost use Rattle.slub_into_words.specs.declared.beside.Beside.{Beside};
-ghost use Rattle.slub_into_words.specs.Opened.{IsOpened};
+ghost use Rattle.slub_open_close.specs.declared.beside.Beside.{Beside};
+ghost use Rattle.slub_open_close.specs.Opened.{IsOpened};
 ghost use Rattle.slub_rounds.specs.Machine.{IsBegun};
 
-use slub_into_words::opened::{Opened, Rest};
-use slub_local::local::Local;
+use slub_core::worker_local::Local;
+use slub_open_close::opened::{Opened, Rest};
 use slub_turns::machine::Machine;
 
 /// The machine in words with its workers, each of which has the replies that take no step.

@@ -1,8 +1,8 @@
 //! What a round by steps leaves.
 
-use slub_into_words::ids::Ids;
-use slub_journal::journal::RoundResult;
 use slub_list_machine::lists::Lists;
+use slub_open_close::ids::Ids;
+use slub_slabinfo_text::journal::RoundResult;
 
 /// What a round leaves.
 #[derive(Debug, Drop)]

@@ -3,15 +3,15 @@
 ghost use Rattle.std.specs.Prelude.{ℕ, List};
 ghost use Rattle.slub_trace.specs.declared.trace.Trace.{Trace};
 ghost use Rattle.slub_lists.specs.State.{State};
-ghost use Rattle.slub_into_words.specs.declared.beside.Beside.{Beside};
+ghost use Rattle.slub_open_close.specs.declared.beside.Beside.{Beside};
 ghost use Rattle.slub_rounds.specs.Machine.{HasClosed, HasEnded, beside_in, system_in};
 
 use crate::answers::{Answers, result_of};
 use crate::ended::Ended;
-use slub_events::event::Round;
-use slub_into_lists::closing::close;
-use slub_into_words::ids::Ids;
-use slub_into_words::opened::Rest;
+use slub_open_close::closing::close;
+use slub_open_close::ids::Ids;
+use slub_open_close::opened::Rest;
+use slub_trace::event::Round;
 use slub_turns::machine::Machine;
 
 /// Closes the machine, whose workers have all their replies, and tells what came of the round.

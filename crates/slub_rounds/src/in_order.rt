@@ -1,18 +1,18 @@
 //! A round by steps in the order of the text.
 
 ghost use Rattle.std.specs.Prelude.{◌≡◌, ◌≤◌, ◌<◌, ◌^◌, ℕ, List, All, IfErr, IfOk, MatchResult, OnErr, OnOk, length, replicate, slice_index_or};
-ghost use Rattle.slub_events.specs.declared.event.Event.{Event as OneEvent};
+ghost use Rattle.slub_trace.specs.declared.event.Event.{Event as OneEvent};
 ghost use Rattle.slub_trace.specs.declared.trace.Trace.{Trace};
 ghost use Rattle.slub_lists.specs.State.{State};
 ghost use Rattle.slub_lists.specs.Coherent.{IsCoherent};
 ghost use Rattle.slub_core.specs.Run.{Pick, idle};
-ghost use Rattle.slub_local.specs.Facts.{setup_of};
+ghost use Rattle.slub_core.specs.Facts.{setup_of};
 ghost use Rattle.slub_schedule.specs.Turns.{turns_for, turns_of};
-ghost use Rattle.slub_opening.specs.Opening.{IsLaidDown};
+ghost use Rattle.slub_law_opening.specs.Opening.{IsLaidDown};
 ghost use Rattle.slub_calls.specs.Laws.{MayDo};
-ghost use Rattle.slub_into_words.specs.declared.beside.Beside.{Beside};
-ghost use Rattle.slub_into_words.specs.Ids.{AreIds};
-ghost use Rattle.slub_round_law.specs.Round.{IsRound};
+ghost use Rattle.slub_open_close.specs.declared.beside.Beside.{Beside};
+ghost use Rattle.slub_open_close.specs.Ids.{AreIds};
+ghost use Rattle.slub_law_rounds.specs.Round.{IsRound};
 ghost use Rattle.slub_turns.specs.Means.{the_means};
 ghost use Rattle.slub_turns.specs.Ready.{IsReady};
 ghost use Rattle.slub_rounds.specs.Doing.{AwaitsEvents, ComesThrough, StaysUnder, is_through};
@@ -31,13 +31,13 @@ use crate::room::{Room, take_room};
 use crate::scheduled::Stopped;
 use slub_common::no_memory::NoMemory;
 use slub_core::spot::Spot;
-use slub_events::event::{Event, Round};
-use slub_into_words::ids::Ids;
-use slub_into_words::opened::Opened;
-use slub_into_words::opening::open;
+use slub_core::worker_local::Local;
 use slub_list_machine::lists::Lists;
-use slub_local::local::Local;
+use slub_open_close::ids::Ids;
+use slub_open_close::opened::Opened;
+use slub_open_close::opening::open;
 use slub_schedule::machine::{Machine as Turns, TurnsSpent};
+use slub_trace::event::{Event, Round};
 use slub_turns::machine::Machine;
 use std::alloc::Global;
 

@@ -2,7 +2,7 @@
 
 ghost use Rattle.slub_rounds.specs.Laws.{RoundsBySeedAreLawful, RoundsBySeedAreOne, RoundsByThreadsAreLawful, RoundsInOrderAreLawful, RoundsInOrderAreOne, RoundsLeadOn};
 
-use slub_round_causes::laws::{drawn_rounds_are_lawful, rounds_are_lawful};
+use slub_law_rounds::cause_laws::{drawn_rounds_are_lawful, rounds_are_lawful};
 
 /// A round that a seed draws is lawful in the words of the text: each reply has its cause, and the board, the want of
 /// frames, reports and objects set aside are as the text says.

@@ -5,20 +5,20 @@ ghost use Rattle.slub_trace.specs.declared.trace.Trace.{Trace};
 ghost use Rattle.slub_lists.specs.Coherent.{IsCoherent};
 ghost use Rattle.slub_schedule.specs.Schedule.{marks_of, places_of};
 ghost use Rattle.slub_calls.specs.Laws.{MayDo};
-ghost use Rattle.slub_into_words.specs.Ids.{AreIds};
+ghost use Rattle.slub_open_close.specs.Ids.{AreIds};
 ghost use Rattle.slub_rounds.specs.Room.{IsTakenFor, all_workers, weight_in, weight_of};
 
 use crate::answers::Answers;
 use slub_calls::workers::workers;
 use slub_common::no_memory::NoMemory;
-use slub_events::event::{Act, Event, Round};
-use slub_into_words::beside::Beside;
-use slub_into_words::ids::Ids;
-use slub_into_words::laws::besides_fit;
+use slub_core::worker_local::Local;
 use slub_list_machine::lists::Lists;
-use slub_local::local::Local;
+use slub_open_close::beside::Beside;
+use slub_open_close::ids::Ids;
+use slub_open_close::laws::besides_fit;
 use slub_schedule::order::Order;
 use slub_schedule::turns::turns_for;
+use slub_trace::event::{Act, Event, Round};
 use slub_turns::begin::is_finished;
 use std::alloc::Global;
 

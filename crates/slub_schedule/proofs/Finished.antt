@@ -5,8 +5,8 @@ use Rattle.std.proofs.lemmas.Bool.{cases_Bool, false≢true}
 use Rattle.std.proofs.lemmas.List.Elements.{All-nil, All-cons, All-head, All-tail, All-weaker}
 use Rattle.std.proofs.lemmas.List.Sums.{sum_by-cons}
 use Rattle.slub_common.proofs.Sums.{sum_by-map}
-use Rattle.slub_answers.specs.declared.reply.Reply.{Reply}
-use Rattle.slub_answers.specs.declared.reply.Reply.TheVariants as reply
+use Rattle.slub_trace.specs.declared.reply.Reply.{Reply}
+use Rattle.slub_trace.specs.declared.reply.Reply.TheVariants as reply
 use Rattle.slub_core.specs.declared.spot.Spot.TheVariants.{Between}
 use Rattle.slub_core.specs.declared.local.Answered.{Answered}
 use Rattle.slub_core.specs.Setup.{Setup}
@@ -20,7 +20,7 @@ use Rattle.slub_core.specs.Coherent.{IsCoherent}
 use Rattle.slub_core.specs.Replies.{one_if, given_in, freed_in, holding, knows, holds_after, knows_after, is_freed, Public}
 use Rattle.slub_core.specs.Accounted.{boarded, known_of, had, public, IsTold, IsWritten, IsAccounted}
 use Rattle.slub_core.specs.Law.{IsCoherentSystem}
-use Rattle.slub_core.proofs.Hands.{no-hands}
+use Rattle.slub_core.proofs.StepHands.{no-hands}
 use Rattle.slub_schedule.specs.Rounds.{IsFinishedSystem}
 use Rattle.slub_schedule.specs.Finished.{empty_handed, IsQuiet, HoldsAsTold, knowers, AreHolders}
 

@@ -1,7 +1,7 @@
 -- The machine once a round is closed: what the workers hold is put on the board.
 use Rattle.std.specs.Prelude.{◌≡◌, ℕ, ◌+◌, if◌then◌else◌, List, [], ◌∷◌, Contains, Option, Some, None}
 use Rattle.slub_words.specs.declared.board.BoardWord.{BoardWord}
-use Rattle.slub_answers.specs.declared.reply.Reply.TheVariants.{Given}
+use Rattle.slub_trace.specs.declared.reply.Reply.TheVariants.{Given}
 use Rattle.slub_core.specs.declared.local.Known.{Known}
 use Rattle.slub_core.specs.declared.local.Answered.{Answered}
 use Rattle.slub_core.specs.World.{World}

@@ -2,7 +2,7 @@
 //!
 //! `Draws` is the generator, `Order` the workers that are unfinished, `Table` the words of the
 //! machine, on which a step is applied, and `turns` says how many turns a round may take. A `Table`
-//! has the words of the frames as a `Memory` of its own (`slub_memory`), which `into_memory` gives
+//! has the words of the frames as a `Memory` of its own (`slub_words`), which `into_memory` gives
 //! back: they are moved in and out, and not copied. `scheduled` runs a round by these, on any
 //! `Machine` whose workers make turns of the step machine. `specs/` says which picks a seed draws
 //! (`AreDrawn`), when a round ends and when its turns are spent (`Ends`, `IsSpent`), what a round
@@ -26,6 +26,4 @@ pub mod laws;
 pub mod machine;
 pub mod order;
 pub mod table;
-#[cfg(test)]
-mod tests;
 pub mod turns;

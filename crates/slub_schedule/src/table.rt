@@ -7,8 +7,8 @@ ghost use Rattle.slub_schedule.specs.Table.{WordTable, IsTableOf};
 
 use slub_common::no_memory::NoMemory;
 use slub_core::step::{Answer, Op, Place, Step};
-use slub_memory::memory::Memory;
-use slub_memory::words::{Words, put_words};
+use slub_words::memory::Memory;
+use slub_words::words::{Words, put_words};
 use std::alloc::Global;
 use std::marker::Model;
 

@@ -1,1 +1,9 @@
 pub mod Lines
+pub mod Zips
+pub mod Items
+pub mod Laws
+pub mod Numbers
+pub mod Rows
+pub mod ItemTexts
+pub mod Pairs
+pub mod Parts

@@ -1,18 +1,18 @@
 -- The texts to the byte. Every line ends with a line feed.
 use Rattle.std.specs.Prelude.{ℕ, ◌-◌, ◌/◌, ◌%◌, ◌<◌, Bool, true, false, List, [], ◌∷◌, ◌++◌, length, flat_map, replicate, codes, slice_index_or, Result, Ok, Err}
 use Rattle.std.specs.Fmt.{decimal, digit_glyph, signed_decimal}
-use Rattle.slub_events.specs.declared.event.Act.{Act}
-use Rattle.slub_events.specs.declared.event.Act.TheVariants.{Alloc, Free, Write, Read, Poke, Trim, Flush}
-use Rattle.slub_events.specs.declared.event.Event.{Event}
+use Rattle.slub_trace.specs.declared.event.Act.{Act}
+use Rattle.slub_trace.specs.declared.event.Act.TheVariants.{Alloc, Free, Write, Read, Poke, Trim, Flush}
+use Rattle.slub_trace.specs.declared.event.Event.{Event}
 use Rattle.slub_object_layout.specs.declared.layout.Layout.{Layout}
 use Rattle.slub_object_layout.specs.declared.layout.LayoutRefusal.{LayoutRefusal}
 use Rattle.slub_object_layout.specs.declared.layout.LayoutRefusal.TheVariants as refusal
-use Rattle.slub_red_zone.specs.declared.zones.Damage.{Damage}
-use Rattle.slub_red_zone.specs.declared.zones.Report.{Report}
-use Rattle.slub_red_zone.specs.declared.zones.Zone.{Zone}
-use Rattle.slub_red_zone.specs.declared.zones.Zone.TheVariants as zone
-use Rattle.slub_answers.specs.declared.reply.Reply.{Reply}
-use Rattle.slub_answers.specs.declared.reply.Reply.TheVariants as reply
+use Rattle.slub_trace.specs.declared.damage.Damage.{Damage}
+use Rattle.slub_trace.specs.declared.damage.Report.{Report}
+use Rattle.slub_trace.specs.declared.damage.Zone.{Zone}
+use Rattle.slub_trace.specs.declared.damage.Zone.TheVariants as zone
+use Rattle.slub_trace.specs.declared.reply.Reply.{Reply}
+use Rattle.slub_trace.specs.declared.reply.Reply.TheVariants as reply
 use Rattle.slub_slabinfo_text.specs.declared.counts.Counts.{Counts}
 use Rattle.slub_slabinfo_text.specs.declared.counts.InfoRow.{InfoRow}
 use Rattle.slub_slabinfo_text.specs.declared.text.ItemWord.{ItemWord}

@@ -6,12 +6,12 @@ ghost use Rattle.slub_slabinfo_text.specs.Texts.{IsNamed, act_words, answer_text
 
 use crate::counts::{Counts, InfoRow};
 use itoa::Buffer;
-use slub_answers::reply::Reply;
 use slub_common::no_memory::NoMemory;
-use slub_events::event::{Act, Event};
 use slub_object_layout::layout::{Layout, LayoutRefusal};
 use slub_object_layout::name::Name;
-use slub_red_zone::zones::{Damage, Report, Zone};
+use slub_trace::damage::{Damage, Report, Zone};
+use slub_trace::event::{Act, Event};
+use slub_trace::reply::Reply;
 use std::alloc::Global;
 
 /// What an item was that is answered by one line.

@@ -1,7 +1,7 @@
 -- The test of a name, byte by byte.
 use Rattle.std.specs.Prelude.{ℕ, ◌==◌, ◌&&◌, ◌||◌, Bool, false, List, [], ◌∷◌, length, nat_le}
 use Rattle.std.specs.List.{list_all}
-use Rattle.slub_numbers.specs.Numbers.{is_digit}
+use Rattle.slub_common.specs.Numbers.{is_digit}
 
 abbrev pub is_letter_or_digit : ℕ → Bool
 is_letter_or_digit c = (nat_le 65 c && nat_le c 90) || (nat_le 97 c && nat_le c 122) || is_digit c

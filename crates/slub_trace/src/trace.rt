@@ -1,7 +1,7 @@
 //! What a trace has.
 
+use crate::event::Round;
 use slub_common::sequence::Sequence;
-use slub_events::event::Round;
 use slub_object_layout::layout::{Setting, Spec};
 use slub_object_layout::name::Name;
 

@@ -2,8 +2,8 @@
 use Rattle.std.proofs.Common.{◌≡◌, ℕ, Some, None, List, [], ◌∷◌, ◌++◌, refl, sym, ap, ◌∙◌, nat_eq, inl, inr}
 use Rattle.std.specs.Prelude.{codes}
 use Rattle.std.specs.Cmp.Lexicographic.{pointwise, bytes_decides}
-use Rattle.slub_numbers.specs.Numbers.{cut_number}
-use Rattle.slub_numbers.proofs.Digits.{number_found, number_some}
+use Rattle.slub_common.specs.Numbers.{cut_number}
+use Rattle.slub_common.proofs.Digits.{number_found, number_some}
 use Rattle.slub_trace_reader.specs.declared.client.ClientLine.{ClientLine}
 use Rattle.slub_trace_reader.specs.declared.client.ClientLine.TheVariants.{Kmalloc, Kget, Krealloc, Bulk, Bulkfree, Mempool, Mget, Mput}
 use Rattle.slub_trace_reader.specs.Forms.{strip, kmalloc_line, kget_line, krealloc_line, bulk_line, bulkfree_line, mempool_line, mget_line, mput_line, client_line}

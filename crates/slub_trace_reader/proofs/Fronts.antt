@@ -9,8 +9,8 @@ use Rattle.std.proofs.lemmas.List.{append-nil}
 use Rattle.std.proofs.lemmas.List.Folds.{list_all-append}
 use Rattle.std.proofs.lemmas.Bool.Decides.{nat_tests}
 use Rattle.std.proofs.lemmas.Str.{digit_value_digit}
-use Rattle.slub_numbers.specs.Numbers.{cut_number, is_digit, is_number, number_of}
-use Rattle.slub_numbers.proofs.Digits.{digit_within, number_found}
+use Rattle.slub_common.specs.Numbers.{cut_number, is_digit, is_number, number_of}
+use Rattle.slub_common.proofs.Digits.{digit_within, number_found}
 use Rattle.slub_trace_reader.specs.Digits.{IsFront}
 use Rattle.slub_trace_reader.specs.Forms.{number_at}
 use Rattle.slub_trace_reader.proofs.WordTexts.{number_at_found}

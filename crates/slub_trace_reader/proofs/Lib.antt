@@ -16,3 +16,12 @@ pub mod Texts
 mod Windows
 pub mod WordTexts
 pub mod WrittenWords
+mod Drawn
+mod Events
+mod Frees
+mod LoadFronts
+mod Long
+mod Made
+mod Numbered
+mod Sound
+mod WhoFrees

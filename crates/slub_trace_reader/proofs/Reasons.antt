@@ -1,6 +1,6 @@
 -- Which reason a line is bad for first.
 use Rattle.std.proofs.Common.{◌≡◌, ℕ, ◌<◌, ◌≤◌, ◌^◌, true, false, Some, None, List, refl, sym, ap, ◌∙◌, arith, subst}
-use Rattle.slub_numbers.specs.Numbers.{cut_number}
+use Rattle.slub_common.specs.Numbers.{cut_number}
 use Rattle.slub_trace_reader.specs.declared.client.ClientLine.{ClientLine}
 use Rattle.slub_trace_reader.specs.declared.client.ClientLine.TheVariants.{Kmalloc, Kget, Krealloc, Bulk, Bulkfree, Mempool, Mget, Mput}
 use Rattle.slub_trace_reader.specs.declared.line.Line.{Line}

@@ -4,8 +4,8 @@ use Rattle.std.specs.Prelude.{option_map, codes}
 use Rattle.std.specs.Cmp.Lexicographic.{pointwise, bytes_decides}
 use Rattle.std.proofs.lemmas.Bool.{eqb-true, eq-eqb}
 use Rattle.slub_object_layout.specs.declared.layout.Flags.{Flags}
-use Rattle.slub_numbers.specs.Numbers.{Writes, cut_number}
-use Rattle.slub_numbers.proofs.Digits.{number_found, number_some}
+use Rattle.slub_common.specs.Numbers.{Writes, cut_number}
+use Rattle.slub_common.proofs.Digits.{number_found, number_some}
 use Rattle.slub_trace_reader.specs.declared.line.Knob.{Knob}
 use Rattle.slub_trace_reader.specs.declared.line.Line.{Line}
 use Rattle.slub_trace_reader.specs.declared.line.Line.TheVariants.{Passed, Slubtrace, Machine, Cache, Shrink, Destroy, Tune, Slabinfo, Round, Alloc, Free, Write, Read, Poke, Trim, Flush, Done, End}

@@ -5,8 +5,8 @@ use Rattle.std.specs.List.{list_all}
 use Rattle.std.specs.Cmp.Lexicographic.{pointwise, bytes_decides}
 use Rattle.std.proofs.lemmas.Bool.{false≢true, cases_Bool, eqb-true, ne_eqb, and_parts, leb-true, le-leb}
 use Rattle.std.proofs.lemmas.List.Elements.{All-cons, All-nil}
-use Rattle.slub_numbers.specs.Numbers.{Writes, cut_number, is_digit, is_number, number_of}
-use Rattle.slub_numbers.proofs.Digits.{digit_within, number_found, number_some}
+use Rattle.slub_common.specs.Numbers.{Writes, cut_number, is_digit, is_number, number_of}
+use Rattle.slub_common.proofs.Digits.{digit_within, number_found, number_some}
 use Rattle.slub_object_layout.specs.declared.layout.Flags.{Flags}
 use Rattle.slub_object_layout.specs.Name.{IsName}
 use Rattle.slub_trace_reader.specs.declared.line.Knob.{Knob}

@@ -2,9 +2,9 @@
 use Rattle.std.specs.Prelude.{ℕ, ◌+◌, Bool, true, false, ◌&&◌, ◌||◌, nat_eq, List, [], ◌∷◌, ◌++◌, unwrap_or, if◌then◌else◌, pos, neg_ℤ, ℤ, fold, max}
 use Rattle.std.specs.List.{list_any, position_or_len}
 use Rattle.std.specs.Str.{bytes_eq}
-use Rattle.slub_events.specs.declared.event.Act.{Act}
-use Rattle.slub_events.specs.declared.event.Act.TheVariants as act
-use Rattle.slub_events.specs.declared.event.Event.{Event}
+use Rattle.slub_trace.specs.declared.event.Act.{Act}
+use Rattle.slub_trace.specs.declared.event.Act.TheVariants as act
+use Rattle.slub_trace.specs.declared.event.Event.{Event}
 use Rattle.slub_object_layout.specs.declared.layout.Setting.{Setting}
 use Rattle.slub_object_layout.specs.declared.layout.Setting.TheVariants as setting
 use Rattle.slub_object_layout.specs.declared.layout.Spec.{Spec}

@@ -1,7 +1,7 @@
 -- For proofs and private clauses: a line as it is read. A number that 64 bits don't hold is as
 -- great as the least of those.
 use Rattle.std.specs.Prelude.{option_map}
-use Rattle.slub_numbers.specs.Numbers.{cut_number}
+use Rattle.slub_common.specs.Numbers.{cut_number}
 use Rattle.slub_trace_reader.specs.declared.client.ClientLine.{ClientLine}
 use Rattle.slub_trace_reader.specs.declared.client.ClientLine.TheVariants.{Kmalloc, Kget, Krealloc, Bulk, Bulkfree, Mempool, Mget, Mput}
 use Rattle.slub_trace_reader.specs.declared.line.Line.{Line}

@@ -12,3 +12,6 @@ pub mod Reads
 pub mod State
 pub mod Window
 pub mod Words
+pub mod Generator
+pub mod Load
+pub mod Kept

@@ -1,7 +1,7 @@
 -- What a line says: its form, and the values of its words.
 use Rattle.std.specs.Prelude.{◌≡◌, ℕ, ◌+◌, ◌≤◌, List, [], ◌∷◌, Option, Some, None, ⊤, codes}
 use Rattle.std.specs.List.{join_with_byte}
-use Rattle.slub_numbers.specs.Numbers.{Writes}
+use Rattle.slub_common.specs.Numbers.{Writes}
 use Rattle.slub_object_layout.specs.Name.{IsName}
 use Rattle.slub_trace_reader.specs.declared.client.ClientLine.{ClientLine}
 use Rattle.slub_trace_reader.specs.declared.client.ClientLine.TheVariants.{Kmalloc, Kget, Krealloc, Bulk, Bulkfree, Mempool, Mget, Mput}

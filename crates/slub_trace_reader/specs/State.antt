@@ -10,7 +10,7 @@ use Rattle.slub_trace_reader.specs.declared.reading.Why.{Why}
 use Rattle.slub_trace_reader.specs.declared.reading.Why.TheVariants.{Unfinished, AfterEnd, Form, Range, TooManyRounds, UnknownCache, ObjectTwice, UnknownObject, ReadBeforeWrite, NoEnd}
 use Rattle.slub_trace_reader.specs.declared.state.State.{State}
 use Rattle.slub_trace_reader.specs.declared.written.Written.{Written}
-use Rattle.slub_events.specs.declared.event.Act.TheVariants as act
+use Rattle.slub_trace.specs.declared.event.Act.TheVariants as act
 use Rattle.slub_trace_reader.specs.Above.{Above, is_spot, workers_in, with_event}
 use Rattle.slub_trace_reader.specs.Grammar.{MayStand, InRange, HasRoom, HasCache, IsFresh, IsKnown, IsWritten}
 

@@ -2,7 +2,7 @@
 use Rattle.std.specs.Prelude.{◌≡◌, ℕ, ◌+◌, ◌-◌, ◌*◌, ◌==◌, Bool, true, false, not, ◌&&◌, ◌||◌, List, [], ◌∷◌, length, codes, nat_eq, nat_le, if◌then◌else◌}
 use Rattle.std.specs.List.{list_any, list_all}
 use Rattle.std.specs.Cmp.Lexicographic.{pointwise}
-use Rattle.slub_numbers.specs.Numbers.{Writes, is_digit}
+use Rattle.slub_common.specs.Numbers.{Writes, is_digit}
 use Rattle.slub_object_layout.specs.declared.layout.Flags.{Flags}
 
 -- ---- offsets

@@ -1,12 +1,12 @@
 //! Numbers, read in place.
 
 ghost use Rattle.std.specs.Prelude.{◌≡◌, ◌<◌, ◌≤◌, ◌^◌, ◌∷◌, IfSome};
-ghost use Rattle.slub_numbers.specs.Numbers.{number_of};
+ghost use Rattle.slub_common.specs.Numbers.{number_of};
 ghost use Rattle.slub_trace_reader.specs.Digits.{IsFront};
 ghost use Rattle.slub_trace_reader.specs.Forms.{Gives, number_at};
 
 use crate::words::field_of;
-use slub_numbers::numbers::{is_decimal, number as any_number};
+use slub_common::numbers::{is_decimal, number as any_number};
 
 /// The greatest number that takes one digit more, whichever, and that 64 bits still hold then.
 const LAST: u64 = 1844674407370955160;

@@ -16,8 +16,8 @@ use crate::names::name_before;
 use crate::state::State;
 use indexmap::IndexSet;
 use slub_common::limits::{OBJECTS_MAX, WORD_MAX};
-use slub_events::event::Act;
 use slub_object_layout::name::Name;
+use slub_trace::event::Act;
 use std::alloc::AllocError;
 
 /// The numbers of an `alloc` line, and the place of its name.

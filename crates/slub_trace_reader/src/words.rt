@@ -7,7 +7,7 @@ ghost use Rattle.slub_trace_reader.specs.Words.{is_letter, stands_in, are_distin
 
 use crate::digits::number;
 use crate::line::Knob;
-use slub_numbers::numbers::is_decimal;
+use slub_common::numbers::is_decimal;
 use slub_object_layout::layout::Flags;
 use slub_object_layout::name::Name;
 

@@ -1,16 +1,16 @@
 -- The machine in words with which a worker that is alone begins.
 use Rattle.std.proofs.Common.{◌≡◌, ℕ, List, refl}
-use Rattle.slub_events.specs.declared.event.Round.{Round}
+use Rattle.slub_trace.specs.declared.event.Round.{Round}
 use Rattle.slub_trace.specs.declared.trace.Trace.{Trace}
 use Rattle.slub_lists.specs.State.{State}
 use Rattle.slub_lists.specs.Coherent.{IsCoherent}
-use Rattle.slub_opening.specs.Opening.{IsLaidDown}
+use Rattle.slub_law_opening.specs.Opening.{IsLaidDown}
 use Rattle.slub_calls.specs.Laws.{MayDo}
-use Rattle.slub_into_words.specs.declared.beside.Beside.{Beside}
-use Rattle.slub_into_words.specs.declared.opened.Rest.{Rest}
-use Rattle.slub_into_words.specs.Beside.{IsBesideOf, first_links}
-use Rattle.slub_into_words.specs.Ids.{IsStepOf}
-use Rattle.slub_into_words.specs.Laws.{BesidesFit}
+use Rattle.slub_open_close.specs.declared.beside.Beside.{Beside}
+use Rattle.slub_open_close.specs.declared.opened.Rest.{Rest}
+use Rattle.slub_open_close.specs.Beside.{IsBesideOf, first_links}
+use Rattle.slub_open_close.specs.Ids.{IsStepOf}
+use Rattle.slub_open_close.specs.Laws.{BesidesFit}
 use Rattle.slub_turns.specs.declared.machine.Machine.{Machine}
 use Rattle.slub_turns.specs.Means.{the_means}
 use Rattle.slub_rounds.specs.Machine.{IsBegun, MayRun, beside_in}

@@ -7,8 +7,8 @@ use Rattle.std.proofs.lemmas.Map.Keys.{IsDistinct-cons}
 use Rattle.std.proofs.lemmas.Option.{get_or_from_slice_get, slice_get_within}
 use Rattle.slub_common.specs.Times.{times}
 use Rattle.slub_common.proofs.Times.{times-append, times-cons, times-cons_same}
-use Rattle.slub_events.specs.declared.event.Round.{Round}
-use Rattle.slub_round_law.proofs.Times.{once_times}
+use Rattle.slub_trace.specs.declared.event.Round.{Round}
+use Rattle.slub_law_rounds.proofs.Times.{once_times}
 use Rattle.slub_trace.specs.declared.trace.Item.{Item}
 use Rattle.slub_trace.specs.declared.trace.Item.TheVariants as item
 use Rattle.slub_trace.specs.declared.trace.Trace.{Trace}

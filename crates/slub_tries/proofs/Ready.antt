@@ -3,21 +3,21 @@ use Rattle.std.proofs.Common.{◌≡◌, ℕ, zero, suc, ◌+◌, ◌*◌, ◌/�
 use Rattle.std.proofs.lemmas.Bool.{false≢true}
 use Rattle.std.proofs.lemmas.List.{length-replicate}
 use Rattle.slub_common.proofs.Writes.{get_or-replicate_any}
-use Rattle.slub_events.specs.declared.event.Round.{Round}
+use Rattle.slub_trace.specs.declared.event.Round.{Round}
 use Rattle.slub_page_pool.specs.FreeFrames.{FreeFrames}
 use Rattle.slub_lists.specs.declared.lists.CpuLists.{CpuLists}
 use Rattle.slub_lists.specs.declared.lists.Held.{Held}
 use Rattle.slub_lists.specs.State.{State}
 use Rattle.slub_lists.specs.Alloc.{no_lists}
-use Rattle.slub_opening.specs.Opening.{IsLaidDown, cpu_at}
-use Rattle.slub_opening.proofs.Cpus.{cpu-at}
+use Rattle.slub_law_opening.specs.Opening.{IsLaidDown, cpu_at}
+use Rattle.slub_law_opening.proofs.Cpus.{cpu-at}
 use Rattle.slub_trace.specs.declared.trace.Trace.{Trace}
 use Rattle.slub_trace.specs.Ranges.{step_of}
 use Rattle.slub_trace.specs.Sound.{IsSound, objects_of}
 use Rattle.slub_calls.specs.Laws.{MayDo}
-use Rattle.slub_ids.proofs.Steps.{is-step}
-use Rattle.slub_into_words.specs.Ids.{AreIds, IsStepOf, first_ids}
-use Rattle.slub_into_words.proofs.Firsts.{first-ids-fit}
+use Rattle.slub_open_close.proofs.Steps.{is-step}
+use Rattle.slub_open_close.specs.Ids.{AreIds, IsStepOf, first_ids}
+use Rattle.slub_open_close.proofs.Firsts.{first-ids-fit}
 use Rattle.slub_tries.specs.Fresh.{IsFresh, IsRoundOf}
 use Rattle.slub_tries.proofs.Parts.{round-brief, round-distinct, round-sound}
 

@@ -1,9 +1,9 @@
 -- The table of a worker that is alone with the events of a round, from lists to the machine that it
 -- leaves.
 use Rattle.std.specs.Prelude.{◌≡◌, ℕ, Bool, List, [], ◌∷◌}
-use Rattle.slub_events.specs.declared.event.Round.{Round}
+use Rattle.slub_trace.specs.declared.event.Round.{Round}
 use Rattle.slub_lists.specs.State.{State}
-use Rattle.slub_opening.specs.Opening.{Beside, setup_of}
+use Rattle.slub_law_opening.specs.Opening.{Beside, setup_of}
 use Rattle.slub_turns.specs.declared.machine.Machine.{Machine}
 use Rattle.slub_turns.specs.Means.{the_means}
 use Rattle.slub_rounds.specs.Rounds.{StandsBeside, system_begun}

@@ -1,13 +1,13 @@
 -- The machine of a trace before its first object.
 use Rattle.std.specs.Prelude.{◌≡◌, ℕ, ◌+◌, ◌*◌, List, replicate, None, Some, slice_get}
 use Rattle.slub_page_pool.specs.FreeFrames as pool
-use Rattle.slub_events.specs.declared.event.Round.{Round as Events}
+use Rattle.slub_trace.specs.declared.event.Round.{Round as Events}
 use Rattle.slub_trace.specs.declared.trace.Item.TheVariants.{Round}
 use Rattle.slub_trace.specs.declared.trace.Trace.{Trace}
 use Rattle.slub_lists.specs.State.{State}
 use Rattle.slub_lists.specs.Alloc.{no_lists}
 use Rattle.slub_lists.specs.Coherent.{IsCoherent}
-use Rattle.slub_into_words.specs.Ids.{first_ids}
+use Rattle.slub_open_close.specs.Ids.{first_ids}
 use Rattle.slub_turns.specs.declared.machine.Machine.{Machine}
 use Rattle.slub_tries.specs.declared.tries.Told.{Told}
 use Rattle.slub_tries.specs.Begun.{OpensInto, PlaysRound}

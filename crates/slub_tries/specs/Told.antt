@@ -2,8 +2,8 @@
 -- checked is tried first, by the fast path alone; a call is made of it where the try gave no
 -- object, and of every other event.
 use Rattle.std.specs.Prelude.{◌≡◌, List, [], ◌∷◌, Option, Some, None}
-use Rattle.slub_answers.specs.declared.reply.Reply.{Reply}
-use Rattle.slub_answers.specs.declared.reply.Reply.TheVariants as reply
+use Rattle.slub_trace.specs.declared.reply.Reply.{Reply}
+use Rattle.slub_trace.specs.declared.reply.Reply.TheVariants as reply
 use Rattle.slub_core.specs.Run.{IsFinished}
 use Rattle.slub_workers.specs.declared.fast.Fast.{Fast}
 use Rattle.slub_workers.specs.declared.fast.Fast.TheVariants.{Given}

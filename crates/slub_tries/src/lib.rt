@@ -5,7 +5,7 @@
 //! (`Worker::try_alloc_fast`), and a call is made of it where the try gave no object, and of every other event.
 //!
 //! `lone` has the worker at its table: `open` opens lists and the transaction ids beside them into words
-//! (`slub_into_words`) and a table with them, `try_next` and `call_next` make the next event, and `close` gives the
+//! (`slub_open_close`) and a table with them, `try_next` and `call_next` make the next event, and `close` gives the
 //! machine. `tries` makes all events of a round so. `fresh` reads a worker off a trace, for tests and for the bench.
 //!
 //! # What it promises
@@ -22,6 +22,4 @@
 pub mod fresh;
 pub mod lone;
 mod opening;
-#[cfg(test)]
-mod tests;
 pub mod tries;

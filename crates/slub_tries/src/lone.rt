@@ -3,9 +3,9 @@
 ghost use Rattle.std.specs.Prelude.{◌≡◌, ◌≤◌, None, IfOk, IfSome, length};
 ghost use Rattle.slub_trace.specs.declared.trace.Trace.{Trace};
 ghost use Rattle.slub_lists.specs.Coherent.{IsCoherent};
-ghost use Rattle.slub_opening.specs.Opening.{IsLaidDown};
+ghost use Rattle.slub_law_opening.specs.Opening.{IsLaidDown};
 ghost use Rattle.slub_calls.specs.Laws.{MayDo};
-ghost use Rattle.slub_into_words.specs.Ids.{AreIds};
+ghost use Rattle.slub_open_close.specs.Ids.{AreIds};
 ghost use Rattle.slub_workers.specs.Calls.{HasCalled};
 ghost use Rattle.slub_workers.specs.Rule.{setup_in};
 ghost use Rattle.slub_workers.specs.Try.{MayTry};
@@ -15,11 +15,11 @@ ghost use Rattle.slub_tries.specs.Lone.{begins_as};
 ghost use Rattle.slub_tries.specs.Told.{HasTriedNext};
 
 use crate::opening::{machine_of, seated};
-use slub_answers::reply::Reply;
 use slub_common::no_memory::NoMemory;
-use slub_events::event::Round;
-use slub_into_words::ids::Ids;
 use slub_list_machine::lists::Lists;
+use slub_open_close::ids::Ids;
+use slub_trace::event::Round;
+use slub_trace::reply::Reply;
 use slub_turns::machine::Machine;
 use slub_workers::fast::Fast;
 use slub_workers::shared::Shared;

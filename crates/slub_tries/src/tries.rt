@@ -3,19 +3,19 @@
 ghost use Rattle.std.specs.Prelude.{◌≡◌, ◌≤◌, None, IfOk, IfSome, length};
 ghost use Rattle.slub_trace.specs.declared.trace.Trace.{Trace};
 ghost use Rattle.slub_lists.specs.Coherent.{IsCoherent};
-ghost use Rattle.slub_opening.specs.Opening.{IsLaidDown};
+ghost use Rattle.slub_law_opening.specs.Opening.{IsLaidDown};
 ghost use Rattle.slub_calls.specs.Laws.{MayDo};
 ghost use Rattle.slub_core.specs.Run.{IsFinished};
-ghost use Rattle.slub_into_words.specs.Ids.{AreIds};
+ghost use Rattle.slub_open_close.specs.Ids.{AreIds};
 ghost use Rattle.slub_tries.specs.Begun.{PlaysRound};
 ghost use Rattle.slub_tries.specs.Told.{AllAreTold, IsTold};
 
 use crate::lone::LoneWorker;
-use slub_answers::reply::Reply;
 use slub_common::no_memory::NoMemory;
-use slub_events::event::Round;
-use slub_into_words::ids::Ids;
 use slub_list_machine::lists::Lists;
+use slub_open_close::ids::Ids;
+use slub_trace::event::Round;
+use slub_trace::reply::Reply;
 use slub_turns::machine::Machine;
 use slub_workers::fast::Fast;
 use std::alloc::Global;

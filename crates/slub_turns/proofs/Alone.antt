@@ -3,9 +3,9 @@ use Rattle.std.proofs.Common.{◌≡◌, ℕ, ◌∙◌, Bool, List, [], ◌∷�
 use Rattle.slub_core.specs.Setup.{Setup}
 use Rattle.slub_core.specs.Local.{Local}
 use Rattle.slub_core.specs.Run.{System, Pick, idle, turn}
-use Rattle.slub_local.specs.declared.guarded.Guarded.{Guarded}
+use Rattle.slub_core.specs.declared.guarded.Guarded.{Guarded}
 use Rattle.slub_schedule.specs.Table.{WordTable}
-use Rattle.slub_fits.specs.Fits.{PickFits}
+use Rattle.slub_turns.specs.Fits.{PickFits}
 use Rattle.slub_turns.specs.System.{system_of, alone, picked_alone}
 
 pub fits_alone : (m : Setup) (table : WordTable) (guarded : List Guarded) (locals : List Local) (local : Local) (pick : Pick) → local ≡ get_or locals pick.worker idle

@@ -3,7 +3,7 @@ use Rattle.std.proofs.Common.{◌≡◌, ℕ, ◌==◌, Bool, true, false, if◌
 use Rattle.std.specs.Prelude.{not}
 use Rattle.std.proofs.lemmas.Bool.{eq-eqb}
 use Rattle.slub_words.specs.declared.cpu.CpuWord.{CpuWord}
-use Rattle.slub_answers.specs.declared.reply.Reply.{Reply}
+use Rattle.slub_trace.specs.declared.reply.Reply.{Reply}
 use Rattle.slub_core.specs.declared.spot.Spot.{Spot}
 use Rattle.slub_core.specs.declared.spot.Spot.TheVariants.{Between, InAlloc, InFree}
 use Rattle.slub_core.specs.declared.spot.AllocSpot.TheVariants as alloc
@@ -18,9 +18,9 @@ use Rattle.slub_core.specs.Local.{Local, Turn, at, noted, stays}
 use Rattle.slub_core.specs.Alloc.{is_spent, way_of_word}
 use Rattle.slub_core.specs.Free.{way_of_own}
 use Rattle.slub_core.specs.Steps.{advance_at, settled, rested, told}
-use Rattle.slub_local.specs.declared.guarded.Guarded.{Guarded}
-use Rattle.slub_local.specs.Values.{values_of}
-use Rattle.slub_local.specs.Ways as ways
+use Rattle.slub_core.specs.declared.guarded.Guarded.{Guarded}
+use Rattle.slub_core.specs.Values.{values_of}
+use Rattle.slub_core.specs.Ways as ways
 use Rattle.slub_turns.specs.declared.quick.Quick.{Quick}
 use Rattle.slub_turns.specs.declared.quick.Quick.TheVariants as quick
 use Rattle.slub_turns.specs.Spots.{is_at_once}

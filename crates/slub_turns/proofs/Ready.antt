@@ -8,13 +8,13 @@ use Rattle.slub_core.specs.World.{world_of}
 use Rattle.slub_core.specs.Run.{System, IsFinished}
 use Rattle.slub_core.proofs.Opens.{rounds_keep}
 use Rattle.slub_core.proofs.Turns.{turn_keeps}
-use Rattle.slub_opening.specs.Opening.{Beside, setup_of}
-use Rattle.slub_opening.specs.Closing.{Closes}
-use Rattle.slub_opening.specs.Laws.{MayOpen}
-use Rattle.slub_opening.specs.Table.{system_of}
-use Rattle.slub_opening.proofs.Systems.{opened-rest}
-use Rattle.slub_bounds.specs.Laws.{TurnsKeepBounds, BoundedCountsFit, RoundsBeginBounded, RoundsCloseIntoLists, flags_of}
-use Rattle.slub_fits.proofs.Turns.{turns}
+use Rattle.slub_law_opening.specs.Opening.{Beside, setup_of}
+use Rattle.slub_law_opening.specs.Closing.{Closes}
+use Rattle.slub_law_opening.specs.Laws.{MayOpen}
+use Rattle.slub_law_opening.specs.Table.{system_of}
+use Rattle.slub_law_opening.proofs.Systems.{opened-rest}
+use Rattle.slub_law_opening.specs.BoundLaws.{TurnsKeepBounds, BoundedCountsFit, RoundsBeginBounded, RoundsCloseIntoLists, flags_of}
+use Rattle.slub_turns.proofs.Turns.{turns}
 use Rattle.slub_turns.specs.Laws.{RoundsBeginReady, TurnsKeepReady, PicksFit, RoundsBySeedClose}
 
 pub keeps_ready : TurnsKeepBounds → TurnsKeepReady

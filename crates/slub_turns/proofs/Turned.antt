@@ -1,6 +1,6 @@
 -- The turn of a worker that is alone, step by step.
 use Rattle.std.proofs.Common.{◌≡◌, ℕ, ◌∙◌, Bool, false, List, [], ◌∷◌, get_or, set, Option, refl, sym, ap, subst}
-use Rattle.slub_answers.specs.declared.reply.Reply.{Reply}
+use Rattle.slub_trace.specs.declared.reply.Reply.{Reply}
 use Rattle.slub_core.specs.declared.spot.Spot.{Spot}
 use Rattle.slub_core.specs.declared.step.Step.{Step}
 use Rattle.slub_core.specs.declared.step.Answer.{Answer}
@@ -9,14 +9,14 @@ use Rattle.slub_core.specs.Words.{number_of, after_op, answer_of}
 use Rattle.slub_core.specs.Local.{Local, Turn, Change, noted}
 use Rattle.slub_core.specs.Steps.{step_at, advance_at, changed, settled, rested, begun, told}
 use Rattle.slub_core.specs.Run.{System, after_step, turn}
-use Rattle.slub_local.specs.declared.guarded.Guarded.{Guarded}
-use Rattle.slub_local.specs.Facts.{Facts, setup_of}
-use Rattle.slub_local.specs.Values.{values_of, rooms_of}
-use Rattle.slub_local.specs.Ways as ways
+use Rattle.slub_core.specs.declared.guarded.Guarded.{Guarded}
+use Rattle.slub_core.specs.Facts.{Facts, setup_of}
+use Rattle.slub_core.specs.Values.{values_of, rooms_of}
+use Rattle.slub_core.specs.Ways as ways
 use Rattle.slub_schedule.specs.Table.{WordTable}
-use Rattle.slub_fits.specs.Fits.{StepFits, HasRooms, HasCallFor, ChangeFits, TurnFits, PickFits, change_of, after_answer}
+use Rattle.slub_turns.specs.Fits.{StepFits, HasRooms, HasCallFor, ChangeFits, TurnFits, PickFits, change_of, after_answer}
 use Rattle.slub_turns.specs.declared.quick.Quick.{Quick}
-use Rattle.slub_turns.specs.Fits.{GuardedFits, SettledFits}
+use Rattle.slub_turns.specs.SettledFits.{GuardedFits, SettledFits}
 use Rattle.slub_turns.specs.Quick.{spot_of, MayHear, quick_to}
 use Rattle.slub_turns.specs.System.{alone, picked_alone}
 use Rattle.slub_turns.proofs.AtFast.{blindly, settles_at_fast, rests_at_fast}

@@ -1,16 +1,16 @@
 -- What is done at once, twice, as a program does it: what it asks for, and what it leaves.
 use Rattle.std.proofs.Common.{◌≡◌, ◌∙◌, Bool, false, ◌||◌, List, Option, sym, ap, subst}
-use Rattle.slub_answers.specs.declared.reply.Reply.{Reply}
+use Rattle.slub_trace.specs.declared.reply.Reply.{Reply}
 use Rattle.slub_core.specs.Setup.{Setup}
 use Rattle.slub_core.specs.Local.{Local, Change, noted}
 use Rattle.slub_core.specs.Steps.{at_once, changed, settled}
-use Rattle.slub_local.specs.declared.guarded.Guarded.{Guarded}
-use Rattle.slub_local.specs.Values.{values_of, rooms_of}
-use Rattle.slub_local.specs.Ways as ways
+use Rattle.slub_core.specs.declared.guarded.Guarded.{Guarded}
+use Rattle.slub_core.specs.Values.{values_of, rooms_of}
+use Rattle.slub_core.specs.Ways as ways
 use Rattle.slub_checked_paths.specs.Slabs.{is_refused}
-use Rattle.slub_fits.specs.Fits.{AtOnceFits, HasCallFor}
+use Rattle.slub_turns.specs.Fits.{AtOnceFits, HasCallFor}
 use Rattle.slub_turns.specs.Spots.{is_at_once}
-use Rattle.slub_turns.specs.Fits.{GuardedFits, SettledFits}
+use Rattle.slub_turns.specs.SettledFits.{GuardedFits, SettledFits}
 use Rattle.slub_turns.proofs.Stays.{settled_none, settled_first}
 use Rattle.slub_turns.proofs.Settled.{settled_is}
 

@@ -6,12 +6,12 @@ use Rattle.slub_lists.specs.Coherent as plain
 use Rattle.slub_core.specs.Local.{Local}
 use Rattle.slub_core.specs.Setup.{Setup}
 use Rattle.slub_core.specs.Run.{System, Pick, turn}
-use Rattle.slub_opening.specs.Opening.{Beside, setup_of}
-use Rattle.slub_opening.specs.Closing.{Closes}
-use Rattle.slub_opening.specs.Laws.{MayOpen, MayBegin}
+use Rattle.slub_law_opening.specs.Opening.{Beside, setup_of}
+use Rattle.slub_law_opening.specs.Closing.{Closes}
+use Rattle.slub_law_opening.specs.Laws.{MayOpen, MayBegin}
 use Rattle.slub_schedule.specs.Rounds.{Ends}
-use Rattle.slub_bounds.specs.Laws.{AreNumbered, begins}
-use Rattle.slub_fits.specs.Fits.{PickFits}
+use Rattle.slub_law_opening.specs.BoundLaws.{AreNumbered, begins}
+use Rattle.slub_turns.specs.Fits.{PickFits}
 use Rattle.slub_turns.specs.Ready.{MayTurn}
 
 -- coherent lists that are opened for a round, with workers whose calls fit the machine

@@ -1,8 +1,10 @@
 pub mod Means
 pub mod Spots
-pub mod Fits
+pub mod SettledFits
 pub mod Quick
 pub mod System
 pub mod Ready
 pub mod Round
 pub mod Laws
+pub mod Fits
+pub mod FitLaws

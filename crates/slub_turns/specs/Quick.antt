@@ -10,7 +10,7 @@ use Rattle.slub_core.specs.World.{LockValue}
 use Rattle.slub_core.specs.World as value
 use Rattle.slub_core.specs.Local.{Local, Turn}
 use Rattle.slub_core.specs.Steps.{advance_at, told, rested}
-use Rattle.slub_fits.specs.Fits.{HasCallFor}
+use Rattle.slub_turns.specs.Fits.{HasCallFor}
 use Rattle.slub_turns.specs.declared.quick.Quick.{Quick}
 use Rattle.slub_turns.specs.declared.quick.Quick.TheVariants as quick
 

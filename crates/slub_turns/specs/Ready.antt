@@ -7,13 +7,13 @@ use Rattle.slub_core.specs.World.{World}
 use Rattle.slub_core.specs.Local.{Local}
 use Rattle.slub_core.specs.Run.{System}
 use Rattle.slub_core.specs.Law.{IsCoherentSystem}
-use Rattle.slub_local.specs.Facts.{Facts, setup_of}
-use Rattle.slub_local.specs.declared.guarded.Guarded.{Guarded}
-use Rattle.slub_local.specs.Values.{rooms_of}
+use Rattle.slub_core.specs.Facts.{Facts, setup_of}
+use Rattle.slub_core.specs.declared.guarded.Guarded.{Guarded}
+use Rattle.slub_core.specs.Values.{rooms_of}
 use Rattle.slub_schedule.specs.Table.{WordTable}
 use Rattle.slub_turns.specs.Means.{the_means}
-use Rattle.slub_bounds.specs.Bounded.{IsBounded}
-use Rattle.slub_fits.specs.Fits.{HasRooms}
+use Rattle.slub_law_opening.specs.Bounded.{IsBounded}
+use Rattle.slub_turns.specs.Fits.{HasRooms}
 use Rattle.slub_turns.specs.System.{system_of, IsTableFor}
 
 -- the machine is coherent since some opening, and what its workers count stays within bounds.

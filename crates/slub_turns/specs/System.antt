@@ -3,11 +3,11 @@ use Rattle.std.specs.Prelude.{◌≡◌, Bool, false, List, [], ◌∷◌}
 use Rattle.slub_core.specs.Setup.{Means}
 use Rattle.slub_core.specs.Local.{Local}
 use Rattle.slub_core.specs.Run.{System, Pick, after_step}
-use Rattle.slub_local.specs.Facts.{Facts, setup_of}
-use Rattle.slub_local.specs.declared.guarded.Guarded.{Guarded}
-use Rattle.slub_local.specs.Values.{values_of, rooms_of}
+use Rattle.slub_core.specs.Facts.{Facts, setup_of}
+use Rattle.slub_core.specs.declared.guarded.Guarded.{Guarded}
+use Rattle.slub_core.specs.Values.{values_of, rooms_of}
 use Rattle.slub_schedule.specs.Table.{WordTable}
-use Rattle.slub_fits.specs.Fits.{HasRooms, TurnFits}
+use Rattle.slub_turns.specs.Fits.{HasRooms, TurnFits}
 
 -- the words, the values of the locks, and the workers in rising number
 abbrev pub system_of : WordTable → List Guarded → List Local → System

@@ -3,27 +3,27 @@
 ghost use Rattle.std.specs.Prelude.{◌≡◌};
 ghost use Rattle.slub_core.specs.Setup.{Means};
 ghost use Rattle.slub_core.specs.Steps as core;
-ghost use Rattle.slub_local.specs.Facts.{setup_of};
-ghost use Rattle.slub_local.specs.Values.{values_of};
-ghost use Rattle.slub_local.specs.Ways.{turned};
-ghost use Rattle.slub_fits.specs.Fits.{StepFits};
+ghost use Rattle.slub_core.specs.Facts.{setup_of};
+ghost use Rattle.slub_core.specs.Values.{values_of};
+ghost use Rattle.slub_core.specs.Ways.{turned};
+ghost use Rattle.slub_turns.specs.Fits.{StepFits};
 
 use slub_alloc_paths::advance::alloc_advance;
-use slub_answers::reply::Reply;
 use slub_checked_paths::checked::checked_advance;
+use slub_core::guarded::Guarded;
+use slub_core::setup::Setup;
 use slub_core::spot::Spot;
 use slub_core::step::Answer;
+use slub_core::worker_local::Local;
 use slub_free_paths::discard::discard_advance;
 use slub_free_paths::free::free_advance;
 use slub_free_paths::move_set::move_set_advance;
 use slub_free_paths::put_away::put_away_advance;
 use slub_free_paths::put_on_list::put_on_list_advance;
 use slub_free_paths::uses::{read_advance, write_advance};
-use slub_local::guarded::Guarded;
-use slub_local::local::Local;
-use slub_local::setup::Setup;
 use slub_offline::offline::offline_advance;
 use slub_offline::trim::trim_advance;
+use slub_trace::reply::Reply;
 
 /// Where the answer to the step of this spot leads, and the reply that the call has by it.
 pub fn advance_at(

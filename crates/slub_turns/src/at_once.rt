@@ -4,28 +4,28 @@ ghost use Rattle.std.specs.Prelude.{◌≡◌, ◌||◌};
 ghost use Rattle.slub_core.specs.Setup.{Means};
 ghost use Rattle.slub_core.specs.Local.{noted};
 ghost use Rattle.slub_core.specs.Steps as core;
-ghost use Rattle.slub_local.specs.Facts.{setup_of};
-ghost use Rattle.slub_local.specs.Values.{values_of, rooms_of};
-ghost use Rattle.slub_local.specs.Ways.{changed};
+ghost use Rattle.slub_core.specs.Facts.{setup_of};
+ghost use Rattle.slub_core.specs.Values.{values_of, rooms_of};
+ghost use Rattle.slub_core.specs.Ways.{changed};
 ghost use Rattle.slub_checked_paths.specs.Slabs as slabs;
-ghost use Rattle.slub_fits.specs.Fits.{AtOnceFits};
+ghost use Rattle.slub_turns.specs.Fits.{AtOnceFits};
 ghost use Rattle.slub_turns.specs.Spots as spots;
-ghost use Rattle.slub_turns.specs.Fits.{SettledFits};
+ghost use Rattle.slub_turns.specs.SettledFits.{SettledFits};
 
 use slub_alloc_paths::at_once::alloc_at_once;
-use slub_answers::reply::Reply;
 use slub_checked_paths::checked::checked_at_once;
+use slub_core::guarded::Guarded;
+use slub_core::setup::Setup;
 use slub_core::spot::{
     AllocSpot, CheckedSpot, DiscardSpot, FreeSpot, MoveSetSpot, PutAwaySpot, Spot, TrimSpot,
 };
+use slub_core::worker_local::Local;
 use slub_free_paths::discard::discard_at_once;
 use slub_free_paths::free::free_at_once;
 use slub_free_paths::move_set::move_set_at_once;
 use slub_free_paths::put_away::put_away_at_once;
-use slub_local::guarded::Guarded;
-use slub_local::local::Local;
-use slub_local::setup::Setup;
 use slub_offline::trim::trim_at_once;
+use slub_trace::reply::Reply;
 
 /// What is done at once at this spot, and the reply that the call has by it. The reply NoMemory tells that memory was
 /// refused.

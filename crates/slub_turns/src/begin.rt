@@ -3,17 +3,17 @@
 ghost use Rattle.std.specs.Prelude.{◌≡◌, ◌<◌, map};
 ghost use Rattle.slub_core.specs.Setup.{Means};
 ghost use Rattle.slub_core.specs.Steps as core;
-ghost use Rattle.slub_local.specs.Facts.{setup_of};
-ghost use Rattle.slub_fits.specs.Fits.{BeginFits};
+ghost use Rattle.slub_core.specs.Facts.{setup_of};
+ghost use Rattle.slub_turns.specs.Fits.{BeginFits};
 ghost use Rattle.slub_schedule.specs.Schedule as schedule;
 
-use slub_answers::reply::Reply;
 use slub_core::call::{Call, CallKind};
 use slub_core::local::Known;
+use slub_core::setup::Setup;
 use slub_core::spot::{AllocSpot, CheckedSpot, FreeSpot, OfflineSpot, Spot, Sweep};
-use slub_local::local::Local;
-use slub_local::setup::Setup;
+use slub_core::worker_local::Local;
 use slub_object_layout::layout::Layout;
+use slub_trace::reply::Reply;
 
 /// Whether a word of an object lies outside of it.
 fn is_outside(layout: &Layout, call: &Call) -> bool

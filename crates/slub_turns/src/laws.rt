@@ -2,7 +2,7 @@
 
 ghost use Rattle.slub_turns.specs.Laws.{RoundsBeginReady, TurnsKeepReady, PicksFit, RoundsBySeedClose};
 
-use slub_bounds::laws::{
+use slub_law_opening::bound_laws::{
     bounded_counts_fit, rounds_begin_bounded, rounds_close_into_lists, turns_keep_bounds,
 };
 

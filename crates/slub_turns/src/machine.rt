@@ -2,7 +2,7 @@
 
 ghost use Rattle.std.specs.Prelude.{◌≡◌};
 ghost use Rattle.slub_core.specs.Opening.{opened};
-ghost use Rattle.slub_local.specs.Facts.{setup_of};
+ghost use Rattle.slub_core.specs.Facts.{setup_of};
 ghost use Rattle.slub_turns.specs.Means.{the_means};
 ghost use Rattle.slub_turns.specs.System.{system_of};
 ghost use Rattle.slub_turns.specs.Ready.{IsReady};
@@ -10,9 +10,9 @@ ghost use Rattle.slub_turns.specs.Ready.{IsReady};
 use crate::begin::{is_finished, rest_all};
 use crate::laws::{picks_fit, turns_keep_ready};
 use crate::turn::turn_of;
-use slub_local::guarded::Guarded;
-use slub_local::local::Local;
-use slub_local::setup::Setup;
+use slub_core::guarded::Guarded;
+use slub_core::setup::Setup;
+use slub_core::worker_local::Local;
 use slub_schedule::machine;
 use slub_schedule::table::Table;
 

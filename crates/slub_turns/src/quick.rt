@@ -9,19 +9,19 @@ ghost use Rattle.slub_core.specs.Setup.{Means};
 ghost use Rattle.slub_core.specs.World.{LockValue};
 ghost use Rattle.slub_core.specs.Local.{at, noted};
 ghost use Rattle.slub_core.specs.Steps as core;
-ghost use Rattle.slub_local.specs.Facts.{setup_of};
-ghost use Rattle.slub_fits.specs.Fits.{StepFits};
+ghost use Rattle.slub_core.specs.Facts.{setup_of};
+ghost use Rattle.slub_turns.specs.Fits.{StepFits};
 ghost use Rattle.slub_turns.specs.Quick.{spot_of, MayHear, quick_to};
 
 use crate::begin::rest;
-use slub_answers::reply::Reply;
+use slub_core::ops;
+use slub_core::setup::Setup;
 use slub_core::spot::{AllocSpot, FreeSpot, Spot};
 use slub_core::step::{Answer, Step};
-use slub_local::local::Local;
-use slub_local::ops;
-use slub_local::setup::Setup;
-use slub_local::ways::{is_spent, raised_word};
-use slub_local::words::cpu_in;
+use slub_core::ways::{is_spent, raised_word};
+use slub_core::words::cpu_in;
+use slub_core::worker_local::Local;
+use slub_trace::reply::Reply;
 
 /// A spot of a fast path.
 #[derive(Clone, Copy, Debug, PartialEq, Eq)]

@@ -2,7 +2,7 @@
 
 ghost use Rattle.std.specs.Prelude.{◌≡◌, ◌≤◌, ◌<◌, ◌^◌, length, sum_by, IfOk, MatchResult, List};
 ghost use Rattle.slub_core.specs.Run.{Pick};
-ghost use Rattle.slub_local.specs.Facts.{setup_of};
+ghost use Rattle.slub_core.specs.Facts.{setup_of};
 ghost use Rattle.slub_schedule.specs.Schedule.{marks_of, places_of};
 ghost use Rattle.slub_schedule.specs.Turns.{events_of};
 ghost use Rattle.slub_schedule.specs.Rounds.{Ends};
@@ -14,7 +14,7 @@ ghost use Rattle.slub_turns.specs.Round.{IsUnended};
 use crate::begin::is_finished;
 use crate::machine::Machine;
 use slub_common::no_memory::NoMemory;
-use slub_local::local::Local;
+use slub_core::worker_local::Local;
 use slub_schedule::machine::scheduled;
 use slub_schedule::order::Order;
 use slub_schedule::turns::turns_for;

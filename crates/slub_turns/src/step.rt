@@ -3,24 +3,24 @@
 ghost use Rattle.std.specs.Prelude.{◌≡◌};
 ghost use Rattle.slub_core.specs.Setup.{Means};
 ghost use Rattle.slub_core.specs.Steps as core;
-ghost use Rattle.slub_local.specs.Facts.{setup_of};
-ghost use Rattle.slub_local.specs.Values.{values_of};
-ghost use Rattle.slub_fits.specs.Fits.{StepFits};
+ghost use Rattle.slub_core.specs.Facts.{setup_of};
+ghost use Rattle.slub_core.specs.Values.{values_of};
+ghost use Rattle.slub_turns.specs.Fits.{StepFits};
 
 use slub_alloc_paths::step::alloc_step;
 use slub_checked_paths::checked::checked_step;
+use slub_core::guarded::Guarded;
+use slub_core::ops;
+use slub_core::setup::Setup;
 use slub_core::spot::Spot;
 use slub_core::step::Step;
+use slub_core::worker_local::Local;
 use slub_free_paths::discard::discard_step;
 use slub_free_paths::free::free_step;
 use slub_free_paths::move_set::move_set_step;
 use slub_free_paths::put_away::put_away_step;
 use slub_free_paths::put_on_list::put_on_list_step;
 use slub_free_paths::uses::{read_step, write_step};
-use slub_local::guarded::Guarded;
-use slub_local::local::Local;
-use slub_local::ops;
-use slub_local::setup::Setup;
 use slub_offline::offline::offline_step;
 use slub_offline::trim::trim_step;
 

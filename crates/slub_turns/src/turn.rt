@@ -3,10 +3,10 @@
 ghost use Rattle.std.specs.Prelude.{◌≡◌, List, false};
 ghost use Rattle.slub_core.specs.Setup.{Means};
 ghost use Rattle.slub_core.specs.Run.{turn};
-ghost use Rattle.slub_local.specs.declared.guarded.Guarded.{Guarded};
-ghost use Rattle.slub_local.specs.Facts.{setup_of};
-ghost use Rattle.slub_local.specs.Values.{rooms_of};
-ghost use Rattle.slub_fits.specs.Fits.{PickFits, HasRooms, TurnFits};
+ghost use Rattle.slub_core.specs.declared.guarded.Guarded.{Guarded};
+ghost use Rattle.slub_core.specs.Facts.{setup_of};
+ghost use Rattle.slub_core.specs.Values.{rooms_of};
+ghost use Rattle.slub_turns.specs.Fits.{PickFits, HasRooms, TurnFits};
 ghost use Rattle.slub_turns.specs.Quick.{spot_of};
 ghost use Rattle.slub_turns.specs.System.{alone, picked_alone, IsTableFor, FitsAlone, LeadsAlone};
 
@@ -15,12 +15,12 @@ use crate::at_once::settle;
 use crate::begin::{begin, rest};
 use crate::quick::{Quick, lead, quick_step};
 use crate::step::step_at;
+use slub_core::guarded::Guarded;
+use slub_core::setup::Setup;
 use slub_core::spot::Spot::{InAlloc, InFree};
 use slub_core::spot::{AllocSpot, FreeSpot, Spot};
+use slub_core::worker_local::Local;
 use slub_free_paths::free::{free_advance, free_step};
-use slub_local::guarded::Guarded;
-use slub_local::local::Local;
-use slub_local::setup::Setup;
 use slub_schedule::table::Table;
 
 /// The turn of a worker at this spot of a fast path, which has begun its call, whatever the locks guard. Memory isn't

@@ -6,11 +6,11 @@ use Rattle.slub_core.specs.declared.step.Answer.{Answer}
 use Rattle.slub_core.specs.Setup.{Setup}
 use Rattle.slub_core.specs.Local.{Local, Turn, Change, noted, stays}
 use Rattle.slub_core.specs.Steps.{advance_at, settled, rested}
-use Rattle.slub_local.specs.declared.guarded.Guarded.{Guarded}
-use Rattle.slub_local.specs.Facts.{Facts, setup_of}
-use Rattle.slub_local.specs.Values.{values_of}
-use Rattle.slub_local.specs.Ways as ways
-use Rattle.slub_fits.specs.Fits.{HasCallFor}
+use Rattle.slub_core.specs.declared.guarded.Guarded.{Guarded}
+use Rattle.slub_core.specs.Facts.{Facts, setup_of}
+use Rattle.slub_core.specs.Values.{values_of}
+use Rattle.slub_core.specs.Ways as ways
+use Rattle.slub_turns.specs.Fits.{HasCallFor}
 use Rattle.slub_turns.specs.declared.quick.Quick.{Quick}
 use Rattle.slub_turns.specs.Means.{the_means}
 use Rattle.slub_turns.specs.Quick.{spot_of, MayHear, quick_to}

@@ -1,7 +1,7 @@
 -- What the turns of a call make of the worker's replies.
 use Rattle.std.proofs.Common.{◌≡◌, ℕ, ◌⊎◌, Bool, List, [], ◌∷◌, ◌++◌, length, reverse, get_or, Option, Some, None, refl, sym, ap, ◌∙◌, arith, append_assoc, length-append, inl, inr}
 use Rattle.std.proofs.lemmas.List.{get_or-reverse}
-use Rattle.slub_answers.specs.declared.reply.Reply.{Reply}
+use Rattle.slub_trace.specs.declared.reply.Reply.{Reply}
 use Rattle.slub_core.specs.declared.call.Call.{Call}
 use Rattle.slub_core.specs.declared.local.Answered.{Answered}
 use Rattle.slub_core.specs.declared.step.Answer.{Answer}
@@ -13,8 +13,8 @@ use Rattle.slub_core.specs.World.{LockValue}
 use Rattle.slub_core.specs.Local.{Local, Change, nobody, no_call, call_of, answered, noted}
 use Rattle.slub_core.specs.Steps.{advance_at, advance_of, at_once, changed, told_at_once, or_step, rested_with, rested_at, rested, begun_with, begun_at, begun}
 use Rattle.slub_core.proofs.Scripts.{turn-says, change-leaves}
-use Rattle.slub_local.specs.declared.guarded.Guarded.{Guarded}
-use Rattle.slub_local.specs.Values.{values_of}
+use Rattle.slub_core.specs.declared.guarded.Guarded.{Guarded}
+use Rattle.slub_core.specs.Values.{values_of}
 use Rattle.slub_workers.specs.Standing.{Standing, step_in, in_hand, after_turn}
 use Rattle.slub_workers.specs.Turns.{IsAnswered}
 use Rattle.slub_workers.specs.Calls.{IsOver}

@@ -5,9 +5,9 @@ use mathlib.Core.Option.{some, some-injective, some-ne-none}
 use lib.ListN.{get_elem?}
 use Rattle.atomic_table.specs.Table.{Final, Seen}
 use Rattle.slub_core.specs.Local.{Local}
-use Rattle.slub_local.specs.Facts.{Facts}
-use Rattle.slub_local.specs.declared.guarded.Guarded.{Guarded}
-use Rattle.slub_local.specs.declared.guarded.Guarded.TheVariants.{Nothing}
+use Rattle.slub_core.specs.Facts.{Facts}
+use Rattle.slub_core.specs.declared.guarded.Guarded.{Guarded}
+use Rattle.slub_core.specs.declared.guarded.Guarded.TheVariants.{Nothing}
 use Rattle.slub_schedule.specs.Table.{WordTable}
 use Rattle.slub_turns.specs.System.{system_of}
 use Rattle.slub_turns.specs.Ready.{IsReady}

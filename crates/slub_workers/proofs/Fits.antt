@@ -26,15 +26,15 @@ use Rattle.slub_core.specs.declared.spot.CheckedSpot.TheVariants.{DoChecked, Mov
 use Rattle.slub_core.specs.Setup.{node_lock, pool_lock}
 use Rattle.slub_core.specs.World.{frames_in, pool_in}
 use Rattle.slub_core.specs.Local.{Local, here, run_of}
-use Rattle.slub_local.specs.declared.guarded.Guarded.{Guarded}
-use Rattle.slub_local.specs.declared.guarded.Guarded.TheVariants.{Nothing}
-use Rattle.slub_local.specs.Values.{value_in, values_of, HasRoom, IsPoolValue}
+use Rattle.slub_core.specs.declared.guarded.Guarded.{Guarded}
+use Rattle.slub_core.specs.declared.guarded.Guarded.TheVariants.{Nothing}
+use Rattle.slub_core.specs.Values.{value_in, values_of, HasRoom, IsPoolValue}
 use Rattle.slub_alloc_paths.specs.Fits as alloc
 use Rattle.slub_free_paths.specs.Fits.{PutsRun, PutsAway, PutsTail, TakesOff}
 use Rattle.slub_offline.specs.Fits.{IsNodeList, MayScan}
 use Rattle.slub_checked_paths.specs.Slabs.{IsCheckedValue, slabs_at}
 use Rattle.slub_checked_paths.specs.Fits.{MayDo, MayAdd, MayMove, CheckedFits}
-use Rattle.slub_fits.specs.Fits.{AtOnceFits}
+use Rattle.slub_turns.specs.Fits.{AtOnceFits}
 use Rattle.slub_workers.specs.Locks.{locks_of}
 use Rattle.slub_workers.proofs.Locals.{locks_at, node_at, pool_at}
 

@@ -11,10 +11,10 @@ use Rattle.slub_core.specs.declared.step.Op.{Op}
 use Rattle.slub_core.specs.declared.step.Op.TheVariants.{Load, Store, Swap, Exchange}
 use Rattle.slub_core.specs.declared.step.Step.{Step}
 use Rattle.slub_core.specs.declared.step.Answer.{Answer}
-use Rattle.slub_local.specs.Facts.{Facts}
+use Rattle.slub_core.specs.Facts.{Facts}
 use Rattle.slub_core.specs.Words.{word_count, number_of, after_op, answer_of}
-use Rattle.slub_local.specs.declared.guarded.Guarded.{Guarded}
-use Rattle.slub_local.specs.declared.guarded.Guarded.TheVariants.{Nothing}
+use Rattle.slub_core.specs.declared.guarded.Guarded.{Guarded}
+use Rattle.slub_core.specs.declared.guarded.Guarded.TheVariants.{Nothing}
 use Rattle.slub_turns.specs.Laws.{TurnsKeepReady, PicksFit}
 use Rattle.slub_workers.specs.Begun.{Begun}
 use Rattle.slub_workers.specs.Cells.{cell_of, by_number}

@@ -10,7 +10,7 @@ use Rattle.slub_core.specs.declared.spot.Spot.{Spot}
 use Rattle.slub_core.specs.declared.spot.Spot.TheVariants.{Between}
 use Rattle.slub_core.specs.Local.{Local}
 use Rattle.slub_core.specs.Run.{idle}
-use Rattle.slub_local.specs.declared.guarded.Guarded.TheVariants.{Nothing}
+use Rattle.slub_core.specs.declared.guarded.Guarded.TheVariants.{Nothing}
 use Rattle.slub_schedule.specs.Schedule.{IsCall}
 use Rattle.slub_turns.specs.System.{system_of}
 use Rattle.slub_turns.specs.Ready.{IsReady}

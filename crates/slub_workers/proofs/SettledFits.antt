@@ -6,11 +6,11 @@ use Rattle.slub_core.specs.Setup.{Setup}
 use Rattle.slub_core.specs.World.{LockValue}
 use Rattle.slub_core.specs.Local.{Local, Turn, Change, noted}
 use Rattle.slub_core.specs.Steps.{changed}
-use Rattle.slub_local.specs.declared.guarded.Guarded.{Guarded}
-use Rattle.slub_local.specs.declared.guarded.Guarded.TheVariants.{Nothing}
-use Rattle.slub_local.specs.Values.{value_in, values_of, room_in, rooms_of}
-use Rattle.slub_fits.specs.Fits.{AtOnceFits, HasCallFor, change_of}
-use Rattle.slub_turns.specs.Fits.{GuardedFits, SettledFits}
+use Rattle.slub_core.specs.declared.guarded.Guarded.{Guarded}
+use Rattle.slub_core.specs.declared.guarded.Guarded.TheVariants.{Nothing}
+use Rattle.slub_core.specs.Values.{value_in, values_of, room_in, rooms_of}
+use Rattle.slub_turns.specs.Fits.{AtOnceFits, HasCallFor, change_of}
+use Rattle.slub_turns.specs.SettledFits.{GuardedFits, SettledFits}
 use Rattle.slub_workers.specs.Locks.{locks_of}
 use Rattle.slub_workers.proofs.Locals.{contains_or, noted_locks}
 use Rattle.slub_workers.proofs.AtOnce.{AreAlike}

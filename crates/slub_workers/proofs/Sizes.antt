@@ -2,8 +2,8 @@
 use Rattle.std.proofs.Common.{◌≤◌, List}
 use Rattle.slub_core.specs.Local.{Local}
 use Rattle.slub_core.specs.World.{world_from, world_of}
-use Rattle.slub_local.specs.declared.guarded.Guarded.{Guarded}
-use Rattle.slub_local.specs.Facts.{Facts}
+use Rattle.slub_core.specs.declared.guarded.Guarded.{Guarded}
+use Rattle.slub_core.specs.Facts.{Facts}
 use Rattle.slub_schedule.specs.Table.{WordTable}
 use Rattle.slub_turns.specs.Ready.{IsReady}
 

@@ -7,11 +7,11 @@ use Rattle.slub_core.specs.Setup.{Setup}
 use Rattle.slub_core.specs.Words.{number_of, answer_of}
 use Rattle.slub_core.specs.Local.{Local, Turn}
 use Rattle.slub_core.specs.Steps.{step_of, advance_at, begun}
-use Rattle.slub_local.specs.declared.guarded.Guarded.{Guarded}
-use Rattle.slub_local.specs.declared.guarded.Guarded.TheVariants.{Nothing}
-use Rattle.slub_local.specs.Values.{values_of, rooms_of}
-use Rattle.slub_fits.specs.Fits.{HasRooms, PickFits, TurnFits, BeginFits, StepFits, change_of, after_answer}
-use Rattle.slub_turns.specs.Fits.{SettledFits}
+use Rattle.slub_core.specs.declared.guarded.Guarded.{Guarded}
+use Rattle.slub_core.specs.declared.guarded.Guarded.TheVariants.{Nothing}
+use Rattle.slub_core.specs.Values.{values_of, rooms_of}
+use Rattle.slub_turns.specs.Fits.{HasRooms, PickFits, TurnFits, BeginFits, StepFits, change_of, after_answer}
+use Rattle.slub_turns.specs.SettledFits.{SettledFits}
 use Rattle.slub_turns.specs.Laws.{TurnsKeepReady, PicksFit}
 use Rattle.slub_workers.specs.Begun.{Begun}
 use Rattle.slub_workers.specs.Locks.{Move, Takes, Gives, move_of, locks_of}

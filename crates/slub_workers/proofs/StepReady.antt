@@ -8,9 +8,9 @@ use Rattle.slub_core.specs.World as value
 use Rattle.slub_core.specs.Listed.{IsGuarded}
 use Rattle.slub_core.specs.Run.{System}
 use Rattle.slub_core.specs.Law.{IsCoherentSystem}
-use Rattle.slub_local.specs.declared.guarded.Guarded.{Guarded}
-use Rattle.slub_local.specs.declared.guarded.Guarded.TheVariants.{Nothing}
-use Rattle.slub_local.specs.Values.{room_in, rooms_of}
+use Rattle.slub_core.specs.declared.guarded.Guarded.{Guarded}
+use Rattle.slub_core.specs.declared.guarded.Guarded.TheVariants.{Nothing}
+use Rattle.slub_core.specs.Values.{room_in, rooms_of}
 use Rattle.slub_turns.specs.Ready.{room_for, rooms_for}
 use Rattle.slub_workers.specs.Standing.{guarded_as, all_guarded}
 use Rattle.slub_workers.proofs.StepValues.{length-all, all-at, length-rooms}

@@ -13,10 +13,10 @@ use Rattle.slub_core.specs.Listed.{IsGuarded}
 use Rattle.slub_core.specs.Local.{Local}
 use Rattle.slub_core.specs.Run.{System, Pick, idle, turn, run}
 use Rattle.slub_core.specs.Law.{IsCoherentSystem}
-use Rattle.slub_local.specs.declared.guarded.Guarded.{Guarded}
-use Rattle.slub_local.specs.declared.guarded.Guarded.TheVariants.{Nothing}
-use Rattle.slub_local.specs.Values.{values_of, rooms_of}
-use Rattle.slub_fits.specs.Fits.{HasRooms}
+use Rattle.slub_core.specs.declared.guarded.Guarded.{Guarded}
+use Rattle.slub_core.specs.declared.guarded.Guarded.TheVariants.{Nothing}
+use Rattle.slub_core.specs.Values.{values_of, rooms_of}
+use Rattle.slub_turns.specs.Fits.{HasRooms}
 use Rattle.slub_schedule.specs.Schedule.{IsCall}
 use Rattle.slub_turns.specs.Laws.{TurnsKeepReady, PicksFit}
 use Rattle.slub_turns.specs.Ready.{rooms_for, MayTurn, IsReady}

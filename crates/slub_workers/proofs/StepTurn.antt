@@ -12,9 +12,9 @@ use Rattle.slub_core.specs.Local.{Local, Turn, Change}
 use Rattle.slub_core.specs.Steps.{step_of, advance_at, advance_of, begun}
 use Rattle.slub_core.specs.Run.{System, idle, after_step, turn}
 use Rattle.slub_core.specs.Law.{IsCoherentSystem}
-use Rattle.slub_local.specs.declared.guarded.Guarded.{Guarded}
-use Rattle.slub_local.specs.declared.guarded.Guarded.TheVariants.{Nothing}
-use Rattle.slub_local.specs.Values.{value_in, values_of, room_in, rooms_of}
+use Rattle.slub_core.specs.declared.guarded.Guarded.{Guarded}
+use Rattle.slub_core.specs.declared.guarded.Guarded.TheVariants.{Nothing}
+use Rattle.slub_core.specs.Values.{value_in, values_of, room_in, rooms_of}
 use Rattle.slub_workers.specs.Locks.{Move, locks_of, move_of, values_moved}
 use Rattle.slub_workers.specs.Standing.{Standing, begun_in, step_in, in_hand, after_turn, guarded_as, all_guarded, locals_of}
 use Rattle.slub_workers.proofs.Locals.{uses_values, uses_node, uses_no_lock, contains_node, step_alike, advance_alike, begun_locks}

@@ -5,9 +5,9 @@ use Rattle.std.proofs.lemmas.List.{length-map, get_or-map, get_or_past, same_lis
 use Rattle.std.proofs.lemmas.List.FromFn.{length-map-range_with_len, get_or-map-range_with_len}
 use Rattle.slub_core.specs.World.{LockValue}
 use Rattle.slub_core.specs.World as value
-use Rattle.slub_local.specs.declared.guarded.Guarded.{Guarded}
-use Rattle.slub_local.specs.declared.guarded.Guarded.TheVariants.{Nothing, Node, Checked, Pool}
-use Rattle.slub_local.specs.Values.{value_in, values_of, room_in, rooms_of}
+use Rattle.slub_core.specs.declared.guarded.Guarded.{Guarded}
+use Rattle.slub_core.specs.declared.guarded.Guarded.TheVariants.{Nothing, Node, Checked, Pool}
+use Rattle.slub_core.specs.Values.{value_in, values_of, room_in, rooms_of}
 use Rattle.slub_workers.specs.Standing.{guarded_as, all_guarded}
 
 -- ---- one

@@ -5,8 +5,8 @@ use Rattle.std.proofs.lemmas.Bool.{cases_Bool, eq-eqb, ne_eqb}
 use Rattle.slub_object_layout.specs.Layout.{address_of}
 use Rattle.slub_words.specs.declared.cpu.CpuWord.{CpuWord}
 use Rattle.slub_words.specs.Words.{cpu_bits}
-use Rattle.slub_answers.specs.declared.reply.Reply.{Reply}
-use Rattle.slub_answers.specs.declared.reply.Reply.TheVariants as reply
+use Rattle.slub_trace.specs.declared.reply.Reply.{Reply}
+use Rattle.slub_trace.specs.declared.reply.Reply.TheVariants as reply
 use Rattle.slub_core.specs.declared.call.Call.{Call}
 use Rattle.slub_core.specs.declared.call.CallKind.TheVariants.{Alloc}
 use Rattle.slub_core.specs.declared.local.Answered.{Answered}
@@ -21,11 +21,11 @@ use Rattle.slub_core.specs.Words.{cpu_in, answer_of}
 use Rattle.slub_core.specs.Alloc.{is_spent, found_at}
 use Rattle.slub_core.specs.Local.{Local, nobody, no_call, at, gets, answered, call_of}
 use Rattle.slub_core.specs.Steps.{step_of, advance_of, told_at_once, or_step, rested_with, rested}
-use Rattle.slub_local.specs.Facts.{Facts, cache_of}
-use Rattle.slub_local.specs.Ways.{is_spent_by}
-use Rattle.slub_local.specs.declared.guarded.Guarded.{Guarded}
-use Rattle.slub_local.specs.declared.guarded.Guarded.TheVariants.{Nothing}
-use Rattle.slub_local.specs.Values.{values_of, rooms_of}
+use Rattle.slub_core.specs.Facts.{Facts, cache_of}
+use Rattle.slub_core.specs.Ways.{is_spent_by}
+use Rattle.slub_core.specs.declared.guarded.Guarded.{Guarded}
+use Rattle.slub_core.specs.declared.guarded.Guarded.TheVariants.{Nothing}
+use Rattle.slub_core.specs.Values.{values_of, rooms_of}
 use Rattle.slub_workers.specs.declared.fast.Fast.TheVariants.{Given, Empty, Moved, IdsSpent}
 use Rattle.slub_workers.specs.Begun.{Begun}
 use Rattle.slub_workers.specs.Locks.{move_of, values_moved}

@@ -1,6 +1,6 @@
 -- The turn of a worker at its seat, step by step.
 use Rattle.std.proofs.Common.{◌≡◌, ℕ, Bool, ◌||◌, List, ◌++◌, length, take, drop, Option, sym, ap, ◌∙◌, subst}
-use Rattle.slub_answers.specs.declared.reply.Reply.{Reply}
+use Rattle.slub_trace.specs.declared.reply.Reply.{Reply}
 use Rattle.atomic_table.specs.Table.{Me}
 use Rattle.slub_core.specs.declared.spot.Spot.{Spot}
 use Rattle.slub_core.specs.declared.step.Answer.{Answer}
@@ -9,13 +9,13 @@ use Rattle.slub_core.specs.Setup.{Setup}
 use Rattle.slub_core.specs.Words.{answer_of}
 use Rattle.slub_core.specs.Local.{Local, Turn, Change, noted}
 use Rattle.slub_core.specs.Steps.{step_at, advance_at, settled, rested, begun}
-use Rattle.slub_local.specs.declared.guarded.Guarded.{Guarded}
-use Rattle.slub_local.specs.Facts.{Facts, setup_of}
-use Rattle.slub_local.specs.Values.{values_of, rooms_of}
-use Rattle.slub_local.specs.Ways as ways
-use Rattle.slub_fits.specs.Fits.{StepFits, change_of}
+use Rattle.slub_core.specs.declared.guarded.Guarded.{Guarded}
+use Rattle.slub_core.specs.Facts.{Facts, setup_of}
+use Rattle.slub_core.specs.Values.{values_of, rooms_of}
+use Rattle.slub_core.specs.Ways as ways
+use Rattle.slub_turns.specs.Fits.{StepFits, change_of}
 use Rattle.slub_turns.specs.Means.{the_means}
-use Rattle.slub_turns.specs.Fits.{SettledFits}
+use Rattle.slub_turns.specs.SettledFits.{SettledFits}
 use Rattle.slub_turns.proofs.Turned.{step_fits}
 use Rattle.slub_turns.proofs.Alone.{back_whole}
 use Rattle.slub_workers.specs.Begun.{Begun}

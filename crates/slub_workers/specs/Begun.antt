@@ -1,8 +1,8 @@
 -- What a round by threads begins with.
 use Rattle.std.specs.Prelude.{List}
 use Rattle.slub_core.specs.Local.{Local}
-use Rattle.slub_local.specs.Facts.{Facts}
-use Rattle.slub_local.specs.declared.guarded.Guarded.{Guarded}
+use Rattle.slub_core.specs.Facts.{Facts}
+use Rattle.slub_core.specs.declared.guarded.Guarded.{Guarded}
 use Rattle.slub_schedule.specs.Table.{WordTable}
 
 -- the machine of a round, as plain data: what its locks guard, by the number of the lock, and its

@@ -8,8 +8,8 @@ use Rattle.slub_core.specs.declared.step.Step.{Step}
 use Rattle.slub_core.specs.Setup.{node_lock, pool_lock}
 use Rattle.slub_core.specs.Spots.{has_node, has_pool}
 use Rattle.slub_core.specs.Local.{Local}
-use Rattle.slub_local.specs.declared.guarded.Guarded.{Guarded}
-use Rattle.slub_local.specs.declared.guarded.Guarded.TheVariants.{Nothing}
+use Rattle.slub_core.specs.declared.guarded.Guarded.{Guarded}
+use Rattle.slub_core.specs.declared.guarded.Guarded.TheVariants.{Nothing}
 
 -- ---- the locks of a worker
 

@@ -8,9 +8,9 @@ use Rattle.slub_core.specs.declared.step.Answer.TheVariants.{Done}
 use Rattle.slub_core.specs.Setup.{Setup}
 use Rattle.slub_core.specs.Local.{Local}
 use Rattle.slub_core.specs.Run.{Pick, System, run}
-use Rattle.slub_local.specs.Facts.{Facts, setup_of}
-use Rattle.slub_local.specs.declared.guarded.Guarded.{Guarded}
-use Rattle.slub_local.specs.declared.guarded.Guarded.TheVariants.{Nothing}
+use Rattle.slub_core.specs.Facts.{Facts, setup_of}
+use Rattle.slub_core.specs.declared.guarded.Guarded.{Guarded}
+use Rattle.slub_core.specs.declared.guarded.Guarded.TheVariants.{Nothing}
 use Rattle.slub_schedule.specs.Schedule.{IsCall}
 use Rattle.slub_schedule.specs.Table.{WordTable}
 use Rattle.slub_turns.specs.Means.{the_means}

@@ -8,11 +8,11 @@ use Rattle.slub_core.specs.declared.step.Answer.{Answer}
 use Rattle.slub_core.specs.declared.step.Step.{Step}
 use Rattle.slub_core.specs.Words.{answer_of}
 use Rattle.slub_core.specs.Steps.{advance_at}
-use Rattle.slub_local.specs.declared.guarded.Guarded.{Guarded}
-use Rattle.slub_local.specs.declared.guarded.Guarded.TheVariants.{Nothing}
-use Rattle.slub_local.specs.Values.{values_of}
-use Rattle.slub_fits.specs.Fits.{change_of}
-use Rattle.slub_turns.specs.Fits.{SettledFits}
+use Rattle.slub_core.specs.declared.guarded.Guarded.{Guarded}
+use Rattle.slub_core.specs.declared.guarded.Guarded.TheVariants.{Nothing}
+use Rattle.slub_core.specs.Values.{values_of}
+use Rattle.slub_turns.specs.Fits.{change_of}
+use Rattle.slub_turns.specs.SettledFits.{SettledFits}
 use Rattle.slub_workers.specs.Begun.{Begun}
 use Rattle.slub_workers.specs.Locks.{Move, Stays, Takes, Gives, locks_of, move_of, slots_out}
 use Rattle.slub_workers.specs.Standing.{Standing, Fork, branch, counted, begun_in, step_in, in_hand, after_turn, fork_after}

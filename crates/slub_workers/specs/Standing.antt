@@ -9,9 +9,9 @@ use Rattle.slub_core.specs.World.{LockValue}
 use Rattle.slub_core.specs.World as value
 use Rattle.slub_core.specs.Local.{Local}
 use Rattle.slub_core.specs.Steps.{step_of, advance_of, begun}
-use Rattle.slub_local.specs.declared.guarded.Guarded.{Guarded}
-use Rattle.slub_local.specs.declared.guarded.Guarded.TheVariants.{Nothing, Node, Checked, Pool}
-use Rattle.slub_local.specs.Values.{values_of, rooms_of}
+use Rattle.slub_core.specs.declared.guarded.Guarded.{Guarded}
+use Rattle.slub_core.specs.declared.guarded.Guarded.TheVariants.{Nothing, Node, Checked, Pool}
+use Rattle.slub_core.specs.Values.{values_of, rooms_of}
 use Rattle.slub_workers.specs.Locks.{move_of, values_moved}
 
 -- a worker, what the locks guard that it has, by the number of the lock, whether a turn of it was

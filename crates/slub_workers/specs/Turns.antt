@@ -1,12 +1,12 @@
 -- Turns of one worker, one after another, each a turn of the step machine.
 use Rattle.std.specs.Prelude.{◌≡◌, ◌<◌, ℕ, Bool, false, List, [], ◌∷◌, ◌++◌, length}
-use Rattle.slub_answers.specs.declared.reply.Reply.{Reply}
+use Rattle.slub_trace.specs.declared.reply.Reply.{Reply}
 use Rattle.slub_core.specs.declared.local.Answered.{Answered}
 use Rattle.slub_core.specs.declared.spot.Spot.TheVariants.{Between}
 use Rattle.slub_core.specs.Setup.{Setup}
 use Rattle.slub_core.specs.Local.{Local, call_of}
-use Rattle.slub_local.specs.declared.guarded.Guarded.{Guarded}
-use Rattle.slub_local.specs.declared.guarded.Guarded.TheVariants.{Nothing}
+use Rattle.slub_core.specs.declared.guarded.Guarded.{Guarded}
+use Rattle.slub_core.specs.declared.guarded.Guarded.TheVariants.{Nothing}
 use Rattle.slub_workers.specs.Standing.{Standing, after_turn}
 
 -- ---- where turns lead

@@ -10,9 +10,9 @@ ghost use Rattle.slub_workers.specs.Workers.{MayTurnAt, worker_in};
 use crate::shared::Shared;
 use crate::waits::Waits;
 use crate::worker::Worker;
-use slub_answers::reply::Reply;
 use slub_core::spot::Spot;
-use slub_local::local::Local;
+use slub_core::worker_local::Local;
+use slub_trace::reply::Reply;
 use std::sync::Wait;
 
 /// The reply to the call that came after so many replies, where that call is over.

@@ -2,7 +2,7 @@
 
 ghost use Rattle.std.specs.Prelude.{◌≡◌, ℕ, true, false, Some};
 ghost use Rattle.slub_core.specs.declared.call.CallKind.TheVariants.{Alloc};
-ghost use Rattle.slub_local.specs.Facts.{cache_of};
+ghost use Rattle.slub_core.specs.Facts.{cache_of};
 ghost use Rattle.slub_workers.specs.Rule.{setup_in};
 ghost use Rattle.slub_workers.specs.Tables.{begun_at, table_of};
 ghost use Rattle.slub_workers.specs.Workers.{MayTurnAt, worker_in};
@@ -10,10 +10,10 @@ ghost use Rattle.slub_workers.specs.Workers.{MayTurnAt, worker_in};
 use crate::shared::Shared;
 use crate::worker::Worker;
 use slub_core::call::{Call, CallKind};
+use slub_core::setup::Setup;
 use slub_core::spot::Spot;
 use slub_core::step::Answer;
-use slub_local::setup::Setup;
-use slub_local::ways::is_spent;
+use slub_core::ways::is_spent;
 use slub_turns::quick::Quick;
 
 /// What a try of the fast path answers.

@@ -34,8 +34,6 @@ mod rule;
 pub mod shared;
 mod standing;
 mod step;
-#[cfg(test)]
-mod tests;
 mod try_turns;
 mod waits;
 pub mod worker;

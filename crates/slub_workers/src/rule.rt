@@ -3,7 +3,7 @@
 use crate::standing::Fork;
 use atomic_table::{Join, Play, Split, TableRule};
 use slub_common::sequence::Sequence;
-use slub_local::guarded::Guarded;
+use slub_core::guarded::Guarded;
 use slub_turns::machine::Machine;
 use std::marker::{Brand, Model, PhantomData};
 use std::snapshot::Snapshot;

@@ -1,8 +1,8 @@
 //! What a worker has between two turns.
 
+use slub_core::guarded::Guarded;
 use slub_core::step::Answer;
-use slub_local::guarded::Guarded;
-use slub_local::local::Local;
+use slub_core::worker_local::Local;
 use std::marker::Model;
 
 /// A worker, and what the locks guard that it has.

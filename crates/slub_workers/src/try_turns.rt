@@ -3,7 +3,7 @@
 ghost use Rattle.std.specs.Prelude.{◌≡◌, true};
 ghost use Rattle.slub_core.specs.Setup.{Setup};
 ghost use Rattle.slub_core.specs.Steps.{begun};
-ghost use Rattle.slub_fits.specs.Fits.{BeginFits};
+ghost use Rattle.slub_turns.specs.Fits.{BeginFits};
 ghost use Rattle.slub_turns.specs.Quick.{spot_of};
 ghost use Rattle.slub_workers.specs.Rule.{setup_in};
 ghost use Rattle.slub_workers.specs.Sits.{Sits, MayStand, HasTurned};
@@ -18,7 +18,7 @@ use crate::standing::Standing;
 use crate::worker::{Worker, one_more};
 use slub_core::spot::{AllocSpot, Spot};
 use slub_core::step::{Answer, Step};
-use slub_local::local::Local;
+use slub_core::worker_local::Local;
 use slub_turns::laws::{picks_fit, turns_keep_ready};
 use slub_turns::quick::Quick;
 use std::marker::Brand;

@@ -2,8 +2,8 @@
 
 use crate::shared::WorkerSeat;
 use crate::worker::Worker;
-use slub_local::guarded::Guarded;
-use slub_local::local::Local;
+use slub_core::guarded::Guarded;
+use slub_core::worker_local::Local;
 
 /// The workers of a round, each with its seat at the table.
 #[derive(Drop)]

@@ -1,5 +1,5 @@
 -- Each spot's own function is equal to the definition at that spot.
-use Rattle.slub_local.specs.Facts.{setup_of}
+use Rattle.slub_core.specs.Facts.{setup_of}
 use Rattle.slub_alloc_paths.proofs.advance.alloc_advance.Goals as goal
 
 pub returns-in-LoadCpu : goal.returns-in-LoadCpu

@@ -1,7 +1,7 @@
 use Rattle.std.proofs.Common.{◌≡◌, true, false, sym, ◌∙◌}
 use Rattle.slub_core.specs.Alloc.{asks_for_another}
-use Rattle.slub_local.specs.Facts.{setup_of}
-use Rattle.slub_local.specs.Values.{values_of}
+use Rattle.slub_core.specs.Facts.{setup_of}
+use Rattle.slub_core.specs.Values.{values_of}
 use Rattle.slub_alloc_paths.proofs.AtOnce.{pop_node-stops, pop_node-pops}
 use Rattle.slub_alloc_paths.proofs.at_once.pop_node.Goals as goal
 

@@ -1,6 +1,6 @@
 use Rattle.std.proofs.Common.{ap, ◌∙◌}
-use Rattle.slub_local.specs.Facts.{setup_of, cache_of}
-use Rattle.slub_local.specs.Values.{values_of}
+use Rattle.slub_core.specs.Facts.{setup_of, cache_of}
+use Rattle.slub_core.specs.Values.{values_of}
 use Rattle.slub_alloc_paths.proofs.AtOnce.{take_run-some, take_run-none}
 use Rattle.slub_alloc_paths.proofs.at_once.take_run.Goals as goal
 

@@ -1,15 +1,15 @@
 use Rattle.std.proofs.Common.{◌≡◌, ℕ, List, length, sym, ◌∙◌, ap, subst}
 use Rattle.std.specs.Prelude.{IfErr, IfOk}
-use Rattle.slub_events.specs.declared.event.Act.{Act}
+use Rattle.slub_trace.specs.declared.event.Act.{Act}
 use Rattle.slub_trace.specs.declared.trace.Trace.{Trace}
 use Rattle.slub_trace.specs.Sound.{objects_of}
 use Rattle.slub_calls.specs.Laws.{MayDo}
-use Rattle.slub_journal.specs.Asked.{round_of}
+use Rattle.slub_slabinfo_text.specs.Asked.{round_of}
 use Rattle.slub_engine.specs.Steps.{KeepsUnheld}
-use Rattle.slub_clients.specs.Asked.{DoesAsked, IsOpenTo, SpendsAsked, StaysOpen}
-use Rattle.slub_clients.specs.BulkLines.{allocs_of}
-use Rattle.slub_clients.specs.Stopped.{IsStoppedWhere}
-use Rattle.slub_clients.proofs.Allowed.{allocs-objects}
+use Rattle.slub_rounds.specs.Asked.{DoesAsked, IsOpenTo, SpendsAsked, StaysOpen}
+use Rattle.slub_rounds.specs.BulkLines.{allocs_of}
+use Rattle.slub_rounds.specs.ClientStopped.{IsStoppedWhere}
+use Rattle.slub_rounds.proofs.Allowed.{allocs-objects}
 use Rattle.slub_bulk.proofs.Boards.{allocs_may, may_take}
 use Rattle.slub_bulk.proofs.all.alloc_round.Goals as goal
 

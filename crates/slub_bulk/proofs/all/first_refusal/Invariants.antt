@@ -1,6 +1,6 @@
 use Rattle.std.proofs.Common.{◌≡◌, [], take}
 use Rattle.std.specs.List.{filter_map}
-use Rattle.slub_journal.specs.Asked.{refusal_of}
+use Rattle.slub_slabinfo_text.specs.Asked.{refusal_of}
 use Rattle.slub_bulk.proofs.all.first_refusal.Given as goal
 
 -- none so far

@@ -1,10 +1,10 @@
 use Rattle.std.proofs.Common.{rules, IfErr, ◌≡◌, [], ◌∷◌, ◌++◌, List, sym, ◌∙◌, ap}
-use Rattle.slub_journal.specs.declared.client.ClientRound.{ClientRound}
-use Rattle.slub_journal.specs.Asked.{frees_of}
-use Rattle.slub_clients.specs.Asked.{SpendsAsked}
-use Rattle.slub_clients.specs.Stopped.{IsStoppedWhere}
-use Rattle.slub_clients.proofs.Staying.{stays-same}
-use Rattle.slub_clients.proofs.Stopping.{none-stopped, whole-stopped}
+use Rattle.slub_slabinfo_text.specs.declared.client.ClientRound.{ClientRound}
+use Rattle.slub_slabinfo_text.specs.Asked.{frees_of}
+use Rattle.slub_rounds.specs.Asked.{SpendsAsked}
+use Rattle.slub_rounds.specs.ClientStopped.{IsStoppedWhere}
+use Rattle.slub_rounds.proofs.Staying.{stays-same}
+use Rattle.slub_rounds.proofs.Stopping.{none-stopped, whole-stopped}
 use Rattle.slub_bulk.proofs.Boards.{again_made, none_made, some_there}
 use Rattle.slub_bulk.proofs.all.free_again.Goals as goal
 

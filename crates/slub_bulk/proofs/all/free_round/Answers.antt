@@ -1,16 +1,16 @@
 use Rattle.std.proofs.Common.{◌≡◌, ℕ, List, length, sym, ◌∙◌, ap, subst, arith}
 use Rattle.std.specs.Prelude.{IfErr, IfOk}
 use Rattle.std.proofs.lemmas.Result.{IfOk-weaker}
-use Rattle.slub_events.specs.declared.event.Act.{Act}
+use Rattle.slub_trace.specs.declared.event.Act.{Act}
 use Rattle.slub_trace.specs.declared.trace.Trace.{Trace}
 use Rattle.slub_trace.specs.Sound.{objects_of}
 use Rattle.slub_calls.specs.Laws.{MayDo}
-use Rattle.slub_journal.specs.Asked.{frees_of, round_of}
-use Rattle.slub_round_law.specs.Round.{IsRound}
+use Rattle.slub_slabinfo_text.specs.Asked.{frees_of, round_of}
+use Rattle.slub_law_rounds.specs.Round.{IsRound}
 use Rattle.slub_engine.specs.Steps.{KeepsUnheld}
-use Rattle.slub_clients.specs.Asked.{DoesAsked, IsOpenTo, SpendsAsked, StaysOpen}
-use Rattle.slub_clients.specs.Stopped.{IsStoppedWhere}
-use Rattle.slub_clients.proofs.Allowed.{frees-may, frees-objects}
+use Rattle.slub_rounds.specs.Asked.{DoesAsked, IsOpenTo, SpendsAsked, StaysOpen}
+use Rattle.slub_rounds.specs.ClientStopped.{IsStoppedWhere}
+use Rattle.slub_rounds.proofs.Allowed.{frees-may, frees-objects}
 use Rattle.slub_bulk.proofs.Boards.{replies_even}
 use Rattle.slub_bulk.proofs.all.free_round.Goals as goal
 

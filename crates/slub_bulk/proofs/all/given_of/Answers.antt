@@ -2,7 +2,7 @@ use Rattle.std.proofs.Common.{◌≡◌, ◌+◌, [], ◌∷◌, ◌++◌, lengt
 use Rattle.std.specs.Slice.Iter.{iter_rest}
 use Rattle.std.specs.Iterator.Adapters.{zip_first, zip_second}
 use Rattle.std.proofs.lemmas.Slice.Zip.{zip_turn, zip_end}
-use Rattle.slub_journal.proofs.Zips.{length-snoc}
+use Rattle.slub_slabinfo_text.proofs.Zips.{length-snoc}
 use Rattle.slub_bulk.proofs.Bulking.{given_more, given_whole}
 use Rattle.slub_bulk.proofs.all.given_of.Goals as goal
 

@@ -1,15 +1,15 @@
 use Rattle.std.proofs.Common.{rules, IfErr, IsSome, Option, ◌≡◌, ℕ, ◌≤◌, ◌^◌, List, length, refl, sym, ◌∙◌, ap, subst, All, inl, inr, arith}
-use Rattle.slub_answers.specs.declared.reply.Reply.{Reply}
-use Rattle.slub_answers.specs.Kinds.{is_given}
-use Rattle.slub_journal.specs.declared.client.CacheRefusal.{CacheRefusal}
-use Rattle.slub_journal.specs.Asked.{first_refusal}
-use Rattle.slub_clients.specs.Asked.{SpendsAsked}
-use Rattle.slub_clients.specs.BulkLines.{FreesAgain, SpendsAgain, allocs_of, replied}
-use Rattle.slub_clients.specs.Laws.{IsNumber}
-use Rattle.slub_clients.specs.Stopped.{IsStoppedWhere}
-use Rattle.slub_clients.proofs.Chosen.{replied_all}
-use Rattle.slub_clients.proofs.Staying.{stays-now, stays-then, unheld_after}
-use Rattle.slub_clients.proofs.Stopping.{none-stopped, whole-stopped}
+use Rattle.slub_trace.specs.declared.reply.Reply.{Reply}
+use Rattle.slub_trace.specs.Kinds.{is_given}
+use Rattle.slub_slabinfo_text.specs.declared.client.CacheRefusal.{CacheRefusal}
+use Rattle.slub_slabinfo_text.specs.Asked.{first_refusal}
+use Rattle.slub_rounds.specs.Asked.{SpendsAsked}
+use Rattle.slub_rounds.specs.BulkLines.{FreesAgain, SpendsAgain, allocs_of, replied}
+use Rattle.slub_rounds.specs.ClientLaws.{IsNumber}
+use Rattle.slub_rounds.specs.ClientStopped.{IsStoppedWhere}
+use Rattle.slub_rounds.proofs.Chosen.{replied_all}
+use Rattle.slub_rounds.proofs.Staying.{stays-now, stays-then, unheld_after}
+use Rattle.slub_rounds.proofs.Stopping.{none-stopped, whole-stopped}
 use Rattle.slub_bulk.proofs.Boards.{few_given, may_take}
 use Rattle.slub_bulk.proofs.Bulking.{numbers_kept}
 use Rattle.slub_bulk.proofs.all.take_all.Goals as goal

@@ -1,7 +1,7 @@
 use Rattle.std.proofs.Common.{◌≡◌, ℕ, ◌+◌, ◌<◌, ◌≤◌, eqb, false, List, length, take, get_or, sym, ◌∙◌, ap, arith}
 use Rattle.std.specs.List.{list_any}
 use Rattle.std.proofs.lemmas.List.{get_or_default, length-append}
-use Rattle.slub_journal.specs.Bulk.{objects_of_slab}
+use Rattle.slub_slabinfo_text.specs.Bulk.{objects_of_slab}
 use Rattle.slub_bulk.specs.declared.order.Place.{Place}
 use Rattle.slub_bulk.specs.Places.{places_of}
 use Rattle.slub_bulk.proofs.Writing.{all_written, join, order_next, order_room, order_seen, order_to}

@@ -1,5 +1,5 @@
 use Rattle.std.proofs.Common.{◌≡◌, ◌++◌, drop, flat_map, length, take}
-use Rattle.slub_journal.specs.Bulk.{objects_of_slab, slabs_among}
+use Rattle.slub_slabinfo_text.specs.Bulk.{objects_of_slab, slabs_among}
 use Rattle.slub_bulk.specs.Places.{places_of}
 use Rattle.slub_bulk.proofs.order.free_order.Given as goal
 

@@ -1,6 +1,6 @@
 use Rattle.std.proofs.Common.{◌≡◌, ℕ, ◌+◌, ◌<◌, ◌≤◌, [], ◌∷◌, List, length, take, get_or, ◌∙◌, ap, arith}
 use Rattle.std.proofs.lemmas.List.{get_or_default, length-append, length-set}
-use Rattle.slub_journal.specs.Bulk.{objects_of_slab}
+use Rattle.slub_slabinfo_text.specs.Bulk.{objects_of_slab}
 use Rattle.slub_bulk.specs.declared.order.Place.{Place}
 use Rattle.slub_bulk.specs.Places.{places_of}
 use Rattle.slub_bulk.proofs.Writing.{front_within, other_more, other_test, own_more, same_test, write_next}

@@ -1,5 +1,5 @@
 use Rattle.std.proofs.Common.{◌≡◌, ◌+◌, ◌++◌, drop, length, take}
-use Rattle.slub_journal.specs.Bulk.{objects_of_slab}
+use Rattle.slub_slabinfo_text.specs.Bulk.{objects_of_slab}
 use Rattle.slub_bulk.specs.Places.{places_of}
 use Rattle.slub_bulk.proofs.order.write_slab.Given as goal
 

@@ -2,12 +2,12 @@ use Rattle.std.proofs.Common.{◌≡◌, List, ℕ, None, length, sym, ◌∙◌
 use Rattle.std.specs.List.{range_with_len}
 use Rattle.std.proofs.lemmas.List.FromFn.{length-range_with_len}
 use Rattle.std.proofs.lemmas.Result.{IfOk-weaker}
-use Rattle.slub_journal.specs.Asked.{frees_of}
-use Rattle.slub_journal.specs.Bulk.{free_order}
-use Rattle.slub_clients.specs.Asked.{SpendsAsked}
-use Rattle.slub_clients.specs.BulkLines.{first_unheld, places_under}
-use Rattle.slub_clients.specs.Laws.{IsNumber}
-use Rattle.slub_clients.proofs.Stopping.{whole-stopped}
+use Rattle.slub_slabinfo_text.specs.Asked.{frees_of}
+use Rattle.slub_slabinfo_text.specs.Bulk.{free_order}
+use Rattle.slub_rounds.specs.Asked.{SpendsAsked}
+use Rattle.slub_rounds.specs.BulkLines.{first_unheld, places_under}
+use Rattle.slub_rounds.specs.ClientLaws.{IsNumber}
+use Rattle.slub_rounds.proofs.Stopping.{whole-stopped}
 use Rattle.slub_bulk.proofs.Boards.{in_order_made}
 use Rattle.slub_bulk.proofs.Bulking.{order_known, order_long, range_known}
 use Rattle.slub_bulk.proofs.serve.bulk_free.Goals as goal

@@ -1,4 +1,4 @@
-use Rattle.slub_clients.proofs.Stopping.{none-stopped}
+use Rattle.slub_rounds.proofs.Stopping.{none-stopped}
 use Rattle.slub_bulk.proofs.serve.free_all.Goals as goal
 
 pub returns-in_err-push-clause-stopped : goal.returns-in_err-push-clause-stopped

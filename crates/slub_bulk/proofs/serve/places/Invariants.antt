@@ -1,5 +1,5 @@
 use Rattle.std.proofs.Common.{◌≡◌, take}
-use Rattle.slub_clients.specs.BulkLines.{places_under}
+use Rattle.slub_rounds.specs.BulkLines.{places_under}
 use Rattle.slub_bulk.specs.Places.{places_of}
 use Rattle.slub_bulk.proofs.serve.places.Given as goal
 

@@ -3,7 +3,7 @@ use Rattle.std.specs.List.{range_with_len}
 use Rattle.std.proofs.lemmas.List.{length_push}
 use Rattle.std.proofs.lemmas.List.FromFn.{length-range_with_len}
 use Rattle.std.proofs.lemmas.Simd.{splat_is_map}
-use Rattle.slub_events.specs.declared.event.Event.{Event}
+use Rattle.slub_trace.specs.declared.event.Event.{Event}
 use Rattle.slub_calls.proofs.Handing.{all_long, event_at, few_first, first_by, had, none_changed, one_changed, others_same, own_next}
 use Rattle.slub_calls.proofs.workers.counts.Goals as goal
 use Rattle.slub_calls.proofs.workers.counts.Goals.{then-worker-len, else-worker-len}

@@ -3,9 +3,9 @@ use Rattle.std.proofs.Common.{◌≡◌, ℕ, ◌+◌, ◌∙◌, ap, refl}
 use Rattle.slub_red_zone.specs.Steps.{with_given, with_new_slab}
 use Rattle.slub_core.specs.Setup.{node_lock}
 use Rattle.slub_core.specs.World.{LockValue, Checked}
-use Rattle.slub_local.specs.Facts.{cache_of}
-use Rattle.slub_local.specs.Values.{values_of}
-use Rattle.slub_local.proofs.Updates.{rooms_of-set}
+use Rattle.slub_core.specs.Facts.{cache_of}
+use Rattle.slub_core.specs.Values.{values_of}
+use Rattle.slub_core.proofs.Updates.{rooms_of-set}
 use Rattle.slub_checked_paths.specs.Slabs.{slabs_at}
 use Rattle.slub_checked_paths.proofs.Gifts.{slabs-same}
 use Rattle.slub_checked_paths.proofs.Calls.{now-lock}

@@ -7,8 +7,8 @@ use Rattle.slub_red_zone.specs.Steps.{Gives}
 use Rattle.slub_core.specs.Setup.{node_lock}
 use Rattle.slub_core.specs.World.{LockValue, Checked, update}
 use Rattle.slub_core.specs.Checked.{gave}
-use Rattle.slub_local.specs.Facts.{setup_of}
-use Rattle.slub_local.specs.Values.{values_of}
+use Rattle.slub_core.specs.Facts.{setup_of}
+use Rattle.slub_core.specs.Values.{values_of}
 use Rattle.slub_checked_paths.specs.Slabs.{slabs_at}
 use Rattle.slub_checked_paths.proofs.Gifts.{given-is}
 use Rattle.slub_checked_paths.proofs.AtOnce.{alloc-done}

@@ -1,4 +1,4 @@
-use Rattle.slub_local.specs.Values.{values_of}
+use Rattle.slub_core.specs.Values.{values_of}
 use Rattle.slub_checked_paths.proofs.AtOnce.{free-from, free-damaged}
 use Rattle.slub_checked_paths.proofs.checked.do_free.Goals as goal
 

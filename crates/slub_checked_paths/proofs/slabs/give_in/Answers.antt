@@ -4,7 +4,7 @@ use Rattle.slub_core.specs.World.{LockValue}
 use Rattle.slub_red_zone.specs.Sound.{IsSound}
 use Rattle.slub_checked_paths.specs.Slabs.{slabs_at}
 use Rattle.slub_checked_paths.proofs.Calls.{of-lock}
-use Rattle.slub_local.proofs.Updates.{rooms_of-set}
+use Rattle.slub_core.proofs.Updates.{rooms_of-set}
 use Rattle.slub_checked_paths.proofs.slabs.give_in.Goals as goal
 
 pub returns-clause-sound : goal.returns-clause-sound

@@ -4,7 +4,7 @@ use Rattle.slub_core.specs.World.{LockValue, Checked}
 use Rattle.slub_core.specs.Checked.{poked, poked_reply}
 use Rattle.slub_checked_paths.specs.Slabs.{slabs_at}
 use Rattle.slub_checked_paths.proofs.Calls.{of-lock, now-lock}
-use Rattle.slub_local.proofs.Updates.{rooms_of-set}
+use Rattle.slub_core.proofs.Updates.{rooms_of-set}
 use Rattle.slub_checked_paths.proofs.slabs.poke_in.Goals as goal
 
 pub returns-clause-reply : goal.returns-clause-reply

@@ -4,7 +4,7 @@ use Rattle.slub_core.specs.World.{LockValue, Checked}
 use Rattle.slub_red_zone.specs.Steps.{with_word}
 use Rattle.slub_checked_paths.specs.Slabs.{slabs_at}
 use Rattle.slub_checked_paths.proofs.Calls.{now-lock}
-use Rattle.slub_local.proofs.Updates.{rooms_of-set}
+use Rattle.slub_core.proofs.Updates.{rooms_of-set}
 use Rattle.slub_checked_paths.proofs.slabs.set_word_in.Goals as goal
 
 pub returns-clause-after : goal.returns-clause-after

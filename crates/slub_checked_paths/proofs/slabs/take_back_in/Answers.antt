@@ -1,7 +1,7 @@
 use Rattle.std.proofs.Common.{ℕ, ◌+◌, ap}
 use Rattle.slub_core.specs.Setup.{node_lock}
 use Rattle.slub_checked_paths.proofs.Calls.{taken-in}
-use Rattle.slub_local.proofs.Updates.{rooms_of-set}
+use Rattle.slub_core.proofs.Updates.{rooms_of-set}
 use Rattle.slub_checked_paths.proofs.slabs.take_back_in.Goals as goal
 
 pub returns-clause-taken : goal.returns-clause-taken

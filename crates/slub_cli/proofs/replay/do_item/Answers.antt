@@ -1,5 +1,5 @@
 use Rattle.std.proofs.lemmas.Result.{err_from_is_err_and}
-use Rattle.slub_ways.specs.Runs.{MachineState}
+use Rattle.slub_law_replay.specs.Runs.{MachineState}
 use Rattle.slub_cli.proofs.Laws.{done_put}
 use Rattle.slub_cli.proofs.Parts.{faults_as, not_done, not_faulted, not_stopped, not_told}
 use Rattle.slub_cli.proofs.Texts.{tells_as}

@@ -1,7 +1,7 @@
 use Rattle.std.proofs.Common.{◌∙◌, Err, arith, le_trans, le_refl, refl}
 use Rattle.std.proofs.lemmas.Result.{err_from_is_err_and}
-use Rattle.slub_ways.specs.Runs.{MachineState}
-use Rattle.slub_ways.proofs.Ready.{opened_machine_ready}
+use Rattle.slub_law_replay.specs.Runs.{MachineState}
+use Rattle.slub_law_replay.proofs.Ready.{opened_machine_ready}
 use Rattle.slub_cli.proofs.Laws.{Reached-begins, Reached-more, Reached-lawful, Reached-whole, stopped_lawful, stopped_spent}
 use Rattle.slub_cli.proofs.Texts.{tells_then}
 use Rattle.slub_cli.proofs.replay.do_items.Goals as goal

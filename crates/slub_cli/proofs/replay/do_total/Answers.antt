@@ -1,8 +1,8 @@
 use Rattle.std.proofs.Common.{◌++◌, ap, refl, ◌∙◌}
-use Rattle.slub_journal.specs.Text.{total_text}
+use Rattle.slub_slabinfo_text.specs.Text.{total_text}
 use Rattle.std.proofs.lemmas.Result.{err_from_is_err_and}
 use Rattle.slub_cli.proofs.Texts.{grows_text, grows_front, total_entry}
-use Rattle.slub_laws.proofs.Few.{sums_few}
+use Rattle.slub_law_replay.proofs.Few.{sums_few}
 use Rattle.slub_cli.proofs.replay.do_total.Goals as goal
 
 pub total-sums-requires-clause-given : goal.total-sums-requires-clause-given

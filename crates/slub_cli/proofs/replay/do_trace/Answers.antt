@@ -1,7 +1,7 @@
 use Rattle.std.proofs.Common.{◌∙◌, ℕ, IfErr, subst}
 use Rattle.std.proofs.KnownBytes.{Appends-nil}
 use Rattle.std.proofs.lemmas.Result.{err_from_is_err_and}
-use Rattle.slub_ways.specs.Runs.{MachineState}
+use Rattle.slub_law_replay.specs.Runs.{MachineState}
 use Rattle.slub_cli.specs.Inner.{IsItemStop}
 use Rattle.slub_cli.proofs.Laws.{no_items_lawful, totals_lawful, totals_some, totals_spent}
 use Rattle.slub_cli.proofs.Parts.{faults_as, spent_as}

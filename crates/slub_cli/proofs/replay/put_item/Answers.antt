@@ -1,7 +1,7 @@
 use Rattle.std.proofs.Common.{◌≡◌, ap, arith, refl}
 use Rattle.std.proofs.lemmas.Grind.{common_steps}
 use Rattle.std.proofs.lemmas.Result.{err_from_is_err_and}
-use Rattle.slub_journal.specs.Text.{text_at}
+use Rattle.slub_slabinfo_text.specs.Text.{text_at}
 use Rattle.slub_cli.proofs.Texts.{grows_text, grows_front, item_entry}
 use Rattle.slub_cli.proofs.replay.put_item.Goals as goal
 

@@ -1,5 +1,5 @@
 use Rattle.std.proofs.Common.{Some, false, refl}
-use Rattle.slub_ways.specs.declared.way.Way.TheVariants.{Schedule}
+use Rattle.slub_law_replay.specs.declared.way.Way.TheVariants.{Schedule}
 use Rattle.slub_cli.specs.declared.status.Status.{Status}
 use Rattle.slub_cli.proofs.Parts.{made_load, trace_stop}
 use Rattle.slub_cli.proofs.Texts.{took_as}

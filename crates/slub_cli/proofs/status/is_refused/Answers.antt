@@ -2,7 +2,7 @@ use Rattle.std.proofs.Common.{◌≡◌, ◌+◌, [], ◌∷◌, ◌++◌, false
 use Rattle.std.specs.Slice.Iter.{iter_rest}
 use Rattle.std.specs.Iterator.Adapters.{zip_first, zip_second}
 use Rattle.std.proofs.lemmas.Slice.Zip.{zip_turn, zip_end}
-use Rattle.slub_journal.proofs.Zips.{length-snoc}
+use Rattle.slub_slabinfo_text.proofs.Zips.{length-snoc}
 use Rattle.slub_cli.specs.Run.{has_refused}
 use Rattle.slub_cli.proofs.Pairs.{any_found, any_more, any_none}
 use Rattle.slub_cli.proofs.status.is_refused.Goals as goal

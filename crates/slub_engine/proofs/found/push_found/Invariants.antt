@@ -1,5 +1,5 @@
 use Rattle.std.proofs.Common.{◌≡◌, get_or, take, flat_map, vec_capacity}
-use Rattle.slub_journal.specs.Lawful.{cache_numbers}
+use Rattle.slub_slabinfo_text.specs.Lawful.{cache_numbers}
 use Rattle.slub_engine.specs.Steps.{found_past}
 use Rattle.slub_engine.proofs.found.push_found.Given as goal
 

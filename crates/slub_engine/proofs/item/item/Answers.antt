@@ -1,5 +1,5 @@
 use Rattle.std.proofs.Common.{◌≡◌, get_or, ◌∙◌}
-use Rattle.slub_journal.proofs.Items.{does_creation, does_destroy, does_shrink, does_slabinfo, does_tune}
+use Rattle.slub_slabinfo_text.proofs.Items.{does_creation, does_destroy, does_shrink, does_slabinfo, does_tune}
 use Rattle.slub_engine.proofs.Ready.{ready_kept, ready_same}
 use Rattle.slub_engine.proofs.item.item.Goals as goal
 

@@ -1,5 +1,5 @@
 use Rattle.std.proofs.Common.{◌≡◌, take}
-use Rattle.slub_journal.specs.Lawful.{all_freed}
+use Rattle.slub_slabinfo_text.specs.Lawful.{all_freed}
 use Rattle.slub_engine.proofs.sums.freed.Given as goal
 
 abbrev pub invariant-loop-done : goal.invariant-loop-done

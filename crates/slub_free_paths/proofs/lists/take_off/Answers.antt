@@ -1,4 +1,4 @@
-use Rattle.slub_local.proofs.Updates.{rooms_of-set}
+use Rattle.slub_core.proofs.Updates.{rooms_of-set}
 use Rattle.slub_free_paths.proofs.lists.take_off.Goals as goal
 
 pub returns-clause-rooms : goal.returns-clause-rooms

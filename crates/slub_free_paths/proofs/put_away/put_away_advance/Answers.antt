@@ -1,7 +1,7 @@
 -- The two ways on which the machine's layout decides, at each machine of these facts.
 use Rattle.std.proofs.Common.{ap}
 use Rattle.slub_core.specs.Local.{Local, goes}
-use Rattle.slub_local.specs.Values.{values_of}
+use Rattle.slub_core.specs.Values.{values_of}
 use Rattle.slub_free_paths.proofs.put_away.put_away_advance.Goals as goal
 
 pub returns-in-WalkChain-Word : goal.returns-in-WalkChain-Word

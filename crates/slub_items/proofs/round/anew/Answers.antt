@@ -1,6 +1,6 @@
 use Rattle.std.proofs.Common.{◌≡◌, ℕ, List, Some, ap, sym, subst, ◌∙◌}
-use Rattle.slub_into_words.specs.Ids.{AreIds, first_ids}
-use Rattle.slub_ways.specs.Ways.{DoesRoundBy, SpendsTurnsBy}
+use Rattle.slub_open_close.specs.Ids.{AreIds, first_ids}
+use Rattle.slub_law_replay.specs.Ways.{DoesRoundBy, SpendsTurnsBy}
 use Rattle.slub_items.specs.Stopped.{AreStepsStopped}
 use Rattle.slub_items.proofs.Anew.{anew, anew_spent}
 use Rattle.slub_items.proofs.Standing.{new_fit}

@@ -1,8 +1,8 @@
 use Rattle.std.proofs.Common.{[], ◌∷◌, All, arith}
 use Rattle.std.proofs.lemmas.List.Elements.{All-cons, All-nil}
-use Rattle.slub_clients.specs.Laws.{IsNumber}
-use Rattle.slub_clients.proofs.Allowed.{frees-may}
-use Rattle.slub_clients.proofs.Stopping.{none-stopped}
+use Rattle.slub_rounds.specs.ClientLaws.{IsNumber}
+use Rattle.slub_rounds.proofs.Allowed.{frees-may}
+use Rattle.slub_rounds.proofs.Stopping.{none-stopped}
 use Rattle.slub_kmalloc.proofs.serve.free_other.Goals as goal
 
 pub client_round-requires-clause-asks : goal.client_round-requires-clause-asks

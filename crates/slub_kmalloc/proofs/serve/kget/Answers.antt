@@ -1,7 +1,7 @@
 use Rattle.std.proofs.Common.{rules, IfErr, sym}
-use Rattle.slub_clients.specs.Kmalloc.{SpendsOfClass}
-use Rattle.slub_clients.specs.Stopped.{IsStoppedWhere}
-use Rattle.slub_clients.proofs.Stopping.{whole-stopped}
+use Rattle.slub_rounds.specs.Kmalloc.{SpendsOfClass}
+use Rattle.slub_rounds.specs.ClientStopped.{IsStoppedWhere}
+use Rattle.slub_rounds.proofs.Stopping.{whole-stopped}
 use Rattle.slub_kmalloc.proofs.serve.kget.Goals as goal
 
 pub returns-clause-served : goal.returns-clause-served

@@ -1,10 +1,10 @@
 use Rattle.std.proofs.Common.{rules, ◌≡◌, ℕ, List, [], ◌∷◌, ◌++◌, refl, ◌∙◌, ap, subst, Result, arith}
 use Rattle.std.specs.List.{range_with_len}
-use Rattle.slub_answers.specs.declared.create.Created.{Created}
-use Rattle.slub_answers.specs.declared.create.CreateRefusal.{CreateRefusal}
-use Rattle.slub_journal.specs.declared.client.ClientAnswer.TheVariants as answer
-use Rattle.slub_clients.specs.Kmalloc.{CreatesClasses}
-use Rattle.slub_clients.proofs.Staying.{stays-now, stays-same, stays-then}
+use Rattle.slub_trace.specs.declared.create.Created.{Created}
+use Rattle.slub_trace.specs.declared.create.CreateRefusal.{CreateRefusal}
+use Rattle.slub_slabinfo_text.specs.declared.client.ClientAnswer.TheVariants as answer
+use Rattle.slub_rounds.specs.Kmalloc.{CreatesClasses}
+use Rattle.slub_rounds.proofs.Staying.{stays-now, stays-same, stays-then}
 use Rattle.slub_kmalloc.proofs.Serving.{creates_more, range_more}
 use Rattle.slub_kmalloc.proofs.serve.kmalloc.Goals as goal
 

@@ -1,7 +1,7 @@
 use Rattle.std.proofs.Common.{◌≡◌}
 use Rattle.std.specs.List.{range_with_len}
-use Rattle.slub_clients.specs.Asked.{StaysOpen}
-use Rattle.slub_clients.specs.Kmalloc.{CreatesClasses}
+use Rattle.slub_rounds.specs.Asked.{StaysOpen}
+use Rattle.slub_rounds.specs.Kmalloc.{CreatesClasses}
 use Rattle.slub_kmalloc.proofs.serve.kmalloc.Given as goal
 
 abbrev pub invariant-loop-class : goal.invariant-loop-class

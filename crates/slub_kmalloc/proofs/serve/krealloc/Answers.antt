@@ -1,4 +1,4 @@
-use Rattle.slub_clients.proofs.Staying.{stays-same}
+use Rattle.slub_rounds.proofs.Staying.{stays-same}
 use Rattle.slub_kmalloc.proofs.serve.krealloc.Goals as goal
 
 pub returns-in-None-clause-stays : goal.returns-in-None-clause-stays

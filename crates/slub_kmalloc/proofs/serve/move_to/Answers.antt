@@ -1,9 +1,9 @@
 use Rattle.std.proofs.Common.{rules, IfErr, [], ◌∷◌, refl, Err, Ok, inl, inr}
 use Rattle.std.proofs.lemmas.Result.{IfOk-weaker}
-use Rattle.slub_clients.specs.Kmalloc.{SpendsOfClass}
-use Rattle.slub_clients.specs.Stopped.{IsStoppedWhere}
-use Rattle.slub_clients.proofs.Staying.{stays-now, stays-then, unheld_after}
-use Rattle.slub_clients.proofs.Stopping.{whole-stopped}
+use Rattle.slub_rounds.specs.Kmalloc.{SpendsOfClass}
+use Rattle.slub_rounds.specs.ClientStopped.{IsStoppedWhere}
+use Rattle.slub_rounds.proofs.Staying.{stays-now, stays-then, unheld_after}
+use Rattle.slub_rounds.proofs.Stopping.{whole-stopped}
 use Rattle.slub_kmalloc.proofs.serve.move_to.Goals as goal
 
 pub free_other-requires-clause-asks : goal.free_other-requires-clause-asks

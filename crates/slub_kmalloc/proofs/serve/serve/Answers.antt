@@ -1,8 +1,8 @@
 use Rattle.std.proofs.Common.{◌≡◌, ℕ, List, [], ◌∷◌, length, refl, subst, All, arith}
 use Rattle.slub_trace.specs.Sound.{asked_objects}
-use Rattle.slub_journal.specs.Lawful.{IsUnheld}
-use Rattle.slub_clients.specs.Asked.{IsOpenTo}
-use Rattle.slub_clients.proofs.Staying.{board_keeps}
+use Rattle.slub_slabinfo_text.specs.Lawful.{IsUnheld}
+use Rattle.slub_rounds.specs.Asked.{IsOpenTo}
+use Rattle.slub_rounds.proofs.Staying.{board_keeps}
 use Rattle.slub_kmalloc.proofs.serve.serve.Goals as goal
 
 pub kget-requires-clause-asks : goal.kget-requires-clause-asks

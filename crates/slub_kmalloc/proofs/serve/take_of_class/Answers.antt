@@ -1,15 +1,15 @@
 use Rattle.std.proofs.Common.{rules, IfErr, ◌≡◌, [], ◌∷◌, refl, sym, ◌∙◌, subst, MatchOption, slice_get, List, All, arith}
 use Rattle.std.proofs.lemmas.List.Elements.{All-cons, All-nil}
-use Rattle.slub_answers.specs.declared.reply.Reply.{Reply}
-use Rattle.slub_events.specs.declared.event.Act.TheVariants.{Alloc}
-use Rattle.slub_journal.specs.Asked.{Tells}
-use Rattle.slub_journal.specs.Lawful.{IsUnheld}
-use Rattle.slub_clients.specs.Laws.{IsNumber}
-use Rattle.slub_clients.proofs.Allowed.{allocations-may, one-differs}
-use Rattle.slub_clients.specs.Asked.{SpendsAsked}
-use Rattle.slub_clients.specs.Stopped.{IsStoppedWhere}
-use Rattle.slub_clients.proofs.Replies.{one_reply}
-use Rattle.slub_clients.proofs.Stopping.{none-stopped, whole-stopped}
+use Rattle.slub_trace.specs.declared.reply.Reply.{Reply}
+use Rattle.slub_trace.specs.declared.event.Act.TheVariants.{Alloc}
+use Rattle.slub_slabinfo_text.specs.Asked.{Tells}
+use Rattle.slub_slabinfo_text.specs.Lawful.{IsUnheld}
+use Rattle.slub_rounds.specs.ClientLaws.{IsNumber}
+use Rattle.slub_rounds.proofs.Allowed.{allocations-may, one-differs}
+use Rattle.slub_rounds.specs.Asked.{SpendsAsked}
+use Rattle.slub_rounds.specs.ClientStopped.{IsStoppedWhere}
+use Rattle.slub_rounds.proofs.ClientReplies.{one_reply}
+use Rattle.slub_rounds.proofs.Stopping.{none-stopped, whole-stopped}
 use Rattle.slub_kmalloc.proofs.serve.take_of_class.Goals as goal
 
 pub client_round-requires-clause-asks : goal.client_round-requires-clause-asks

@@ -1,4 +1,4 @@
-use Rattle.slub_clients.specs.Reserves.{kept_in}
+use Rattle.slub_rounds.specs.Reserves.{kept_in}
 use Rattle.slub_mempool.proofs.Keeping.{dropped}
 use Rattle.slub_mempool.proofs.Serving.{serves_keep}
 use Rattle.slub_mempool.proofs.laws.lines_leave_sound_reserves.Goals as goal

@@ -1,13 +1,13 @@
 use Rattle.std.proofs.Common.{◌≡◌, [], ◌∷◌, ◌++◌, List, ◌∙◌, ap, subst, MatchOption, arith}
 use Rattle.std.specs.Prelude.{slice_get}
 use Rattle.std.proofs.lemmas.List.Elements.{All-cons, All-nil}
-use Rattle.slub_answers.specs.declared.reply.Reply.{Reply}
-use Rattle.slub_journal.specs.declared.client.ClientRound.{ClientRound}
-use Rattle.slub_clients.specs.Laws.{IsNumber}
-use Rattle.slub_clients.specs.Reserves.{TellsFree}
-use Rattle.slub_clients.proofs.Allowed.{frees-may}
-use Rattle.slub_clients.proofs.Replies.{one_reply}
-use Rattle.slub_clients.proofs.Stopping.{none-stopped}
+use Rattle.slub_trace.specs.declared.reply.Reply.{Reply}
+use Rattle.slub_slabinfo_text.specs.declared.client.ClientRound.{ClientRound}
+use Rattle.slub_rounds.specs.ClientLaws.{IsNumber}
+use Rattle.slub_rounds.specs.Reserves.{TellsFree}
+use Rattle.slub_rounds.proofs.Allowed.{frees-may}
+use Rattle.slub_rounds.proofs.ClientReplies.{one_reply}
+use Rattle.slub_rounds.proofs.Stopping.{none-stopped}
 use Rattle.slub_mempool.proofs.Freeing.{frees-held}
 use Rattle.slub_mempool.proofs.reserves.put_back.Goals as goal
 

@@ -1,10 +1,10 @@
 use Rattle.std.proofs.Common.{◌≡◌, [], ◌∷◌, ◌++◌, List, ◌∙◌, ap, subst, MatchOption}
 use Rattle.std.specs.Prelude.{slice_get}
-use Rattle.slub_answers.specs.declared.reply.Reply.{Reply}
-use Rattle.slub_journal.specs.declared.client.ClientRound.{ClientRound}
-use Rattle.slub_journal.specs.Asked.{Tells}
-use Rattle.slub_clients.proofs.Replies.{one_reply}
-use Rattle.slub_clients.proofs.Stopping.{none-stopped}
+use Rattle.slub_trace.specs.declared.reply.Reply.{Reply}
+use Rattle.slub_slabinfo_text.specs.declared.client.ClientRound.{ClientRound}
+use Rattle.slub_slabinfo_text.specs.Asked.{Tells}
+use Rattle.slub_rounds.proofs.ClientReplies.{one_reply}
+use Rattle.slub_rounds.proofs.Stopping.{none-stopped}
 use Rattle.slub_bulk.proofs.Boards.{allocs_may, one_take}
 use Rattle.slub_mempool.proofs.reserves.take_one.Goals as goal
 

@@ -3,8 +3,8 @@ use Rattle.std.proofs.Common.{◌≡◌, ℕ, List, length, ap, arith, ◌∙◌
 use Rattle.slub_core.specs.Setup.{node_lock}
 use Rattle.slub_core.specs.World.{frames_in}
 use Rattle.slub_core.specs.Alloc.{node_of}
-use Rattle.slub_local.specs.Facts.{setup_of}
-use Rattle.slub_local.specs.Values.{values_of}
+use Rattle.slub_core.specs.Facts.{setup_of}
+use Rattle.slub_core.specs.Values.{values_of}
 use Rattle.slub_offline.proofs.Scans.{scanned-all}
 use Rattle.slub_offline.proofs.trim.node_scanned.Goals as goal
 

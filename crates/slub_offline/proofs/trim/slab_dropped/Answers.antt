@@ -5,8 +5,8 @@ use Rattle.slub_core.specs.declared.spot.Spot.TheVariants.{InDiscard}
 use Rattle.slub_core.specs.declared.spot.DiscardSpot.TheVariants.{Unmake}
 use Rattle.slub_core.specs.declared.spot.Discard.TheVariants.{FromTrim}
 use Rattle.slub_core.specs.Local.{Local, at, with_hand}
-use Rattle.slub_local.specs.Facts.{setup_of}
-use Rattle.slub_local.specs.Values.{values_of}
+use Rattle.slub_core.specs.Facts.{setup_of}
+use Rattle.slub_core.specs.Values.{values_of}
 use Rattle.slub_offline.proofs.Scans.{dropped}
 use Rattle.slub_offline.proofs.trim.slab_dropped.Goals as goal
 

@@ -2,7 +2,7 @@ use Rattle.std.proofs.Common.{◌≡◌, ◌∙◌, ap, length, arith, List, ℕ
 use Rattle.slub_engine.specs.Steps.{found_since, told_in}
 use Rattle.slub_engine.proofs.Damages.{found_few, found_is}
 use Rattle.slub_engine.proofs.Rounds.{same_ledgers}
-use Rattle.slub_journal.proofs.Zips.{front_taken}
+use Rattle.slub_slabinfo_text.proofs.Zips.{front_taken}
 use Rattle.slub_rounds.proofs.Replies.{ledgers_before}
 use Rattle.slub_rounds.proofs.answers.result_of.Goals as goal
 

@@ -1,12 +1,12 @@
 use Rattle.std.proofs.Common.{◌≡◌, ℕ, refl, sym, subst, List}
 use Rattle.slub_lists.specs.State.{State}
 use Rattle.slub_core.specs.Local.{Local}
-use Rattle.slub_into_words.specs.Beside.{beside_of}
-use Rattle.slub_into_words.specs.Ids.{AreIds}
-use Rattle.slub_into_lists.specs.Closing.{IsClosed, IsEnded}
+use Rattle.slub_open_close.specs.Beside.{beside_of}
+use Rattle.slub_open_close.specs.Ids.{AreIds}
+use Rattle.slub_open_close.specs.Closing.{IsClosed, IsEnded}
 use Rattle.slub_turns.specs.Means.{the_means}
 use Rattle.slub_turns.specs.System.{system_of}
-use Rattle.slub_opening.specs.Opening.{IsLaidDown}
+use Rattle.slub_law_opening.specs.Opening.{IsLaidDown}
 use Rattle.slub_rounds.specs.Answers.{IsTold, MayTell}
 use Rattle.slub_rounds.specs.Machine.{beside_in, system_in}
 use Rattle.slub_rounds.specs.Rounds.{world_before}

@@ -2,7 +2,7 @@ use Rattle.std.proofs.Common.{◌≡◌, ℕ, ◌<◌, Bool, false, List, refl, 
 use Rattle.slub_core.specs.Setup.{Setup}
 use Rattle.slub_core.specs.Local.{Local}
 use Rattle.slub_core.specs.Run.{System, Pick, idle}
-use Rattle.slub_local.specs.Facts.{setup_of}
+use Rattle.slub_core.specs.Facts.{setup_of}
 use Rattle.slub_turns.specs.Means.{the_means}
 use Rattle.slub_rounds.specs.Doing.{HasTurned, is_through, local_at}
 use Rattle.slub_rounds.specs.Machine.{system_in}

@@ -1,5 +1,5 @@
 use Rattle.std.proofs.Common.{◌≡◌, ◌<◌, ◌≤◌, length}
-use Rattle.slub_local.specs.Facts.{setup_of}
+use Rattle.slub_core.specs.Facts.{setup_of}
 use Rattle.slub_turns.specs.Means.{the_means}
 use Rattle.slub_turns.specs.Ready.{IsReady}
 use Rattle.slub_rounds.specs.Doing.{HasTurned}

@@ -1,6 +1,6 @@
 use Rattle.std.proofs.Common.{◌≡◌, ◌^◌, ◌<◌, ◌≤◌, ℕ, List, All, ◌∙◌, ap, sym, subst, length, replicate}
-use Rattle.slub_events.specs.declared.event.Event.{Event}
-use Rattle.slub_local.specs.Facts as local
+use Rattle.slub_trace.specs.declared.event.Event.{Event}
+use Rattle.slub_core.specs.Facts as local
 use Rattle.slub_schedule.specs.Turns.{turns_of}
 use Rattle.slub_turns.specs.Means.{the_means}
 use Rattle.slub_rounds.specs.Doing.{AwaitsEvents}

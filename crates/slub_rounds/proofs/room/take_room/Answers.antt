@@ -1,10 +1,10 @@
 use Rattle.std.proofs.Common.{◌≡◌, List, ap, sym, subst, ◌∙◌, length, arith}
-use Rattle.slub_events.specs.declared.event.Event.{Event}
+use Rattle.slub_trace.specs.declared.event.Event.{Event}
 use Rattle.slub_cache_create.specs.Table.{Table}
 use Rattle.slub_calls.specs.Calls.{workers_of}
 use Rattle.slub_schedule.specs.Turns.{turns_for}
-use Rattle.slub_into_words.specs.Beside.{first_links}
-use Rattle.slub_into_words.specs.Ids.{IsStepOf}
+use Rattle.slub_open_close.specs.Beside.{first_links}
+use Rattle.slub_open_close.specs.Ids.{IsStepOf}
 use Rattle.slub_rounds.specs.Answers.{IsRoomFor}
 use Rattle.slub_rounds.specs.Room.{weight_of}
 use Rattle.slub_rounds.proofs.room.take_room.Goals as goal

@@ -1,5 +1,5 @@
 use Rattle.std.proofs.Common.{◌≡◌, ◌*◌, ◌≤◌, sum_by, take}
-use Rattle.slub_events.specs.declared.event.Event.{Event}
+use Rattle.slub_trace.specs.declared.event.Event.{Event}
 use Rattle.slub_rounds.specs.Room.{weight_in}
 use Rattle.slub_rounds.proofs.room.weight_of.Given as goal
 

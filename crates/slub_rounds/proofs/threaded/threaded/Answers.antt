@@ -1,7 +1,7 @@
 use Rattle.std.proofs.Common.{◌≡◌, subst}
 use Rattle.std.specs.Prelude.{IfOk}
 use Rattle.slub_lists.specs.State.{State}
-use Rattle.slub_memory.specs.Stored.{AreStored}
+use Rattle.slub_words.specs.Stored.{AreStored}
 use Rattle.slub_rounds.specs.Rounds.{Finishes}
 use Rattle.slub_rounds.proofs.Coming.{coherent-of, does-of, ids-of, laid-of, lawful-of, stops-of}
 use Rattle.slub_rounds.proofs.Threads.{set-for}

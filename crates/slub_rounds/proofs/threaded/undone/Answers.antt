@@ -1,6 +1,6 @@
 use Rattle.std.proofs.Common.{◌≡◌, List, ℕ, length, sym, ap, ◌∙◌, subst, arith}
-use Rattle.slub_into_lists.specs.Undoing.{WasOpened}
-use Rattle.slub_memory.specs.Stored.{AreStored}
+use Rattle.slub_open_close.specs.Undoing.{WasOpened}
+use Rattle.slub_words.specs.Stored.{AreStored}
 use Rattle.slub_rounds.proofs.Threads.{kept-again}
 use Rattle.slub_rounds.proofs.threaded.undone.Goals as goal
 

@@ -1,5 +1,5 @@
 use Rattle.std.proofs.Common.{List, ℕ, sym, subst}
-use Rattle.slub_into_words.specs.Ids.{AreIds}
+use Rattle.slub_open_close.specs.Ids.{AreIds}
 use Rattle.slub_tries.specs.Begun.{PlaysRound}
 use Rattle.slub_tries.proofs.Ready.{first-few, fresh-ids, fresh-laid, fresh-may}
 use Rattle.slub_tries.proofs.fresh.replay.Goals as goal

@@ -1,8 +1,8 @@
 use Rattle.std.proofs.Common.{◌≡◌, ℕ, ap, ◌∙◌, sym, subst, arith}
 use Rattle.slub_cache_create.specs.Table.{Table}
 use Rattle.slub_calls.specs.Calls.{workers_of}
-use Rattle.slub_into_words.specs.Beside.{first_links}
-use Rattle.slub_into_words.specs.Ids.{IsStepOf}
+use Rattle.slub_open_close.specs.Beside.{first_links}
+use Rattle.slub_open_close.specs.Ids.{IsStepOf}
 use Rattle.slub_rounds.proofs.Machines.{begun-count}
 use Rattle.slub_rounds.proofs.Threads.{may-work, sizes-are}
 use Rattle.slub_tries.proofs.Begins.{may-run, opens-into}

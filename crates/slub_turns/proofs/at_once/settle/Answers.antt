@@ -2,8 +2,8 @@ use Rattle.std.proofs.Common.{◌≡◌, ◌∙◌, Bool, sym, ap}
 use Rattle.slub_core.specs.declared.spot.Spot.{Spot}
 use Rattle.slub_core.specs.Local.{Change, noted}
 use Rattle.slub_core.specs.Steps.{settled}
-use Rattle.slub_local.specs.Facts.{setup_of}
-use Rattle.slub_local.specs.Ways as ways
+use Rattle.slub_core.specs.Facts.{setup_of}
+use Rattle.slub_core.specs.Ways as ways
 use Rattle.slub_turns.specs.Spots.{is_at_once}
 use Rattle.slub_turns.proofs.Settled.{settled_is}
 use Rattle.slub_turns.proofs.Twice.{change_is, fits_here, none_is, second_fits, first_is, last_call}

@@ -1,6 +1,6 @@
 use Rattle.std.proofs.Common.{◌∙◌}
 use Rattle.slub_core.specs.Steps.{rested}
-use Rattle.slub_local.specs.Facts.{setup_of}
+use Rattle.slub_core.specs.Facts.{setup_of}
 use Rattle.slub_turns.proofs.Mixed.{mixed_none, mixed_step, mixed_all}
 use Rattle.slub_turns.proofs.begin.rest_all.Goals as goal
 

@@ -1,7 +1,7 @@
 use Rattle.std.proofs.Common.{◌≡◌}
 use Rattle.slub_core.specs.Setup.{Means}
 use Rattle.slub_core.specs.Steps.{rested}
-use Rattle.slub_local.specs.Facts.{setup_of}
+use Rattle.slub_core.specs.Facts.{setup_of}
 use Rattle.slub_turns.proofs.Mixed.{mixed}
 use Rattle.slub_turns.proofs.begin.rest_all.Given as goal
 

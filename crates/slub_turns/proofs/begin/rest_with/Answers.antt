@@ -2,7 +2,7 @@ use Rattle.std.proofs.Common.{◌∙◌, length, sym, ap, arith}
 use Rattle.std.proofs.lemmas.Bool.{ltb-true, ltb-false}
 use Rattle.slub_core.specs.Local.{Local}
 use Rattle.slub_core.specs.Steps.{rested_with}
-use Rattle.slub_local.specs.Facts.{setup_of}
+use Rattle.slub_core.specs.Facts.{setup_of}
 use Rattle.slub_turns.proofs.Rested.{rested_over, rested_stays, rested_more, told_here, fewer_calls}
 use Rattle.slub_turns.proofs.begin.rest_with.Goals as goal
 

@@ -1,7 +1,7 @@
 use Rattle.std.proofs.Common.{◌≡◌, length}
 use Rattle.slub_core.specs.Setup.{Means}
 use Rattle.slub_core.specs.Steps.{rested_with}
-use Rattle.slub_local.specs.Facts.{setup_of}
+use Rattle.slub_core.specs.Facts.{setup_of}
 use Rattle.slub_turns.proofs.begin.rest_with.Given as goal
 
 -- the replies to come lead to where all led

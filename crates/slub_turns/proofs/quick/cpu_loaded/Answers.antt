@@ -4,7 +4,7 @@ use Rattle.slub_core.specs.declared.spot.AllocSpot.TheVariants.{LoadCpu}
 use Rattle.slub_core.specs.declared.step.Answer.{Answer}
 use Rattle.slub_core.specs.Local.{Local, at}
 use Rattle.slub_core.specs.Steps.{rested}
-use Rattle.slub_local.specs.Facts.{setup_of}
+use Rattle.slub_core.specs.Facts.{setup_of}
 use Rattle.slub_turns.specs.Quick.{quick_to}
 use Rattle.slub_turns.proofs.AtFast.{try_ends}
 use Rattle.slub_turns.proofs.quick.cpu_loaded.Goals as goal

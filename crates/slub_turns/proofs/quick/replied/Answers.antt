@@ -1,7 +1,7 @@
 use Rattle.std.proofs.Common.{ap, ◌∙◌}
 use Rattle.slub_core.specs.Local.{Local, answered}
 use Rattle.slub_core.specs.Steps.{rested}
-use Rattle.slub_local.specs.Facts.{setup_of}
+use Rattle.slub_core.specs.Facts.{setup_of}
 use Rattle.slub_turns.proofs.quick.replied.Goals as goal
 
 pub returns : goal.returns

@@ -1,5 +1,5 @@
 -- Of a write and a read the values of the locks are any.
-use Rattle.slub_local.specs.Values.{values_of}
+use Rattle.slub_core.specs.Values.{values_of}
 use Rattle.slub_turns.proofs.step.step_at.Goals as goal
 
 pub returns-in-WriteWord : goal.returns-in-WriteWord

@@ -1,8 +1,8 @@
 use Rattle.std.proofs.Common.{false, refl}
 use Rattle.slub_core.specs.declared.spot.Spot.TheVariants.{InFree}
 use Rattle.slub_core.specs.Setup.{Setup}
-use Rattle.slub_local.specs.Facts.{setup_of}
-use Rattle.slub_local.specs.Ways as ways
+use Rattle.slub_core.specs.Facts.{setup_of}
+use Rattle.slub_core.specs.Ways as ways
 use Rattle.slub_schedule.specs.Table.{IsTableOf}
 use Rattle.slub_turns.specs.System.{alone}
 use Rattle.slub_turns.proofs.Turned.{step_fits, step_is, answer_is, settled_fits, turn_is}

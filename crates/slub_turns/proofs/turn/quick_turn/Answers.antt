@@ -1,10 +1,10 @@
 use Rattle.std.proofs.Common.{subst}
 use Rattle.slub_core.specs.declared.spot.Spot.{Spot}
 use Rattle.slub_core.specs.Setup.{Setup}
-use Rattle.slub_local.specs.Facts.{setup_of}
-use Rattle.slub_local.specs.Values.{values_of}
+use Rattle.slub_core.specs.Facts.{setup_of}
+use Rattle.slub_core.specs.Values.{values_of}
 use Rattle.slub_schedule.specs.Table.{IsTableOf}
-use Rattle.slub_fits.specs.Fits.{StepFits}
+use Rattle.slub_turns.specs.Fits.{StepFits}
 use Rattle.slub_turns.proofs.Turned.{fast_turn_is, fast_hears}
 use Rattle.slub_turns.proofs.turn.quick_turn.Goals as goal
 

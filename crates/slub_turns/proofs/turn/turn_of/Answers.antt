@@ -1,5 +1,5 @@
 use Rattle.slub_core.specs.Setup.{Setup}
-use Rattle.slub_local.specs.Facts.{setup_of}
+use Rattle.slub_core.specs.Facts.{setup_of}
 use Rattle.slub_turns.proofs.Turned.{begun_fits, begun_turn}
 use Rattle.slub_turns.proofs.turn.turn_of.Goals as goal
 

@@ -1,5 +1,5 @@
 use Rattle.std.proofs.Common.{◌≡◌, ◌≤◌, length, replicate, All, vec_capacity}
-use Rattle.slub_local.specs.declared.guarded.Guarded.TheVariants.{Nothing}
+use Rattle.slub_core.specs.declared.guarded.Guarded.TheVariants.{Nothing}
 use Rattle.slub_workers.proofs.round.empty_hands.Given as goal
 
 abbrev pub invariant-loop : goal.invariant-loop

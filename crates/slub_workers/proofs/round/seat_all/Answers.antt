@@ -2,8 +2,8 @@ use Rattle.std.proofs.Common.{◌≡◌, List, [], length, replicate, refl, sym,
 use Rattle.atomic_table.specs.Seated.{TableId}
 use Rattle.atomic_table.specs.Table.{Me}
 use Rattle.slub_core.specs.Local.{Local}
-use Rattle.slub_local.specs.declared.guarded.Guarded.{Guarded}
-use Rattle.slub_local.specs.declared.guarded.Guarded.TheVariants.{Nothing}
+use Rattle.slub_core.specs.declared.guarded.Guarded.{Guarded}
+use Rattle.slub_core.specs.declared.guarded.Guarded.TheVariants.{Nothing}
 use Rattle.slub_workers.specs.Standing.{Standing, Fork, one_way}
 use Rattle.slub_workers.specs.Rule.{standing_first}
 use Rattle.slub_workers.specs.Ends.{IsIdleAt}

@@ -1,5 +1,5 @@
 use Rattle.std.proofs.Common.{◌≡◌, ◌+◌, ◌≤◌, ◌++◌, [], length, map, replicate, All, vec_capacity}
-use Rattle.slub_local.specs.declared.guarded.Guarded.TheVariants.{Nothing}
+use Rattle.slub_core.specs.declared.guarded.Guarded.TheVariants.{Nothing}
 use Rattle.slub_workers.specs.Ends.{IsIdleAt, seated_first}
 use Rattle.slub_workers.specs.Ranks.{AreFresh, view_of}
 use Rattle.slub_workers.specs.Workers.{MayWorkAt, countdown, worker_in}

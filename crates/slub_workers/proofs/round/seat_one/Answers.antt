@@ -1,7 +1,7 @@
 use Rattle.std.proofs.Common.{◌<◌, List, false, sym, ap, ◌∙◌, arith}
 use Rattle.atomic_table.specs.Table.{Me}
 use Rattle.slub_core.specs.declared.step.Answer.TheVariants.{Done}
-use Rattle.slub_local.specs.declared.guarded.Guarded.{Guarded}
+use Rattle.slub_core.specs.declared.guarded.Guarded.{Guarded}
 use Rattle.slub_workers.specs.Locks.{slots_out}
 use Rattle.slub_workers.specs.Standing.{Fork, one_way}
 use Rattle.slub_workers.specs.Rule.{standing_first}

@@ -1,7 +1,7 @@
 use Rattle.std.proofs.Common.{◌≡◌, ◌+◌, ◌||◌, List, length, sym, ap, ◌∙◌, subst, arith}
 use Rattle.atomic_table.specs.Table.{Me}
 use Rattle.slub_core.specs.Local.{Local}
-use Rattle.slub_local.specs.declared.guarded.Guarded.{Guarded}
+use Rattle.slub_core.specs.declared.guarded.Guarded.{Guarded}
 use Rattle.slub_workers.specs.Standing.{Fork}
 use Rattle.slub_workers.specs.Ranks.{IsBack, AreBack}
 use Rattle.slub_workers.specs.Ends.{IsIdleAt, HasNotTried}

@@ -1,5 +1,5 @@
 use Rattle.std.proofs.Common.{◌≡◌, ℕ, List, length, ap, ◌∙◌, arith}
-use Rattle.slub_memory.proofs.Stored.{all-anew}
+use Rattle.slub_words.proofs.Stored.{all-anew}
 use Rattle.slub_workers.specs.Cells.{by_number}
 use Rattle.slub_workers.proofs.Cells.{length-by_number, by_number-twice}
 use Rattle.slub_workers.proofs.shared.keep_cells.Goals as goal

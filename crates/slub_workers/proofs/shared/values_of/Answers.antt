@@ -2,7 +2,7 @@ use Rattle.std.proofs.Common.{◌≡◌, ◌++◌, ◌∷◌, [], List, sym, ap,
 use mathlib.Core.Option.{some}
 use lib.ListN.{get_elem?}
 use Rattle.std.specs.Mem.Slots.{slots_items, slots_filled, slots_counts}
-use Rattle.slub_local.specs.declared.guarded.Guarded.{Guarded}
+use Rattle.slub_core.specs.declared.guarded.Guarded.{Guarded}
 use Rattle.slub_workers.proofs.Copies.{take_one, taken_more, there_still}
 use Rattle.slub_workers.proofs.shared.values_of.Goals as goal
 

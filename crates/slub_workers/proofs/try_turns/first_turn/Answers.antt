@@ -1,7 +1,7 @@
 use Rattle.std.proofs.Common.{◌∙◌, Bool, true, ◌||◌, sym, ap, subst}
 use Rattle.slub_core.specs.Local.{Local}
 use Rattle.slub_core.specs.Steps.{begun}
-use Rattle.slub_fits.specs.Fits.{BeginFits}
+use Rattle.slub_turns.specs.Fits.{BeginFits}
 use Rattle.slub_workers.specs.Begun.{Begun}
 use Rattle.slub_workers.specs.Standing.{Standing, counted}
 use Rattle.slub_workers.specs.Rule.{setup_in}

@@ -1,6 +1,6 @@
 use Rattle.std.proofs.Common.{◌∙◌, Bool, ◌||◌, sym, ap, subst}
 use Rattle.slub_core.specs.Local.{Local}
-use Rattle.slub_fits.specs.Fits.{BeginFits}
+use Rattle.slub_turns.specs.Fits.{BeginFits}
 use Rattle.slub_turns.specs.Means.{the_means}
 use Rattle.slub_workers.specs.Begun.{Begun}
 use Rattle.slub_workers.specs.Standing.{Standing, counted}

@@ -1,5 +1,5 @@
 use Rattle.std.proofs.Common.{[], ◌∷◌, ◌++◌, Some, None, sym, ◌∙◌, ap}
-use Rattle.slub_answers.specs.declared.reply.Reply.TheVariants.{NotHeld}
+use Rattle.slub_trace.specs.declared.reply.Reply.TheVariants.{NotHeld}
 use Rattle.slub_core.specs.declared.local.Answered.{Answered}
 use Rattle.slub_calls.specs.declared.share.Share.{Share}
 use Rattle.slub_calls.proofs.Handing.{pushed}

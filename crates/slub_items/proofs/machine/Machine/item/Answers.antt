@@ -1,10 +1,10 @@
 use Rattle.std.proofs.Common.{◌≡◌, ◌+◌, get_or, length, subst}
 use Rattle.std.proofs.lemmas.Result.{err_from_is_err_and}
-use Rattle.slub_journal.specs.declared.journal.Done.TheVariants as done
-use Rattle.slub_journal.specs.Lawful.{coming}
-use Rattle.slub_clients.specs.Stopped.{IsStoppedWhere}
-use Rattle.slub_ways.specs.Runs.{SpendsLine}
-use Rattle.slub_ways.proofs.Runs.{does_client_at, does_plain_at, does_round_at}
+use Rattle.slub_slabinfo_text.specs.declared.journal.Done.TheVariants as done
+use Rattle.slub_slabinfo_text.specs.Lawful.{coming}
+use Rattle.slub_rounds.specs.ClientStopped.{IsStoppedWhere}
+use Rattle.slub_law_replay.specs.Runs.{SpendsLine}
+use Rattle.slub_law_replay.proofs.Runs.{does_client_at, does_plain_at, does_round_at}
 use Rattle.slub_items.proofs.Items.{line_at, plain_at, ready_client, ready_plain, ready_round, round_at, sound_heap, spent_client, stopped_round, wanting_client}
 use Rattle.slub_items.proofs.Standing.{fit_beside, leaves_at, plain_stands_at}
 use Rattle.slub_items.proofs.machine.Machine.item.Goals as goal

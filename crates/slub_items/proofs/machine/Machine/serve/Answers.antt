@@ -2,9 +2,9 @@ use Rattle.std.proofs.Common.{length, subst}
 use Rattle.std.proofs.lemmas.Result.{err_from_is_err_and}
 use Rattle.slub_trace.specs.Sound.{asked_objects}
 use Rattle.slub_engine.specs.Steps.{KeepsUnheld}
-use Rattle.slub_clients.specs.Asked.{StaysOpen}
-use Rattle.slub_clients.specs.Stopped.{IsStoppedWhere}
-use Rattle.slub_ways.specs.Runs.{MachineState, Serves, SpendsLine, heap_of}
+use Rattle.slub_rounds.specs.Asked.{StaysOpen}
+use Rattle.slub_rounds.specs.ClientStopped.{IsStoppedWhere}
+use Rattle.slub_law_replay.specs.Runs.{MachineState, Serves, SpendsLine, heap_of}
 use Rattle.slub_items.specs.Parts.{machine_on}
 use Rattle.slub_items.proofs.machine.Machine.serve.Goals as goal
 

@@ -2,7 +2,7 @@ use Rattle.std.proofs.Common.{◌≡◌, Option, Some, MatchOption, sym, subst, 
 use Rattle.std.proofs.lemmas.Grind.{common_steps}
 use Rattle.slub_cache_create.specs.Table.{name_at}
 use Rattle.slub_cache_create.proofs.Oldest.{named_alive}
-use Rattle.slub_answers.specs.declared.reply.Reply.TheVariants.{NoSuchCache}
+use Rattle.slub_trace.specs.declared.reply.Reply.TheVariants.{NoSuchCache}
 use Rattle.slub_lists.specs.Alloc.{cache_of, named}
 use Rattle.slub_lists.specs.Named.{AllocatesFrom}
 use Rattle.slub_lists.proofs.Giving.{live-match}

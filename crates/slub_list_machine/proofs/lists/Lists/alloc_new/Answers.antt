@@ -1,6 +1,6 @@
 use Rattle.std.proofs.Common.{Some, subst}
 use Rattle.slub_lists.specs.State.{State}
-use Rattle.slub_answers.specs.declared.reply.Reply.TheVariants.{Given}
+use Rattle.slub_trace.specs.declared.reply.Reply.TheVariants.{Given}
 use Rattle.slub_lists.specs.Alloc.{Gives}
 use Rattle.slub_list_machine.proofs.lists.Lists.alloc_new.Goals as goal
 

@@ -1,7 +1,7 @@
 use Rattle.std.proofs.Common.{◌≡◌, ◌∙◌, get_or, ap, arith}
 use Rattle.std.proofs.lemmas.Grind.{common_steps}
 use Rattle.slub_object_layout.specs.Layout.{address_of}
-use Rattle.slub_answers.specs.declared.reply.Reply.TheVariants.{Given}
+use Rattle.slub_trace.specs.declared.reply.Reply.TheVariants.{Given}
 use Rattle.slub_lists.specs.Alloc.{lists_of}
 use Rattle.slub_lists.proofs.Coherence.{consistent-at}
 use Rattle.slub_lists.proofs.Giving.{cache-within, count-room, current-of, first-of, frame-most, index-most, unheld, with_given-consistent}

@@ -1,7 +1,7 @@
 use Rattle.std.proofs.Common.{◌≡◌, ℕ, List, filter, ap, ◌∙◌, is_some, rules}
 use Rattle.std.proofs.lemmas.Fn.{filter_same}
 use Rattle.slub_lists.specs.Coherent.{held_under}
-use Rattle.slub_clients.specs.Reserves.{Reserve, kept_of}
+use Rattle.slub_rounds.specs.Reserves.{Reserve, kept_of}
 use Rattle.slub_mempool.proofs.reserve.Reserve.drop_freed.Goals as goal
 
 pub returns : goal.returns

@@ -1,5 +1,5 @@
 use Rattle.std.proofs.Common.{◌≡◌, ◌<◌, length, sym, ◌∙◌, ap, arith}
-use Rattle.slub_clients.specs.Reserves.{kept_of}
+use Rattle.slub_rounds.specs.Reserves.{kept_of}
 use Rattle.slub_mempool.proofs.Keeping.{kept-next, kept-rest}
 use Rattle.slub_mempool.proofs.reserves.Reserves.drop_freed.Goals as goal
 

@@ -1,5 +1,5 @@
 use Rattle.std.proofs.Common.{◌≡◌, take, drop, map}
-use Rattle.slub_clients.specs.Reserves.{kept_of}
+use Rattle.slub_rounds.specs.Reserves.{kept_of}
 use Rattle.slub_mempool.proofs.reserves.Reserves.drop_freed.Given as goal
 
 -- the reserves below the index have what is on the board, and the others are as they were

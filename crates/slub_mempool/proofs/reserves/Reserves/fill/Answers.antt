@@ -2,13 +2,13 @@ use Rattle.std.proofs.Common.{rules, IfErr, List, ℕ, [], ◌∷◌, ◌++◌, 
 use Rattle.std.specs.List.{IsDistinct, range_with_len}
 use Rattle.std.specs.Prelude.{nat_eq}
 use Rattle.std.proofs.lemmas.List.FromFn.{length-range_with_len}
-use Rattle.slub_journal.specs.declared.client.ClientRound.{ClientRound}
+use Rattle.slub_slabinfo_text.specs.declared.client.ClientRound.{ClientRound}
 use Rattle.slub_engine.specs.Steps.{KeepsUnheld}
-use Rattle.slub_clients.specs.Asked.{IsOpenTo, StaysOpen}
-use Rattle.slub_clients.specs.BulkLines.{SpendsTaking, TakesAll}
-use Rattle.slub_clients.specs.Laws.{IsNumber}
-use Rattle.slub_clients.specs.Reserves.{Makes, Reserve, fresh_reserve}
-use Rattle.slub_clients.specs.Stopped.{IsStoppedWhere}
+use Rattle.slub_rounds.specs.Asked.{IsOpenTo, StaysOpen}
+use Rattle.slub_rounds.specs.BulkLines.{SpendsTaking, TakesAll}
+use Rattle.slub_rounds.specs.ClientLaws.{IsNumber}
+use Rattle.slub_rounds.specs.Reserves.{Makes, Reserve, fresh_reserve}
+use Rattle.slub_rounds.specs.ClientStopped.{IsStoppedWhere}
 use Rattle.slub_bulk.proofs.Bulking.{range_differs, range_known}
 use Rattle.slub_mempool.proofs.Making.{made-all, made-none}
 use Rattle.slub_mempool.proofs.reserves.Reserves.fill.Goals as goal

@@ -1,6 +1,6 @@
 use Rattle.std.proofs.Common.{◌≡◌, [], ◌∷◌, ◌++◌, sym, ◌∙◌, ap, arith}
 use Rattle.std.proofs.lemmas.Grind.{common_steps}
-use Rattle.slub_clients.specs.Reserves.{Reserve, reserve_at}
+use Rattle.slub_rounds.specs.Reserves.{Reserve, reserve_at}
 use Rattle.slub_mempool.proofs.Keeping.{last-in}
 use Rattle.slub_mempool.proofs.reserves.Reserves.lend.Goals as goal
 

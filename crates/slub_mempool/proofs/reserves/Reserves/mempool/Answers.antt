@@ -1,7 +1,7 @@
 use Rattle.std.proofs.Common.{◌<◌, length, is_some, rules, sym, ◌∙◌, ap}
 use Rattle.std.proofs.lemmas.Result.{IfOk-weaker}
-use Rattle.slub_clients.specs.Reserves.{fresh_reserve}
-use Rattle.slub_clients.proofs.Stopping.{whole-stopped}
+use Rattle.slub_rounds.specs.Reserves.{fresh_reserve}
+use Rattle.slub_rounds.proofs.Stopping.{whole-stopped}
 use Rattle.slub_mempool.proofs.Making.{fresh-served, fresh-spent}
 use Rattle.slub_mempool.proofs.reserves.Reserves.mempool.Goals as goal
 

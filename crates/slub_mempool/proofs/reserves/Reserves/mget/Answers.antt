@@ -1,13 +1,13 @@
 use Rattle.std.proofs.Common.{rules, IfErr, List, [], ◌∷◌, ℕ, sym, ◌∙◌, ap, subst}
-use Rattle.slub_events.specs.declared.event.Act.TheVariants.{Alloc}
+use Rattle.slub_trace.specs.declared.event.Act.TheVariants.{Alloc}
 use Rattle.slub_lists.specs.State.{State}
-use Rattle.slub_journal.specs.declared.client.ClientRound.{ClientRound}
-use Rattle.slub_by_text.specs.Heap.{HeapState}
-use Rattle.slub_clients.specs.Asked.{SpendsAsked}
-use Rattle.slub_clients.specs.Reserves.{Gets, TakesOne, reserve_at}
-use Rattle.slub_clients.specs.Stopped.{IsStoppedWhere}
-use Rattle.slub_clients.proofs.Staying.{stays-now}
-use Rattle.slub_clients.proofs.Stopping.{whole-stopped}
+use Rattle.slub_slabinfo_text.specs.declared.client.ClientRound.{ClientRound}
+use Rattle.slub_rounds.specs.Heap.{HeapState}
+use Rattle.slub_rounds.specs.Asked.{SpendsAsked}
+use Rattle.slub_rounds.specs.Reserves.{Gets, TakesOne, reserve_at}
+use Rattle.slub_rounds.specs.ClientStopped.{IsStoppedWhere}
+use Rattle.slub_rounds.proofs.Staying.{stays-now}
+use Rattle.slub_rounds.proofs.Stopping.{whole-stopped}
 use Rattle.slub_mempool.specs.Serving.{AreKnown}
 use Rattle.slub_mempool.proofs.Keeping.{known-after}
 use Rattle.slub_mempool.proofs.reserves.Reserves.mget.Goals as goal

@@ -5,9 +5,9 @@ use Rattle.std.proofs.lemmas.Grind.{common_steps}
 use Rattle.std.proofs.lemmas.Result.{IfOk-weaker}
 use Rattle.slub_lists.specs.Coherent.{held_under}
 use Rattle.slub_lists.specs.State.{State}
-use Rattle.slub_by_text.specs.Heap.{HeapState}
-use Rattle.slub_clients.specs.Reserves.{Reserve, has_number, is_of_cache, reserve_at}
-use Rattle.slub_clients.proofs.Stopping.{whole-stopped}
+use Rattle.slub_rounds.specs.Heap.{HeapState}
+use Rattle.slub_rounds.specs.Reserves.{Reserve, has_number, is_of_cache, reserve_at}
+use Rattle.slub_rounds.proofs.Stopping.{whole-stopped}
 use Rattle.slub_mempool.proofs.Making.{full-away, full-served}
 use Rattle.slub_mempool.proofs.reserves.Reserves.mput.Goals as goal
 

@@ -1,9 +1,9 @@
 use Rattle.std.proofs.Common.{List, sym, ◌∙◌, ap, subst}
 use Rattle.std.proofs.lemmas.Result.{IfOk-weaker}
 use Rattle.slub_lists.specs.State.{State}
-use Rattle.slub_by_text.specs.Heap.{HeapState}
-use Rattle.slub_clients.specs.Reserves.{AreReserves, Reserve, SpendsKept, kept_in}
-use Rattle.slub_clients.proofs.Stopping.{whole-stopped}
+use Rattle.slub_rounds.specs.Heap.{HeapState}
+use Rattle.slub_rounds.specs.Reserves.{AreReserves, Reserve, SpendsKept, kept_in}
+use Rattle.slub_rounds.proofs.Stopping.{whole-stopped}
 use Rattle.slub_mempool.proofs.Keeping.{dropped}
 use Rattle.slub_mempool.proofs.Serving.{serves_keep}
 use Rattle.slub_mempool.proofs.reserves.Reserves.serve.Goals as goal

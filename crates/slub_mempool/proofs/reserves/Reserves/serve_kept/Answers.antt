@@ -1,7 +1,7 @@
 use Rattle.std.proofs.Common.{◌≡◌, [], ◌∷◌, refl, subst, All, arith}
 use Rattle.std.proofs.lemmas.Result.{IfOk-weaker}
 use Rattle.slub_trace.specs.Sound.{asked_objects}
-use Rattle.slub_journal.specs.Lawful.{IsUnheld}
+use Rattle.slub_slabinfo_text.specs.Lawful.{IsUnheld}
 use Rattle.slub_mempool.proofs.Keeping.{known-of, usable-of}
 use Rattle.slub_mempool.proofs.reserves.Reserves.serve_kept.Goals as goal
 

@@ -1,6 +1,7 @@
 use Rattle.std.proofs.Common.{◌∙◌, ◌<◌, length, set, Some, sym, subst, ap, arith}
 use Rattle.slub_red_zone.specs.State.{SlabState, CheckedState, Has}
 use Rattle.slub_red_zone.specs.Sound.{IsSized}
+use Rattle.slub_red_zone.specs.Steps.{with_new_slab}
 use Rattle.slub_red_zone.proofs.Comings.{objects-few, room-on-list, new-kept}
 use Rattle.slub_red_zone.proofs.Sums.{kept-small, same-state, kept-same}
 use Rattle.slub_red_zone.specs.Objects.{AddsSlab}
@@ -53,6 +54,11 @@ invariant_of-self-2 c =
 
 pub returns-clause-sound : goal.returns-clause-sound
 returns-clause-sound c = (invariant_of-self-2 c).sound
+
+pub returns-clause-added : goal.returns-clause-added
+returns-clause-added c =
+    let slabs = ap (λ (slab : SlabState). set c.self.inside.slabs.items c.args.run.frame (Some slab)) c.in_ok-slab.ensures.slab in
+    same-state slabs c.push_head.ensures.frames c.reserve.ensures.items ∙ ap (λ s. with_new_slab s c.args.run c.args.objects) c.self.view_is
 
 pub returns-clause-slab : goal.returns-clause-slab
 returns-clause-slab c =

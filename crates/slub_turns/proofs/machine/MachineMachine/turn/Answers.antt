@@ -3,11 +3,11 @@ use Rattle.std.proofs.lemmas.List.{get_or_read, get_or-set_same}
 use Rattle.slub_core.specs.Setup.{Setup}
 use Rattle.slub_core.specs.Local.{Local}
 use Rattle.slub_core.specs.Run.{System, Pick, idle, turn}
-use Rattle.slub_local.specs.Facts.{setup_of}
-use Rattle.slub_local.specs.declared.guarded.Guarded.{Guarded}
-use Rattle.slub_local.specs.Values.{rooms_of}
+use Rattle.slub_core.specs.Facts.{setup_of}
+use Rattle.slub_core.specs.declared.guarded.Guarded.{Guarded}
+use Rattle.slub_core.specs.Values.{rooms_of}
 use Rattle.slub_schedule.specs.Schedule.{is_finished}
-use Rattle.slub_fits.specs.Fits.{HasRooms, PickFits}
+use Rattle.slub_turns.specs.Fits.{HasRooms, PickFits}
 use Rattle.slub_turns.specs.Means.{the_means}
 use Rattle.slub_turns.specs.System.{system_of, alone, picked_alone}
 use Rattle.slub_turns.specs.Ready.{MayTurn}

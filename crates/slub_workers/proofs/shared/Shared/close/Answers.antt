@@ -1,6 +1,6 @@
 use Rattle.std.proofs.Common.{◌≡◌, List, ap, sym, ◌∙◌, subst, arith}
 use Rattle.std.specs.Mem.Slots.{slots_items, slots_counts}
-use Rattle.slub_local.specs.declared.guarded.Guarded.{Guarded}
+use Rattle.slub_core.specs.declared.guarded.Guarded.{Guarded}
 use Rattle.slub_schedule.specs.Table.{WordTable}
 use Rattle.slub_workers.specs.Cells.{by_number}
 use Rattle.slub_workers.specs.Rule.{table_in}

@@ -1,5 +1,0 @@
-use Rattle.slub_alone.proofs.FlushAlone.{flush_alone}
-use Rattle.slub_alone.proofs.away.flushes_are_those_of_lists.Goals as goal
-
-pub returns : goal.returns
-returns c = flush_alone

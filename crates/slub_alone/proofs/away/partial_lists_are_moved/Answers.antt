@@ -1,5 +1,0 @@
-use Rattle.slub_alone.proofs.ListSwept.{list_moved}
-use Rattle.slub_alone.proofs.away.partial_lists_are_moved.Goals as goal
-
-pub returns : goal.returns
-returns c = list_moved

@@ -1,5 +1,0 @@
-use Rattle.slub_alone.proofs.TrimAlone.{trim_alone}
-use Rattle.slub_alone.proofs.away.trims_are_those_of_lists.Goals as goal
-
-pub returns : goal.returns
-returns c = trim_alone

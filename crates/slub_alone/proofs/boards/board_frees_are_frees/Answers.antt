@@ -1,5 +1,0 @@
-use Rattle.slub_alone.proofs.FromBoard.{board_frees}
-use Rattle.slub_alone.proofs.boards.board_frees_are_frees.Goals as goal
-
-pub returns : goal.returns
-returns c = board_frees

@@ -1,5 +1,0 @@
-use Rattle.slub_alone.proofs.Ready.{rests_ready}
-use Rattle.slub_alone.proofs.boards.rests_are_ready.Goals as goal
-
-pub returns : goal.returns
-returns c = rests_ready

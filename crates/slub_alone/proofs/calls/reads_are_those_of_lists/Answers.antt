@@ -1,5 +1,0 @@
-use Rattle.slub_alone.proofs.AnyCall.{all_read}
-use Rattle.slub_alone.proofs.calls.reads_are_those_of_lists.Goals as goal
-
-pub returns : goal.returns
-returns c = all_read

@@ -1,5 +1,0 @@
-use Rattle.slub_alone.proofs.CheckedFreed.{taken_alone}
-use Rattle.slub_alone.proofs.checked.checked_frees_are_taken.Goals as goal
-
-pub returns : goal.returns
-returns c = taken_alone

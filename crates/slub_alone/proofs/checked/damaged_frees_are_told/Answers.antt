@@ -1,5 +1,0 @@
-use Rattle.slub_alone.proofs.CheckedFreed.{damage_told}
-use Rattle.slub_alone.proofs.checked.damaged_frees_are_told.Goals as goal
-
-pub returns : goal.returns
-returns c = damage_told

@@ -1,5 +1,0 @@
-use Rattle.slub_alone.proofs.AnyChecked.{checked_allocated}
-use Rattle.slub_alone.proofs.checked_all.checked_allocations_are_those_of_lists.Goals as goal
-
-pub returns : goal.returns
-returns c = checked_allocated

@@ -1,5 +1,0 @@
-use Rattle.slub_alone.proofs.AnyChecked.{checked_board_freed}
-use Rattle.slub_alone.proofs.checked_all.checked_board_frees_are_those_of_lists.Goals as goal
-
-pub returns : goal.returns
-returns c = checked_board_freed

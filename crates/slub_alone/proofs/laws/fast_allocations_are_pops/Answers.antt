@@ -1,5 +1,0 @@
-use Rattle.slub_alone.proofs.FastAlloc.{fast_pops}
-use Rattle.slub_alone.proofs.laws.fast_allocations_are_pops.Goals as goal
-
-pub returns : goal.returns
-returns c = fast_pops

@@ -1,5 +1,0 @@
-use Rattle.slub_alone.proofs.FastFree.{fast_pushes}
-use Rattle.slub_alone.proofs.laws.fast_frees_are_pushes.Goals as goal
-
-pub returns : goal.returns
-returns c = fast_pushes

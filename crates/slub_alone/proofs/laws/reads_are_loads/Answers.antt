@@ -1,5 +1,0 @@
-use Rattle.slub_alone.proofs.Uses.{loads}
-use Rattle.slub_alone.proofs.laws.reads_are_loads.Goals as goal
-
-pub returns : goal.returns
-returns c = loads

@@ -1,5 +1,0 @@
-use Rattle.slub_alone.proofs.Uses.{stores}
-use Rattle.slub_alone.proofs.laws.writes_are_stores.Goals as goal
-
-pub returns : goal.returns
-returns c = stores

@@ -1,6 +1,0 @@
-pub mod Going
-pub mod Growing
-pub mod Heaped
-pub mod Lawful
-pub mod Raised
-pub mod Standing

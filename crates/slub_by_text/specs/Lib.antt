@@ -1,5 +1,0 @@
-pub mod ByText
-pub mod Heap
-pub mod Laws
-pub mod Raising
-pub mod Stopped

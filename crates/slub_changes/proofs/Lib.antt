@@ -1,3 +1,0 @@
-pub mod ChangesFew
-pub mod Numbers
-pub mod Grown

@@ -1,9 +1,0 @@
-//! What holds of changes of CPU words. None of these does anything.
-
-ghost use Rattle.slub_changes.specs.Laws.{AllocationsChangeTwice, FreesChangeOnce};
-
-/// An allocation changes its CPU's word twice at most, and a free once.
-pub fn acts_change_few()
-    ensures alloc { AllocationsChangeTwice }
-    ensures free { FreesChangeOnce }
-{}

@@ -1,9 +1,0 @@
--- Why a client's line wasn't served, or a round of it wasn't done.
-use Rattle.std.specs.Prelude.{⊤}
-use Rattle.slub_clients.specs.declared.client.Stopped.{Stopped}
-use Rattle.slub_clients.specs.declared.client.Stopped.TheVariants.{NoMemory, TurnsSpent}
-
--- memory may lack at any time; turns are spent only where this holds of them
-abbrev pub IsStoppedWhere : Type 0 → Stopped → Type 0
-IsStoppedWhere spent NoMemory = ⊤
-IsStoppedWhere spent TurnsSpent = spent

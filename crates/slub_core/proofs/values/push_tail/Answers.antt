@@ -1,0 +1,5 @@
+use Rattle.slub_core.proofs.Updates.{rooms_of-set}
+use Rattle.slub_core.proofs.values.push_tail.Goals as goal
+
+pub returns-clause-rooms : goal.returns-clause-rooms
+returns-clause-rooms c = rooms_of-set _ _ _ _ c.push_tail.ensures.room

@@ -1,7 +1,0 @@
-use Rattle.std.proofs.Common.{◌≡◌}
-use Rattle.slub_local.specs.Values.{values_of}
-use Rattle.slub_into_lists.specs.Reads.{slab_in_values}
-use Rattle.slub_into_lists.proofs.slabs.slab_in_values.Given as goal
-
-abbrev pub invariant-loop-lock : goal.invariant-loop-lock
-invariant-loop-lock l = l.found ≡ slab_in_values (values_of l.values) l.lock l.frame

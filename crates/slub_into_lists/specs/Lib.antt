@@ -1,4 +1,0 @@
-pub mod Reads
-pub mod Joins
-pub mod Closing
-pub mod Undoing

@@ -1,9 +1,0 @@
-pub mod Pushes
-pub mod Marks
-pub mod Firsts
-pub mod Layable
-pub mod Small
-pub mod Laid
-pub mod Setups
-pub mod Guards
-pub mod Whole

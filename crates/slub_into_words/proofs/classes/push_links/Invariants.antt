@@ -1,9 +1,0 @@
-use Rattle.std.proofs.Common.{◌≡◌, ◌++◌, take, vec_capacity}
-use Rattle.slub_into_words.proofs.classes.push_links.Given as goal
-
--- so many are there
-abbrev pub invariant-loop-link : goal.invariant-loop-link
-invariant-loop-link l = record {
-  words : l.words.items ≡ l.fn.words.items ++ take l.link-index l.links;
-  capacity : vec_capacity l.words ≡ vec_capacity l.fn.words;
-}

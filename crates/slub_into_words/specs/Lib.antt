@@ -1,9 +1,0 @@
-pub mod Beside
-pub mod Ids
-pub mod Facts
-pub mod Classes
-pub mod Laying
-pub mod Values
-pub mod Rest
-pub mod Opened
-pub mod Laws

@@ -1,0 +1,5 @@
+use Rattle.slub_law_alone.proofs.AnyChecked.{checked_allocated}
+use Rattle.slub_law_alone.proofs.checked_all.checked_allocations_are_those_of_lists.Goals as goal
+
+pub returns : goal.returns
+returns c = checked_allocated

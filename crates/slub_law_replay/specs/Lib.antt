@@ -1,0 +1,14 @@
+pub mod Ways
+pub mod Runs
+pub mod Laws
+pub mod Freed
+pub mod Trimmed
+pub mod Poked
+pub mod Rounds
+pub mod Shrinking
+pub mod OneTextRounds
+pub mod Lines
+pub mod Journals
+pub mod InOrder
+pub mod InText
+pub mod Off

@@ -1,0 +1,46 @@
+//! The law of a whole replay: which journals are lawful for a trace and a way, and what follows.
+//! Only `way` runs.
+//!
+//! - Ways: `way` has them, `specs/Ways.antt` says what each makes of a round. By `Serial` its
+//!   events are answered in the order of the text; by `Schedule` its workers make turns as a number
+//!   draws them, by `Threads` as their threads come to them; by both a round of one worker is as by
+//!   `Serial`.
+//! - Lawful journals: `specs/Runs.antt` has the machine between two items (the lists, the
+//!   transaction ids beside them where the trace's first one isn't 0, the reserves of clients, how
+//!   many `round` lines were done), what each item does to it, and which journals are lawful: the
+//!   items answer the trace's first items, one each, from the opening machine on, and the machine
+//!   is coherent between any two steps. Where ids stand beside the lists every round begins at them
+//!   and leaves those that the next item finds; any other round of several workers by steps begins
+//!   with first ids anew.
+//! - What follows of every lawful journal: `journal_laws`, with `specs/Freed.antt`, `Rounds`,
+//!   `Poked`, `Shrinking` and `Trimmed`; `laws` on what can be done before an item and after it.
+//! - One text: `one_text_laws` says that two lawful journals of a trace by one way and seed are the
+//!   same, and `order_laws` that turns in the order of the text lead to one end.
+//! - Steps and lists: `in_text_laws` says that a round by steps in the order of the text is one on
+//!   the lists, and how that is proved. `poke_laws` says where damage comes from
+//!   (`specs/Off.antt`).
+//!
+//! # What it promises
+//!
+//! `laws`: a round by any way is lawful (`IsRound` of `slub_law_rounds`). A machine that stands
+//! before a round of a sound trace can do it, and before a client's line can serve it; no item
+//! brings a count of wanted frames to its end.
+//!
+//! Of every lawful journal of a sound trace: no number is given or freed twice, given less freed is
+//! live, each round is lawful, each damage was poked. Of every coherent machine: live, free and
+//! set-aside objects make up a cache's objects; shrinking leaves the slabs in use, in the order of
+//! promotion; an unused cache that was trimmed last is empty.
+//!
+//! `journals_are_one`, `texts_are_one`: the text of a replay is a function of the trace, the way
+//! and the seed, where no reply is that memory was lacking; by threads only where no round has
+//! several workers. `rounds_in_order_are_those_of_lists`, `rounds_on_lists_are_runs`,
+//! `rounds_end_with_pokes`.
+#![tactic(auto)]
+
+pub mod in_text_laws;
+pub mod journal_laws;
+pub mod laws;
+pub mod one_text_laws;
+pub mod order_laws;
+pub mod poke_laws;
+pub mod way;

@@ -1,5 +1,0 @@
-use Rattle.slub_laws.proofs.Totals.{given_is_live}
-use Rattle.slub_laws.proofs.laws.given_is_freed_or_live.Goals as goal
-
-pub returns : goal.returns
-returns c = given_is_live c.args.way c.args.trace.now c.args.journal.now c.requires.sound c.requires.lawful

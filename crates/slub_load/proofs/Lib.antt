@@ -1,9 +1,0 @@
-mod Drawn
-mod Events
-mod Frees
-mod Fronts
-mod Long
-mod Made
-mod Numbered
-mod Sound
-mod WhoFrees

@@ -1,6 +1,0 @@
-use Rattle.std.proofs.Common.{◌≡◌, length}
-use Rattle.slub_local.specs.Facts.{AreRandoms}
-use Rattle.slub_local.proofs.setup.Setup.open.Given as goal
-
-abbrev pub invariant-loop-cache : goal.invariant-loop-cache
-invariant-loop-cache l = (length l.randoms.items ≡ l.cache) × AreRandoms l.randoms.items

@@ -1,5 +1,0 @@
-use Rattle.slub_local.proofs.Updates.{rooms_of-set}
-use Rattle.slub_local.proofs.values.pop_node.Goals as goal
-
-pub returns-then-lock-values-clause-rooms : goal.returns-then-lock-values-clause-rooms
-returns-then-lock-values-clause-rooms c = rooms_of-set _ _ _ _ c.pop.ensures.room

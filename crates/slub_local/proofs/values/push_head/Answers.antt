@@ -1,5 +1,0 @@
-use Rattle.slub_local.proofs.Updates.{rooms_of-set}
-use Rattle.slub_local.proofs.values.push_head.Goals as goal
-
-pub returns-clause-rooms : goal.returns-clause-rooms
-returns-clause-rooms c = rooms_of-set _ _ _ _ c.push_head.ensures.room

@@ -1,8 +1,0 @@
-use Rattle.slub_numbers.proofs.Digits.{written_decimal, decimal_written}
-use Rattle.slub_numbers.proofs.laws.written_is_decimal.Goals as goal
-
-pub returns : goal.returns
-returns c = (
-  λ is. written_decimal c.args.word.now c.args.n is c.ranges.n.fits,
-  λ is. decimal_written c.args.word.now c.args.n is c.ranges.n.fits,
-)

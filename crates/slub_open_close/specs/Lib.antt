@@ -1,0 +1,16 @@
+pub mod Beside
+pub mod Ids
+pub mod Facts
+pub mod Classes
+pub mod Laying
+pub mod Values
+pub mod Rest
+pub mod Opened
+pub mod Laws
+pub mod Reads
+pub mod Joins
+pub mod Closing
+pub mod Undoing
+pub mod Growth
+pub mod IdLaws
+pub mod Due

@@ -1,5 +1,0 @@
-use Rattle.slub_opening.proofs.Systems.{lists-stand}
-use Rattle.slub_opening.proofs.laws.coherent_lists_stand.Goals as goal
-
-pub returns : goal.returns
-returns c = lists-stand

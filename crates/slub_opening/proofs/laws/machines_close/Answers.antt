@@ -1,5 +1,0 @@
-use Rattle.slub_opening.proofs.Closes.{machines-close}
-use Rattle.slub_opening.proofs.laws.machines_close.Goals as goal
-
-pub returns : goal.returns
-returns c = machines-close

@@ -1,5 +1,0 @@
-use Rattle.slub_opening.proofs.Systems.{opened-close}
-use Rattle.slub_opening.proofs.laws.opened_machines_close.Goals as goal
-
-pub returns : goal.returns
-returns c = opened-close

@@ -1,5 +1,0 @@
-use Rattle.slub_opening.proofs.Systems.{opened-rest}
-use Rattle.slub_opening.proofs.laws.opened_machines_rest.Goals as goal
-
-pub returns : goal.returns
-returns c = opened-rest

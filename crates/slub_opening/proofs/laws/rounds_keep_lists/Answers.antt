@@ -1,5 +1,0 @@
-use Rattle.slub_opening.proofs.Systems.{rounds-keep}
-use Rattle.slub_opening.proofs.laws.rounds_keep_lists.Goals as goal
-
-pub returns : goal.returns
-returns c = rounds-keep

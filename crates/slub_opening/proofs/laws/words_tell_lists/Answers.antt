@@ -1,5 +1,0 @@
-use Rattle.slub_opening.proofs.Telling.{words-tell}
-use Rattle.slub_opening.proofs.laws.words_tell_lists.Goals as goal
-
-pub returns : goal.returns
-returns c = words-tell

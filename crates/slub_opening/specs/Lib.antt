@@ -1,5 +1,0 @@
-pub mod Opening
-pub mod Rests
-pub mod Table
-pub mod Laws
-pub mod Closing

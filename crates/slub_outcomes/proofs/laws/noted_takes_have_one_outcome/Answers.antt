@@ -1,5 +1,0 @@
-use Rattle.slub_outcomes.proofs.Pool.{noted_one}
-use Rattle.slub_outcomes.proofs.laws.noted_takes_have_one_outcome.Goals as goal
-
-pub returns : goal.returns
-returns c = noted_one

@@ -1,5 +1,0 @@
-use Rattle.slub_outcomes.proofs.Items.{plain_items_one}
-use Rattle.slub_outcomes.proofs.laws.plain_items_have_one_outcome.Goals as goal
-
-pub returns : goal.returns
-returns c = plain_items_one

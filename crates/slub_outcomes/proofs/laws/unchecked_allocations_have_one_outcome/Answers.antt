@@ -1,5 +1,0 @@
-use Rattle.slub_outcomes.proofs.Allocations.{unchecked_allocations_one}
-use Rattle.slub_outcomes.proofs.laws.unchecked_allocations_have_one_outcome.Goals as goal
-
-pub returns : goal.returns
-returns c = unchecked_allocations_one

@@ -1,5 +1,0 @@
-use Rattle.slub_outcomes.proofs.Rounds.{unchecked_rounds_one}
-use Rattle.slub_outcomes.proofs.laws.unchecked_rounds_have_one_outcome.Goals as goal
-
-pub returns : goal.returns
-returns c = unchecked_rounds_one

@@ -1,5 +1,0 @@
-pub mod Outcome
-pub mod Parts
-pub mod Events
-pub mod Rounds
-pub mod Items

@@ -1,6 +1,0 @@
-use Rattle.std.proofs.Common.{refl}
-use Rattle.slub_round_law.proofs.Sparing.{spares-by}
-use Rattle.slub_round_law.proofs.laws.events_spare_other_objects.Goals as goal
-
-pub returns : goal.returns
-returns c = λ s event reply after coherent answers. spares-by s event reply after coherent answers event.act refl

@@ -1,5 +1,0 @@
-use Rattle.slub_round_law.proofs.Unpoked.{written-value}
-use Rattle.slub_round_law.proofs.laws.unpoked_values_were_written.Goals as goal
-
-pub returns : goal.returns
-returns c = λ before answers own object word value written is unpoked mine last small. written-value before answers own object word value written unpoked mine last small is

@@ -1,4 +1,0 @@
-pub mod Answered
-pub mod Event
-pub mod Pokes
-pub mod Round

@@ -1,5 +1,0 @@
-use Rattle.slub_serial.proofs.Rounds.{rounds_or_spent}
-use Rattle.slub_serial.proofs.laws.rounds_in_text_are_those_of_lists_or_spend.Goals as goal
-
-pub returns : goal.returns
-returns c = rounds_or_spent

@@ -1,4 +1,0 @@
-pub mod Serial
-pub mod Laws
-pub mod Only
-pub mod OnTheWay

@@ -1,5 +1,0 @@
-use Rattle.slub_ways.proofs.Ready.{may-be-done}
-use Rattle.slub_ways.proofs.laws.ready_rounds_may_be_done.Goals as goal
-
-pub returns : goal.returns
-returns c = may-be-done

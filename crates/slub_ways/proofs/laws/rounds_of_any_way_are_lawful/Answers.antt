@@ -1,5 +1,0 @@
-use Rattle.slub_ways.proofs.Fitting.{lawful-by}
-use Rattle.slub_ways.proofs.laws.rounds_of_any_way_are_lawful.Goals as goal
-
-pub returns : goal.returns
-returns c = lawful-by

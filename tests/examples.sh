@@ -9,7 +9,7 @@ trap 'rm -rf "$room"' EXIT
 passed=0
 failed=0
 
-# One folder with a file NAME, NAME.args and NAME.stdout for each example, as `rt try --cases` reads it.
+# One folder with a file NAME, NAME.args and NAME.stdout for each example, as tests/run-cases reads it.
 mkdir "$room/cases"
 for out in "$top"/examples/*.out; do
     example=${out%.out}
@@ -21,30 +21,7 @@ for out in "$top"/examples/*.out; do
     if [ -f "$example.args" ]; then cp "$example.args" "$case.args"; else printf 'replay\n--replies\n' >"$case.args"; fi
 done
 
-# Writes lines NAME STATUS OUTPUT, where OUTPUT is `expected` or `differs`.
-run_all() {
-    local case words status
-    if [ $# = 0 ]; then
-        (cd "$top/crates/slub" && rt try --cases "$room/cases") >"$room/log" 2>&1
-        sed -n 's/^case=\([^ ]*\) run=ended status=\([0-9]*\) .*output=\([a-z]*\).*/\1 \2 \3/p' "$room/log"
-        return
-    fi
-    cp "$1" "$room/program" && chmod +x "$room/program" || return
-    for case in "$room"/cases/*.stdout; do
-        case=${case%.stdout}
-        mapfile -t words <"$case.args"
-        "$room/program" "${words[@]}" <"$case" >"$room/got"
-        status=$?
-        if cmp -s "$room/got" "$case.stdout"; then
-            echo "${case##*/} $status expected"
-        else
-            echo "${case##*/} $status differs"
-            diff "$case.stdout" "$room/got" | head -5 >&2
-        fi
-    done
-}
-
-run_all "$@" >"$room/results"
+"$top/tests/run-cases" "$room/cases" "$@" >"$room/results" 2>"$room/log"
 for out in "$top"/examples/*.out; do
     name=$(basename "$out" .out)
     wanted=$(cat "$top/examples/$name.status" 2>/dev/null || echo 0)
@@ -62,6 +39,6 @@ for trace in "$top"/examples/*.trace; do
     failed=$((failed + 1))
     echo "tests/examples.sh: no output stands beside $(basename "$trace")" >&2
 done
-if [ "$failed" != 0 ] && [ -f "$room/log" ]; then cat "$room/log" >&2; fi
+if [ "$failed" != 0 ]; then cat "$room/log" >&2; fi
 echo "tests/examples.sh: $passed passed, $failed failed"
 [ "$failed" = 0 ]

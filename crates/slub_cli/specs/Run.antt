@@ -39,7 +39,7 @@ use Rattle.slub_slabinfo_text.specs.ClientText.{is_ok_client}
 use Rattle.slub_slabinfo_text.specs.Text.{text_of, items_text}
 use Rattle.slub_law_replay.specs.Freed.{freed_times, given_times}
 use Rattle.slub_law_replay.specs.Poked.{HasPokedDamages}
-use Rattle.slub_law_replay.specs.Rounds.{HasLawfulRounds}
+use Rattle.slub_law_replay.specs.Rounds.{HasRounds}
 use Rattle.slub_trace_reader.specs.Load.{load_of}
 use Rattle.slub_law_replay.specs.declared.way.Way.{Way}
 use Rattle.slub_law_replay.specs.declared.way.Way.TheVariants.{Serial, Schedule, Threads}
@@ -260,8 +260,10 @@ pub record HoldsOver (way : Way) (trace : Trace) (journal : Journal) : Type 0 wh
       freed_times object trace journal ≤ given_times object trace journal
   -- what was given less what was freed is live
   pub balance : IfSome journal.total (λ total. total.given ≡ total.freed + total.live)
-  -- each round is lawful by its events and replies alone
-  pub rounds : HasLawfulRounds way trace journal
+  -- along the machines by which the journal is lawful, each round is lawful by its events and
+  -- replies alone, and a run of atomic steps, with the machine coherent before each and after the
+  -- last; want of memory in a round in the order of the text aside
+  pub rounds : HasRounds way trace journal
   -- each damage that is told of was poked there, in the same round or before
   pub damages : HasPokedDamages trace journal
 

@@ -19,10 +19,10 @@
 //!     status, or after a failed write a front of that and not the whole; which faults were counted;
 //!   - *lawful*: the trace is the one that the source's bytes spell, or the load of the numbers that the words
 //!     give; it is sound, and the journal is lawful for it and for the way that was asked: the machine is
-//!     coherent after each item, after each event in the order of the text, and at every turn by schedule and by
-//!     threads;
-//!   - *over*: over the whole run no number is given or freed twice, given less freed is live, rounds are
-//!     lawful, and damage was poked;
+//!     coherent after each item, and in the order of the text after each event;
+//!   - *over*: over the whole run no number is given or freed twice, given less freed is live, and damage was
+//!     poked; and each round, of clients too, is lawful, and is a run of atomic steps, with the machine coherent
+//!     before each step and after the last, whatever the way (want of memory aside);
 //! - *bad_words*, *bad_trace*, *complete*, *serial*, *threads*, *load*, *done*, *layout*: which status a run must
 //!   have; `Status::number` gives its number;
 //! - *one_text*: what a run wrote is a function of the trace, the way and the seed: it is the text of every journal

@@ -22,10 +22,10 @@ use Rattle.slub_rounds.specs.Reserves.{AreSoundReserves, Reserve, kept_in, kept_
 
 -- ---- rounds of one act each
 
--- a round of the trace whose events 32 bits hold
+-- a round of the trace of no more events than 24 bits hold
 pub record IsAsked (trace : Trace) (round : Round) : Type 0 where
   pub sound : IsSoundRound trace round
-  pub few : length round.events ≤ 2 ^ 32
+  pub few : length round.events ≤ 2 ^ 24
 
 -- numbers of the trace
 abbrev pub AreKnown : Trace → List ℕ → Type 0

@@ -33,10 +33,9 @@ use Rattle.slub_law_replay.proofs.Numbers.{IsBrief}
 use Rattle.slub_law_replay.proofs.Rests.{classes-rest, creates-rest, destroys-rest, rests-same, shrinks-rest, tunes-rest}
 use Rattle.slub_law_replay.proofs.Standing.{Stands, StandsBefore, made-numbers}
 use Rattle.slub_law_replay.specs.Freed.{answered_by, rounds_among, rounds_of}
-use Rattle.slub_law_replay.specs.Rounds.{AreLawful, AreRounds}
 use Rattle.slub_law_replay.proofs.Adding.{upto}
 use Rattle.slub_law_replay.proofs.Balanced.{HasRoom, at-most, board_size, room-after, round-balanced, round-few, round-moves}
-use Rattle.slub_law_replay.proofs.Rounds.{item-stands}
+use Rattle.slub_law_replay.proofs.Rounds.{AreLawful, AreRounds, item-stands}
 use Rattle.slub_law_replay.proofs.Times.{answered_more, made_given}
 
 -- rounds that gave and freed so many objects, and might allocate these numbers

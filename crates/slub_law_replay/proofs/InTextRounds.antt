@@ -23,7 +23,7 @@ use Rattle.slub_core.specs.declared.call.Call.{Call}
 use Rattle.slub_core.specs.Setup.{IsSetup, Setup, cpu_number}
 use Rattle.slub_core.specs.Local.{Local}
 use Rattle.slub_core.specs.Law.{IsCoherentSystem, replies_of}
-use Rattle.slub_core.specs.Run.{System, IsFinished, idle, run}
+use Rattle.slub_core.specs.Run.{System, Pick, IsFinished, idle, run}
 use Rattle.slub_core.specs.Steps.{rested}
 use Rattle.slub_core.specs.World.{LockValue, world_of, world_from}
 use Rattle.slub_core.proofs.CallsStay.{rested_at-script}
@@ -46,9 +46,10 @@ use Rattle.slub_law_alone.specs.Alone.{HasWord, IsAtRest}
 use Rattle.slub_law_alone.proofs.Begins.{begins_at_rest}
 use Rattle.slub_law_alone.specs.SerialLaws.{RunsAsLists, before, begun}
 use Rattle.slub_law_alone.specs.OnTheWay.{SpendsAnId}
-use Rattle.slub_law_alone.specs.Serial.{IsSameWritten, call_of, told_to}
+use Rattle.slub_law_alone.specs.Serial.{IsSameWritten, RunsInText, call_of, told_to}
 use Rattle.slub_law_alone.proofs.SerialRounds.{rounds_or_spent}
 use Rattle.slub_rounds.specs.Doing.{AwaitsEvents}
+use Rattle.slub_rounds.specs.InOrder.{AreInOrder}
 use Rattle.slub_rounds.specs.Rounds.{DoesRoundInOrder}
 use Rattle.slub_rounds.proofs.Doing.{events-each}
 use Rattle.slub_rounds.proofs.One.{same-checked, same-found, same-ids, same-replies}
@@ -92,15 +93,22 @@ module _ (s : State) (b : Beside) (trace : Trace) (round : Round) (may : MayOpen
         ∙ events-each s.table round (inside-round trace s round may_do) v;
   }
 
+  -- what comes of the events by turns in the order of the text does so by such picks
+  pub turns-in_order : (last : System) → RunsInText m (call_of s.table round) round.events first last → (picks : List Pick) × AreInOrder m round.events first picks × (last ≡ run m first picks)
+  turns-in_order last turns =
+      let made = all-made m (before s b round) round.events (call_of s.table round) first rest-begun.coherent awaits round.workers many round.events 0 first last refl (inside-round trace s round may_do) turns
+      (none-made m (before s b round) round.events (call_of s.table round) first rest-begun.coherent awaits round.workers many) in
+      (made.1.picks, made.1.in_order, made.1.run_is)
+
 -- ---- the end
 
 -- the setup is that of the opening
-setup-stays : (s t : State) (b d : Beside) (value : ℕ → LockValue) (words : List ℕ) (last : System) → IsCoherentSystem (setup_of t d) (world_of (setup_of s b) value words) last → setup_of t d ≡ setup_of s b
+pub setup-stays : (s t : State) (b d : Beside) (value : ℕ → LockValue) (words : List ℕ) (last : System) → IsCoherentSystem (setup_of t d) (world_of (setup_of s b) value words) last → setup_of t d ≡ setup_of s b
 unfolding world_of world_from
 setup-stays s t b d value words last is = is.coherent.accounted.setup
 
 -- what is found is no word, and so is what a machine has in common with one that is alike
-same-words : (past : List Event) (s after given : State) → IsSameWritten past after given → found_in s given ≡ found_in s after
+pub same-words : (past : List Event) (s after given : State) → IsSameWritten past after given → found_in s given ≡ found_in s after
 same-words past s after given same = ap (found_in s) same.lists
 
 -- lists in which one machine rests have the same words of an object of an unchecked cache

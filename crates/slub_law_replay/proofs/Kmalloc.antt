@@ -16,7 +16,6 @@ use Rattle.slub_trace.specs.declared.trace.Client.TheVariants as line
 use Rattle.slub_trace.specs.declared.trace.Trace.{Trace}
 use Rattle.slub_slabinfo_text.specs.declared.client.CacheRefusal.{CacheRefusal}
 use Rattle.slub_slabinfo_text.specs.declared.client.CacheRefusal.TheVariants as why
-use Rattle.slub_slabinfo_text.specs.declared.client.ClientAnswer.{ClientAnswer}
 use Rattle.slub_slabinfo_text.specs.declared.client.ClientAnswer.TheVariants as answer
 use Rattle.slub_slabinfo_text.specs.declared.client.ClientDone.{ClientDone}
 use Rattle.slub_slabinfo_text.specs.declared.client.ClientRound.{ClientRound}

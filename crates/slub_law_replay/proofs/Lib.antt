@@ -20,6 +20,8 @@ pub mod Times
 pub mod Moved
 pub mod TrimmedLast
 pub mod Rounds
+pub mod OfSteps
+pub mod Along
 pub mod PokedRounds
 pub mod Pokes
 mod Swept

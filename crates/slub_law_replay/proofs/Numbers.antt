@@ -97,11 +97,11 @@ numbers-few trace sound =
 
 -- ---- the events of one item
 
--- 32 bits hold how many they are
+-- 24 bits hold how many they are
 abbrev pub IsBrief : Item → Type 0
-IsBrief it = length (events_in it) ≤ 2 ^ 32
+IsBrief it = length (events_in it) ≤ 2 ^ 24
 
-each-brief : (items : List Item) → length (flat_map events_in items) ≤ 2 ^ 32 → All IsBrief items
+each-brief : (items : List Item) → length (flat_map events_in items) ≤ 2 ^ 24 → All IsBrief items
 each-brief [] few = λ k d below. absurd (let never : ⊥ = omega (arith, below) in never)
 each-brief (it ∷ items) few =
     let all = length-append (events_in it) (flat_map events_in items) in

@@ -5,7 +5,6 @@ use Rattle.slub_trace.specs.declared.event.Event.{Event}
 use Rattle.slub_trace.specs.declared.event.Round.{Round}
 use Rattle.slub_trace.specs.declared.ledger.Ledger.{Ledger}
 use Rattle.slub_trace.specs.declared.reply.Reply.{Reply}
-use Rattle.slub_trace.specs.declared.trace.Item.TheVariants as item
 use Rattle.slub_lists.specs.State.{State}
 use Rattle.slub_core.specs.Run.{System, Pick, run}
 use Rattle.slub_core.specs.Setup.{Setup}

@@ -1,29 +1,39 @@
--- Each round of a lawful journal is lawful.
-use Rattle.std.proofs.Common.{ℕ, List, [], ◌∷◌, ◌++◌, length, take, flat_map, refl, sym, ap, subst, All}
-use Rattle.std.proofs.lemmas.List.Elements.{All-head, All-tail}
+-- The rounds of an item are lawful.
+use Rattle.std.proofs.Common.{◌≡◌, ℕ, List, [], ◌∷◌, ◌++◌, flat_map, refl, sym, ap, subst}
+use Rattle.std.specs.Prelude.{⊤}
 use Rattle.slub_lists.specs.State.{State}
 use Rattle.slub_lists.specs.Coherent.{IsCoherent}
 use Rattle.slub_trace.specs.declared.trace.Item.{Item}
 use Rattle.slub_trace.specs.declared.trace.Item.TheVariants as item
 use Rattle.slub_trace.specs.declared.trace.Trace.{Trace}
 use Rattle.slub_trace.specs.declared.trace.Client.{Client as Asked}
-use Rattle.slub_trace.specs.Sound.{IsSound, IsSoundItem, asked_objects, objects_in}
+use Rattle.slub_trace.specs.Sound.{IsSoundItem, asked_objects, objects_in}
 use Rattle.slub_slabinfo_text.specs.declared.journal.Done.{Done}
 use Rattle.slub_slabinfo_text.specs.declared.journal.Done.TheVariants as done
-use Rattle.slub_slabinfo_text.specs.declared.journal.Journal.{Journal}
 use Rattle.slub_slabinfo_text.specs.declared.client.ClientDone.{ClientDone}
 use Rattle.slub_slabinfo_text.specs.declared.client.ClientRound.{ClientRound}
 use Rattle.slub_slabinfo_text.specs.Lawful.{DoesPlain}
+use Rattle.slub_law_rounds.specs.Round.{IsRound}
 use Rattle.slub_rounds.specs.Heap.{HeapState}
 use Rattle.slub_law_replay.specs.Freed.{rounds_of}
-use Rattle.slub_law_replay.specs.Rounds.{AreLawful, AreRounds, HasLawfulRounds, RunsRounds}
 use Rattle.slub_law_replay.specs.declared.way.Way.{Way}
-use Rattle.slub_law_replay.specs.Runs.{Does, IsLawful, MachineState, RunsItems, heap_of, machine_of}
+use Rattle.slub_law_replay.specs.Runs.{Does, MachineState, heap_of}
 use Rattle.slub_law_replay.proofs.Fitting.{lawful-by}
 use Rattle.slub_law_replay.proofs.Made.{ClientEffect, IsSoundLine, MakesRounds, client_effect, made_caches, made_rounds, objects_asked}
-use Rattle.slub_law_replay.proofs.Numbers.{IsBrief, front, items-brief}
-use Rattle.slub_law_replay.proofs.Ready.{stands-first}
+use Rattle.slub_law_replay.proofs.Numbers.{IsBrief}
 use Rattle.slub_law_replay.proofs.Standing.{Stands, StandsBefore, is-round, line-sound, made-numbers, next-numbers, stands-may, stands-next, stands-round}
+
+-- ---- lawful rounds
+
+-- rounds are made one after the other from these lists on, and each is lawful
+abbrev pub AreLawful : State → List ClientRound → State → Type 0
+AreLawful s [] after = after ≡ s
+AreLawful s (round ∷ rounds) after = (mid : State) × IsRound s round.asked round.result mid × AreLawful mid rounds after
+
+-- so are the rounds of an item that was done; nothing is said of one without a round
+abbrev pub AreRounds : State → List ClientRound → State → Type 0
+AreRounds s [] after = ⊤
+AreRounds s (round ∷ rounds) after = AreLawful s (round ∷ rounds) after
 
 -- ---- rounds in the order of the text
 
@@ -78,21 +88,3 @@ pub item-stands : (way : Way) (m : MachineState) (trace : Trace) (it : Item) (dn
     → StandsBefore after trace coming × AreRounds m.lists (rounds_of it dn) after.lists
 item-stands way m trace it dn coming after stands sound brief coherent does =
     (stands-next way m trace it dn coming after stands sound brief coherent does, item-rounds way m trace it dn coming after stands sound brief does)
-
--- ---- the journal
-
-all-rounds : (way : Way) (m : MachineState) (trace : Trace) (items : List Item) (dones : List Done) (after : MachineState) → StandsBefore m trace (flat_map objects_in items) → All (IsSoundItem trace) items → All IsBrief items → RunsItems way m trace items dones after
-    → RunsRounds way m trace items dones after
-all-rounds way m trace [] [] after stands sound brief run = run
-all-rounds way m trace [] (dn ∷ dones) after stands sound brief run = absurd run
-all-rounds way m trace (it ∷ items) [] after stands sound brief run = absurd run
-all-rounds way m trace (it ∷ items) (dn ∷ dones) after stands sound brief run =
-    let next = item-stands way m trace it dn (flat_map objects_in items) run.0 stands (All-head (IsSoundItem trace) it items sound) (All-head IsBrief it items brief) run.2 run.1 in
-    (run.0, run.1, next.1, all-rounds way run.0 trace items dones after next.0 (All-tail (IsSoundItem trace) it items sound) (All-tail IsBrief it items brief) run.3)
-
-pub lawful-rounds : (way : Way) (trace : Trace) (journal : Journal) → IsSound trace → IsLawful way trace journal → HasLawfulRounds way trace journal
-lawful-rounds way trace journal sound law =
-    let some = length journal.items in (
-      law.machine,
-      all-rounds way (machine_of trace) trace (take some trace.items) journal.items law.machine (stands-first trace some sound law.coherent) (front (IsSoundItem trace) some trace.items sound.items) (front IsBrief some trace.items (items-brief trace sound)) law.run,
-    )

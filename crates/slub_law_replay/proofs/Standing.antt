@@ -131,7 +131,7 @@ module _ (s : State) (trace : Trace) (round : Round) (coming : List ℕ) (stands
   }
 
   -- a round of the trace can be done
-  pub stands-may : IsSoundRound trace round → length round.events ≤ 2 ^ 32 → MayDo s trace round
+  pub stands-may : IsSoundRound trace round → length round.events ≤ 2 ^ 24 → MayDo s trace round
   stands-may sound few = record {
     sound = sound;
     cpus = stands.cpus;
@@ -139,7 +139,7 @@ module _ (s : State) (trace : Trace) (round : Round) (coming : List ℕ) (stands
     names = stands.names;
     unheld = own-unheld;
     distinct = own-distinct;
-    few = few;
+    few = omega (arith, few);
     dry = λ order. omega (arith, stands.dry order);
   }
 

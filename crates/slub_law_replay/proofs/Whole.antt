@@ -14,10 +14,10 @@ use Rattle.slub_rounds.proofs.Lists.{cache-below, lists-at}
 
 -- ---- what was freed
 
-abbrev forgotten : Option Held → Option Held
+abbrev pub forgotten : Option Held → Option Held
 forgotten freed = None
 
-blank : (xs ys : List (Option Held)) → length xs ≡ length ys → map forgotten xs ≡ map forgotten ys
+pub blank : (xs ys : List (Option Held)) → length xs ≡ length ys → map forgotten xs ≡ map forgotten ys
 blank [] [] long = refl
 blank [] (y ∷ ys) long = absurd (omega (arith, long))
 blank (x ∷ xs) [] long = absurd (omega (arith, long))

@@ -15,7 +15,7 @@ ghost use Rattle.slub_law_replay.specs.Runs.{IsLawful, IsReadyMachine, machine_o
 ghost use Rattle.slub_law_replay.specs.Freed.{freed_times, given_times};
 ghost use Rattle.slub_law_replay.specs.Trimmed.{EndsTrimmed};
 ghost use Rattle.slub_law_replay.specs.Poked.{HasPokedDamages};
-ghost use Rattle.slub_law_replay.specs.Rounds.{HasLawfulRounds};
+ghost use Rattle.slub_law_replay.specs.Rounds.{HasRounds};
 ghost use Rattle.slub_law_replay.specs.Shrinking.{LeavesUsedSlabs};
 
 use crate::way::Way;
@@ -33,12 +33,12 @@ pub fn no_number_is_freed_twice(way: Way, trace: &Trace, journal: &Journal)
     ensures given_once { (object : ℕ) → given_times object trace.now journal.now ≤ 1 }
 {}
 
-/// Each round of a journal that is lawful by any way, also one that a client's line makes, is a lawful round (`IsRound`
-/// of `slub_law_rounds`), for the machine before it.
-pub fn rounds_of_a_journal_are_lawful(way: Way, trace: &Trace, journal: &Journal)
+/// By whichever machines a journal is lawful, each of its rounds leads along them, also one that a client's line makes:
+/// it is a lawful round (`IsRound` of `slub_law_rounds`) for the machine before it, and a run of atomic steps of its
+/// workers, with the machine coherent before each step and after the last (`IsOfSteps`: want of memory aside).
+pub fn rounds_of_a_journal_are_of_steps(way: Way, trace: &Trace, journal: &Journal)
     requires sound { IsSound trace.now }
-    requires lawful { IsLawful way trace.now journal.now }
-    ensures { HasLawfulRounds way trace.now journal.now }
+    ensures { HasRounds way trace.now journal.now }
 {}
 
 /// Each damage that a journal tells of, in a report or as a free's answer, is a byte that was poked there in the same

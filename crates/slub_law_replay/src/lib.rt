@@ -12,6 +12,12 @@
 //!   is coherent between any two steps. Where ids stand beside the lists every round begins at them
 //!   and leaves those that the next item finds; any other round of several workers by steps begins
 //!   with first ids anew.
+//! - Each round is a run of atomic steps, whatever the way: `specs/OfSteps.antt`. By schedule and by
+//!   threads that is how it is done. What is done on the lists the workers would do by steps in the
+//!   order of the text, each event to its end, and be told the same (`proofs/OfSteps.antt`): where
+//!   no ids stand beside the lists the steps begin at first ones, of which a round spends none. Of a
+//!   round on the lists with a reply that memory was lacking it isn't said. `specs/Rounds.antt` says
+//!   it of each round of a journal, along its machines.
 //! - What follows of every lawful journal: `journal_laws`, with `specs/Freed.antt`, `Rounds`,
 //!   `Poked`, `Shrinking` and `Trimmed`; `laws` on what can be done before an item and after it.
 //! - One text: `one_text_laws` says that two lawful journals of a trace by one way and seed are the
@@ -27,9 +33,12 @@
 //! brings a count of wanted frames to its end.
 //!
 //! Of every lawful journal of a sound trace: no number is given or freed twice, given less freed is
-//! live, each round is lawful, each damage was poked. Of every coherent machine: live, free and
-//! set-aside objects make up a cache's objects; shrinking leaves the slabs in use, in the order of
-//! promotion; an unused cache that was trimmed last is empty.
+//! live, each damage was poked. By whichever machines it is lawful, each round leads along them, is
+//! lawful, and is a run of atomic steps, with the machine coherent before each and after the last,
+//! and bytes of checked caches come from where they may after each
+//! (`rounds_of_a_journal_are_of_steps`). Of every coherent machine: live, free and set-aside objects
+//! make up a cache's objects; shrinking leaves the slabs in use, in the order of promotion; an
+//! unused cache that was trimmed last is empty.
 //!
 //! `journals_are_one`, `texts_are_one`: the text of a replay is a function of the trace, the way
 //! and the seed, where no reply is that memory was lacking; by threads only where no round has

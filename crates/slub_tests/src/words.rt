@@ -9,8 +9,8 @@ use slub_words::cpu::{CpuWord, next_tid, spent};
 use slub_words::free::{FreePtr, random};
 use slub_words::slab::SlabWord;
 
-/// The words after the first allocation of 21 objects, from a new slab in frame 1 on the first of two CPUs; and the word
-/// of that slab on the node list, once its cache was shrunk.
+/// The words after the first allocation of 21 objects, from a new slab in frame 1 on the first of two CPUs; the word of
+/// that slab after the other CPU freed the object, and of the slab on the node list, once its cache was shrunk.
 #[test]
 fn words_of_cpus_and_slabs(rt: HostRuntime) {
     let cpu = CpuWord {
@@ -28,6 +28,11 @@ fn words_of_cpus_and_slabs(rt: HostRuntime) {
         listed: false,
         cache: 0,
     };
+    let freed_elsewhere = SlabWord {
+        head: 1,
+        inuse: 20,
+        ..slab
+    };
     let listed = SlabWord {
         head: 2,
         inuse: 1,
@@ -38,6 +43,7 @@ fn words_of_cpus_and_slabs(rt: HostRuntime) {
     };
     let rows = [
         (slab, 0x0001_0015_0015_0000),
+        (freed_elsewhere, 0x0001_0015_0014_0001),
         (listed, 0x0002_0015_0001_0002),
     ];
     for (slab, word) in rows {

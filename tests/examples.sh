@@ -1,27 +1,34 @@
 #!/usr/bin/env bash
-# examples.sh [PROGRAM]: each examples/NAME.out against what the program writes: for the words of NAME.args, one a
-# line (without it: replay --replies), the input NAME.trace (without it: none) and the status of NAME.status
-# (without it: 0). One trace may stand for several names: of TRACE.WAY it is TRACE.trace. Without PROGRAM the program
-# is made by `rt try`, unproved, in about a minute.
+# examples.sh [SLUB [TOOLS]]: each examples/NAME.out against what the program writes: for the words of NAME.args, one a
+# line (without it: replay --replies), the input NAME.trace or NAME.recording (without either: none) and the status of NAME.status
+# (without it: 0). One trace may stand for several names: of TRACE.WAY it is TRACE.trace. Where the first word is
+# outcomes or recorded, the program is slub_tools, and slub else. A program that isn't given is made by `rt try`, unproved, in about
+# a minute.
 top=$(cd "$(dirname "${BASH_SOURCE[0]}")/.." && pwd) || exit 2
 room=$(mktemp -d) || exit 2
 trap 'rm -rf "$room"' EXIT
 passed=0
 failed=0
 
-# One folder with a file NAME, NAME.args and NAME.stdout for each example, as tests/run-cases reads it.
-mkdir "$room/cases"
+# One folder for each program, with a file NAME, NAME.args and NAME.stdout for each example, as tests/run-cases reads it.
+mkdir "$room/slub" "$room/tools"
 for out in "$top"/examples/*.out; do
     example=${out%.out}
-    case=$room/cases/${example##*/}
+    program=slub
+    if [ -f "$example.args" ]; then
+        case $(head -1 "$example.args") in outcomes | recorded) program=tools ;; esac
+    fi
+    case=$room/$program/${example##*/}
     cp "$out" "$case.stdout"
     trace=$example.trace
     [ -f "$trace" ] || trace=${example%.*}.trace
+    [ -f "$trace" ] || trace=$example.recording
     if [ -f "$trace" ]; then cp "$trace" "$case"; else : >"$case"; fi
     if [ -f "$example.args" ]; then cp "$example.args" "$case.args"; else printf 'replay\n--replies\n' >"$case.args"; fi
 done
 
-"$top/tests/run-cases" "$room/cases" "$@" >"$room/results" 2>"$room/log"
+"$top/tests/run-cases" "$room/slub" ${1+"$1"} >"$room/results" 2>"$room/log"
+CRATE=slub_tools "$top/tests/run-cases" "$room/tools" ${2+"$2"} >>"$room/results" 2>>"$room/log"
 for out in "$top"/examples/*.out; do
     name=$(basename "$out" .out)
     wanted=$(cat "$top/examples/$name.status" 2>/dev/null || echo 0)

@@ -25,12 +25,13 @@ echo "$*" >>"$CALLS/rt"
 case $1 in
 run)
     text=$(cat src/main.rt)
+    name=${PWD##*/}
     if [ "$(cat out/text 2>/dev/null)" != "$text" ]; then
-        mkdir -p out && cp "$BIN/program" out/slub && echo "$text" >out/text
+        mkdir -p out && cp "$BIN/program" "out/$name" && echo "$text" >out/text
     fi
-    echo "rt: running out/slub" >&2
+    echo "rt: running out/$name" >&2
     while [ "$1" != -- ]; do shift; done
-    exec out/slub "${@:2}"
+    exec "out/$name" "${@:2}"
     ;;
 try)
     [ -f "$CALLS/hang" ] && { echo "run=none proved=no" >&2; exit 6; }
@@ -46,16 +47,20 @@ END
 chmod +x "$room/bin/program" "$room/bin/rt"
 export CALLS=$room/calls BIN=$room/bin PATH=$room/bin:$PATH
 
-mkdir -p "$room/clone/crates/slub/src"
+mkdir -p "$room/clone/crates/slub/src" "$room/clone/crates/slub_tools/src"
 cd "$room/clone" || exit 2
 cp "$top/slub" .
 echo 'fn main() {}' >crates/slub/src/main.rt
-printf 'slub:\n' >crates.txt
+echo 'fn main() {}' >crates/slub_tools/src/main.rt
+printf 'slub:\nslub_tools:\n' >crates.txt
 echo 'Handles allowed: none.' >HANDLES
 echo 'out/' >.gitignore
 printf 'replay\n--replies\n' >crates/slub/args
 printf 'status 0\n' >crates/slub/stdin
 echo 'slub got replay --replies' >crates/slub/stdout
+printf 'outcomes\n' >crates/slub_tools/args
+printf 'status 0\n' >crates/slub_tools/stdin
+echo 'slub_tools got outcomes' >crates/slub_tools/stdout
 git() { command git -c user.name=a -c user.email=a@b -c commit.gpgsign=false -c init.defaultBranch=main -c advice.detachedHead=false "$@"; }
 git init -q . && git add . && git commit -qm 'A program' || exit 2
 
@@ -105,6 +110,9 @@ wants "an input that pauses is read to its end" ends 4
 run layout 24 8 - 2
 wants "a layout is run unproved" is_unproved layout 24 8 - 2
 wants "a layout reads no input" [ ! -s "$CALLS/input" ]
+run outcomes --seeds 7
+wants "outcomes are run unproved" is_unproved outcomes --seeds 7
+wants "their input reaches the program" grep -qx 'status 0' "$CALLS/input"
 touch "$CALLS/hang"
 run replay
 wants "a run without an answer has a status that the program has not" ends 70
@@ -121,9 +129,11 @@ wants "a program that could not be built is not run" is_unproved replay
 
 run --build
 wants "--build builds" ends 0
-wants "--build never reaches the program" eval "calls 'run -- replay --replies' && wrote ''"
+wants "--build never reaches a program" eval "calls \$'run -- replay --replies\nrun -- outcomes' && wrote ''"
 run replay --replies
 wants "then the proved program runs, without rt" is_proved replay --replies
+run outcomes --seeds 7
+wants "so does the other one, for outcomes" eval "calls '' && wrote 'slub_tools got outcomes --seeds 7'"
 status=1
 run replay
 wants "its status is the script's" ends 1
@@ -145,7 +155,7 @@ run replay
 wants "coming back to the first costs nothing" is_proved replay
 git checkout -q main
 run --build layout 24 8 - 2
-wants "--build with words builds and then runs them" eval "calls 'run -- replay --replies' && wrote 'slub got layout 24 8 - 2'"
+wants "--build with words builds and then runs them" eval "calls \$'run -- replay --replies\nrun -- outcomes' && wrote 'slub got layout 24 8 - 2'"
 run replay
 wants "a build after a change is fresh" is_proved replay
 echo 'a note' >crates/slub/notes.txt
@@ -179,14 +189,18 @@ echo 'status 0' >some.trace
 run replay --replies some.trace
 wants "a file among the words of a replay ends with status 2" ends 2
 wants "it says how the file is read" eval "says 'use < some.trace' && calls ''"
+run outcomes some.trace
+wants "so does one among the words of outcomes" eval "ends 2 && says 'use < some.trace' && calls ''"
 touch serial 7
 run replay --how serial --seed 7
 wants "an option's value is no file" is_proved replay --how serial --seed 7
+run outcomes --seeds 7 --from 7 --round 7
+wants "nor is one of outcomes" wrote 'slub_tools got outcomes --seeds 7 --from 7 --round 7'
 
 script -qec "$PWD/slub replay" /dev/null <<<'status 0' >"$room/err" 2>&1
-wants "a replay from a terminal says that it waits" says 'waiting for a trace'
+wants "a replay from a terminal says that it waits" says 'waiting for input'
 script -qec "$PWD/slub layout 24 8 - 2" /dev/null </dev/null >"$room/err" 2>&1
-wants "a layout from a terminal does not" eval "! says 'waiting for a trace'"
+wants "a layout from a terminal does not" eval "! says 'waiting for input'"
 
 echo "tests/slub.sh: $passed passed, $failed failed"
 [ "$failed" = 0 ]

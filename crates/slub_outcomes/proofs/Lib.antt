@@ -1,0 +1,9 @@
+pub mod Counting
+pub mod Counts
+pub mod Cutting
+pub mod Endings
+pub mod OneOutcome
+pub mod Options
+pub mod Ordering
+pub mod Reached
+pub mod Replaying

@@ -1,0 +1,12 @@
+pub mod Words
+pub mod Span
+pub mod Tally
+pub mod Tallies
+pub mod Table
+pub mod Replies
+pub mod Replays
+pub mod Steps
+pub mod Cuts
+pub mod Stop
+pub mod Run
+pub mod Laws

@@ -1,0 +1,12 @@
+pub mod Numbers
+pub mod Lines
+pub mod Bodies
+pub mod Owned
+pub mod Moves
+pub mod Whole
+pub mod Notes
+pub mod Converts
+pub mod Counts
+pub mod Names
+pub mod Options
+pub mod Endings

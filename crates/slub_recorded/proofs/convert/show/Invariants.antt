@@ -1,0 +1,9 @@
+use Rattle.std.proofs.Common.{◌≤◌, length}
+use Rattle.slub_recorded.specs.Converted.{IsShown}
+use Rattle.slub_recorded.proofs.convert.show.Given as goal
+
+abbrev pub invariant-loop-one : goal.invariant-loop-one
+invariant-loop-one l = record {
+  shown : IsShown l.rows.items l.spots.items;
+  few : length l.rows.items ≤ l.one-index;
+}

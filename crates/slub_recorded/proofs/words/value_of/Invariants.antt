@@ -1,0 +1,9 @@
+use Rattle.std.proofs.Common.{◌≡◌, length, map, string_bytes}
+use Rattle.slub_recorded.specs.Words.{value_of}
+use Rattle.slub_recorded.proofs.words.value_of.Given as goal
+
+abbrev pub invariant-options : goal.invariant-options
+invariant-options l = value_of l.name (map string_bytes l.rest) ≡ value_of l.name (map string_bytes l.fn.words)
+
+abbrev pub decreases-options : goal.decreases-options
+decreases-options l = length l.rest

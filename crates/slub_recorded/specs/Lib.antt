@@ -1,0 +1,12 @@
+pub mod Paired
+pub mod Pairing
+pub mod Turns
+pub mod Text
+pub mod Lines
+pub mod Told
+pub mod Comments
+pub mod Converted
+pub mod Naming
+pub mod Words
+pub mod Stop
+pub mod Run

@@ -1,0 +1,232 @@
+//! A recording becomes a trace.
+
+ghost use Rattle.std.specs.Prelude.{◌≡◌, ◌≤◌, length, map, slice_set, slice_index_or, IfOk, OnOk};
+ghost use Rattle.slub_recorded.specs.Converted.{IsConverted, IsShown, IsTraceText};
+ghost use Rattle.slub_recorded.specs.Lines.{IsRow};
+ghost use Rattle.slub_recorded.specs.Turns.{count_kept, turns_of};
+
+use crate::groups::{Chosen, caches_of, group};
+use crate::naming::titles;
+use crate::pairing::{Move, pair};
+use crate::text::{Row, push_body, push_words};
+use crate::told::{Counts, Note, push_notes, tell};
+use crate::turns::{Turn, count_kept, turns_of};
+use slub_common::limits::{CPUS_MAX, INPUT_MAX, OBJECTS_MAX};
+use slub_common::no_memory::NoMemory;
+use slub_object_layout::name::Name;
+use slub_recording::recording::Recording;
+use std::alloc::{AllocError, Global};
+
+/// What is asked of a conversion.
+#[derive(Clone, Copy, Debug)]
+pub struct Options {
+    /// The group of caches, from 1 on.
+    pub group: u32,
+    /// The CPUs of the trace, 1 to 16; None for those of the recording.
+    pub cpus: Option<u32>,
+}
+
+/// Why there is no trace.
+#[derive(Clone, Copy, Debug)]
+pub enum ConvertFault {
+    NoMemory,
+    /// So many CPUs: a trace has 1 to 16.
+    TooManyCpus { cpus: u32 },
+    /// So many groups there are, and this isn't one of them.
+    NoSuchGroup { group: u32, groups: u32 },
+    /// So many objects of the group: a trace has at most 1048576.
+    TooManyObjects { objects: usize },
+    /// So many bytes: a trace has at most 16777216.
+    TooLong { bytes: usize },
+}
+
+impl From<NoMemory> for ConvertFault {
+    fn from(_e: NoMemory) -> ConvertFault {
+        ConvertFault::NoMemory
+    }
+}
+
+impl From<AllocError> for ConvertFault {
+    fn from(_e: AllocError) -> ConvertFault {
+        ConvertFault::NoMemory
+    }
+}
+
+/// A trace.
+#[derive(Drop)]
+pub struct Converted {
+    /// The bytes of the trace.
+    pub text: Vec<u8>,
+    /// What its comments tell.
+    pub notes: Vec<Note>,
+}
+
+/// The CPUs of the trace.
+fn cpus_of(recording: &Recording, options: &Options) -> Result<u32, ConvertFault>
+    ensures some { IfOk result (λ cpus. 1 ≤ cpus) }
+    ensures few { IfOk result (λ cpus. cpus ≤ 16) }
+{
+    let told = recording.told_cpus.unwrap_or(1);
+    let seen = recording.greatest_cpu.saturating_add(1);
+    let cpus = options.cpus.unwrap_or(told.max(seen));
+    if cpus == 0 || cpus > CPUS_MAX {
+        return Err(ConvertFault::TooManyCpus { cpus });
+    }
+    Ok(cpus)
+}
+
+/// The line of a cache.
+fn row(name: &Name, slot: u32, reclaim: bool) -> Row
+    ensures { IsRow result }
+{
+    let _text = name.as_bytes();
+    Row {
+        name: *name,
+        slot,
+        reclaim,
+    }
+}
+
+/// The caches of a trace.
+#[derive(Drop)]
+struct Shown {
+    rows: Vec<Row>,
+    /// By cache of the recording: its place in the trace.
+    spots: Vec<Option<u32>>,
+}
+
+/// Notes the place of a cache.
+fn put_spot(spots: &mut Vec<Option<u32>>, cache: usize, place: u32)
+    ensures { spots.new.items ≡ slice_set spots.old.items cache (Some place) }
+{
+    if cache < spots.len() {
+        spots[cache] = Some(place);
+    }
+}
+
+/// The caches of a trace, in their order.
+fn show(alloc: Global, caches: usize, chosen: &[Chosen]) -> Result<Shown, NoMemory>
+    requires { length chosen.now ≤ 32 }
+    ensures { IfOk result (λ shown. IsShown shown.rows.items shown.spots.items) }
+{
+    let mut rows = Vec::with_capacity(alloc, chosen.len())?;
+    let mut spots = vec![in alloc; None; caches]?;
+    for one in chosen {
+        put_spot(&mut spots, one.cache, rows.len() as u32);
+        rows.push(row(&one.name, one.slot, one.second))?;
+    }
+    Ok(Shown { rows, spots })
+}
+
+/// The place at which a cache stands in the trace.
+fn spot_at(spots: &[Option<u32>], cache: usize) -> Option<u32>
+    ensures { result ≡ slice_index_or spots.now cache None }
+{
+    spots.get(cache).copied().flatten()
+}
+
+/// By object: the place of its cache in the trace.
+fn places_of(
+    alloc: Global,
+    spots: &[Option<u32>],
+    caches: &[usize],
+) -> Result<Vec<Option<u32>>, NoMemory>
+    ensures { IfOk result (λ places. places.items ≡ map (λ cache. slice_index_or spots.now cache None) caches.now) }
+{
+    let places = caches
+        .iter()
+        .map(|cache| spot_at(spots, *cache))
+        .collect(alloc)?;
+    Ok(places)
+}
+
+/// The text of the trace.
+fn text_of(
+    alloc: Global,
+    notes: &[Note],
+    cpus: u32,
+    rows: &[Row],
+    turns: &[Turn],
+) -> Result<Vec<u8>, NoMemory>
+    ensures { IfOk result (λ text. IsTraceText notes.now cpus rows.now turns.now text.items) }
+{
+    let mut text = Vec::new(alloc);
+    push_words(&mut text, b"slubtrace 1\n")?;
+    push_notes(&mut text, notes)?;
+    push_body(&mut text, cpus, rows, turns)?;
+    Ok(text)
+}
+
+/// What the trace does, where its limits allow it.
+fn kept_turns(
+    alloc: Global,
+    places: &[Option<u32>],
+    cpus: u32,
+    moves: &[Move],
+) -> Result<Vec<Turn>, ConvertFault>
+    requires { 1 ≤ cpus }
+    ensures turns { IfOk result (λ turns. turns.items ≡ turns_of places.now cpus moves.now) }
+    ensures few { OnOk result (count_kept places.now ≤ 1048576) }
+{
+    if places.len() >= 4294967296 {
+        return Err(ConvertFault::TooManyObjects {
+            objects: places.len(),
+        });
+    }
+    let objects = count_kept(places);
+    if objects > OBJECTS_MAX {
+        return Err(ConvertFault::TooManyObjects {
+            objects: objects as usize,
+        });
+    }
+    let turns = turns_of(alloc, places, cpus, moves)?;
+    Ok(turns)
+}
+
+/// Converts a recording: the trace of a group of its caches.
+pub fn convert(
+    alloc: Global,
+    recording: &Recording,
+    options: &Options,
+) -> Result<Converted, ConvertFault>
+    ensures { IfOk result (λ c. IsConverted recording.now c.notes.items c.text.items) }
+{
+    let cpus = cpus_of(recording, options)?;
+    let pairing = pair(alloc, recording.events.as_slice())?;
+    let objects = pairing.objects.as_slice();
+    let moves = pairing.moves.as_slice();
+    let fates = pairing.fates.as_slice();
+    let titles = titles(alloc, recording.names.as_slice(), objects, moves)?;
+    let named = titles.as_slice();
+    let caches = caches_of(alloc, named, objects, moves)?;
+    let groups = group(alloc, caches.caches.as_slice(), cpus, options.group)?;
+    if options.group == 0 || groups.groups < options.group {
+        return Err(ConvertFault::NoSuchGroup {
+            group: options.group,
+            groups: groups.groups,
+        });
+    }
+    let shown = show(alloc, caches.caches.len(), groups.chosen.as_slice())?;
+    let rows = shown.rows.as_slice();
+    let spots = shown.spots.as_slice();
+    let places = places_of(alloc, spots, caches.places.as_slice())?;
+    let turns = kept_turns(alloc, places.as_slice(), cpus, moves)?;
+    let counts = Counts {
+        objects: objects.len() as u64,
+        moves: moves.len() as u64,
+        kept: turns.len() as u64,
+        rows: rows.len() as u64,
+        caches: caches.caches.len() as u64,
+        left_out: groups.left_out,
+        group: options.group,
+        groups: groups.groups,
+        cpus,
+    };
+    let notes = tell(alloc, recording, fates, named, &counts)?;
+    let text = text_of(alloc, notes.as_slice(), cpus, rows, turns.as_slice())?;
+    let bytes = text.as_slice().len();
+    if bytes > INPUT_MAX {
+        return Err(ConvertFault::TooLong { bytes });
+    }
+    Ok(Converted { text, notes })
+}

@@ -1,0 +1,50 @@
+//! A recording of kmem events becomes a trace.
+//!
+//! - `pairing` finds which object each event allocates or frees, by its pointer: an event frees
+//!   what lies at its pointer, so a free that wasn't recorded is put in just before the next
+//!   allocation of its pointer, on that one's CPU. It also says what became of each event.
+//! - `naming` names the cache of each object: by the slot and the kind of its kmalloc, by its own
+//!   free, by the only name known for its call site and its slot, or by its sizes.
+//! - `groups` has the caches, and those of a group: at most 32, at most two of a slot, and no more
+//!   page frames than a machine has, the caches with most objects first.
+//! - `turns` numbers the objects of the group's caches, and says what the trace does with them, by
+//!   one worker in one round; `text` writes the lines; `told` the comments above them.
+//! - `convert` does all this.
+//! - `words` says what the words of a command line ask for, `stop` and `status` why a run stops early
+//!   and how it ended. `run` is the top call of the command.
+//! - Definitions: `specs/Pairing.antt` is the pairing as a fold over the events; `Turns` what a
+//!   trace does of it, and what it is that objects are numbered in their order and freed at most
+//!   once; `Text` the bytes, `Lines` the lines of the grammar of traces that they spell; `Told` the
+//!   comments; `Converted` what a conversion promises.
+//! - Laws: `laws`.
+//!
+//! # What it promises
+//!
+//! `run`, for every source, sink and list of words (`specs/Run.antt`): each status has its cause and
+//! its text, which is taken whole, or after a failed write a front of it and not the whole; words
+//! that ask for nothing leave the source as it was; status 0 comes only where the source's bytes
+//! spell a recording, and the text is its trace.
+//!
+//! `convert` answers with bytes that are a trace (`IsTrace` of `slub_trace_reader`), of these lines
+//! and no others: comments, a machine of 4096 page frames and 1 to 16 CPUs, at most 32 caches, one
+//! round of one worker, `slabinfo`. In the round stand the allocations and frees of the kept
+//! objects, all of them, in recorded order and each on its CPU, and nothing else. Objects are
+//! allocated under the numbers from 1 on, and each is freed at most once, after it. The comments
+//! tell of each event what became of it, once, so that these numbers add up to all events.
+//!
+//! Which objects are kept is by cache; no clause says which caches those are, nor their names, nor
+//! when a limit's error comes.
+#![tactic(auto)]
+
+pub mod convert;
+pub mod groups;
+pub mod laws;
+pub mod naming;
+pub mod pairing;
+pub mod run;
+pub mod status;
+mod stop;
+pub mod text;
+pub mod told;
+pub mod turns;
+mod words;

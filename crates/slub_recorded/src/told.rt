@@ -1,0 +1,233 @@
+//! What is told of a conversion, in comments at the top of the trace.
+
+ghost use Rattle.std.specs.Prelude.{◌≡◌, ◌∷◌, ◌++◌, [], flat_map, All, IfOk, OnOk};
+ghost use Rattle.slub_recorded.specs.Comments.{IsNote};
+ghost use Rattle.slub_recorded.specs.Told.{count_fate, fate_notes, note_text, Tells, word_text};
+
+use crate::naming::{Namer, Title};
+use crate::pairing::Fate;
+use crate::text::{push_numbered, push_words};
+use slub_common::no_memory::NoMemory;
+use slub_recording::recording::Recording;
+use std::alloc::Global;
+
+/// What is counted.
+#[derive(Clone, Copy, Debug)]
+pub enum Word {
+    /// Allocations of objects.
+    Given,
+    /// Events that were overwritten before the text begins.
+    Overwritten,
+    /// Events that were lost within.
+    Lost,
+    /// Events whose time is before that of the event above.
+    Back,
+    /// Events of other kinds.
+    Others,
+    /// Objects named by the slot and the kind of their kmalloc, and so on.
+    ByKmalloc,
+    ByFree,
+    BySite,
+    BySizes,
+    /// Allocations whose pointer is 0.
+    Failed,
+    PagesGiven,
+    Freed,
+    /// Frees whose pointer is 0.
+    OfNothing,
+    PagesFreed,
+    CacheUnknown,
+    Unknown,
+    /// Frees that weren't recorded.
+    PutIn,
+    /// Objects that live at the end.
+    Live,
+    /// Allocations and frees of the group's objects, and of all.
+    KeptMoves,
+    Moves,
+    KeptCaches,
+    Caches,
+    LeftOut,
+    Group,
+    Groups,
+    Cpus,
+}
+
+impl Word {
+    /// What is counted, in words.
+    fn text(&self) -> &'static [u8]
+        ensures { result.now ≡ word_text self.now }
+    {
+        match self {
+            Word::Given => b"allocations of objects",
+            Word::Overwritten => b"events overwritten before the text begins",
+            Word::Lost => b"events lost within",
+            Word::Back => b"events whose time goes back",
+            Word::Others => b"other events",
+            Word::ByKmalloc => b"allocations named by kmalloc size",
+            Word::ByFree => b"allocations named by their free",
+            Word::BySite => b"allocations named by their call site",
+            Word::BySizes => b"allocations of unknown name, called slab-REQ-SLOT",
+            Word::Failed => b"allocations that failed",
+            Word::PagesGiven => b"kmalloc of whole pages",
+            Word::Freed => b"frees matched",
+            Word::OfNothing => b"frees of nothing",
+            Word::PagesFreed => b"frees of whole pages",
+            Word::CacheUnknown => {
+                b"kmem_cache_free of a pointer that was not allocated in the recording"
+            }
+            Word::Unknown => b"kfree of a pointer that was not allocated in the recording",
+            Word::PutIn => {
+                b"frees that were not recorded, put before the next allocation of the pointer"
+            }
+            Word::Live => b"objects live at the end of the recording",
+            Word::KeptMoves => b"events kept here",
+            Word::Moves => b"events of objects",
+            Word::KeptCaches => b"caches kept here",
+            Word::Caches => b"caches",
+            Word::LeftOut => b"caches that fit in no group, left out",
+            Word::Group => b"group",
+            Word::Groups => b"groups",
+            Word::Cpus => b"CPUs, and CPU c is c modulo this",
+        }
+    }
+}
+
+/// A number that is told.
+#[derive(Clone, Copy, Debug)]
+pub struct Note {
+    pub word: Word,
+    pub number: u64,
+}
+
+/// How much there is of what.
+#[derive(Clone, Copy, Debug)]
+pub struct Counts {
+    pub objects: u64,
+    pub moves: u64,
+    /// The moves of kept objects.
+    pub kept: u64,
+    /// The caches of the trace.
+    pub rows: u64,
+    pub caches: u64,
+    pub left_out: u64,
+    pub group: u32,
+    pub groups: u32,
+    pub cpus: u32,
+}
+
+/// How many events had this fate.
+fn count_fate(fates: &[Fate], fate: Fate) -> u64
+    ensures { result ≡ count_fate fates.now fate }
+{
+    let code = fate.code();
+    fates.iter().filter(|f| f.code() == code).count() as u64
+}
+
+/// How many objects this gave the names of their caches.
+fn count_namer(titles: &[Title], namer: Namer) -> u64 {
+    titles.iter().filter(|title| title.namer == namer).count() as u64
+}
+
+/// Tells a number.
+fn put(notes: &mut Vec<Note>, word: Word, number: u64) -> Result<(), NoMemory>
+    ensures { OnOk result (notes.new.items ≡ notes.old.items ++ record { word = word; number = number } ∷ []) }
+{
+    notes.push(Note { word, number })?;
+    Ok(())
+}
+
+/// Tells what became of events.
+fn put_fates(notes: &mut Vec<Note>, fates: &[Fate]) -> Result<(), NoMemory>
+    ensures { OnOk result (notes.new.items ≡ notes.old.items ++ fate_notes fates.now) }
+{
+    put(notes, Word::Given, count_fate(fates, Fate::Given))?;
+    put(notes, Word::Failed, count_fate(fates, Fate::Failed))?;
+    put(notes, Word::PagesGiven, count_fate(fates, Fate::PagesGiven))?;
+    put(notes, Word::Freed, count_fate(fates, Fate::Freed))?;
+    put(notes, Word::OfNothing, count_fate(fates, Fate::OfNothing))?;
+    put(notes, Word::PagesFreed, count_fate(fates, Fate::PagesFreed))?;
+    put(
+        notes,
+        Word::CacheUnknown,
+        count_fate(fates, Fate::CacheUnknown),
+    )?;
+    put(notes, Word::Unknown, count_fate(fates, Fate::Unknown))?;
+    Ok(())
+}
+
+/// Tells what gave names, and how much is kept.
+fn put_counts(notes: &mut Vec<Note>, titles: &[Title], counts: &Counts) -> Result<(), NoMemory> {
+    put(notes, Word::ByKmalloc, count_namer(titles, Namer::Kmalloc))?;
+    put(notes, Word::ByFree, count_namer(titles, Namer::Free))?;
+    put(notes, Word::BySite, count_namer(titles, Namer::Site))?;
+    put(notes, Word::BySizes, count_namer(titles, Namer::Sizes))?;
+    put(notes, Word::KeptMoves, counts.kept)?;
+    put(notes, Word::Moves, counts.moves)?;
+    put(notes, Word::KeptCaches, counts.rows)?;
+    put(notes, Word::Caches, counts.caches)?;
+    put(notes, Word::LeftOut, counts.left_out)?;
+    put(notes, Word::Group, u64::from(counts.group))?;
+    put(notes, Word::Groups, u64::from(counts.groups))?;
+    put(notes, Word::Cpus, u64::from(counts.cpus))
+}
+
+/// Tells what the recording says of itself, and what was put in and is left of it.
+fn put_rest(
+    notes: &mut Vec<Note>,
+    recording: &Recording,
+    fates: &[Fate],
+    counts: &Counts,
+) -> Result<(), NoMemory> {
+    let frees = counts.moves.saturating_sub(counts.objects);
+    let matched = count_fate(fates, Fate::Freed);
+    put(notes, Word::Overwritten, recording.overwritten)?;
+    put(notes, Word::Lost, recording.lost)?;
+    put(notes, Word::Back, recording.back)?;
+    put(notes, Word::Others, recording.others)?;
+    put(notes, Word::PutIn, frees.saturating_sub(matched))?;
+    put(notes, Word::Live, counts.objects.saturating_sub(frees))
+}
+
+/// What the comments tell.
+pub(crate) fn tell(
+    alloc: Global,
+    recording: &Recording,
+    fates: &[Fate],
+    titles: &[Title],
+    counts: &Counts,
+) -> Result<Vec<Note>, NoMemory>
+    ensures { IfOk result (λ notes. Tells notes.items fates.now) }
+{
+    let mut notes = Vec::new(alloc);
+    put_fates(&mut notes, fates)?;
+    let mut more = Vec::new(alloc);
+    put_counts(&mut more, titles, counts)?;
+    put_rest(&mut more, recording, fates, counts)?;
+    notes.extend_from_slice(more.as_slice())?;
+    Ok(notes)
+}
+
+/// Puts a comment behind a text.
+fn push_note(text: &mut Vec<u8>, note: &Note) -> Result<(), NoMemory>
+    ensures text { OnOk result (text.new.items ≡ text.old.items ++ note_text note.now) }
+    ensures comment { OnOk result (IsNote note.now) }
+{
+    let number = note.number;
+    push_words(text, b"# ")?;
+    push_words(text, note.word.text())?;
+    push_numbered(text, b": ", number)?;
+    push_words(text, b"\n")?;
+    Ok(())
+}
+
+/// Puts comments behind a text.
+pub(crate) fn push_notes(text: &mut Vec<u8>, notes: &[Note]) -> Result<(), NoMemory>
+    ensures text { OnOk result (text.new.items ≡ text.old.items ++ flat_map note_text notes.now) }
+    ensures comments { OnOk result (All IsNote notes.now) }
+{
+    for note in notes {
+        push_note(text, note)?;
+    }
+    Ok(())
+}

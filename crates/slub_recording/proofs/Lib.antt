@@ -1,0 +1,9 @@
+pub mod Fronts
+pub mod Splits
+pub mod Values
+pub mod TitleBytes
+pub mod Excerpts
+pub mod Readings
+pub mod Counts
+pub mod Soundness
+pub mod Orders

@@ -1,0 +1,12 @@
+pub mod Words
+pub mod Names
+pub mod Texts
+pub mod Heads
+pub mod Acts
+pub mod Says
+pub mod Recording
+pub mod Reads
+pub mod Sound
+pub mod Order
+pub mod ExcerptFields
+pub mod State

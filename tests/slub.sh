@@ -191,6 +191,12 @@ wants "a file among the words of a replay ends with status 2" ends 2
 wants "it says how the file is read" eval "says 'use < some.trace' && calls ''"
 run outcomes some.trace
 wants "so does one among the words of outcomes" eval "ends 2 && says 'use < some.trace' && calls ''"
+run recorded some.trace
+wants "and one among the words of recorded" eval "ends 2 && says 'use < some.trace' && calls ''"
+run whatif some.trace
+wants "whatif without a setting ends with status 2" eval "ends 2 && calls ''"
+run whatif some.trace dentry:speed:3
+wants "so does one with a setting that is none" eval "ends 2 && says 'no setting: dentry:speed:3' && calls ''"
 touch serial 7
 run replay --how serial --seed 7
 wants "an option's value is no file" is_proved replay --how serial --seed 7

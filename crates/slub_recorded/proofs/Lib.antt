@@ -8,5 +8,9 @@ pub mod Notes
 pub mod Converts
 pub mod Counts
 pub mod Names
+pub mod Titles
+pub mod Owning
 pub mod Options
 pub mod Endings
+pub mod Slots
+pub mod Rows

@@ -10,3 +10,4 @@ pub mod Naming
 pub mod Words
 pub mod Stop
 pub mod Run
+pub mod Groups

@@ -1,12 +1,17 @@
 //! A recording becomes a trace.
 
-ghost use Rattle.std.specs.Prelude.{◌≡◌, ◌≤◌, length, map, slice_set, slice_index_or, IfOk, OnOk};
-ghost use Rattle.slub_recorded.specs.Converted.{IsConverted, IsShown, IsTraceText};
+ghost use Rattle.std.specs.Prelude.{◌≡◌, ◌<◌, ◌≤◌, length, map, position, slice_set, IfErr, IfOk, IfSome, OnOk};
+ghost use Rattle.std.specs.Str.{bytes_eq};
+ghost use Rattle.slub_recorded.specs.Converted.{IsConverted, IsFault, IsShown, IsTraceText, place_of};
+ghost use Rattle.slub_recorded.specs.Groups.{row_of};
 ghost use Rattle.slub_recorded.specs.Lines.{IsRow};
 ghost use Rattle.slub_recorded.specs.Turns.{count_kept, turns_of};
+ghost use Rattle.slub_recorded.specs.declared.convert.ConvertFault.TheVariants.{NoMemory as OutOfMemory};
+ghost use Rattle.slub_recorded.specs.declared.convert.Options.{Options as OptionsOf};
+ghost use Rattle.slub_recording.specs.declared.recording.Recording.{Recording as RecordingOf};
 
 use crate::groups::{Chosen, caches_of, group};
-use crate::naming::titles;
+use crate::naming::{Title, titles};
 use crate::pairing::{Move, pair};
 use crate::text::{Row, push_body, push_words};
 use crate::told::{Counts, Note, push_notes, tell};
@@ -41,12 +46,16 @@ pub enum ConvertFault {
 }
 
 impl From<NoMemory> for ConvertFault {
+    ghost from_gives = { λ _ fault. fault ≡ OutOfMemory };
+
     fn from(_e: NoMemory) -> ConvertFault {
         ConvertFault::NoMemory
     }
 }
 
 impl From<AllocError> for ConvertFault {
+    ghost from_gives = { λ _ fault. fault ≡ OutOfMemory };
+
     fn from(_e: AllocError) -> ConvertFault {
         ConvertFault::NoMemory
     }
@@ -65,6 +74,7 @@ pub struct Converted {
 fn cpus_of(recording: &Recording, options: &Options) -> Result<u32, ConvertFault>
     ensures some { IfOk result (λ cpus. 1 ≤ cpus) }
     ensures few { IfOk result (λ cpus. cpus ≤ 16) }
+    ensures fault { IfErr result (IsFault recording.now options.now) }
 {
     let told = recording.told_cpus.unwrap_or(1);
     let seen = recording.greatest_cpu.saturating_add(1);
@@ -77,7 +87,8 @@ fn cpus_of(recording: &Recording, options: &Options) -> Result<u32, ConvertFault
 
 /// The line of a cache.
 fn row(name: &Name, slot: u32, reclaim: bool) -> Row
-    ensures { IsRow result }
+    ensures fits { IsRow result }
+    ensures is { result ≡ record { name = name.now; slot = slot; reclaim = reclaim } }
 {
     let _text = name.as_bytes();
     Row {
@@ -107,7 +118,8 @@ fn put_spot(spots: &mut Vec<Option<u32>>, cache: usize, place: u32)
 /// The caches of a trace, in their order.
 fn show(alloc: Global, caches: usize, chosen: &[Chosen]) -> Result<Shown, NoMemory>
     requires { length chosen.now ≤ 32 }
-    ensures { IfOk result (λ shown. IsShown shown.rows.items shown.spots.items) }
+    ensures shown { IfOk result (λ shown. IsShown shown.rows.items shown.spots.items) }
+    ensures rows { IfOk result (λ shown. shown.rows.items ≡ map row_of chosen.now) }
 {
     let mut rows = Vec::with_capacity(alloc, chosen.len())?;
     let mut spots = vec![in alloc; None; caches]?;
@@ -118,25 +130,34 @@ fn show(alloc: Global, caches: usize, chosen: &[Chosen]) -> Result<Shown, NoMemo
     Ok(Shown { rows, spots })
 }
 
-/// The place at which a cache stands in the trace.
-fn spot_at(spots: &[Option<u32>], cache: usize) -> Option<u32>
-    ensures { result ≡ slice_index_or spots.now cache None }
+/// The place of the first cache of this name.
+fn place_in(rows: &[Row], name: &Name) -> Option<usize>
+    ensures first { result ≡ position (λ row. bytes_eq name.now row.name) rows.now }
+    ensures inside { IfSome result (λ at. at < length rows.now) }
 {
-    spots.get(cache).copied().flatten()
+    rows.iter().position(|row| *name == row.name)
+}
+
+/// The place of the cache that has a title's name.
+fn place_of(rows: &[Row], title: &Title) -> Option<u32>
+    requires { length rows.now ≤ 32 }
+    ensures { result ≡ place_of rows.now title.now }
+{
+    match place_in(rows, &title.name) {
+        Some(place) => Some(place as u32),
+        None => None,
+    }
 }
 
 /// By object: the place of its cache in the trace.
-fn places_of(
-    alloc: Global,
-    spots: &[Option<u32>],
-    caches: &[usize],
-) -> Result<Vec<Option<u32>>, NoMemory>
-    ensures { IfOk result (λ places. places.items ≡ map (λ cache. slice_index_or spots.now cache None) caches.now) }
+fn places_of(alloc: Global, rows: &[Row], titles: &[Title]) -> Result<Vec<Option<u32>>, NoMemory>
+    requires { length rows.now ≤ 32 }
+    ensures { IfOk result (λ places. places.items ≡ map (place_of rows.now) titles.now) }
 {
-    let places = caches
-        .iter()
-        .map(|cache| spot_at(spots, *cache))
-        .collect(alloc)?;
+    let mut places = Vec::with_capacity(alloc, titles.len())?;
+    for title in titles {
+        places.push(place_of(rows, title))?;
+    }
     Ok(places)
 }
 
@@ -167,6 +188,7 @@ fn kept_turns(
     requires { 1 ≤ cpus }
     ensures turns { IfOk result (λ turns. turns.items ≡ turns_of places.now cpus moves.now) }
     ensures few { OnOk result (count_kept places.now ≤ 1048576) }
+    ensures fault { (recording : RecordingOf) (options : OptionsOf) → IfErr result (IsFault recording options) }
 {
     if places.len() >= 4294967296 {
         return Err(ConvertFault::TooManyObjects {
@@ -189,7 +211,8 @@ pub fn convert(
     recording: &Recording,
     options: &Options,
 ) -> Result<Converted, ConvertFault>
-    ensures { IfOk result (λ c. IsConverted recording.now c.notes.items c.text.items) }
+    ensures trace { IfOk result (λ c. IsConverted recording.now c.notes.items c.text.items) }
+    ensures fault { IfErr result (IsFault recording.now options.now) }
 {
     let cpus = cpus_of(recording, options)?;
     let pairing = pair(alloc, recording.events.as_slice())?;
@@ -208,8 +231,7 @@ pub fn convert(
     }
     let shown = show(alloc, caches.caches.len(), groups.chosen.as_slice())?;
     let rows = shown.rows.as_slice();
-    let spots = shown.spots.as_slice();
-    let places = places_of(alloc, spots, caches.places.as_slice())?;
+    let places = places_of(alloc, rows, named)?;
     let turns = kept_turns(alloc, places.as_slice(), cpus, moves)?;
     let counts = Counts {
         objects: objects.len() as u64,

@@ -1,6 +1,8 @@
 //! Which caches stand in a trace.
 
-ghost use Rattle.std.specs.Prelude.{◌≡◌, ◌+◌, ◌<◌, ◌≤◌, length, IfOk, IfSome};
+ghost use Rattle.std.specs.Prelude.{◌≡◌, ◌+◌, ◌<◌, ◌≤◌, ◌++◌, [], ◌∷◌, List, ◌==◌, count_by, IfOk, IfSome, OnOk};
+ghost use Rattle.slub_recorded.specs.Groups.{FitTrace, IsSplit};
+ghost use Rattle.slub_recorded.specs.declared.groups.Chosen.{Chosen as ChosenCache};
 
 use crate::naming::Title;
 use crate::pairing::{Born, Move};
@@ -165,6 +167,8 @@ pub struct Groups {
 #[derive(Drop)]
 struct Split {
     taken: Vec<Chosen>,
+    /// The page frames that the taken ones need at least.
+    frames: u32,
     others: Vec<Chosen>,
 }
 
@@ -205,14 +209,14 @@ fn ordered(alloc: Global, caches: &[Cache], cpus: u32) -> Result<Vec<Chosen>, No
 pub fn group(alloc: Global, caches: &[Cache], cpus: u32, group: u32) -> Result<Groups, NoMemory>
     requires some { 1 ≤ cpus }
     requires few { cpus ≤ 16 }
-    ensures { IfOk result (λ g. length g.chosen.items ≤ 32) }
+    ensures { IfOk result (λ g. FitTrace g.chosen.items) }
 {
     let mut rest = ordered(alloc, caches, cpus)?;
     let left_out = caches.len().saturating_sub(rest.len()) as u64;
     let mut chosen = Vec::new(alloc);
     let mut groups = 0;
     for number in 1..GROUPS_MAX + 1 {
-        let Split { taken, others } = split_off(alloc, rest.as_slice())?;
+        let Split { taken, others, .. } = split_off(alloc, rest.as_slice())?;
         groups = number;
         rest = others;
         if number == group {
@@ -231,28 +235,40 @@ pub fn group(alloc: Global, caches: &[Cache], cpus: u32, group: u32) -> Result<G
 
 /// The first group of these caches, and those that are left.
 fn split_off(alloc: Global, caches: &[Chosen]) -> Result<Split, NoMemory>
-    ensures { IfOk result (λ s. length s.taken.items ≤ 32) }
+    ensures { IfOk result (λ split. IsSplit caches.now split) }
 {
-    let mut taken: Vec<Chosen> = Vec::with_capacity(alloc, CACHES_MAX)?;
-    let mut others = Vec::new(alloc);
-    let mut frames: u32 = 0;
+    let mut split = Split {
+        taken: Vec::with_capacity(alloc, CACHES_MAX)?,
+        frames: 0,
+        others: Vec::new(alloc),
+    };
     for cache in caches {
-        let same = same_slot(taken.as_slice(), cache.slot);
-        let all = frames.saturating_add(cache.frames);
-        if taken.len() < CACHES_MAX && same < 2 && all <= SLABS_MAX {
-            frames = all;
-            taken.push(Chosen {
-                second: same == 1,
-                ..*cache
-            })?;
-        } else {
-            others.push(*cache)?;
-        }
+        place_in(&mut split, cache)?;
     }
-    Ok(Split { taken, others })
+    Ok(split)
+}
+
+/// Takes a cache to the others of its trace if it fits there, else leaves it for another group.
+fn place_in(split: &mut Split, cache: &Chosen) -> Result<(), NoMemory>
+    ensures { (given : List ChosenCache) → IsSplit given split.old → OnOk result (IsSplit (given ++ cache.now ∷ []) split.new) }
+{
+    let same = same_slot(split.taken.as_slice(), cache.slot);
+    let frames = split.frames.saturating_add(cache.frames);
+    if split.taken.len() < CACHES_MAX && same < 2 && frames <= SLABS_MAX {
+        split.frames = frames;
+        split.taken.push(Chosen {
+            second: same == 1,
+            ..*cache
+        })?;
+    } else {
+        split.others.push(*cache)?;
+    }
+    Ok(())
 }
 
 /// How many of these have this slot.
-fn same_slot(taken: &[Chosen], slot: u32) -> usize {
+fn same_slot(taken: &[Chosen], slot: u32) -> usize
+    ensures { result ≡ count_by (λ other. other.slot == slot) taken.now }
+{
     taken.iter().filter(|other| other.slot == slot).count()
 }

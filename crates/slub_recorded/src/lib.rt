@@ -14,9 +14,11 @@
 //!   and how it ended. `run` is the top call of the command.
 //! - Definitions: `specs/Pairing.antt` is the pairing as a fold over the events; `Turns` what a
 //!   trace does of it, and what it is that objects are numbered in their order and freed at most
-//!   once; `Text` the bytes, `Lines` the lines of the grammar of traces that they spell; `Told` the
-//!   comments; `Converted` what a conversion promises.
-//! - Laws: `laws`.
+//!   once; `Naming` the name of each object's cache; `Text` the bytes, `Lines` the lines of the
+//!   grammar of traces that they spell; `Told` the comments; `Groups` which caches may stand
+//!   together; `Converted` what a conversion promises.
+//! - Laws: `laws`. What is told of fates adds up, and what `Naming` folds over moves is the slot of
+//!   the first object whose free says a name, and the name that an object's own free says.
 //!
 //! # What it promises
 //!
@@ -32,8 +34,18 @@
 //! allocated under the numbers from 1 on, and each is freed at most once, after it. The comments
 //! tell of each event what became of it, once, so that these numbers add up to all events.
 //!
-//! Which objects are kept is by cache; no clause says which caches those are, nor their names, nor
-//! when a limit's error comes.
+//! Each object has the name that `naming` gives it (`specs/Naming.antt`). It is kept exactly where a
+//! cache of the trace has this name, and is of the first such cache.
+//!
+//! Of the caches of a trace at most two have the same slot, and of two the second has the letter R.
+//! Those of a group together need at most 4095 page frames, and parting a group off loses no cache
+//! and has none twice (`specs/Groups.antt`).
+//!
+//! A fault has its cause (`IsFault`): for `TooManyCpus` a number of CPUs of 0 or above 16, for
+//! `NoSuchGroup` one that isn't among the groups, for the other limits more than they allow.
+//!
+//! No clause says which caches come first, nor that a cache's slot is that of its objects, nor that a
+//! fault comes wherever it has a cause.
 #![tactic(auto)]
 
 pub mod convert;

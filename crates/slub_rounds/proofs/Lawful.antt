@@ -19,7 +19,7 @@ use Rattle.slub_rounds.specs.InOrder.{EndsInOrder}
 use Rattle.slub_rounds.specs.Laws.{RoundsByThreadsAreLawful, RoundsInOrderAreLawful}
 use Rattle.slub_rounds.specs.Rounds.{DoesRoundBySteps, Finishes}
 
-steps-lawful : RoundsAreLawful → (Ending : Setup → System → List Pick → System → Type 0)
+pub steps-lawful : RoundsAreLawful → (Ending : Setup → System → List Pick → System → Type 0)
     → ((m : Setup) (first : System) (picks : List Pick) (last : System) → Ending m first picks last → (last ≡ run m first picks) × IsFinishedSystem last)
     → (s : State) (ids : List ℕ) (trace : Trace) (round : Round) (result : RoundResult) (after : State) (left : List ℕ) → IsCoherent s → IsLaidDown s → MayDo s trace round
     → DoesRoundBySteps Ending s ids round result after left → IsRound s round result after

@@ -25,3 +25,5 @@ pub mod ClientReplies
 pub mod Staying
 pub mod Stopping
 pub mod Wanted
+pub mod Watching
+pub mod Seeding

@@ -17,3 +17,5 @@ pub mod Kmalloc
 pub mod ClientLaws
 pub mod Reserves
 pub mod ClientStopped
+pub mod Prepared
+pub mod Watched

@@ -36,10 +36,12 @@ use slub_list_machine::lists::Lists;
 use slub_open_close::ids::Ids;
 use slub_open_close::opened::Opened;
 use slub_open_close::opening::open;
-use slub_schedule::machine::{Machine as Turns, TurnsSpent};
 use slub_trace::event::{Event, Round};
 use slub_turns::machine::Machine;
 use std::alloc::Global;
+
+/// All turns of a round are made, and an event isn't done.
+struct TurnsSpent;
 
 /// Does a round in the order of the text, of however many workers: each event is done to its end before the next one
 /// begins.

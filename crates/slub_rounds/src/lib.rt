@@ -4,12 +4,14 @@
 //! - By steps: `scheduled` opens the machine on lists, with the transaction ids beside them, into
 //!   words (`slub_open_close`), gives each worker its events as calls (`slub_calls`), lets the
 //!   workers make their turns as the seed draws them (`slub_schedule`, `slub_turns`), and closes
-//!   the words into lists and ids again. `threaded` does the same with a thread for each worker
+//!   the words into lists and ids again. `watched` does the same in the order that a watcher says
+//!   (`Watch` of `slub_turns`), which hears what comes about in each turn, and may have the round
+//!   end. `threaded` does the same with a thread for each worker
 //!   (`slub_workers`), and `in_order` with each event done to its end before the next begins. Then
 //!   replies are put in the order of the text, and damages and ledgers are told (`answers`). All
 //!   memory is taken before the first turn, but the bytes of new checked slabs: where none is
 //!   found, the machine is as it was. `begins` makes the machine with which a round on words
-//!   begins. `specs/Rounds.antt` says all three.
+//!   begins. `specs/Rounds.antt` says all of them, `specs/Watched.antt` what a watcher hears.
 //! - In the order of the text: `heap` has the lists between two rounds and the ids beside them.
 //!   Without ids a round is done on the lists (`slub_engine`). With ids so too, where every id is
 //!   far enough from its end (`IdsLast`): `on_lists` raises with each event the ids of the words
@@ -26,6 +28,8 @@
 //! `scheduled`: a round by this seed (`DoesRoundBySeed`), with the machine coherent before each
 //! turn and after the last, which is lawful (`IsRound` of `slub_law_rounds`), and leaves coherent
 //! lists, all objects on the board and ids that fit; or its turns are spent (`SpendsTurns`).
+//! `watched`: the same by the turns that the watcher chose, all of which it heard (`EndsWatched`);
+//! or its turns are spent, or the watcher had it end (`IsUnwatched`).
 //! `in_order`: the same, each turn that of the worker in a call, else of that of the first event
 //! without a reply (`DoesRoundInOrder`, `SpendsTurnsInOrder`). `threaded`: the same by some picks,
 //! in whatever order the threads made their steps (`DoesRoundByThreads`). Rounds by seed and in
@@ -47,8 +51,10 @@ pub mod heap;
 pub mod in_order;
 pub mod laws;
 mod on_lists;
+mod prepared;
 mod raising;
 mod room;
 pub mod scheduled;
 pub mod text_laws;
 pub mod threaded;
+pub mod watched;

@@ -7,7 +7,8 @@ ghost use Rattle.slub_lists.specs.Coherent.{IsCoherent};
 ghost use Rattle.slub_core.specs.Run.{Pick};
 ghost use Rattle.slub_core.specs.Facts.{setup_of};
 ghost use Rattle.slub_schedule.specs.Rounds.{Ends, IsSpent};
-ghost use Rattle.slub_schedule.specs.Turns.{turns_for, turns_of};
+ghost use Rattle.slub_schedule.specs.Schedule.{unfinished};
+ghost use Rattle.slub_schedule.specs.Turns.{turns_of};
 ghost use Rattle.slub_law_opening.specs.Opening.{IsLaidDown};
 ghost use Rattle.slub_calls.specs.Laws.{MayDo};
 ghost use Rattle.slub_open_close.specs.declared.beside.Beside.{Beside};
@@ -16,27 +17,22 @@ ghost use Rattle.slub_law_rounds.specs.Round.{IsRound};
 ghost use Rattle.slub_turns.specs.Means.{the_means};
 ghost use Rattle.slub_turns.specs.Ready.{IsReady};
 ghost use Rattle.slub_rounds.specs.Rounds.{DoesRoundBySeed};
-ghost use Rattle.slub_rounds.specs.Room.{all_workers, weight_of};
-ghost use Rattle.slub_rounds.specs.Machine.{IsDoneBySeed, IsSet, system_in};
+ghost use Rattle.slub_rounds.specs.Machine.{IsDoneBySeed, system_in};
+ghost use Rattle.slub_rounds.specs.Prepared.{IsPrepared};
 ghost use Rattle.slub_rounds.specs.Scheduled.{IsStopped};
 
-use crate::answers::Answers;
-use crate::begins::begun;
 use crate::ended::Ended;
 use crate::ends::closed;
 use crate::laws::rounds_by_seed_are_lawful;
-use crate::room::{Room, leave_finished, take_room};
-use slub_common::no_memory::NoMemory;
-use slub_core::worker_local::Local;
+use crate::prepared::{Prepared, prepare};
 use slub_list_machine::lists::Lists;
 use slub_open_close::ids::Ids;
-use slub_open_close::opened::Opened;
-use slub_open_close::opening::open;
+use slub_schedule::draws::Draws;
 use slub_schedule::machine as rounds;
-use slub_schedule::machine::TurnsSpent;
+use slub_schedule::machine::Unended;
 use slub_schedule::order::Order;
 use slub_trace::event::Round;
-use slub_turns::machine::Machine;
+use slub_turns::seeded::Seeded;
 use std::alloc::Global;
 
 /// Why a round wasn't done.
@@ -72,61 +68,48 @@ pub fn scheduled(
     ensures stopped { IfErr result (IsStopped lists ids.now seed round.now) }
 {
     rounds_by_seed_are_lawful();
-    let room = match take_room(alloc, &lists, ids, round) {
-        Ok(room) => room,
-        Err(NoMemory) => return Err(Stopped::NoMemory(lists)),
-    };
-    let Room {
-        beside,
-        workers,
-        order,
-        passed: _,
-        turns,
-        answers,
-    } = room;
-    match open(alloc, lists, beside) {
-        Ok(opened) => in_words(opened, workers, order, turns, answers, round, seed),
-        Err(unopened) => Err(Stopped::NoMemory(unopened.lists)),
+    match prepare(alloc, lists, ids, round) {
+        Ok(prepared) => in_words(prepared, round, seed),
+        Err(lists) => Err(Stopped::NoMemory(lists)),
     }
 }
 
 /// Does the round on the machine in words, and closes it.
-fn in_words(
-    opened: Opened,
-    locals: Vec<Local>,
-    order: Order,
-    turns: u64,
-    answers: Answers,
-    round: &Round,
-    seed: u64,
-) -> Result<Ended, Stopped>
-    requires set { (s : State) × (ids : List ℕ) × (b : Beside) × (trace : Trace) × IsSet s ids b trace round.now opened locals.items answers }
-    requires order { order ≡ all_workers round.now.workers }
-    requires turns { turns ≡ turns_for (weight_of round.now.events) round.now.workers }
-    ensures { (s : State) (ids : List ℕ) (b : Beside) (trace : Trace) → IsSet s ids b trace round.now opened locals.items answers → MatchResult result (λ done. IsDoneBySeed s ids seed round.now done) (IsStopped s ids seed round.now) }
+fn in_words(prepared: Prepared, round: &Round, seed: u64) -> Result<Ended, Stopped>
+    requires { (s : State) × (ids : List ℕ) × (b : Beside) × (trace : Trace) × IsPrepared s ids b trace round.now prepared }
+    ensures { (s : State) (ids : List ℕ) (b : Beside) (trace : Trace) → IsPrepared s ids b trace round.now prepared → MatchResult result (λ done. IsDoneBySeed s ids seed round.now done) (IsStopped s ids seed round.now) }
 {
-    let (mut machine, rest) = begun(opened, locals);
-    match run_turns(&mut machine, order, seed, turns) {
-        Ok(()) => Ok(closed(machine, rest, round, answers)),
+    let Prepared {
+        machine,
+        rest,
+        order,
+        turns,
+        answers,
+    } = prepared;
+    let draws = Draws::open(seed);
+    let mut seeded = Seeded { machine, draws };
+    match run_turns(&mut seeded, order, turns) {
+        Ok(()) => Ok(closed(seeded.machine, rest, round, answers)),
         Err(TurnsSpent) => Err(Stopped::TurnsSpent),
     }
 }
 
-/// The workers make their turns, in the order that the seed draws. `order` has all of them.
-fn run_turns(
-    machine: &mut Machine,
-    mut order: Order,
-    seed: u64,
-    turns: u64,
-) -> Result<(), TurnsSpent>
-    requires ready { IsReady machine.old.setup machine.old.table machine.old.values.items machine.old.locals.items }
-    requires order { order ≡ all_workers (length machine.old.locals.items) }
-    requires turns { turns ≡ turns_of (system_in machine.old) }
-    ensures setup { setup_of machine.new.setup the_means ≡ setup_of machine.old.setup the_means }
-    ensures ready { IsReady machine.new.setup machine.new.table machine.new.values.items machine.new.locals.items }
-    ensures ends { OnOk result ((picks : List Pick) × Ends (setup_of machine.old.setup the_means) seed (system_in machine.old) picks (system_in machine.new)) }
-    ensures spent { OnErr result ((picks : List Pick) × IsSpent (setup_of machine.old.setup the_means) seed (system_in machine.old) picks (system_in machine.new)) }
+/// All turns of a round are made, and a worker isn't finished.
+struct TurnsSpent;
+
+/// The workers make their turns, in the order that the seed draws. `order` has those that are unfinished.
+fn run_turns(seeded: &mut Seeded, order: Order, turns: u64) -> Result<(), TurnsSpent>
+    requires ready { IsReady seeded.old.machine.setup seeded.old.machine.table seeded.old.machine.values.items seeded.old.machine.locals.items }
+    requires order { order ≡ unfinished (system_in seeded.old.machine) }
+    requires turns { turns ≡ turns_of (system_in seeded.old.machine) }
+    ensures setup { setup_of seeded.new.machine.setup the_means ≡ setup_of seeded.old.machine.setup the_means }
+    ensures ready { IsReady seeded.new.machine.setup seeded.new.machine.table seeded.new.machine.values.items seeded.new.machine.locals.items }
+    ensures ends { OnOk result ((picks : List Pick) × Ends (setup_of seeded.old.machine.setup the_means) seeded.old.draws (system_in seeded.old.machine) picks (system_in seeded.new.machine)) }
+    ensures spent { OnErr result ((picks : List Pick) × IsSpent (setup_of seeded.old.machine.setup the_means) seeded.old.draws (system_in seeded.old.machine) picks (system_in seeded.new.machine)) }
 {
-    leave_finished(&machine.locals, &mut order);
-    rounds::scheduled(machine, order, seed, turns)
+    match rounds::scheduled(seeded, order, turns) {
+        Ok(()) => Ok(()),
+        Err(Unended::TurnsSpent) => Err(TurnsSpent),
+        Err(Unended::Halted(never)) => match never {},
+    }
 }

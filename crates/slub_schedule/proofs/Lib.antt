@@ -6,3 +6,4 @@ pub mod Finished
 pub mod Closed
 pub mod Closing
 pub mod Making
+pub mod Drawn

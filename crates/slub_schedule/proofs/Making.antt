@@ -1,62 +1,76 @@
--- A round by schedule turn by turn: the picks made so far, the number at which the generator stands, and the workers that are unfinished.
-use Rattle.std.specs.Prelude.{slice_index}
-use Rattle.std.proofs.Common.{◌≡◌, ℕ, zero, suc, ◌+◌, ◌%◌, ◌<◌, ◌≤◌, ◌==◌, Bool, true, false, not, List, [], ◌∷◌, ◌++◌, length, get_or, set, refl, sym, ap, ◌∙◌, subst, arith}
+-- A round by schedule turn by turn: the turns made so far, and the workers that are unfinished.
+use Rattle.std.specs.Prelude.{slice_index, MatchResult}
+use Rattle.std.proofs.Common.{◌≡◌, ℕ, zero, suc, ◌+◌, ◌<◌, ◌≤◌, ◌==◌, Bool, true, false, not, List, [], ◌∷◌, ◌++◌, length, get_or, set, Result, Ok, Err, refl, sym, ap, ◌∙◌, subst, arith}
 use Rattle.std.proofs.lemmas.Bool.{eqb-true, false≢true}
 use Rattle.std.proofs.lemmas.List.{map-set, set-get_or, get_or-set_same, get_or-map, length_push}
 use Rattle.slub_core.specs.Setup.{Setup}
 use Rattle.slub_core.specs.Local.{Local}
-use Rattle.slub_core.specs.Run.{System, Pick, idle, turn, run}
-use Rattle.slub_schedule.specs.Draws.{next, number_from}
-use Rattle.slub_schedule.specs.Schedule.{is_finished, marks_of, places_of, unfinished, chosen, IsCall, AreDrawn}
+use Rattle.slub_core.specs.Run.{System, Pick, idle, turn}
+use Rattle.slub_schedule.specs.declared.machine.Unended.{Unended}
+use Rattle.slub_schedule.specs.declared.machine.Unended.TheVariants.{TurnsSpent, Halted}
+use Rattle.slub_schedule.specs.Schedule.{is_finished, marks_of, places_of, unfinished}
 use Rattle.slub_schedule.specs.Turns.{turns_of}
-use Rattle.slub_schedule.specs.Rounds.{Ends, IsSpent}
-use Rattle.slub_schedule.proofs.Picks.{all_finished}
+use Rattle.slub_schedule.specs.Rounds.{IsFinishedSystem}
+use Rattle.slub_schedule.specs.Made.{IsTurn, AreMade, EndsBy, SpendsBy, HaltsBy, IsUnended, IsNoEnd}
+use Rattle.slub_schedule.proofs.Picks.{all_finished, place_unfinished}
 
--- where the generator stands after these picks
-abbrev pub stands_at : ℕ → List Pick → ℕ
-stands_at x [] = x
-stands_at x (pick ∷ picks) = stands_at (next x) picks
+-- ---- the turns so far
 
-stands_at-more : (x : ℕ) (picks : List Pick) (pick : Pick) → stands_at x (picks ++ pick ∷ []) ≡ next (stands_at x picks)
-stands_at-more x [] pick = refl
-stands_at-more x (p ∷ ps) pick = stands_at-more (next x) ps pick
+module _ {M : Type 0} (setup : M → Setup) (system : M → System) (chooses : M → ℕ → M → Type 0) (notes : M → Pick → M → Type 0) where
+  pub turns_more : (a : M) (ps : List Pick) (b : M) (p : Pick) (c : M) → AreMade setup system chooses notes a ps b → IsTurn setup system chooses notes b p c → AreMade setup system chooses notes a (ps ++ p ∷ []) c
+  turns_more a [] b p c is turn = (c, subst (λ (x : M). IsTurn setup system chooses notes x p c) is turn, refl)
+  turns_more a (q ∷ ps) b p c (next, first, rest) turn = (next, first, turns_more next ps b p c rest turn)
 
-run-more : (m : Setup) (s : System) (picks : List Pick) (pick : Pick) → run m s (picks ++ pick ∷ []) ≡ turn m (run m s picks) pick
-run-more m s [] pick = refl
-run-more m s (p ∷ ps) pick = run-more m (turn m s p) ps pick
+  -- so many turns were made since the first
+  pub record IsMade (first : M) (n : ℕ) (now : M) : Type 0 where
+    pub picks : List Pick
+    pub made : AreMade setup system chooses notes first picks now
+    pub count : length picks ≡ n
 
-drawn_more : (m : Setup) (s : System) (x : ℕ) (picks : List Pick) (pick : Pick) → AreDrawn m s x picks → 1 ≤ length (unfinished (run m s picks)) → pick.worker ≡ chosen (run m s picks) (number_from (stands_at x picks)) → IsCall pick
-    → AreDrawn m s x (picks ++ pick ∷ [])
-drawn_more m s x [] pick drawn some is call = (some, is, call, tt)
-drawn_more m s x (p ∷ ps) pick drawn some is call = (drawn.0, drawn.1, drawn.2, drawn_more m (turn m s p) (next x) ps pick drawn.3 some is call)
+  pub made_none : (first : M) → IsMade first 0 first
+  made_none first = record { picks = []; made = refl; count = refl }
 
--- so many picks were made since the first
-pub record IsMade (m : Setup) (first : System) (seed n : ℕ) (s : System) (x : ℕ) : Type 0 where
-  pub picks : List Pick
-  pub drawn : AreDrawn m first seed picks
-  pub run : s ≡ run m first picks
-  pub count : length picks ≡ n
-  pub stands : x ≡ stands_at seed picks
+  pub made_more : (first : M) (n : ℕ) (now : M) (pick : Pick) (after : M) → IsMade first n now → IsTurn setup system chooses notes now pick after → IsMade first (n + 1) after
+  made_more first n now pick after made turn = record {
+    picks = made.picks ++ pick ∷ [];
+    made = turns_more first made.picks now pick after made.made turn;
+    count = length_push made.picks pick ∙ ap (λ k. k + 1) made.count;
+  }
 
-pub made_none : (m : Setup) (first : System) (seed : ℕ) → IsMade m first seed 0 first seed
-made_none m first seed = record { picks = []; drawn = tt; run = refl; count = refl; stands = refl }
+  pub made_ended : (is_done : M → M → Type 0) (first : M) (n : ℕ) (now last : M) → IsMade first n now → n ≤ turns_of (system first) → length (unfinished (system now)) ≡ 0 → system last ≡ system now → is_done now last → EndsBy setup system chooses notes is_done first last
+  made_ended is_done first n now last made few none same done = record {
+    picks = made.picks;
+    by = now;
+    made = made.made;
+    within = let c = made.count in omega arith;
+    done = done;
+    same = same;
+    finished = subst (λ (s : System). IsFinishedSystem s) (sym same) (all_finished 0 (system now).locals none);
+  }
 
-pub made_more : (m : Setup) (first : System) (seed n : ℕ) (s : System) (x : ℕ) (pick : Pick) → IsMade m first seed n s x → 1 ≤ length (unfinished s) → pick.worker ≡ chosen s (number_from x) → IsCall pick → IsMade m first seed (n + 1) (turn m s pick) (next x)
-made_more m first seed n s x pick made some is call =
-    record {
-      picks = made.picks ++ pick ∷ [];
-      drawn = drawn_more m first seed made.picks pick made.drawn (subst (λ (s : System). 1 ≤ length (unfinished s)) made.run some)
-          (is ∙ ap (λ (s : System). chosen s (number_from x)) made.run ∙ ap (λ x. chosen (run m first made.picks) (number_from x)) made.stands) call;
-      run = ap (λ (s : System). turn m s pick) made.run ∙ sym (run-more m first made.picks pick);
-      count = length_push made.picks pick ∙ ap (λ k. k + 1) made.count;
-      stands = ap next made.stands ∙ sym (stands_at-more seed made.picks pick);
-    }
+  pub made_spent : (first : M) (n : ℕ) (now : M) → IsMade first n now → n ≡ turns_of (system first) → 1 ≤ length (unfinished (system now)) → SpendsBy setup system chooses notes first now
+  made_spent first n now made all some = record { picks = made.picks; made = made.made; all = made.count ∙ all; unfinished = some }
 
-pub made_ended : (m : Setup) (first : System) (seed n : ℕ) (s : System) (x : ℕ) → IsMade m first seed n s x → n ≤ turns_of first → length (unfinished s) ≡ 0 → (picks : List Pick) × Ends m seed first picks s
-made_ended m first seed n s x made few none = (made.picks, record { drawn = made.drawn; run = made.run; within = let c = made.count in omega arith; finished = all_finished 0 s.locals none })
+  pub made_halted : {H : Type 0} (halts : M → H → M → Type 0) (first : M) (n : ℕ) (now : M) (why : H) (last : M) → IsMade first n now → n ≤ turns_of (system first) → system last ≡ system now → halts now why last → HaltsBy setup system chooses notes halts first why last
+  made_halted halts first n now why last made few same stops = record {
+    picks = made.picks;
+    by = now;
+    made = made.made;
+    within = let c = made.count in omega arith;
+    halted = stops;
+    same = same;
+  }
 
-pub made_spent : (m : Setup) (first : System) (seed n : ℕ) (s : System) (x : ℕ) → IsMade m first seed n s x → n ≡ turns_of first → 1 ≤ length (unfinished s) → (picks : List Pick) × IsSpent m seed first picks s
-made_spent m first seed n s x made all some = (made.picks, record { drawn = made.drawn; run = made.run; all = made.count ∙ all; unfinished = some })
+  -- the end is none, which says why
+  pub made_unended : {H : Type 0} (halts : M → H → M → Type 0) (first : M) (n : ℕ) (now : M) (why : Unended H) (last : M) → IsMade first n now → n ≤ turns_of (system first) → system last ≡ system now → IsNoEnd halts now why last → IsUnended setup system chooses notes halts first why last
+  made_unended halts first n now TurnsSpent last made few same none = absurd none
+  made_unended halts first n now (Halted why) last made few same stops = made_halted halts first n now why last made few same stops
+
+  pub made_concluded : {H : Type 0} (is_done : M → M → Type 0) (halts : M → H → M → Type 0) (first : M) (n : ℕ) (now last : M) (result : Result Unit (Unended H)) → IsMade first n now → n ≤ turns_of (system first) → length (unfinished (system now)) ≡ 0 → system last ≡ system now
+      → MatchResult result (λ _. is_done now last) (λ why. IsNoEnd halts now why last)
+      → MatchResult result (λ _. EndsBy setup system chooses notes is_done first last) (λ why. IsUnended setup system chooses notes halts first why last)
+  made_concluded is_done halts first n now last (Ok _) made few none same done = made_ended is_done first n now last made few none same done
+  made_concluded is_done halts first n now last (Err why) made few none same stops = made_unended halts first n now why last made few same stops
 
 -- ---- the workers that are unfinished after a turn
 
@@ -85,16 +99,22 @@ pub some_left : (n : ℕ) → false ≡ (n == 0) → 1 ≤ n
 some_left zero is = absurd (false≢true is)
 some_left (suc n) is = omega arith
 
-pub chosen_worker : (s : System) (order : List ℕ) (x number place worker : ℕ) → order ≡ unfinished s → number ≡ number_from x → place ≡ number % length order → worker ≡ slice_index order place → worker ≡ chosen s (number_from x)
-chosen_worker s order x number place worker same drawn at is =
-    is ∙ ap (slice_index order) at ∙ ap (λ n. slice_index order (n % length order)) drawn ∙ ap (λ (u : List ℕ). slice_index u (number_from x % length u)) same
-
-pub turn_made : (m k : Setup) (first s t : System) (seed n x y worker : ℕ) (refused : Bool) → IsMade m first seed n s x → k ≡ m → t ≡ turn k s (record { worker = worker; refused = refused; tries = false }) → y ≡ next x → 1 ≤ length (unfinished s) → worker ≡ chosen s (number_from x)
-    → IsMade m first seed (n + 1) t y
-turn_made m k first s t seed n x y worker refused made same turned drawn some is =
+pub turn_made : {M : Type 0} (setup : M → Setup) (system : M → System) (chooses : M → ℕ → M → Type 0) (notes : M → Pick → M → Type 0) (first now then after : M) (n worker : ℕ) (refused : Bool) → IsMade setup system chooses notes first n now → 1 ≤ length (unfinished (system now)) → chooses now worker then → setup then ≡ setup now → system then ≡ system now
+    → setup after ≡ setup then → system after ≡ turn (setup then) (system then) (record { worker = worker; refused = refused; tries = false }) → notes then (record { worker = worker; refused = refused; tries = false }) after
+    → IsMade setup system chooses notes first (n + 1) after
+turn_made setup system chooses notes first now then after n worker refused made some chose kept same stays turned noted =
     let pick : Pick = record { worker = worker; refused = refused; tries = false } in
-    let e : t ≡ turn m s pick = turned ∙ ap (λ (m : Setup). turn m s pick) same in
-    subst (λ (t : System). IsMade m first seed (n + 1) t y) (sym e) (subst (λ y. IsMade m first seed (n + 1) (turn m s pick) y) (sym drawn) (made_more m first seed n s x pick made some is refl))
+    made_more setup system chooses notes first n now pick after made (record {
+      some = some;
+      chosen = then;
+      choice = chose;
+      kept = kept;
+      same = same;
+      call = refl;
+      stays = stays ∙ kept;
+      turned = turned ∙ (λ i. turn (kept i) (same i) pick);
+      noted = noted;
+    })
 
 -- the workers of a machine after the turn of one of them
 pub turn_kept : (k : Setup) (s t : System) (order : List ℕ) (worker : ℕ) (refused : Bool) → t ≡ turn k s (record { worker = worker; refused = refused; tries = false }) → worker < length s.locals → is_finished (get_or s.locals worker idle) ≡ false → false ≡ is_finished (get_or t.locals worker idle) → order ≡ unfinished s
@@ -113,3 +133,12 @@ turn_less k s t order rest place worker refused turned below is same at removed 
 
 pub none_left : (n : ℕ) → true ≡ (n == 0) → n ≡ 0
 none_left n is = eqb-true n 0 (sym is)
+
+-- the worker at a place among those that are unfinished
+pub worker_at : (s t : System) (order : List ℕ) (place worker : ℕ) → order ≡ unfinished s → place < length order → worker ≡ slice_index order place → t ≡ s → (worker < length t.locals) × (is_finished (get_or t.locals worker idle) ≡ false)
+worker_at s t order place worker same inside is still =
+    let there : place < length (unfinished s) = subst (λ (u : List ℕ). place < length u) same inside in
+    let at : worker ≡ slice_index (unfinished s) place = is ∙ ap (λ (u : List ℕ). slice_index u place) same in
+    let was = place_unfinished s place there in
+    let now = subst (λ (k : ℕ). (k < length s.locals) × (is_finished (get_or s.locals k idle) ≡ false)) (sym at) was in
+    subst (λ (x : System). (worker < length x.locals) × (is_finished (get_or x.locals worker idle) ≡ false)) (sym still) now

@@ -1,4 +1,5 @@
 -- The picks that a seed draws: each is of an unfinished worker, and they come to one end.
+use Rattle.std.specs.Prelude.{slice_index}
 use Rattle.std.proofs.Common.{◌≡◌, ℕ, zero, suc, ◌%◌, ◌<◌, ◌≤◌, Bool, true, false, List, [], ◌∷◌, length, get_or, All, refl, sym, ap, ◌∙◌, subst, arith, inl, inr, ◌⊎◌}
 use Rattle.std.proofs.lemmas.Bool.{cases_Bool, cases_lt, false≢true}
 use Rattle.std.proofs.Math.Nat.{mod-lt}
@@ -131,12 +132,14 @@ get_or-marks [] k is = absurd (false≢true is)
 get_or-marks (l ∷ ls) zero is = (omega arith, elim (cases_Bool (is_finished l)) [ inl is_so ↦ absurd (false≢true (rw is_so at is)) | inr not_so ↦ not_so ])
 get_or-marks (l ∷ ls) (suc k) is = let r = get_or-marks ls k is in (omega (arith, r.0), r.1)
 
-pub chosen_unfinished : (s : System) (number : ℕ) → 1 ≤ length (unfinished s) → (chosen s number < length s.locals) × (is_finished (get_or s.locals (chosen s number) idle) ≡ false)
-chosen_unfinished s number some =
-    let u = unfinished s in
-    let r = places_marked 0 (marks_of s.locals) (number % length u) (mod-lt number some) in
-    let is : chosen s number ≡ r.0 = r.1 ∙ omega arith in
+pub place_unfinished : (s : System) (place : ℕ) → place < length (unfinished s) → let k = slice_index (unfinished s) place in (k < length s.locals) × (is_finished (get_or s.locals k idle) ≡ false)
+place_unfinished s place inside =
+    let r = places_marked 0 (marks_of s.locals) place inside in
+    let is : slice_index (unfinished s) place ≡ r.0 = r.1 ∙ omega arith in
     subst (λ (k : ℕ). (k < length s.locals) × (is_finished (get_or s.locals k idle) ≡ false)) (sym is) (get_or-marks s.locals r.0 r.3)
+
+chosen_unfinished : (s : System) (number : ℕ) → 1 ≤ length (unfinished s) → (chosen s number < length s.locals) × (is_finished (get_or s.locals (chosen s number) idle) ≡ false)
+chosen_unfinished s number some = place_unfinished s (number % length (unfinished s)) (mod-lt number some)
 
 pub picks_unfinished : PicksAreUnfinished
 picks_unfinished m s x pick picks drawn =

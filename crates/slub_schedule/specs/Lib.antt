@@ -3,6 +3,7 @@ pub mod Schedule
 pub mod Turns
 pub mod Table
 pub mod Rounds
+pub mod Made
 pub mod Finished
 pub mod Laws
 pub mod Closed

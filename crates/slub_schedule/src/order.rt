@@ -43,6 +43,13 @@ impl Order {
         self.workers.is_empty()
     }
 
+    /// The unfinished workers.
+    pub fn workers(&self) -> &[usize]
+        ensures { result.now ≡ self.now }
+    {
+        self.workers.as_slice()
+    }
+
     /// The place among the unfinished workers that a number chooses.
     #[inline(always)]
     pub fn place(&self, number: u32) -> usize

@@ -3,6 +3,8 @@ pub mod Stays
 pub mod AtFast
 pub mod Settled
 pub mod Twice
+pub mod Told
+pub mod Chosen
 pub mod Turned
 pub mod Mixed
 pub mod Alone

@@ -16,7 +16,7 @@ use Rattle.slub_core.specs.Local.{Local, Change, noted, stays}
 use Rattle.slub_core.specs.Steps.{at_once, changed, settled}
 use Rattle.slub_turns.specs.Spots.{is_at_once}
 
-stays_at : (m : Setup) (a : Bool) (value : ℕ → LockValue) (l : Local) (s : Spot) → is_at_once s ≡ false → at_once m a value l s ≡ stays value l
+pub stays_at : (m : Setup) (a : Bool) (value : ℕ → LockValue) (l : Local) (s : Spot) → is_at_once s ≡ false → at_once m a value l s ≡ stays value l
 stays_at m a value l (InAlloc PopNode) not_so = absurd (false≢true (sym not_so))
 stays_at m a value l (InAlloc TakeRun) not_so = absurd (false≢true (sym not_so))
 stays_at m a value l (InAlloc s) not_so = refl

@@ -4,7 +4,7 @@ pub mod SettledFits
 pub mod Quick
 pub mod System
 pub mod Ready
-pub mod Round
 pub mod Laws
 pub mod Fits
 pub mod FitLaws
+pub mod Happenings

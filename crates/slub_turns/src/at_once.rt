@@ -71,7 +71,7 @@ pub fn at_once(
 }
 
 /// A reply tells that memory was refused.
-fn is_refused(reply: Option<Reply>) -> bool
+pub fn is_refused(reply: Option<Reply>) -> bool
     ensures { result ≡ slabs.is_refused reply }
 {
     match reply {
@@ -81,7 +81,7 @@ fn is_refused(reply: Option<Reply>) -> bool
 }
 
 /// One of two replies tells so.
-fn was_refused(first: Option<Reply>, second: Option<Reply>) -> bool
+pub fn was_refused(first: Option<Reply>, second: Option<Reply>) -> bool
     ensures { result ≡ (slabs.is_refused first || slabs.is_refused second) }
 {
     is_refused(first) || is_refused(second)
@@ -99,7 +99,7 @@ fn change_here(setup: &Setup, values: &mut [Guarded], local: &mut Local) -> Opti
 
 /// Whether something is done at once at this spot, which then calls for no step.
 #[inline(always)]
-fn is_at_once(spot: Spot) -> bool
+pub fn is_at_once(spot: Spot) -> bool
     ensures { result ≡ spots.is_at_once spot }
 {
     match spot {

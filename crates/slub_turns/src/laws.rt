@@ -1,5 +1,6 @@
 //! When the workers of a machine may make their turns, and what a round closes into. None of these does anything.
 
+ghost use Rattle.slub_turns.specs.Happenings.{TurnsAreTold};
 ghost use Rattle.slub_turns.specs.Laws.{RoundsBeginReady, TurnsKeepReady, PicksFit, RoundsBySeedClose};
 
 use slub_law_opening::bound_laws::{
@@ -33,3 +34,8 @@ pub fn rounds_by_seed_close()
 {
     rounds_close_into_lists();
 }
+
+/// What a watcher is told of a turn is the turn: its step, and what it leaves.
+pub fn turns_are_told()
+    ensures { TurnsAreTold }
+{}

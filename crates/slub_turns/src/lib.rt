@@ -8,7 +8,12 @@
 //!   `quick`, in which nothing is left to choose, as the turn of a thread is (`slub_workers`). Of
 //!   the other spots those of a free onto the slab's own freelist are named where the turn is made
 //!   (`free_turn`), so that the compiler can drop the other cases of the path. `machine` has the
-//!   words, the values of the locks and the workers of a round, and `round` runs a round by seed.
+//!   words, the values of the locks and the workers of a round; `seeded` beside it the generator
+//!   that draws whose turn comes next, for rounds by seed.
+//! - Who watches: a `Watch` (`watch`) says whose turn comes next, and is told what comes about in a
+//!   turn while it is made (`watched_turn`); `watched` has it beside a machine.
+//!   `specs/Happenings.antt` says what is told, in the order in which it comes about. Of the turns
+//!   of a round by seed and those of threads nobody is told.
 //! - What the paths ask: that numbers fit into their words, that a hand is free, that a node list
 //!   has room, that the frames of a run aren't free already. `specs/Fits.antt` joins this over all
 //!   spots (`TurnFits`), and `fit_laws` says that a coherent machine gives it.
@@ -21,8 +26,9 @@
 //! Each call is the definition of its name in the step machine (`Steps` and `Run` of `slub_core`),
 //! in every machine of the setup's facts, and what a turn asks it has by `turns_fit`. A turn of a
 //! `Machine` is `turn` of the definitions, whether memory is refused in it or not, and leaves the
-//! machine ready. `run_round` makes the picks that the seed draws (`slub_schedule`), and says
-//! exactly when the round ends and when its turns are spent.
+//! machine ready. A `Seeded` makes the turns that the seed draws (`slub_schedule`). A watched turn is
+//! a turn too, and the watcher has heard exactly `happenings_of` it; `turns_are_told` says that these
+//! tell the turn: its step, and what it leaves.
 //!
 //! `turns_fit`: in a machine that is coherent (`IsCoherentSystem` of `slub_core`) each turn of each
 //! worker is one that the bodies can make, where its counts leave room (`LeavesRoom`) and each node
@@ -36,6 +42,9 @@ pub mod fit_laws;
 pub mod laws;
 pub mod machine;
 pub mod quick;
-pub mod round;
+pub mod seeded;
 pub mod step;
 pub mod turn;
+pub mod watch;
+pub mod watched;
+pub mod watched_turn;

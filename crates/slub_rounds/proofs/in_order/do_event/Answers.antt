@@ -2,7 +2,7 @@ use Rattle.std.proofs.Common.{◌≡◌, ℕ, ◌<◌, Bool, false, List, refl, 
 use Rattle.slub_core.specs.Setup.{Setup}
 use Rattle.slub_core.specs.Local.{Local}
 use Rattle.slub_core.specs.Run.{System, Pick, idle}
-use Rattle.slub_core.specs.Facts.{setup_of}
+use Rattle.slub_core.specs.Facts.{Facts, setup_of}
 use Rattle.slub_turns.specs.Means.{the_means}
 use Rattle.slub_rounds.specs.Doing.{HasTurned, is_through, local_at}
 use Rattle.slub_rounds.specs.Machine.{system_in}
@@ -42,7 +42,7 @@ loop-count-preserved c =
     let below : c.args.worker < length s.locals = i.worker in
     record {
       ready = c.turn.ensures.ready;
-      setup = c.turn.ensures.setup ∙ i.setup;
+      setup = ap (λ (f : Facts). setup_of f the_means) c.turn.ensures.setup ∙ i.setup;
       turned = turned-more m k c.args.worker c.args.passed (system_in c.args.machine.now) s t c.args.made c.loop-count.count refused i.turned i.setup not turned;
       worker = omega (arith, long, below);
       counted = omega (arith, c.loop-count-test.true);

@@ -4,10 +4,10 @@ use Rattle.slub_schedule.proofs.Making.{IsMade}
 use Rattle.slub_schedule.proofs.machine.scheduled.Given as goal
 
 abbrev pub invariant-loop : goal.invariant-loop
-invariant-loop g l = record {
-  ready : g.M.Machine.is_ready l.machine;
-  setup : g.M.Machine.setup l.machine ≡ g.M.Machine.setup l.fn.machine;
-  made : IsMade (g.M.Machine.setup l.fn.machine) (g.M.Machine.system l.fn.machine) l.fn.seed l.counter (g.M.Machine.system l.machine) l.draws;
-  order : l.order ≡ unfinished (g.M.Machine.system l.machine);
+invariant-loop g l = let t = g.M.Machine in record {
+  ready : t.is_ready l.machine;
+  setup : t.setup l.machine ≡ t.setup l.fn.machine;
+  made : IsMade t.setup t.system t.chooses t.notes l.fn.machine l.counter l.machine;
+  order : l.order ≡ unfinished (t.system l.machine);
   counter : l.counter ≤ l.fn.turns;
 }

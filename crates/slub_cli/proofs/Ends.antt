@@ -34,6 +34,7 @@ use Rattle.slub_cli.specs.declared.status.Outcome.{Outcome}
 use Rattle.slub_law_replay.proofs.Moved.{freed_was_given, given_once}
 use Rattle.slub_law_replay.proofs.Totals.{given_is_live}
 use Rattle.slub_law_replay.proofs.Along.{lead-along}
+use Rattle.slub_items.proofs.Lines.{leave-along}
 use Rattle.slub_law_replay.proofs.Pokes.{poked-damages}
 use Rattle.slub_cli.specs.Run.{AreBadWords, AsksReplay, Call, Ends, HasNoIds, IsAsked, IsBadInput, IsBadBytes, IsCauseOf, IsDone, IsFaultLine, IsJournalOf, IsLayoutAnswer, IsLayoutCause, IsLayoutText, IsReplayCause, HoldsOver, IsLoadCause, IsReplayJournal, IsRunOf, SpendsNextRound, IsSomeTrace, IsTextOf, IsWant, NoFault, TellsReads, TookAll, TookFront, Wrote, answer_status, done_status, is_refused, lacks_memory, last_in, text_in, way_asked, way_of}
 use Rattle.slub_cli.specs.Inner.{Finishes, StopsAtReadFault, StopsAtWriteFault, Worked, Works, stop_line, stop_status}
@@ -144,6 +145,7 @@ holds way trace journal sound lawful = record {
   freed_once = λ object. freed_was_given way trace journal sound lawful object;
   balance = given_is_live way trace journal sound lawful;
   rounds = lead-along way trace journal sound;
+  lines = leave-along way trace journal sound;
   damages = poked-damages way trace journal sound lawful;
 }
 

@@ -40,6 +40,7 @@ use Rattle.slub_slabinfo_text.specs.Text.{text_of, items_text}
 use Rattle.slub_law_replay.specs.Freed.{freed_times, given_times}
 use Rattle.slub_law_replay.specs.Poked.{HasPokedDamages}
 use Rattle.slub_law_replay.specs.Rounds.{HasRounds}
+use Rattle.slub_items.specs.Lines.{HasLines}
 use Rattle.slub_trace_reader.specs.Load.{load_of}
 use Rattle.slub_law_replay.specs.declared.way.Way.{Way}
 use Rattle.slub_law_replay.specs.declared.way.Way.TheVariants.{Serial, Schedule, Threads}
@@ -264,6 +265,9 @@ pub record HoldsOver (way : Way) (trace : Trace) (journal : Journal) : Type 0 wh
   -- replies alone, and a run of atomic steps, with the machine coherent before each and after the
   -- last; want of memory in a round in the order of the text aside
   pub rounds : HasRounds way trace journal
+  -- along them each client's line leaves the board as its answer says, and no trim that is the last
+  -- event of a round leaves an empty slab of a cache that isn't checked and of which nothing is used
+  pub lines : HasLines way trace journal
   -- each damage that is told of was poked there, in the same round or before
   pub damages : HasPokedDamages trace journal
 

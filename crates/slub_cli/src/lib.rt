@@ -22,7 +22,8 @@
 //!     coherent after each item, and in the order of the text after each event;
 //!   - *over*: over the whole run no number is given or freed twice, given less freed is live, and damage was
 //!     poked; and each round, of clients too, is lawful, and is a run of atomic steps, with the machine coherent
-//!     before each step and after the last, whatever the way (want of memory aside);
+//!     before each step and after the last, whatever the way (want of memory aside); and each client's line leaves
+//!     the board as its answer says, and no trim that comes last leaves an empty slab of an unused cache;
 //! - *bad_words*, *bad_trace*, *complete*, *serial*, *threads*, *load*, *done*, *layout*: which status a run must
 //!   have; `Status::number` gives its number;
 //! - *one_text*: what a run wrote is a function of the trace, the way and the seed: it is the text of every journal

@@ -180,7 +180,7 @@ fn items_in(trace: &Option<Trace>) -> &[Item]
 }
 
 /// The status of a run that did every item.
-pub(crate) fn done_status(trace: &Option<Trace>, journal: &Journal) -> Status
+pub fn done_status(trace: &Option<Trace>, journal: &Journal) -> Status
     ensures { result ≡ done_status trace.now journal.now }
 {
     if is_wanting(journal.items.as_slice()) {

@@ -53,7 +53,7 @@ use Rattle.slub_bulk.proofs.Plain.{IsPlain, frees-plain, held-plain}
 use Rattle.slub_items.specs.Leaves.{LeavesClasses, MovesNumber}
 use Rattle.slub_items.proofs.Ones.{IsAsBefore, freed-gone, freed-others, given-at, given-board, given-there, mine-alone, refused-board}
 
-same-board : (h after : HeapState) → after ≡ h → IsAsBefore h.lists after.lists
+pub same-board : (h after : HeapState) → after ≡ h → IsAsBefore h.lists after.lists
 same-board h after is object = ap (λ (t : HeapState). held_under t.lists object) is
 
 -- ---- creations
@@ -73,7 +73,7 @@ classes-board h trace (class ∷ classes) (told ∷ answers) after done = classe
 -- ---- an object of a class
 
 -- a refusal gives nothing
-refused-given : (told : Reply) (why : CacheRefusal) → refusal_of told ≡ Some why → is_given told ≡ false
+pub refused-given : (told : Reply) (why : CacheRefusal) → refusal_of told ≡ Some why → is_given told ≡ false
 refused-given (reply.Given address) why is = absurd (let never : None ≡ Some why = is in cc)
 refused-given told why is = refl
 

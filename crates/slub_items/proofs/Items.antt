@@ -92,7 +92,7 @@ ready_client m after trace number it client sound ready within at is servable is
 }
 
 -- so does a round, which keeps the sizes
-keeps_sizes : (s : State) (round : Round) (result : RoundResult) (after : State) → IsRound s round result after → KeepsSizes s after
+pub keeps_sizes : (s : State) (round : Round) (result : RoundResult) (after : State) → IsRound s round result after → KeepsSizes s after
 keeps_sizes s round result after is = record { frames = is.frames; cpus = is.cpus; kept = ap (λ (table : Table). table.kept) is.table; board = is.objects }
 
 pub ready_round : (way : Way) (m after : MachineState) (trace : Trace) (number : ℕ) (it : Item) (round : Round) (result : RoundResult) → IsSound trace → IsReadyMachine m trace number → number < length trace.items → it ≡ get_or trace.items number it

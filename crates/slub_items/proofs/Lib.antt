@@ -1,5 +1,9 @@
 pub mod Anew
 pub mod Classes
+pub mod Following
 pub mod Items
+pub mod Lines
 pub mod Ones
 pub mod Standing
+pub mod Unwatched
+pub mod Watching

@@ -64,7 +64,7 @@ round_left (Schedule seed) rounds s after ids left round result (inr (several, d
 round_left Threads rounds s after ids left round result (inl (few, does)) = text_left s after ids left round result does
 round_left Threads rounds s after ids left round result (inr (several, does)) = (does.0, does.2)
 
-left_stand : (trace : Trace) (s after : State) (ids left : Option (List ℕ)) (kept : List ℕ) → AreIdsFor trace s ids → AreLeft ids kept left → IfSome left (AreIds after) → AreIdsFor trace after left
+pub left_stand : (trace : Trace) (s after : State) (ids left : Option (List ℕ)) (kept : List ℕ) → AreIdsFor trace s ids → AreLeft ids kept left → IfSome left (AreIds after) → AreIdsFor trace after left
 left_stand trace s after None left kept are is fit = rw is are
 left_stand trace s after (Some ids) left kept are is fit = let here : AreIds after kept = subst (λ (l : Option (List ℕ)). IfSome l (AreIds after)) is fit in rw is (are.0, here)
 
@@ -81,7 +81,7 @@ line_stands trace after (Some left) given fit = (given, fit)
 
 -- ---- after another item
 
-plain_stands : (trace : Trace) (it : Item) (done : Done) (s after : State) (ids left : Option (List ℕ)) → IsSound trace → s.cpus ≡ trace.cpus → IsCoherent s → IsCoherent after
+pub plain_stands : (trace : Trace) (it : Item) (done : Done) (s after : State) (ids left : Option (List ℕ)) → IsSound trace → s.cpus ≡ trace.cpus → IsCoherent s → IsCoherent after
     → DoesPlain s trace it done after → AreIdsFor trace s ids → left ≡ option_map (ids_after trace s it done) ids → AreIdsFor trace after left
 plain_stands trace it done s after None left sound cpus before coherent does are is = rw is are
 plain_stands trace it done s after (Some ids) left sound cpus before coherent does are is = rw is (are.0, items-keep s trace it done after ids sound cpus before coherent are.1 does)

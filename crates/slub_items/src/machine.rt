@@ -1,6 +1,6 @@
 //! The machine, and what an item does to it.
 
-ghost use Rattle.std.specs.Prelude.{◌≡◌, ℕ, ◌+◌, ◌-◌, ◌^◌, ◌<◌, ◌≤◌, length, IfErr, IfOk, IfSome, OnErr, OnOk};
+ghost use Rattle.std.specs.Prelude.{◌≡◌, ℕ, ◌+◌, ◌-◌, ◌^◌, ◌<◌, ◌≤◌, length, IfErr, IfOk, IfSome, MatchOption, None, OnErr, OnOk, Some};
 ghost use Rattle.slub_lists.specs.Coherent.{IsCoherent};
 ghost use Rattle.slub_trace.specs.declared.trace.Trace.{Trace as Read};
 ghost use Rattle.slub_trace.specs.Sound.{IsSound, asked_objects};
@@ -14,13 +14,15 @@ ghost use Rattle.slub_rounds.specs.Heap.{IsSoundHeap};
 ghost use Rattle.slub_rounds.specs.Asked.{IsServable, StaysOpen};
 ghost use Rattle.slub_rounds.specs.Reserves.{AreSoundReserves};
 ghost use Rattle.slub_rounds.specs.ClientStopped.{IsStoppedWhere};
-ghost use Rattle.slub_law_replay.specs.Ways.{DoesRoundBy};
+ghost use Rattle.slub_law_replay.specs.Ways.{DoesRoundBy, ids_before};
 ghost use Rattle.slub_law_replay.specs.Runs.{DoesAt, IsReadyMachine, KeepsReserves, KeepsRounds, Serves, SpendsLine, heap_of, machine_of, opening_ids};
 ghost use Rattle.slub_items.specs.Ids.{LeavesIdsAt};
 ghost use Rattle.slub_items.specs.Parts.{machine_on};
 ghost use Rattle.slub_items.specs.Stopped.{IsMachineStopped, IsStopped};
+ghost use Rattle.slub_items.specs.Watched.{DoesWatched, IsDue, IsUnwatched};
 
 use crate::round::by_way;
+use crate::watched::{Unwatched, on_heap};
 use slub_common::no_memory::NoMemory;
 use slub_edges::gate::Gate;
 use slub_engine::item;
@@ -38,6 +40,7 @@ use slub_slabinfo_text::client::ClientDone;
 use slub_slabinfo_text::journal::{Done, RoundResult, Total};
 use slub_trace::event::Round;
 use slub_trace::trace::{Client, Item, Trace};
+use slub_turns::watch::Watch;
 use std::alloc::Global;
 use std::marker::Model;
 use std::sync::Wait;
@@ -173,6 +176,69 @@ impl Machine {
             }))),
             Err(RoundStopped::TurnsSpent) => Err(Stopped::TurnsSpent),
         }
+    }
+
+    /// Does a round that is watched, of however many workers: by steps, each turn that of the worker that the watcher
+    /// says, which hears what comes about in it. Where no ids stand beside the lists, it begins with new ones, and those
+    /// after it are given besides the machine.
+    pub fn watched_round<W: Watch>(
+        self,
+        alloc: Global,
+        round: &Round,
+        watch: W,
+    ) -> (
+        Result<(Machine, RoundResult, Option<Ids>), Unwatched<Machine, W::Halt>>,
+        W,
+    )
+        requires { (trace : Read) × (number : ℕ) × IsDue self trace number round.now }
+        ensures does { IfOk result.0 (λ done. DoesWatched W.begins_round W.chooses W.hears W.is_done watch result.1 self.lists self.ids round.now done.1 done.0.lists done.0.ids done.2) }
+        ensures lawful { IfOk result.0 (λ done. IsRound self.lists round.now done.1 done.0.lists) }
+        ensures ready { IfOk result.0 (λ done. (trace : Read) (number : ℕ) → IsDue self trace number round.now → IsReadyMachine done.0 trace (number + 1)) }
+        ensures reserves { IfOk result.0 (λ done. KeepsReserves self done.0) }
+        ensures counted { IfOk result.0 (λ done. done.0.rounds ≡ self.rounds + 1) }
+        ensures unwatched { IfErr result.0 (IsUnwatched W.begins_round W.chooses W.hears W.halts self self.lists (ids_before self.lists self.ids) round.now watch result.1) }
+    {
+        ready_rounds_may_be_done();
+        let Machine {
+            heap,
+            reserves,
+            rounds,
+        } = self;
+        let (ran, watch) = on_heap(alloc, heap, round, watch);
+        match ran {
+            Ok((heap, result, others)) => {
+                let machine = Machine {
+                    heap,
+                    reserves,
+                    rounds: rounds + 1,
+                };
+                (Ok((machine, result, others)), watch)
+            }
+            Err(Unwatched::NoMemory(heap)) => {
+                let machine = Machine {
+                    heap,
+                    reserves,
+                    rounds,
+                };
+                (Err(Unwatched::NoMemory(machine)), watch)
+            }
+            Err(Unwatched::TurnsSpent) => (Err(Unwatched::TurnsSpent), watch),
+            Err(Unwatched::Halted(why)) => (Err(Unwatched::Halted(why)), watch),
+        }
+    }
+
+    /// Its lists.
+    pub fn lists(&self) -> &Lists
+        ensures { result.now ≡ self.now.lists }
+    {
+        &self.heap.lists
+    }
+
+    /// The transaction ids beside them, where there are some.
+    pub fn ids(&self) -> Option<&Ids>
+        ensures { MatchOption result (self.now.ids ≡ None) (λ ids. self.now.ids ≡ Some ids.now) }
+    {
+        self.heap.ids.as_ref()
     }
 
     /// Does an item that is neither a round nor a client's line. Where no memory is found, the machine is as it was

@@ -34,7 +34,12 @@ pub mod Asked
 pub mod Kmalloc
 pub mod BulkLines
 pub mod Reserves
+pub mod IdsFit
 pub mod Items
+pub mod Causes
+pub mod Unheld
+mod WantReplies
+pub mod Wants
 pub mod Refused
 pub mod SameEnd
 pub mod InOrder

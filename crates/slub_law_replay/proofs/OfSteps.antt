@@ -53,6 +53,7 @@ use Rattle.slub_rounds.specs.Rounds.{DoesRoundBySteps, Finishes, StandsBeside, s
 use Rattle.slub_rounds.proofs.Standing.{beside_ids, stands}
 use Rattle.slub_rounds.proofs.Telling.{begins}
 use Rattle.slub_law_replay.specs.OfSteps.{AreLeftBut, EndsBy, HasContentsAlong, IsOfSteps, IsRunOfSteps}
+use Rattle.slub_law_replay.proofs.Causes.{steps-right, steps-wants}
 use Rattle.slub_law_replay.specs.Ways.{AreLeft, DoesRoundBy, IsOfSeveral, ids_before, seed_after}
 use Rattle.slub_law_replay.specs.declared.way.Way.{Way}
 use Rattle.slub_law_replay.specs.declared.way.Way.TheVariants.{Serial, Schedule, Threads}
@@ -130,14 +131,21 @@ left-so round lists after is = record {
 contents-along : (s : State) (b : Beside) (round : Round) (picks : List Pick) → IsOpening (setup_of s b) (system_before s b round) → HasContentsAlong s b round picks
 contents-along s b round picks opening front rest split = rounds_end (setup_of s b) (system_before s b round) front opening
 
-by-steps : (way : Way) (One : Ending) (s : State) (ids : Option (List ℕ)) (round : Round) (result : RoundResult) (after : State) (ids_after : List ℕ) (left : Option (List ℕ))
+-- a round by steps begins as one may
+opens-so : (One : Ending) (s : State) (ids : List ℕ) (trace : Trace) (round : Round) (result : RoundResult) (after : State) (ids_after : List ℕ) → IsCoherent s → IsAtRest s → MayDo s trace round
+    → (does : DoesRoundBySteps One s ids round result after ids_after) → IsOpening (setup_of s does.beside) (system_before s does.beside round)
+opens-so One s ids trace round result after ids_after coherent rest may_do does = begins s does.beside trace round (record { coherent = coherent; laid_down = rest.laid_down; beside = does.stands.fits }) may_do
+
+by-steps : (way : Way) (One : Ending) (s : State) (ids : Option (List ℕ)) (trace : Trace) (round : Round) (result : RoundResult) (after : State) (ids_after : List ℕ) (left : Option (List ℕ)) → IsCoherent s → IsAtRest s → MayDo s trace round
     → ((m : Setup) (first : System) (picks : List Pick) (last : System) → One m first picks last → EndsBy way round m first picks last)
-    → (does : DoesRoundBySteps One s (ids_before s ids) round result after ids_after) → IsOpening (setup_of s does.beside) (system_before s does.beside round) → AreLeft ids ids_after left → IsRunOfSteps way s ids round result after left
-by-steps way One s ids round result after ids_after left leads does opening are = record {
+    → DoesRoundBySteps One s (ids_before s ids) round result after ids_after → AreLeft ids ids_after left → IsRunOfSteps way s ids round result after left
+by-steps way One s ids trace round result after ids_after left coherent rest may_do leads does are = record {
   boarded = after;
   ids_after = ids_after;
   steps = with-ending One (EndsBy way round) leads s (ids_before s ids) round result after ids_after does;
-  contents = contents-along s does.beside round does.picks opening;
+  contents = contents-along s does.beside round does.picks (opens-so One s (ids_before s ids) trace round result after ids_after coherent rest may_do does);
+  causes = steps-right One (λ m first picks last ends. (leads m first picks last ends).finishes) s (ids_before s ids) trace round result after ids_after coherent rest.laid_down may_do does;
+  wants = steps-wants One (λ m first picks last ends. (leads m first picks last ends).finishes) s (ids_before s ids) trace round result after ids_after coherent rest.laid_down may_do does;
   lists = left-so round does.lists after does.after_is;
   ids_are = are;
 }
@@ -339,6 +347,8 @@ module _ (s : State) (kept : Option (List ℕ)) (trace : Trace) (round : Round) 
     ids_after = ids_after;
     steps = steps-there way;
     contents = contents-along s b round turned.0 (begins s b trace round may may_do);
+    causes = steps-right (EndsBy way round) (λ m first picks last ends. ends.finishes) s (ids_before s kept) trace round result (all_on_board lists) ids_after coherent rest.laid_down may_do (steps-there way);
+    wants = steps-wants (EndsBy way round) (λ m first picks last ends. ends.finishes) s (ids_before s kept) trace round result (all_on_board lists) ids_after coherent rest.laid_down may_do (steps-there way);
     lists = left-there;
     ids_are = are;
   }
@@ -398,27 +408,20 @@ module _ (s : State) (trace : Trace) (round : Round) (coherent : IsCoherent s) (
 
 -- ---- rounds by any way
 
--- a round by steps begins as one may
-opens-so : (One : Ending) (s : State) (ids : List ℕ) (trace : Trace) (round : Round) (result : RoundResult) (after : State) (ids_after : List ℕ) → IsCoherent s → IsAtRest s → MayDo s trace round
-    → (does : DoesRoundBySteps One s ids round result after ids_after) → IsOpening (setup_of s does.beside) (system_before s does.beside round)
-opens-so One s ids trace round result after ids_after coherent rest may_do does = begins s does.beside trace round (record { coherent = coherent; laid_down = rest.laid_down; beside = does.stands.fits }) may_do
-
 text-steps : (way : Way) (s : State) (ids : Option (List ℕ)) (trace : Trace) (round : Round) (result : RoundResult) (after : State) (left : Option (List ℕ)) → IsCoherent s → IsAtRest s → trace.objects ≤ 1048576 → MayDo s trace round → length round.events ≤ 2 ^ 24
     → All HasMemory result.replies → DoesByText s ids round result after left → IsRunOfSteps way s ids round result after left
 text-steps way s None trace round result after left coherent rest objects may_do few memory (does, none) =
     lists-steps s None trace round result after (grown s trace round coherent objects may_do few result after does).0.tids coherent rest may_do (firsts-last s trace round coherent objects may_do few) (on-lists s trace round coherent objects may_do few result after does) memory way left none
 text-steps way s (Some ids) trace round result after left coherent rest objects may_do few memory (ids_after, inl (last, does), are) = lists-steps s (Some ids) trace round result after ids_after coherent rest may_do last does memory way left are
 text-steps way s (Some ids) trace round result after left coherent rest objects may_do few memory (ids_after, inr (spent, does), are) =
-    by-steps way (λ m first picks last. EndsInOrder m round.events first picks last) s (Some ids) round result after ids_after left (in-order-ends way round) does
-    (opens-so (λ m first picks last. EndsInOrder m round.events first picks last) s ids trace round result after ids_after coherent rest may_do does) are
+    by-steps way (λ m first picks last. EndsInOrder m round.events first picks last) s (Some ids) trace round result after ids_after left coherent rest may_do (in-order-ends way round) does are
 
 pub steps-by : (way : Way) (rounds : ℕ) (s : State) (ids : Option (List ℕ)) (trace : Trace) (round : Round) (result : RoundResult) (after : State) (left : Option (List ℕ)) → IsCoherent s → IsAtRest s → trace.objects ≤ 1048576 → MayDo s trace round → length round.events ≤ 2 ^ 24
     → DoesRoundBy way rounds s ids round result after left → IsOfSteps way s ids round result after left
 steps-by Serial rounds s ids trace round result after left coherent rest objects may_do few does memory = text-steps Serial s ids trace round result after left coherent rest objects may_do few (memory tt) does
 steps-by (Schedule seed) rounds s ids trace round result after left coherent rest objects may_do few (inl (one, does)) memory = text-steps (Schedule seed) s ids trace round result after left coherent rest objects may_do few (memory one) does
 steps-by (Schedule seed) rounds s ids trace round result after left coherent rest objects may_do few (inr (several, does)) memory =
-    by-steps (Schedule seed) (λ m first picks last. Ends m (seed_after seed rounds) first picks last) s ids round result after does.0 left (drawn-ends seed (seed_after seed rounds) round several) does.1
-    (opens-so (λ m first picks last. Ends m (seed_after seed rounds) first picks last) s (ids_before s ids) trace round result after does.0 coherent rest may_do does.1) does.2
+    by-steps (Schedule seed) (λ m first picks last. Ends m (seed_after seed rounds) first picks last) s ids trace round result after does.0 left coherent rest may_do (drawn-ends seed (seed_after seed rounds) round several) does.1 does.2
 steps-by Threads rounds s ids trace round result after left coherent rest objects may_do few (inl (one, does)) memory = text-steps Threads s ids trace round result after left coherent rest objects may_do few (memory one) does
-steps-by Threads rounds s ids trace round result after left coherent rest objects may_do few (inr (several, does)) memory = by-steps Threads Finishes s ids round result after does.0 left (threads-end round several) does.1
-    (opens-so Finishes s (ids_before s ids) trace round result after does.0 coherent rest may_do does.1) does.2
+steps-by Threads rounds s ids trace round result after left coherent rest objects may_do few (inr (several, does)) memory =
+    by-steps Threads Finishes s ids trace round result after does.0 left coherent rest may_do (threads-end round several) does.1 does.2

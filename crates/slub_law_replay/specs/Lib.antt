@@ -4,6 +4,7 @@ pub mod Laws
 pub mod Freed
 pub mod Trimmed
 pub mod Poked
+pub mod Causes
 pub mod OfSteps
 pub mod Rounds
 pub mod Shrinking

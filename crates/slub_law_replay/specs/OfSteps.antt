@@ -1,5 +1,6 @@
 -- A round is a run of atomic steps of its workers, whatever the way.
 use Rattle.std.specs.Prelude.{◌≡◌, ◌≢◌, ℕ, ◌≤◌, true, List, ◌++◌, length, reverse, Option, Some, All, ⊤}
+use Rattle.std.specs.List.{zip}
 use Rattle.slub_trace.specs.declared.event.Round.{Round}
 use Rattle.slub_trace.specs.Sound.{allocated, is_written}
 use Rattle.slub_lists.specs.declared.lists.Held.{Held}
@@ -17,6 +18,7 @@ use Rattle.slub_law_rounds.specs.Contents.{KeepsContents}
 use Rattle.slub_rounds.specs.Rounds.{DoesRoundBySteps, Finishes, system_begun, world_before}
 use Rattle.slub_law_replay.specs.declared.way.Way.{Way}
 use Rattle.slub_law_replay.specs.declared.way.Way.TheVariants.{Serial}
+use Rattle.slub_law_replay.specs.Causes.{HaveRightCauses, HaveWants}
 use Rattle.slub_law_replay.specs.Ways.{AreLeft, ids_before}
 
 -- ---- the steps
@@ -67,7 +69,9 @@ HasContentsAlong s b round picks =
 -- the workers make steps from the lists before the round, and the ids beside them; before each step
 -- and after the last one the machine is coherent. The replies, the damages and the ledgers are
 -- those of the steps, and so are the lists and the ids that are left
--- In it bytes of checked caches come from where they may, after any of its turns
+-- In it bytes of checked caches come from where they may, after any of its turns. Each answer of a
+-- poke has its cause, and so has each transaction id that was found spent; and where frames lacked,
+-- the pool had none after some of the turns
 pub record IsRunOfSteps (way : Way) (s : State) (ids : Option (List ℕ)) (round : Round)
     (result : RoundResult) (after : State) (left : Option (List ℕ)) : Type 0 where
   pub boarded : State
@@ -75,6 +79,8 @@ pub record IsRunOfSteps (way : Way) (s : State) (ids : Option (List ℕ)) (round
   pub steps : DoesRoundBySteps (EndsBy way round) s (ids_before s ids) round result boarded
       ids_after
   pub contents : HasContentsAlong s steps.beside round steps.picks
+  pub causes : HaveRightCauses s ids_after (zip round.events result.replies)
+  pub wants : HaveWants s steps.beside round steps.picks (zip round.events result.replies)
   pub lists : AreLeftBut round steps.lists after
   pub ids_are : AreLeft ids ids_after left
 

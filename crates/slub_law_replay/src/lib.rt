@@ -17,7 +17,9 @@
 //!   order of the text, each event to its end, and be told the same (`proofs/OfSteps.antt`): where
 //!   no ids stand beside the lists the steps begin at first ones, of which a round spends none. Of a
 //!   round on the lists with a reply that memory was lacking it isn't said. `specs/Rounds.antt` says
-//!   it of each round of a journal, along its machines.
+//!   it of each round of a journal, along its machines. In it each answer of a poke has its cause,
+//!   and each transaction id that was found spent; and where frames lacked, the pool had none at some
+//!   moment (`specs/Causes.antt`).
 //! - What follows of every lawful journal: `journal_laws`, with `specs/Freed.antt`, `Rounds`,
 //!   `Poked`, `Shrinking` and `Trimmed`; `laws` on what can be done before an item and after it.
 //! - One text: `one_text_laws` says that two lawful journals of a trace by one way and seed are the

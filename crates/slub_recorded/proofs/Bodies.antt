@@ -9,17 +9,24 @@ use Rattle.std.proofs.lemmas.List.Elements.{All-nil}
 use Rattle.std.proofs.lemmas.List.Folds.{list_any-append}
 use Rattle.slub_common.specs.Numbers.{Writes}
 use Rattle.slub_object_layout.specs.Name.{IsName}
+use Rattle.slub_recorded.specs.declared.rounds.Step.{Step}
 use Rattle.slub_recorded.specs.declared.text.Row.{Row}
-use Rattle.slub_recorded.specs.declared.turns.Turn.{Turn}
-use Rattle.slub_recorded.specs.Text.{name_at, row_text, turn_text}
+use Rattle.slub_recorded.specs.declared.tunes.Tune.{Tune as TuneOf}
+use Rattle.slub_recorded.specs.Converted.{IsTune}
+use Rattle.slub_recorded.specs.Rounds.{turns_in}
+use Rattle.slub_recorded.specs.Text.{name_at, row_text, step_text}
+use Rattle.slub_recorded.specs.Tunes.{is_for, knob_words, tune_lines, tune_text, tunes_lines, tunes_text}
 use Rattle.slub_recorded.specs.Turns.{AreNext}
-use Rattle.slub_recorded.specs.Lines.{IsRow, row_line, turn_line}
-use Rattle.slub_recorded.proofs.Lines.{AreTurns, Stands, number_writes, one_more, one_name, one_number, turns_below}
+use Rattle.slub_recorded.specs.Lines.{IsRow, row_line, step_lines}
+use Rattle.slub_recorded.proofs.Lines.{AreSteps, Stands, begin_below, count_cuts, done_below, info_below, number_writes, one_more, one_name, one_number, steps_below}
+use Rattle.slub_trace_reader.specs.declared.line.Knob.{Knob}
+use Rattle.slub_trace_reader.specs.declared.line.Knob.TheVariants.{MinPartial, CpuPartial}
 use Rattle.slub_trace_reader.specs.declared.line.Line.{Line}
-use Rattle.slub_trace_reader.specs.declared.line.Line.TheVariants.{Slabinfo, Round, Done, End}
+use Rattle.slub_trace_reader.specs.declared.line.Line.TheVariants.{Tune, Slabinfo, Round, Done, End}
 use Rattle.slub_trace_reader.specs.declared.place.Place.TheVariants.{Between, Within}
 use Rattle.slub_trace_reader.specs.Above.{Above, after, with_name}
-use Rattle.slub_trace_reader.specs.Grammar.{AreLines, IsInRound, IsLine, IsNamed, IsOneLine}
+use Rattle.slub_trace_reader.specs.Grammar.{AreLines, IsLine, IsNamed, IsOneLine}
+use Rattle.slub_trace_reader.specs.Lines.{knob_word}
 use Rattle.slub_trace_reader.specs.Words.{WritesFlags, flags_in}
 
 -- ---- names
@@ -55,9 +62,10 @@ named_at names (row ∷ rows) named are (suc cache) low = named_at names rows na
 -- ---- lines of caches
 
 -- lines above that created caches alone
-pub record Begins (cpus : ℕ) (a : Above) : Type 0 where
+pub record Begins (cpus version : ℕ) (a : Above) : Type 0 where
   pub place : a.place ≡ Between
   pub cpus_are : a.cpus ≡ cpus
+  pub version_is : a.version ≡ version
   pub rounds : a.rounds ≡ 0
   pub objects : a.objects ≡ []
 
@@ -81,11 +89,11 @@ row_parts true name s flat rest = simp append_assoc
 row_parts false name s flat rest = simp append_assoc
 
 -- what may stand below caches may stand below these, too
-pub rows_below : (cpus : ℕ) (rest : List ℕ) (more : List Line) (rows : List Row) (a : Above) → All IsRow rows → Begins cpus a
-    → ((b : Above) → Begins cpus b → ((name : List ℕ) → IsNamed name a.names → IsNamed name b.names) → AllNamed b.names rows → AreLines b rest more)
+pub rows_below : (cpus version : ℕ) (rest : List ℕ) (more : List Line) (rows : List Row) (a : Above) → All IsRow rows → Begins cpus version a
+    → ((b : Above) → Begins cpus version b → ((name : List ℕ) → IsNamed name a.names → IsNamed name b.names) → AllNamed b.names rows → AreLines b rest more)
     → AreLines a (flat_map row_text rows ++ rest) (map row_line rows ++ more)
-rows_below cpus rest more [] a are begins below = below a begins (λ name is. is) tt
-rows_below cpus rest more (row ∷ rows) a are begins below =
+rows_below cpus version rest more [] a are begins below = below a begins (λ name is. is) tt
+rows_below cpus version rest more (row ∷ rows) a are begins below =
     let flag : List ℕ = if row.reclaim then codes "R" else codes "-" in
     let text : List ℕ = codes "cache " ++ (row.name ++ 32 ∷ (decimal row.slot ++ 32 ∷ (56 ∷ 32 ∷ flag))) in
     let flat : List ℕ = flat_map row_text rows in
@@ -108,62 +116,132 @@ rows_below cpus rest more (row ∷ rows) a are begins below =
       row_parts row.reclaim row.name (decimal row.slot) flat rest,
       one,
       line,
-      rows_below cpus rest more rows (after a (row_line row)) (λ k d low. are (suc k) d (omega arith))
-          (record { place = begins.place; cpus_are = begins.cpus_are; rounds = begins.rounds; objects = begins.objects })
+      rows_below cpus version rest more rows (after a (row_line row)) (λ k d low. are (suc k) d (omega arith))
+          (record { place = begins.place; cpus_are = begins.cpus_are; version_is = begins.version_is; rounds = begins.rounds; objects = begins.objects })
           (λ b ready grows named. below b ready (λ name was. grows name (grown a.names row.name name was)) (grows row.name (added a.names row.name), named)),
     )
 
--- ---- the end
+-- ---- settings
 
-plain : (a : Above) (text : List ℕ) → (P : ℕ → Type 0) → All P []
-plain a text P = All-nil P
+min_parts : (name d rest : List ℕ) → (codes "tune " ++ name ++ codes " min_partial " ++ d ++ 10 ∷ []) ++ rest ≡ (codes "tune " ++ (name ++ 32 ∷ (codes "min_partial" ++ 32 ∷ d))) ++ 10 ∷ rest
+min_parts name d rest = simp append_assoc
 
-end_below : (b : Above) → b.place ≡ Within 1 → AreLines b (codes "done" ++ 10 ∷ (codes "slabinfo" ++ 10 ∷ (codes "end" ++ 10 ∷ []))) (Done ∷ Slabinfo ∷ End ∷ [])
-end_below b place =
-    let New : ℕ → Type 0 = λ n. list_any (nat_eq n) b.objects ≡ false in
-    let Old : ℕ → Type 0 = λ n. list_any (nat_eq n) b.objects ≡ true in
-    let done : IsLine b (codes "done") Done = record { says = refl; stands = subst IsInRound (sym place) tt; range = tt; room = tt; named = tt; fresh = All-nil New; known = All-nil Old; written = tt } in
-    let info : IsLine (after b Done) (codes "slabinfo") Slabinfo = record { says = refl; stands = refl; range = tt; room = tt; named = tt; fresh = All-nil New; known = All-nil Old; written = tt } in
-    let end : IsLine (after (after b Done) Slabinfo) (codes "end") End = record { says = refl; stands = refl; range = tt; room = tt; named = tt; fresh = All-nil New; known = All-nil Old; written = tt } in (
-      codes "done",
-      _,
-      refl,
-      (λ k d low is. grind arith),
-      done,
-      (
-        codes "slabinfo",
-        _,
-        refl,
-        (λ k d low is. grind arith),
-        info,
-        (codes "end", _, refl, (λ k d low is. grind arith), end, refl),
-      ),
+cpu_parts : (name d rest : List ℕ) → (codes "tune " ++ name ++ codes " cpu_partial " ++ d ++ 10 ∷ []) ++ rest ≡ (codes "tune " ++ (name ++ 32 ∷ (codes "cpu_partial" ++ 32 ∷ d))) ++ 10 ∷ rest
+cpu_parts name d rest = simp append_assoc
+
+tune_parts : (knob : Knob) (name d rest : List ℕ) → (codes "tune " ++ name ++ knob_words knob ++ d ++ 10 ∷ []) ++ rest ≡ (codes "tune " ++ (name ++ 32 ∷ (knob_word knob ++ 32 ∷ d))) ++ 10 ∷ rest
+tune_parts MinPartial name d rest = min_parts name d rest
+tune_parts CpuPartial name d rest = cpu_parts name d rest
+
+one_tune : (rest : List ℕ) → IsOneLine rest → IsOneLine (codes "tune " ++ rest)
+one_tune rest one = one_more (codes "tune") rest (λ k d low is. grind arith) one
+
+one_knob : (knob : Knob) → IsOneLine (knob_word knob)
+one_knob MinPartial = λ k d low is. grind arith
+one_knob CpuPartial = λ k d low is. grind arith
+
+-- what may stand below a setting may stand below this one, whether it is for the cache or not
+tune_by : (cpus version : ℕ) (name : List ℕ) (tune : TuneOf) (rest : List ℕ) (more : List Line) (a : Above) → IsName name → IsNamed name a.names → IsTune tune → 2 ≤ version → Begins cpus version a
+    → ((b : Above) → Begins cpus version b → b.names ≡ a.names → AreLines b rest more) → (is : Bool)
+    → AreLines a ((if is then codes "tune " ++ name ++ knob_words tune.knob ++ decimal tune.number ++ 10 ∷ [] else []) ++ rest) ((if is then Tune name tune.knob tune.number ∷ [] else []) ++ more)
+tune_by cpus version name tune rest more a is named fits two begins below false = below a begins refl
+tune_by cpus version name tune rest more a is named fits two begins below true =
+    let text : List ℕ = codes "tune " ++ (name ++ 32 ∷ (knob_word tune.knob ++ 32 ∷ decimal tune.number)) in
+    let New : ℕ → Type 0 = λ n. list_any (nat_eq n) a.objects ≡ false in
+    let Old : ℕ → Type 0 = λ n. list_any (nat_eq n) a.objects ≡ true in
+    let newer : a.version ≡ version = begins.version_is in
+    let low : tune.number ≤ 4096 = fits in
+    let one : IsOneLine text = one_tune _ (one_more _ _ (one_name name is) (one_more _ _ (one_knob tune.knob) (one_number tune.number (omega arith)))) in
+    let line : IsLine a text (Tune name tune.knob tune.number) = record {
+      says = (decimal tune.number, is, number_writes tune.number (omega arith), refl);
+      stands = ((omega arith), begins.place);
+      range = fits;
+      room = tt;
+      named = named;
+      fresh = All-nil New;
+      known = All-nil Old;
+      written = tt;
+    } in (
+      text,
+      rest,
+      tune_parts tune.knob name (decimal tune.number) rest,
+      one,
+      line,
+      below (after a (Tune name tune.knob tune.number)) (record { place = begins.place; cpus_are = begins.cpus_are; version_is = begins.version_is; rounds = begins.rounds; objects = begins.objects }) refl,
     )
 
--- ---- the round
+-- all settings of a cache
+row_tunes_below : (cpus version : ℕ) (name : List ℕ) (rest : List ℕ) (more : List Line) → IsName name → (tunes : List TuneOf) (a : Above) → IsNamed name a.names → All IsTune tunes → (1 ≤ length tunes → 2 ≤ version) → Begins cpus version a
+    → ((b : Above) → Begins cpus version b → b.names ≡ a.names → AreLines b rest more)
+    → AreLines a (flat_map (tune_text name) tunes ++ rest) (flat_map (tune_lines name) tunes ++ more)
+row_tunes_below cpus version name rest more is [] a named fit two begins below = below a begins refl
+row_tunes_below cpus version name rest more is (tune ∷ tunes) a named fit two begins below =
+    let flat : List ℕ = flat_map (tune_text name) tunes in
+    let lines : List Line = flat_map (tune_lines name) tunes in
+    let newer : 2 ≤ version = two (omega arith) in
+    let N : List (List ℕ) → Type 0 = λ names. IsNamed name names in
+    let P : List ℕ → Type 0 = λ bytes. AreLines a bytes ((tune_lines name tune ++ lines) ++ more) in
+    let Q : List Line → Type 0 = λ ls. AreLines a (tune_text name tune ++ (flat ++ rest)) ls in
+    subst P (sym (append_assoc (tune_text name tune) flat rest))
+    (subst Q (sym (append_assoc (tune_lines name tune) lines more))
+    (tune_by cpus version name tune (flat ++ rest) (lines ++ more) a is named (fit 0 tune (omega arith)) newer begins
+    (λ b ready same. row_tunes_below cpus version name rest more is tunes b (subst N (sym same) named) (λ k d low. fit (suc k) d (omega arith)) (λ _. newer) ready (λ c done also. below c done (also ∙ same)))
+    (is_for tune name)))
 
-pub round_below : (cpus : ℕ) (rows : List Row) (turns : List Turn) (b : Above) → cpus ≤ 16 → All IsRow rows → AreTurns cpus rows turns → AreNext (λ _. false) 0 turns
-    → Begins cpus b → AllNamed b.names rows
-    → AreLines b (codes "round 1" ++ 10 ∷ (flat_map (turn_text rows) turns ++ (codes "done" ++ 10 ∷ (codes "slabinfo" ++ 10 ∷ (codes "end" ++ 10 ∷ [])))))
-    (Round 1 ∷ (map (turn_line rows) turns ++ (Done ∷ Slabinfo ∷ End ∷ [])))
-round_below cpus rows turns b few are turned next begins named =
+named_in : (names more : List (List ℕ)) (rows : List Row) → more ≡ names → AllNamed names rows → AllNamed more rows
+named_in names more rows same named = let P : List (List ℕ) → Type 0 = λ ns. AllNamed ns rows in subst P (sym same) named
+
+-- all settings
+tunes_below : (cpus version : ℕ) (tunes : List TuneOf) (rest : List ℕ) (more : List Line) → All IsTune tunes → (1 ≤ length tunes → 2 ≤ version) → (rows : List Row) (a : Above) → All IsRow rows → AllNamed a.names rows → Begins cpus version a
+    → ((b : Above) → Begins cpus version b → b.names ≡ a.names → AreLines b rest more)
+    → AreLines a (flat_map (tunes_text tunes) rows ++ rest) (flat_map (tunes_lines tunes) rows ++ more)
+tunes_below cpus version tunes rest more fit two [] a are named begins below = below a begins refl
+tunes_below cpus version tunes rest more fit two (row ∷ rows) a are named begins below =
+    let flat : List ℕ = flat_map (tunes_text tunes) rows in
+    let lines : List Line = flat_map (tunes_lines tunes) rows in
+    let is : IsRow row = are 0 row (omega arith) in
+    let P : List ℕ → Type 0 = λ bytes. AreLines a bytes ((tunes_lines tunes row ++ lines) ++ more) in
+    let Q : List Line → Type 0 = λ ls. AreLines a (tunes_text tunes row ++ (flat ++ rest)) ls in
+    subst P (sym (append_assoc (tunes_text tunes row) flat rest))
+    (subst Q (sym (append_assoc (tunes_lines tunes row) lines more))
+    (row_tunes_below cpus version row.name (flat ++ rest) (lines ++ more) is.0 tunes a named.0 fit two begins
+    (λ b ready same. tunes_below cpus version tunes rest more fit two rows b (λ k d low. are (suc k) d (omega arith)) (named_in a.names b.names rows same named.1) ready (λ c done also. below c done (also ∙ same)))))
+
+-- ---- the end
+
+end_below : (workers : ℕ) (b : Above) → b.place ≡ Within workers → AreLines b (codes "done" ++ 10 ∷ (codes "slabinfo" ++ 10 ∷ (codes "end" ++ 10 ∷ []))) (Done ∷ Slabinfo ∷ End ∷ [])
+end_below workers b place =
     let New : ℕ → Type 0 = λ n. list_any (nat_eq n) b.objects ≡ false in
     let Old : ℕ → Type 0 = λ n. list_any (nat_eq n) b.objects ≡ true in
-    let one : Writes (49 ∷ []) 1 = record { form = refl; value = refl } in
+    let end : IsLine (after (after b Done) Slabinfo) (codes "end") End = record { says = refl; stands = refl; range = tt; room = tt; named = tt; fresh = All-nil New; known = All-nil Old; written = tt } in
+    let last : AreLines (after (after b Done) Slabinfo) (codes "end" ++ 10 ∷ []) (End ∷ []) = (codes "end", [], refl, (λ k d low is. grind arith), end, refl) in
+    done_below b workers (codes "slabinfo" ++ 10 ∷ (codes "end" ++ 10 ∷ [])) (Slabinfo ∷ End ∷ []) place (info_below (after b Done) (codes "end" ++ 10 ∷ []) (End ∷ []) refl last)
+
+-- ---- the rounds
+
+rounds_below : (cpus version : ℕ) (rows : List Row) (workers : ℕ) (steps : List Step) (b : Above) → cpus ≤ 16 → 1 ≤ workers → workers ≤ 16 → All IsRow rows → AreSteps cpus rows workers steps
+    → AreNext (λ _. false) 0 (turns_in steps) → count_cuts steps ≤ 255 → Begins cpus version b → AllNamed b.names rows
+    → AreLines b ((codes "round " ++ decimal workers) ++ 10 ∷ (flat_map (step_text rows workers) steps ++ (codes "done" ++ 10 ∷ (codes "slabinfo" ++ 10 ∷ (codes "end" ++ 10 ∷ [])))))
+    (Round workers ∷ (flat_map (step_lines rows workers) steps ++ (Done ∷ Slabinfo ∷ End ∷ [])))
+rounds_below cpus version rows workers steps b few some least are done next cuts begins named =
     let none : b.rounds ≡ 0 = begins.rounds in
-    let line : IsLine b (codes "round 1") (Round 1) = record { says = (49 ∷ [], one, refl); stands = begins.place; range = ((omega arith), (omega arith)); room = omega arith; named = tt; fresh = All-nil New; known = All-nil Old; written = tt } in
-    let stands : Stands cpus rows (λ _. false) 0 (after b (Round 1)) = record {
+    let stands : Stands cpus rows workers (λ _. false) 0 (after b (Round workers)) = record {
       place = refl;
       cpus_are = begins.cpus_are;
       named = named_at b.names rows named are;
       known = λ n live. absurd (true≢false (sym live));
       some = λ n live. absurd (true≢false (sym live));
       fresh = λ n low. ap (list_any (nat_eq n)) begins.objects;
-    } in (
-      codes "round 1",
-      _,
-      refl,
-      (λ k d low is. grind arith),
-      line,
-      turns_below cpus rows _ _ few end_below turns (λ _. false) 0 (after b (Round 1)) turned next stands,
-    )
+    } in
+    begin_below cpus rows workers (λ _. false) 0 b _ _ some least begins.place (omega arith) stands
+    (λ c rounds ready. steps_below cpus rows workers _ _ few some least (end_below workers) steps (λ _. false) 0 c done next (omega (arith, rounds, cuts, none)) ready)
+
+-- ---- settings and rounds
+
+pub parts_below : (cpus version : ℕ) (rows : List Row) (tunes : List TuneOf) (workers : ℕ) (steps : List Step) (b : Above) → cpus ≤ 16 → 1 ≤ workers → workers ≤ 16 → All IsRow rows → All IsTune tunes → (1 ≤ length tunes → 2 ≤ version)
+    → AreSteps cpus rows workers steps → AreNext (λ _. false) 0 (turns_in steps) → count_cuts steps ≤ 255 → Begins cpus version b → AllNamed b.names rows
+    → AreLines b (flat_map (tunes_text tunes) rows ++ ((codes "round " ++ decimal workers) ++ 10 ∷ (flat_map (step_text rows workers) steps ++ (codes "done" ++ 10 ∷ (codes "slabinfo" ++ 10 ∷ (codes "end" ++ 10 ∷ []))))))
+    (flat_map (tunes_lines tunes) rows ++ (Round workers ∷ (flat_map (step_lines rows workers) steps ++ (Done ∷ Slabinfo ∷ End ∷ []))))
+parts_below cpus version rows tunes workers steps b few some least are fit two done next cuts begins named =
+    tunes_below cpus version tunes _ _ fit two rows b are named begins
+    (λ c ready same. rounds_below cpus version rows workers steps c few some least are done next cuts ready (named_in b.names c.names rows same named))

@@ -10,21 +10,26 @@ use Rattle.slub_recorded.specs.declared.pairing.Born.{Born}
 use Rattle.slub_recorded.specs.declared.pairing.Fate.{Fate}
 use Rattle.slub_recorded.specs.declared.pairing.Move.{Move}
 use Rattle.slub_recorded.specs.declared.pairing.Pairing.{Pairing}
+use Rattle.slub_recorded.specs.declared.convert.Options.{Options}
+use Rattle.slub_recorded.specs.declared.rounds.Step.{Step}
 use Rattle.slub_recorded.specs.declared.text.Row.{Row}
 use Rattle.slub_recorded.specs.declared.told.Note.{Note}
+use Rattle.slub_recorded.specs.declared.tunes.Tune.{Tune}
 use Rattle.slub_recorded.specs.declared.turns.Turn.{Turn}
 use Rattle.slub_recorded.specs.Comments.{IsNote, IsComment}
-use Rattle.slub_recorded.specs.Converted.{IsConverted, IsShown, IsTraceText, place_of, titles}
+use Rattle.slub_recorded.specs.Converted.{IsConverted, IsTraceText, IsTune, cpus_asked, place_of, titles}
 use Rattle.slub_recorded.specs.Groups.{AreApart}
 use Rattle.slub_recorded.specs.Lines.{IsRow}
 use Rattle.slub_recorded.specs.Naming.{titles_of}
 use Rattle.slub_recorded.specs.Paired.{view}
 use Rattle.slub_recorded.specs.Pairing.{Seen, seen}
+use Rattle.slub_recorded.specs.Rounds.{count_workers, steps_of, turns_in}
 use Rattle.slub_recorded.specs.Told.{Tells, note_words}
 use Rattle.slub_recorded.specs.Turns.{AreNext, count_kept, turns_of}
 use Rattle.slub_recorded.proofs.Lines.{AreTurns}
 use Rattle.slub_recorded.proofs.Moves.{moves_are}
 use Rattle.slub_recorded.proofs.Owned.{Agrees, moves_fit, moves_next}
+use Rattle.slub_recorded.proofs.Steps.{all_held, all_turns, few_cuts, few_workers, some_workers, steps_fit}
 use Rattle.slub_recorded.proofs.Whole.{text_is_trace}
 
 place_below : (rows : List Row) (title : Title) (p : ℕ) → place_of rows title ≡ Some p → p < length rows
@@ -45,35 +50,66 @@ pub moves_seen : (p : Pairing) (s : Seen) → view p ≡ s → (p.moves.items �
 unfolding view
 moves_seen p s is = (ap (λ (t : Seen). t.moves) is, ap (λ (t : Seen). t.fates) is, ap (λ (t : Seen). t.objects) is)
 
-pub converted : (recording : Recording) (notes : List Note) (text : List ℕ) (cpus : ℕ) (rows : List Row) (places : List (Option ℕ)) (moves : List Move) (fates : List Fate) (turns : List Turn)
-    → 1 ≤ cpus → cpus ≤ 16 → All IsRow rows → length rows ≤ 32 → AreApart rows → places ≡ map (place_of rows) (titles recording)
-    → moves ≡ (seen recording.events).moves → fates ≡ (seen recording.events).fates → turns ≡ turns_of places cpus moves → count_kept places ≤ 1048576 → Tells notes fates
-    → IsTraceText notes cpus rows turns text → length text ≤ 16777216 → IsConverted recording notes text
-converted recording notes text cpus rows places moves fates turns some few rows_are few_rows apart placed is were made kept told written short =
+-- what the parts of a conversion made
+pub record Made (recording : Recording) (options : Options) (tunes : List Tune) (cpus : ℕ) (rows : List Row) (places : List (Option ℕ)) (moves : List Move) (fates : List Fate) (notes : List Note) (text : List ℕ) : Type 0 where
+  pub cpus_are : cpus ≡ cpus_asked recording options
+  pub some_cpu : 1 ≤ cpus
+  pub few_cpus : cpus ≤ 16
+  pub rows_are : All IsRow rows
+  pub few_rows : length rows ≤ 32
+  pub apart : AreApart rows
+  pub fit : All IsTune tunes
+  pub named : places ≡ map (place_of rows) (titles recording)
+  pub moves_are : moves ≡ (seen recording.events).moves
+  pub fates_are : fates ≡ (seen recording.events).fates
+  pub few : count_kept places ≤ 1048576
+  pub told : Tells notes fates
+  pub short : length text ≤ 16777216
+
+converted : (recording : Recording) (options : Options) (tunes : List Tune) (cpus : ℕ) (rows : List Row) (places : List (Option ℕ)) (moves : List Move) (fates : List Fate) (notes : List Note) (text : List ℕ) (turns : List Turn) (steps : List Step)
+    → Made recording options tunes cpus rows places moves fates notes text → turns ≡ turns_of places cpus moves → steps ≡ steps_of options turns
+    → IsTraceText notes cpus rows tunes (count_workers options.workers cpus) steps text → IsConverted recording options tunes notes text
+converted recording options tunes cpus rows places moves fates notes text turns steps made turned cut written =
     let ms : List Move = (seen recording.events).moves in
     let ts : List Turn = turns_of places cpus ms in
-    let same : turns ≡ ts = made ∙ ap (turns_of places cpus) is in
-    let P : List Turn → Type 0 = λ t. IsTraceText notes cpus rows t text in
-    let body : IsTraceText notes cpus rows ts text = subst P same written in
+    let same : turns ≡ ts = turned ∙ ap (turns_of places cpus) made.moves_are in
+    let cuts : steps ≡ steps_of options ts = cut ∙ ap (steps_of options) same in
+    let n : ℕ = count_workers options.workers cpus in
+    let P : List Step → Type 0 = λ s. IsTraceText notes cpus rows tunes n s text in
+    let body : IsTraceText notes cpus rows tunes n (steps_of options ts) text = subst P cuts written in
     let Q : List Fate → Type 0 = λ f. Tells notes f in
     let F : List (Option ℕ) → Type 0 = λ ps. (o p : ℕ) → get_or ps o None ≡ Some p → p < length rows in
-    let inside : F places = subst F (sym placed) (places_below rows (titles recording)) in
-    let fit : AreTurns cpus rows ts = moves_fit places cpus rows ms some inside kept in
+    let inside : F places = subst F (sym made.named) (places_below rows (titles recording)) in
+    let fit : AreTurns cpus rows ts = moves_fit places cpus rows ms made.some_cpu inside made.few in
     let agrees : Agrees places 0 (λ _. false) (λ _. false) = record { below = λ o live. absurd (true≢false (sym live)); lively = λ o k live here. absurd (true≢false (sym live)) } in
     let next : AreNext (λ _. false) 0 ts = moves_next places cpus ms 0 0 (λ _. false) (λ _. false) refl (moves_are recording.events) agrees in
+    let done : turns_in (steps_of options ts) ≡ ts = all_turns options ts in
+    let N : List Turn → Type 0 = λ t. AreNext (λ _. false) 0 t in
     record {
       cpus = cpus;
       rows = rows;
       places = places;
-      some_cpu = some;
-      few_cpus = few;
-      few_caches = few_rows;
-      apart = apart;
-      named = placed;
+      steps = steps_of options ts;
+      named = made.named;
+      cpus_are = made.cpus_are;
+      some_cpu = made.some_cpu;
+      few_cpus = made.few_cpus;
+      few_caches = made.few_rows;
+      apart = made.apart;
       next = next;
-      spells = text_is_trace note_words notes cpus rows ts text (comments notes body.notes_are) some few rows_are fit next short body.text_is;
-      told = subst Q were told;
+      cut = refl;
+      done = done;
+      held = all_held options ts;
+      spells = text_is_trace note_words notes cpus rows tunes n (steps_of options ts) text (comments notes body.notes_are) made.some_cpu made.few_cpus (some_workers options.workers cpus made.some_cpu) (few_workers options.workers cpus made.few_cpus)
+          made.rows_are made.fit (steps_fit cpus rows options ts fit) (subst N (sym done) next) (few_cuts options ts) made.short body.text_is;
+      told = subst Q made.fates_are made.told;
     }
+
+-- what a pairing has of moves and fates is the recording's
+pub seen_are : (recording : Recording) (events : List KmemEvent) (p : Pairing) → view p ≡ seen events → events ≡ recording.events → (p.moves.items ≡ (seen recording.events).moves) × (p.fates.items ≡ (seen recording.events).fates)
+seen_are recording events p v ee =
+    let were = moves_seen p (seen events) v in
+    (were.0 ∙ ap (λ e. (seen e).moves) ee, were.1 ∙ ap (λ e. (seen e).fates) ee)
 
 -- the titles of what a pairing has are those of the recording
 pub titles_are : (recording : Recording) (events : List KmemEvent) (p : Pairing) (names : List (List ℕ)) (objects : List Born) (moves : List Move)
@@ -85,16 +121,13 @@ titles_are recording events p names objects moves v ee ne oe me =
     ap (λ n. titles_of n objects moves) ne ∙ ap (λ o. titles_of recording.names.keys o moves) os ∙ ap (λ m. titles_of recording.names.keys (seen recording.events).objects m) ms
 
 -- the same, with what slices are lent of each part
-pub joined : (recording : Recording) (events : List KmemEvent) (p : Pairing) (moves : List Move) (fates : List Fate) (cpus : ℕ) (rows : List Row) (spots : List (Option ℕ)) (named titled : List Title)
-    (places told_places : List (Option ℕ)) (turns : List Turn) (notes : List Note) (text : List ℕ) (notes_lent : List Note) (rows_lent : List Row) (turns_lent : List Turn)
-    → view p ≡ seen events → events ≡ recording.events → moves ≡ p.moves.items → fates ≡ p.fates.items → 1 ≤ cpus → cpus ≤ 16 → IsShown rows spots → AreApart rows → named ≡ titled → titled ≡ titles recording
-    → places ≡ map (place_of rows_lent) named → told_places ≡ places → turns ≡ turns_of told_places cpus moves → count_kept told_places ≤ 1048576 → Tells notes fates
-    → notes_lent ≡ notes → rows_lent ≡ rows → turns_lent ≡ turns → IsTraceText notes_lent cpus rows_lent turns_lent text → length text ≤ 16777216 → IsConverted recording notes text
-joined recording events p moves fates cpus rows spots named titled places told_places turns notes text notes_lent rows_lent turns_lent v ee me fe some few shown apart se all placed pe made kept told ne re te written short =
-    let were = moves_seen p (seen events) v in
-    let N : List Note → Type 0 = λ n. IsTraceText n cpus rows_lent turns_lent text in
-    let R : List Row → Type 0 = λ r. IsTraceText notes cpus r turns_lent text in
-    converted recording notes text cpus rows told_places moves fates turns_lent some few shown.rows_are shown.few apart
-    (pe ∙ placed ∙ ap (λ r. map (place_of r) named) re ∙ ap (map (place_of rows)) (se ∙ all))
-    (me ∙ were.0 ∙ ap (λ e. (seen e).moves) ee) (fe ∙ were.1 ∙ ap (λ e. (seen e).fates) ee)
-    (te ∙ made) kept told (subst R re (subst N ne written)) short
+pub joined : (recording : Recording) (options : Options) (tunes : List Tune) (cpus : ℕ) (rows : List Row) (places : List (Option ℕ)) (moves : List Move) (fates : List Fate) (notes : List Note) (text : List ℕ)
+    (rows_lent : List Row) (turns turns_lent : List Turn) (steps steps_lent : List Step) (notes_lent : List Note) (workers : ℕ)
+    → Made recording options tunes cpus rows places moves fates notes text → rows_lent ≡ rows → turns ≡ turns_of places cpus moves → turns_lent ≡ turns → steps ≡ steps_of options turns_lent → steps_lent ≡ steps → notes_lent ≡ notes
+    → workers ≡ count_workers options.workers cpus → IsTraceText notes_lent cpus rows_lent tunes workers steps_lent text → IsConverted recording options tunes notes text
+joined recording options tunes cpus rows places moves fates notes text rows_lent turns turns_lent steps steps_lent notes_lent workers made re turned te cut se ne we written =
+    let W : ℕ → Type 0 = λ w. IsTraceText notes_lent cpus rows_lent tunes w steps_lent text in
+    let n : ℕ = count_workers options.workers cpus in
+    let N : List Note → Type 0 = λ x. IsTraceText x cpus rows_lent tunes n steps_lent text in
+    let R : List Row → Type 0 = λ r. IsTraceText notes cpus r tunes n steps_lent text in
+    converted recording options tunes cpus rows places moves fates notes text turns steps_lent made turned (se ∙ cut ∙ ap (steps_of options) te) (subst R re (subst N ne (subst W we written)))

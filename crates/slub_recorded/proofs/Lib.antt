@@ -14,3 +14,5 @@ pub mod Options
 pub mod Endings
 pub mod Slots
 pub mod Rows
+pub mod Steps
+pub mod Cutting

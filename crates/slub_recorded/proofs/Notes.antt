@@ -7,12 +7,16 @@ use Rattle.std.proofs.lemmas.Bool.{eqb-false}
 use Rattle.std.proofs.lemmas.List.{append-nil, take_more}
 use Rattle.std.proofs.lemmas.Grind.{flat_map-append}
 use Rattle.std.proofs.lemmas.List.Elements.{All-append, All-cons, All-nil}
+use Rattle.slub_object_layout.specs.Name.{IsName}
+use Rattle.slub_recorded.specs.declared.told.About.{About}
+use Rattle.slub_recorded.specs.declared.told.About.TheVariants.{UnknownFrees, Letter, LeftOutCache}
 use Rattle.slub_recorded.specs.declared.told.Note.{Note}
+use Rattle.slub_recorded.specs.declared.told.Note.TheVariants.{Count, Of}
 use Rattle.slub_recorded.specs.declared.told.Word.{Word}
-use Rattle.slub_recorded.specs.declared.told.Word.TheVariants.{Given, Overwritten, Lost, Back, Others, ByKmalloc, ByFree, BySite, BySizes, Failed, PagesGiven, Freed, OfNothing, PagesFreed, CacheUnknown, Unknown, PutIn, Live, KeptMoves, Moves, KeptCaches, Caches, LeftOut, Group, Groups, Cpus}
+use Rattle.slub_recorded.specs.declared.told.Word.TheVariants.{Given, Overwritten, Lost, Back, Others, ByKmalloc, ByFree, BySite, BySizes, Failed, PagesGiven, Freed, OfNothing, PagesFreed, CacheUnknown, Unknown, PutIn, Live, KeptMoves, Moves, KeptCaches, Caches, LeftOut, Group, Groups, Cpus, CacheAllocs, Kmallocs, CacheFrees, Kfrees, Rounds, ByHolder, NoCache}
 use Rattle.slub_recorded.specs.Comments.{IsNote}
-use Rattle.slub_recorded.specs.Told.{note_text, word_text}
-use Rattle.slub_recorded.proofs.Lines.{one_number}
+use Rattle.slub_recorded.specs.Told.{about_text, note_text, word_text}
+use Rattle.slub_recorded.proofs.Lines.{one_name, one_number}
 use Rattle.slub_trace_reader.specs.Grammar.{IsOneLine}
 
 abbrev pub lacks : List ℕ → Bool
@@ -54,15 +58,39 @@ word_lacks LeftOut = refl
 word_lacks Group = refl
 word_lacks Groups = refl
 word_lacks Cpus = refl
+word_lacks CacheAllocs = refl
+word_lacks Kmallocs = refl
+word_lacks CacheFrees = refl
+word_lacks Kfrees = refl
+word_lacks Rounds = refl
+word_lacks ByHolder = refl
+word_lacks NoCache = refl
 
-pub note_is : (note : Note) → note.number < 2 ^ 64 → IsNote note
+about_lacks : (about : About) → lacks (about_text about) ≡ true
+about_lacks UnknownFrees = refl
+about_lacks Letter = refl
+about_lacks LeftOutCache = refl
+
+pub count_is : (word : Word) (number : ℕ) → number < 2 ^ 64 → IsNote (Count word number)
 unfolding IsNote
-note_is note low =
+count_is word number low =
     let P : ℕ → Type 0 = λ b. b ≢ 10 in (
       refl,
-      All-append P (codes "# " ++ word_text note.word ++ codes ": ") (decimal note.number)
-          (All-append P (codes "# " ++ word_text note.word) (codes ": ") (All-append P (codes "# ") (word_text note.word) (one_tested (codes "# ") refl) (one_tested (word_text note.word) (word_lacks note.word))) (one_tested (codes ": ") refl))
-          (one_number note.number low),
+      All-append P (codes "# " ++ word_text word ++ codes ": ") (decimal number)
+          (All-append P (codes "# " ++ word_text word) (codes ": ") (All-append P (codes "# ") (word_text word) (one_tested (codes "# ") refl) (one_tested (word_text word) (word_lacks word))) (one_tested (codes ": ") refl))
+          (one_number number low),
+    )
+
+pub of_is : (about : About) (name : List ℕ) (number : ℕ) → IsName name → number < 2 ^ 64 → IsNote (Of about name number)
+unfolding IsNote
+of_is about name number is low =
+    let P : ℕ → Type 0 = λ b. b ≢ 10 in
+    let front : List ℕ = codes "# " ++ about_text about in
+    let one : All P front = All-append P (codes "# ") (about_text about) (one_tested (codes "# ") refl) (one_tested (about_text about) (about_lacks about)) in (
+      refl,
+      All-append P (front ++ name ++ codes ": ") (decimal number)
+          (All-append P (front ++ name) (codes ": ") (All-append P front name one (one_name name is)) (one_tested (codes ": ") refl))
+          (one_number number low),
     )
 
 -- a loop over notes

@@ -1,40 +1,37 @@
 -- What a conversion promises.
-use Rattle.std.specs.Prelude.{◌≡◌, ℕ, ◌+◌, ◌<◌, ◌≤◌, ◌⊎◌, ⊤, min, max, unwrap_or, false, List, ◌++◌, length, All, Option, None, Some, map, position, slice_index_or, codes, flat_map}
+use Rattle.std.specs.Prelude.{◌≡◌, ℕ, ◌+◌, ◌<◌, ◌≤◌, ◌⊎◌, ⊤, min, max, unwrap_or, false, List, [], ◌++◌, length, All, Option, map, position, flat_map}
 use Rattle.std.specs.Str.{bytes_eq}
 use Rattle.slub_recording.specs.declared.recording.Recording.{Recording}
 use Rattle.slub_recorded.specs.declared.convert.ConvertFault.{ConvertFault}
 use Rattle.slub_recorded.specs.declared.convert.ConvertFault.TheVariants.{NoMemory, TooManyCpus, NoSuchGroup, TooManyObjects, TooLong}
 use Rattle.slub_recorded.specs.declared.convert.Options.{Options}
 use Rattle.slub_recorded.specs.declared.naming.Title.{Title}
+use Rattle.slub_recorded.specs.declared.rounds.Step.{Step}
 use Rattle.slub_recorded.specs.declared.text.Row.{Row}
 use Rattle.slub_recorded.specs.declared.told.Note.{Note}
+use Rattle.slub_recorded.specs.declared.tunes.Tune.{Tune}
 use Rattle.slub_recorded.specs.declared.turns.Turn.{Turn}
 use Rattle.slub_recorded.specs.Comments.{IsNote}
 use Rattle.slub_recorded.specs.Groups.{AreApart}
-use Rattle.slub_recorded.specs.Lines.{IsRow, IsTraceOf, trace_lines}
+use Rattle.slub_recorded.specs.Lines.{IsTraceOf, trace_lines}
 use Rattle.slub_recorded.specs.Naming.{titles_of}
 use Rattle.slub_recorded.specs.Pairing.{seen}
+use Rattle.slub_recorded.specs.Rounds.{AreHeld, count_workers, steps_of, turns_in}
 use Rattle.slub_recorded.specs.Text.{body_text}
 use Rattle.slub_recorded.specs.Told.{Tells, note_text}
+use Rattle.slub_recorded.specs.Tunes.{head_text}
 use Rattle.slub_recorded.specs.Turns.{AreNext, turns_of}
 
--- caches have places, below so many
-abbrev pub AreSpots : List (Option ℕ) → ℕ → Type 0
-AreSpots spots count = (cache place : ℕ) →
-    slice_index_or spots cache None ≡ Some place → place < count
-
--- at most 32 caches, and their places
-pub record IsShown (rows : List Row) (spots : List (Option ℕ)) : Type 0 where
-  pub rows_are : All IsRow rows
-  pub few : length rows ≤ 32
-  pub spots_are : AreSpots spots (length rows)
-
 -- the text of a trace, whose comments are comments
-pub record IsTraceText (notes : List Note) (cpus : ℕ) (rows : List Row) (turns : List Turn)
-    (text : List ℕ) : Type 0 where
+pub record IsTraceText (notes : List Note) (cpus : ℕ) (rows : List Row) (tunes : List Tune)
+    (workers : ℕ) (steps : List Step) (text : List ℕ) : Type 0 where
   pub text_is : text
-      ≡ codes "slubtrace 1\n" ++ flat_map note_text notes ++ body_text cpus rows turns
+      ≡ head_text tunes ++ flat_map note_text notes ++ body_text cpus rows tunes workers steps
   pub notes_are : All IsNote notes
+
+-- the number of a setting has its range
+abbrev pub IsTune : Tune → Type 0
+IsTune tune = tune.number ≤ 4096
 
 -- the place of the cache that has a title's name
 abbrev pub place_of : List Row → Title → Option ℕ
@@ -60,24 +57,37 @@ IsFault recording options (NoSuchGroup group groups) =
 IsFault recording options (TooManyObjects objects) = 1048576 < objects
 IsFault recording options (TooLong bytes) = 16777216 < bytes
 
--- the bytes are a trace of one round and one worker, in which the allocations and frees of kept
--- objects stand in recorded order, each on its CPU, and nothing else
-pub record IsConverted (recording : Recording) (notes : List Note) (text : List ℕ) : Type 0 where
-  -- the CPUs of the trace, its caches, and by object the place of its cache where that is kept
+-- what a trace of these places does, without rounds
+abbrev pub turns_by : Recording → List (Option ℕ) → ℕ → List Turn
+turns_by recording places cpus = turns_of places cpus (seen recording.events).moves
+
+-- the bytes are a trace of the settings in which the allocations and frees of kept objects stand in
+-- recorded order, each on its CPU, and nothing else
+pub record IsConverted (recording : Recording) (options : Options) (tunes : List Tune)
+    (notes : List Note) (text : List ℕ) : Type 0 where
+  -- the CPUs of the trace, its caches, by object the place of its cache where that is kept, and what
+  -- stands in its rounds
   pub cpus : ℕ
   pub rows : List Row
   pub places : List (Option ℕ)
+  pub steps : List Step
   -- an object is kept where a cache has the name of its title, and is of that cache: the first of
   -- that name
   pub named : places ≡ map (place_of rows) (titles recording)
+  pub cpus_are : cpus ≡ cpus_asked recording options
   pub some_cpu : 1 ≤ cpus
   pub few_cpus : cpus ≤ 16
   pub few_caches : length rows ≤ 32
   -- at most two caches of a slot, of which the second has the letter R
   pub apart : AreApart rows
   -- each object is allocated under the next number, and freed at most once, after it
-  pub next : AreNext (λ _. false) 0 (turns_of places cpus (seen recording.events).moves)
+  pub next : AreNext (λ _. false) 0 (turns_by recording places cpus)
+  -- each turn is in the round, and of the worker, that the options say
+  pub cut : steps ≡ steps_of options (turns_by recording places cpus)
+  -- these are all turns in their order, and no worker frees what another one got in the same round
+  pub done : turns_in steps ≡ turns_by recording places cpus
+  pub held : AreHeld [] steps
   pub spells : IsTraceOf text
-      (trace_lines (length notes) cpus rows (turns_of places cpus (seen recording.events).moves))
+      (trace_lines (length notes) cpus rows tunes (count_workers options.workers cpus) steps)
   -- what became of each event is told
   pub told : Tells notes (seen recording.events).fates

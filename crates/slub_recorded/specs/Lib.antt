@@ -1,6 +1,9 @@
 pub mod Paired
 pub mod Pairing
 pub mod Turns
+pub mod Rounds
+pub mod Tunes
+pub mod Settings
 pub mod Text
 pub mod Lines
 pub mod Told

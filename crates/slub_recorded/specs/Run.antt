@@ -1,5 +1,5 @@
 -- What a run promises: the table of statuses, and the text.
-use Rattle.std.specs.Prelude.{◌≡◌, ◌⊎◌, ℕ, List, Option, IfSome, Result, Ok, Err, codes, ⊤}
+use Rattle.std.specs.Prelude.{◌≡◌, ◌⊎◌, ℕ, List, Option, IfSome, Result, Ok, Err, codes}
 use Rattle.std.specs.Io.KnownBytes.{Appends, IsAtEnd}
 use Rattle.slub_edges.specs.Edges.{Rose, AppendsFront}
 use Rattle.slub_recording.specs.declared.fault.RecordingFault.{RecordingFault}
@@ -16,9 +16,9 @@ use Rattle.slub_recorded.specs.declared.status.Status.{Status}
 use Rattle.slub_recorded.specs.declared.status.Status.TheVariants.{Fine, BadWords, BadInput, ReadFault, WriteFault, NoMemory}
 use Rattle.slub_recorded.specs.declared.stop.Stop.{Stop}
 use Rattle.slub_recorded.specs.declared.told.Note.{Note}
-use Rattle.slub_recorded.specs.Converted.{IsConverted}
+use Rattle.slub_recorded.specs.Converted.{IsConverted, IsFault}
 use Rattle.slub_recorded.specs.Stop.{convert_text, fault_line, stop_line, stop_status}
-use Rattle.slub_recorded.specs.Words.{AreBadWords, IsRequest}
+use Rattle.slub_recorded.specs.Words.{AreBadWords, IsRequest, tunes_asked}
 
 -- what a call of `run` had, and what it left of its source
 pub record Call : Type 0 where
@@ -44,7 +44,7 @@ pub record IsTrace (c : Call) (text : List ℕ) : Type 0 where
   pub recording : Recording
   pub read : IsRead c recording
   pub notes : List Note
-  pub converted : IsConverted recording notes text
+  pub converted : IsConverted recording options (tunes_asked c.words) notes text
 
 -- the words ask for something
 abbrev pub Asks : Call → Type 0
@@ -57,17 +57,24 @@ IsUnread c read.NoMemory = ⊥
 IsUnread c read.TooLong = IfSome c.told IsTooLong
 IsUnread c why = Spells c.told (Err why) × IsAtEnd c.left
 
--- a reason for which a recording has no trace: any but want of memory
-abbrev pub IsUnfit : ConvertFault → Type 0
-IsUnfit fault.NoMemory = ⊥
-IsUnfit why = ⊤
+-- a reason for which a recording has no trace: any that has its cause, but want of memory
+abbrev pub IsUnfit : Recording → Options → ConvertFault → Type 0
+IsUnfit recording options fault.NoMemory = ⊥
+IsUnfit recording options why = IsFault recording options why
+
+-- the bytes spell a recording that has no trace as the words ask for it, for this reason
+pub record IsUnfitFor (c : Call) (why : ConvertFault) : Type 0 where
+  pub options : Options
+  pub asked : IsRequest c.words options
+  pub recording : Recording
+  pub read : IsRead c recording
+  pub unfit : IsUnfit recording options why
 
 -- the bytes spell no recording, or one that has no trace; and this is the line that says so
 abbrev pub IsBadInputLine : Call → List ℕ → Type 0
 IsBadInputLine c line =
     ((why : RecordingFault) × (line ≡ fault_line (fault_text why)) × IsUnread c why)
-    ⊎ ((recording : Recording) × (why : ConvertFault) × (line ≡ fault_line (convert_text why))
-    × IsRead c recording × IsUnfit why)
+    ⊎ ((why : ConvertFault) × (line ≡ fault_line (convert_text why)) × IsUnfitFor c why)
 
 -- the row of each status: why a run ends with it, and its text
 abbrev pub IsTextOf : Call → Status → List ℕ → Type 0

@@ -5,13 +5,16 @@ use Rattle.std.specs.declared.alloc.Global.{Global}
 use Rattle.std.specs.declared.vec.Vec.{Vec}
 use Rattle.slub_recording.specs.declared.fault.RecordingFault.{RecordingFault}
 use Rattle.slub_recording.specs.declared.fault.RecordingFault.TheVariants as read
+use Rattle.slub_recording.specs.declared.recording.Recording.{Recording}
 use Rattle.slub_recording.specs.Texts.{fault_text}
 use Rattle.slub_recorded.specs.declared.convert.ConvertFault.{ConvertFault}
 use Rattle.slub_recorded.specs.declared.convert.ConvertFault.TheVariants as fault
+use Rattle.slub_recorded.specs.declared.convert.Options.{Options}
 use Rattle.slub_recorded.specs.declared.stop.Stop.{Stop}
 use Rattle.slub_recorded.specs.declared.stop.Stop.TheVariants.{BadWords, BadInput, ReadFault, NoMemory}
 use Rattle.slub_recorded.specs.declared.status.Status.{Status}
 use Rattle.slub_recorded.specs.declared.status.Status.TheVariants as ends
+use Rattle.slub_recorded.specs.Converted.{IsFault}
 
 -- a line of the program's own
 abbrev pub fault_line : List ℕ → List ℕ
@@ -42,6 +45,11 @@ IsReadStop why stop = StopsWith (fault_line (fault_text why)) stop
 abbrev pub IsConvertStop : ConvertFault → Stop → Type 0
 IsConvertStop fault.NoMemory stop = stop ≡ NoMemory
 IsConvertStop why stop = StopsWith (fault_line (convert_text why)) stop
+
+-- a fault that has its cause stops the run
+abbrev pub StopsFor : Recording → Options → Stop → Type 0
+StopsFor recording options stop =
+    (why : ConvertFault) × IsFault recording options why × IsConvertStop why stop
 
 -- the line of a stop
 abbrev pub stop_line : Stop → List ℕ

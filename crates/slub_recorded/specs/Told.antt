@@ -3,9 +3,12 @@ use Rattle.std.specs.Prelude.{◌≡◌, ℕ, ◌+◌, ◌==◌, List, [], ◌�
 use Rattle.std.specs.Fmt.{decimal}
 use Rattle.slub_recorded.specs.declared.pairing.Fate.{Fate}
 use Rattle.slub_recorded.specs.declared.pairing.Fate.TheVariants as fate
+use Rattle.slub_recorded.specs.declared.told.About.{About}
+use Rattle.slub_recorded.specs.declared.told.About.TheVariants.{UnknownFrees, Letter, LeftOutCache}
 use Rattle.slub_recorded.specs.declared.told.Note.{Note}
+use Rattle.slub_recorded.specs.declared.told.Note.TheVariants.{Count, Of}
 use Rattle.slub_recorded.specs.declared.told.Word.{Word}
-use Rattle.slub_recorded.specs.declared.told.Word.TheVariants.{Given, Overwritten, Lost, Back, Others, ByKmalloc, ByFree, BySite, BySizes, Failed, PagesGiven, Freed, OfNothing, PagesFreed, CacheUnknown, Unknown, PutIn, Live, KeptMoves, Moves, KeptCaches, Caches, LeftOut, Group, Groups, Cpus}
+use Rattle.slub_recorded.specs.declared.told.Word.TheVariants.{Given, Overwritten, Lost, Back, Others, ByKmalloc, ByFree, BySite, BySizes, Failed, PagesGiven, Freed, OfNothing, PagesFreed, CacheUnknown, Unknown, PutIn, Live, KeptMoves, Moves, KeptCaches, Caches, LeftOut, Group, Groups, Cpus, CacheAllocs, Kmallocs, CacheFrees, Kfrees, Rounds, ByHolder, NoCache}
 
 -- what is counted, in words
 abbrev pub word_text : Word → List ℕ
@@ -37,10 +40,31 @@ word_text LeftOut = codes "caches that fit in no group, left out"
 word_text Group = codes "group"
 word_text Groups = codes "groups"
 word_text Cpus = codes "CPUs, and CPU c is c modulo this"
+word_text CacheAllocs = codes "kmem_cache_alloc"
+word_text Kmallocs = codes "kmalloc"
+word_text CacheFrees = codes "kmem_cache_free"
+word_text Kfrees = codes "kfree"
+word_text Rounds = codes "rounds"
+word_text ByHolder =
+    codes "frees made by the worker that held the object, on the CPU that freed"
+word_text NoCache = codes "settings of no cache that is here"
+
+-- what is told of a cache, in words
+abbrev pub about_text : About → List ℕ
+about_text UnknownFrees = codes "frees of pointers that were not allocated in the recording, "
+about_text Letter = codes "slot of a cache whose R only keeps it from merging with another, "
+about_text LeftOutCache = codes "objects of a cache that fits in no group, "
 
 -- a comment without its line feed
 abbrev pub note_words : Note → List ℕ
-note_words note = codes "# " ++ word_text note.word ++ codes ": " ++ decimal note.number
+note_words (Count word number) = codes "# " ++ word_text word ++ codes ": " ++ decimal number
+note_words (Of about name number) =
+    codes "# " ++ about_text about ++ name ++ codes ": " ++ decimal number
+
+-- the number that a comment tells
+abbrev pub number_of : Note → ℕ
+number_of (Count word number) = number
+number_of (Of about name number) = number
 
 abbrev pub note_text : Note → List ℕ
 note_text note = note_words note ++ 10 ∷ []
@@ -62,7 +86,7 @@ count_fate fates fate = count_by (λ other. fate_code other == fate_code fate) f
 
 -- how many events had this fate, told in these words
 abbrev pub fate_note : List Fate → Word → Fate → Note
-fate_note fates word fate = record { word = word; number = count_fate fates fate }
+fate_note fates word fate = Count word (count_fate fates fate)
 
 -- what became of events: each is counted once
 abbrev pub fate_notes : List Fate → List Note
@@ -79,4 +103,4 @@ Tells notes fates = (more : List Note) × (notes ≡ fate_notes fates ++ more)
 -- the sum of what notes tell
 abbrev pub sum_told : List Note → ℕ
 sum_told [] = 0
-sum_told (note ∷ notes) = note.number + sum_told notes
+sum_told (note ∷ notes) = number_of note + sum_told notes

@@ -1,8 +1,8 @@
 //! A recording becomes a trace.
 
-ghost use Rattle.std.specs.Prelude.{◌≡◌, ◌<◌, ◌≤◌, length, map, position, slice_set, IfErr, IfOk, IfSome, OnOk};
+ghost use Rattle.std.specs.Prelude.{◌≡◌, ◌<◌, ◌≤◌, length, map, position, All, IfErr, IfOk, IfSome, OnOk};
 ghost use Rattle.std.specs.Str.{bytes_eq};
-ghost use Rattle.slub_recorded.specs.Converted.{IsConverted, IsFault, IsShown, IsTraceText, place_of};
+ghost use Rattle.slub_recorded.specs.Converted.{IsConverted, IsFault, IsTraceText, IsTune, cpus_asked, place_of};
 ghost use Rattle.slub_recorded.specs.Groups.{row_of};
 ghost use Rattle.slub_recorded.specs.Lines.{IsRow};
 ghost use Rattle.slub_recorded.specs.Turns.{count_kept, turns_of};
@@ -11,10 +11,13 @@ ghost use Rattle.slub_recorded.specs.declared.convert.Options.{Options as Option
 ghost use Rattle.slub_recording.specs.declared.recording.Recording.{Recording as RecordingOf};
 
 use crate::groups::{Chosen, caches_of, group};
+use crate::listed::{count_by_holder, count_no_cache, count_rounds, list};
 use crate::naming::{Title, titles};
 use crate::pairing::{Move, pair};
+use crate::rounds::{Step, Workers, steps_of};
 use crate::text::{Row, push_body, push_words};
 use crate::told::{Counts, Note, push_notes, tell};
+use crate::tunes::{Tune, head};
 use crate::turns::{Turn, count_kept, turns_of};
 use slub_common::limits::{CPUS_MAX, INPUT_MAX, OBJECTS_MAX};
 use slub_common::no_memory::NoMemory;
@@ -29,6 +32,10 @@ pub struct Options {
     pub group: u32,
     /// The CPUs of the trace, 1 to 16; None for those of the recording.
     pub cpus: Option<u32>,
+    /// The workers of each round.
+    pub workers: Workers,
+    /// The parts that the trace is cut into, 1 to 256, each with slabinfo behind it.
+    pub parts: u32,
 }
 
 /// Why there is no trace.
@@ -72,6 +79,7 @@ pub struct Converted {
 
 /// The CPUs of the trace.
 fn cpus_of(recording: &Recording, options: &Options) -> Result<u32, ConvertFault>
+    ensures asked { IfOk result (λ cpus. cpus ≡ cpus_asked recording.now options.now) }
     ensures some { IfOk result (λ cpus. 1 ≤ cpus) }
     ensures few { IfOk result (λ cpus. cpus ≤ 16) }
     ensures fault { IfErr result (IsFault recording.now options.now) }
@@ -98,36 +106,16 @@ fn row(name: &Name, slot: u32, reclaim: bool) -> Row
     }
 }
 
-/// The caches of a trace.
-#[derive(Drop)]
-struct Shown {
-    rows: Vec<Row>,
-    /// By cache of the recording: its place in the trace.
-    spots: Vec<Option<u32>>,
-}
-
-/// Notes the place of a cache.
-fn put_spot(spots: &mut Vec<Option<u32>>, cache: usize, place: u32)
-    ensures { spots.new.items ≡ slice_set spots.old.items cache (Some place) }
-{
-    if cache < spots.len() {
-        spots[cache] = Some(place);
-    }
-}
-
-/// The caches of a trace, in their order.
-fn show(alloc: Global, caches: usize, chosen: &[Chosen]) -> Result<Shown, NoMemory>
-    requires { length chosen.now ≤ 32 }
-    ensures shown { IfOk result (λ shown. IsShown shown.rows.items shown.spots.items) }
-    ensures rows { IfOk result (λ shown. shown.rows.items ≡ map row_of chosen.now) }
+/// The lines of the caches of a trace, in their order.
+fn rows_of(alloc: Global, chosen: &[Chosen]) -> Result<Vec<Row>, NoMemory>
+    ensures fit { IfOk result (λ rows. All IsRow rows.items) }
+    ensures rows { IfOk result (λ rows. rows.items ≡ map row_of chosen.now) }
 {
     let mut rows = Vec::with_capacity(alloc, chosen.len())?;
-    let mut spots = vec![in alloc; None; caches]?;
     for one in chosen {
-        put_spot(&mut spots, one.cache, rows.len() as u32);
         rows.push(row(&one.name, one.slot, one.second))?;
     }
-    Ok(Shown { rows, spots })
+    Ok(rows)
 }
 
 /// The place of the first cache of this name.
@@ -167,14 +155,17 @@ fn text_of(
     notes: &[Note],
     cpus: u32,
     rows: &[Row],
-    turns: &[Turn],
+    tunes: &[Tune],
+    workers: u32,
+    steps: &[Step],
 ) -> Result<Vec<u8>, NoMemory>
-    ensures { IfOk result (λ text. IsTraceText notes.now cpus rows.now turns.now text.items) }
+    ensures { IfOk result (λ text.
+        IsTraceText notes.now cpus rows.now tunes.now workers steps.now text.items) }
 {
     let mut text = Vec::new(alloc);
-    push_words(&mut text, b"slubtrace 1\n")?;
+    push_words(&mut text, head(tunes))?;
     push_notes(&mut text, notes)?;
-    push_body(&mut text, cpus, rows, turns)?;
+    push_body(&mut text, cpus, rows, tunes, workers, steps)?;
     Ok(text)
 }
 
@@ -205,13 +196,16 @@ fn kept_turns(
     Ok(turns)
 }
 
-/// Converts a recording: the trace of a group of its caches.
+/// Converts a recording: the trace of a group of its caches, with settings of them.
 pub fn convert(
     alloc: Global,
     recording: &Recording,
     options: &Options,
+    tunes: &[Tune],
 ) -> Result<Converted, ConvertFault>
-    ensures trace { IfOk result (λ c. IsConverted recording.now c.notes.items c.text.items) }
+    requires { All IsTune tunes.now }
+    ensures trace { IfOk result (λ c.
+        IsConverted recording.now options.now tunes.now c.notes.items c.text.items) }
     ensures fault { IfErr result (IsFault recording.now options.now) }
 {
     let cpus = cpus_of(recording, options)?;
@@ -229,10 +223,12 @@ pub fn convert(
             groups: groups.groups,
         });
     }
-    let shown = show(alloc, caches.caches.len(), groups.chosen.as_slice())?;
-    let rows = shown.rows.as_slice();
+    let shown = rows_of(alloc, groups.chosen.as_slice())?;
+    let rows = shown.as_slice();
     let places = places_of(alloc, rows, named)?;
     let turns = kept_turns(alloc, places.as_slice(), cpus, moves)?;
+    let cut = steps_of(alloc, options, turns.as_slice())?;
+    let steps = cut.as_slice();
     let counts = Counts {
         objects: objects.len() as u64,
         moves: moves.len() as u64,
@@ -243,9 +239,23 @@ pub fn convert(
         group: options.group,
         groups: groups.groups,
         cpus,
+        rounds: count_rounds(steps),
+        by_holder: count_by_holder(&options.workers, steps),
+        no_cache: count_no_cache(tunes, rows),
     };
-    let notes = tell(alloc, recording, fates, named, &counts)?;
-    let text = text_of(alloc, notes.as_slice(), cpus, rows, turns.as_slice())?;
+    let listed = list(
+        alloc,
+        recording,
+        fates,
+        rows,
+        caches.caches.as_slice(),
+        cpus,
+        groups.beyond.as_slice(),
+    )?;
+    let notes = tell(alloc, recording, fates, named, &counts, listed.as_slice())?;
+    let told = notes.as_slice();
+    let workers = options.workers.count(cpus);
+    let text = text_of(alloc, told, cpus, rows, tunes, workers, steps)?;
     let bytes = text.as_slice().len();
     if bytes > INPUT_MAX {
         return Err(ConvertFault::TooLong { bytes });

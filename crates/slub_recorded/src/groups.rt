@@ -144,6 +144,14 @@ fn frames_of(cache: &Cache, cpus: u32) -> Option<u32>
     }
 }
 
+/// Whether a cache is in no group, where these are beyond the last.
+pub(crate) fn is_left_out(cache: &Cache, cpus: u32, beyond: &[Chosen]) -> bool
+    requires some { 1 ≤ cpus }
+    requires few { cpus ≤ 16 }
+{
+    frames_of(cache, cpus).is_none() || beyond.iter().any(|other| other.name == cache.name)
+}
+
 /// Which of two caches stands first: the one with more objects, else by their names.
 fn order(x: &Cache, y: &Cache) -> Ordering {
     match y.objects.cmp(&x.objects) {
@@ -161,6 +169,8 @@ pub struct Groups {
     pub groups: u32,
     /// The caches that fit in no group: no machine has frames for them, or they are beyond the last.
     pub left_out: u64,
+    /// Those of them that are beyond the last.
+    pub beyond: Vec<Chosen>,
 }
 
 /// A group, and the caches that are left for others.
@@ -230,6 +240,7 @@ pub fn group(alloc: Global, caches: &[Cache], cpus: u32, group: u32) -> Result<G
         chosen,
         groups,
         left_out: left_out.saturating_add(rest.len() as u64),
+        beyond: rest,
     })
 }
 

@@ -7,16 +7,18 @@
 //!   free, by the only name known for its call site and its slot, or by its sizes.
 //! - `groups` has the caches, and those of a group: at most 32, at most two of a slot, and no more
 //!   page frames than a machine has, the caches with most objects first.
-//! - `turns` numbers the objects of the group's caches, and says what the trace does with them, by
-//!   one worker in one round; `text` writes the lines; `told` the comments above them.
+//! - `turns` numbers the objects of the group's caches, and says what the trace does with them;
+//!   `rounds` in which rounds, and by which workers; `tunes` has settings of caches. `text` writes the
+//!   lines; `told` and `listed` have the comments above them.
 //! - `convert` does all this.
-//! - `words` says what the words of a command line ask for, `stop` and `status` why a run stops early
-//!   and how it ended. `run` is the top call of the command.
+//! - `words` and `settings` say what the words of a command line ask for, `stop` and `status` why a run
+//!   stops early and how it ended. `run` is the top call of the command.
 //! - Definitions: `specs/Pairing.antt` is the pairing as a fold over the events; `Turns` what a
 //!   trace does of it, and what it is that objects are numbered in their order and freed at most
-//!   once; `Naming` the name of each object's cache; `Text` the bytes, `Lines` the lines of the
-//!   grammar of traces that they spell; `Told` the comments; `Groups` which caches may stand
-//!   together; `Converted` what a conversion promises.
+//!   once; `Rounds` where rounds begin and who does what, and what it is that no worker frees what
+//!   another one got in the same round; `Naming` the name of each object's cache; `Text` the bytes,
+//!   `Lines` the lines of the grammar of traces that they spell; `Tunes` those of settings; `Told` the
+//!   comments; `Groups` which caches may stand together; `Converted` what a conversion promises.
 //! - Laws: `laws`. What is told of fates adds up, and what `Naming` folds over moves is the slot of
 //!   the first object whose free says a name, and the name that an object's own free says.
 //!
@@ -28,11 +30,13 @@
 //! spell a recording, and the text is its trace.
 //!
 //! `convert` answers with bytes that are a trace (`IsTrace` of `slub_trace_reader`), of these lines
-//! and no others: comments, a machine of 4096 page frames and 1 to 16 CPUs, at most 32 caches, one
-//! round of one worker, `slabinfo`. In the round stand the allocations and frees of the kept
-//! objects, all of them, in recorded order and each on its CPU, and nothing else. Objects are
-//! allocated under the numbers from 1 on, and each is freed at most once, after it. The comments
-//! tell of each event what became of it, once, so that these numbers add up to all events.
+//! and no others: comments, a machine of 4096 page frames and 1 to 16 CPUs, at most 32 caches, their
+//! settings, rounds, `slabinfo`. In the rounds stand the allocations and frees of the kept objects,
+//! all of them, in recorded order and each on its CPU, and nothing else. Each is in the round, and of
+//! the worker, that the options say (`steps_of`), and no worker frees what another one got in the
+//! same round (`AreHeld`). Objects are allocated under the numbers from 1 on, and each is freed at
+//! most once, after it. The comments tell of each event what became of it, once, so that these
+//! numbers add up to all events.
 //!
 //! Each object has the name that `naming` gives it (`specs/Naming.antt`). It is kept exactly where a
 //! cache of the trace has this name, and is of the first such cache.
@@ -51,12 +55,16 @@
 pub mod convert;
 pub mod groups;
 pub mod laws;
+mod listed;
 pub mod naming;
 pub mod pairing;
+pub mod rounds;
 pub mod run;
+mod settings;
 pub mod status;
 mod stop;
 pub mod text;
 pub mod told;
+pub mod tunes;
 pub mod turns;
 mod words;

@@ -1,17 +1,43 @@
 //! The top call.
 
-ghost use Rattle.std.specs.Prelude.{◌≡◌, ◌≤◌, map, string_bytes};
+ghost use Rattle.std.specs.Prelude.{◌≡◌, ◌≤◌, map, string_bytes, IfErr, IfOk};
+ghost use Rattle.slub_recorded.specs.Converted.{IsConverted};
+ghost use Rattle.slub_recorded.specs.Stop.{StopsFor};
 ghost use Rattle.slub_recorded.specs.Run.{Ends, IsRunOf, WritesOut, end_status, end_text};
-ghost use Rattle.slub_recorded.specs.Words.{AreBadWords};
+ghost use Rattle.slub_recorded.specs.Words.{AreBadWords, tunes_asked};
 
-use crate::convert::{Converted, convert};
+use crate::convert::{Converted, Options, convert};
+use crate::settings::tunes;
 use crate::status::Status;
 use crate::stop::Stop;
 use crate::words::read;
+use slub_common::no_memory::NoMemory;
 use slub_edges::edges::{Sink, Source};
 use slub_edges::pieces::write_lines;
 use slub_recording::reading::read_recording;
+use slub_recording::recording::Recording;
 use std::alloc::Global;
+
+/// Converts a recording as the words ask for it.
+fn converted(
+    alloc: Global,
+    words: &[String],
+    recording: &Recording,
+    options: &Options,
+) -> Result<Converted, Stop>
+    ensures trace { IfOk result (λ c. IsConverted recording.now options.now
+        (tunes_asked (map string_bytes words.now)) c.notes.items c.text.items) }
+    ensures stop { IfErr result (StopsFor recording.now options.now) }
+{
+    let tunes = match tunes(alloc, words) {
+        Ok(tunes) => tunes,
+        Err(NoMemory) => return Err(Stop::NoMemory),
+    };
+    match convert(alloc, recording, options, tunes.as_slice()) {
+        Ok(converted) => Ok(converted),
+        Err(fault) => Err(Stop::of_converting(alloc, &fault)),
+    }
+}
 
 /// Does all of a run but the writing.
 fn work<S: Source>(alloc: Global, words: &[String], source: &mut S) -> Result<Converted, Stop>
@@ -31,10 +57,7 @@ fn work<S: Source>(alloc: Global, words: &[String], source: &mut S) -> Result<Co
         Ok(recording) => recording,
         Err(fault) => return Err(Stop::of_reading(alloc, &fault)),
     };
-    match convert(alloc, &recording, &options) {
-        Ok(converted) => Ok(converted),
-        Err(fault) => Err(Stop::of_converting(alloc, &fault)),
-    }
+    converted(alloc, words, &recording, &options)
 }
 
 /// Writes the text of a run, and says how the run ended.

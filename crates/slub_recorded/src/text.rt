@@ -2,8 +2,10 @@
 
 ghost use Rattle.std.specs.Prelude.{◌≡◌, ◌∷◌, ◌++◌, flat_map, codes, OnOk};
 ghost use Rattle.std.specs.Fmt.{decimal};
-ghost use Rattle.slub_recorded.specs.Text.{body_text, machine_text, name_at, round_text, row_text, turn_text};
+ghost use Rattle.slub_recorded.specs.Text.{body_text, cut_text, machine_text, name_at, round_text, row_text, step_text, turn_text};
 
+use crate::rounds::Step;
+use crate::tunes::{Tune, push_tunes};
 use crate::turns::Turn;
 use itoa::Buffer;
 use slub_common::no_memory::NoMemory;
@@ -58,23 +60,48 @@ fn push_name(text: &mut Vec<u8>, rows: &[Row], place: u32) -> Result<(), NoMemor
     }
 }
 
-/// Puts the line of a turn behind a text.
-fn push_turn(text: &mut Vec<u8>, rows: &[Row], turn: &Turn) -> Result<(), NoMemory>
-    ensures { OnOk result (text.new.items ≡ text.old.items ++ turn_text rows.now turn.now) }
+/// Puts the line of a turn of a worker behind a text.
+fn push_turn(text: &mut Vec<u8>, rows: &[Row], worker: u32, turn: &Turn) -> Result<(), NoMemory>
+    ensures { OnOk result (text.new.items ≡ text.old.items ++ turn_text rows.now worker turn.now) }
 {
     match *turn {
         Turn::Alloc { cpu, cache, object } => {
-            push_numbered(text, b"alloc 0 ", u64::from(cpu))?;
+            push_numbered(text, b"alloc ", u64::from(worker))?;
+            push_numbered(text, b" ", u64::from(cpu))?;
             push_words(text, b" ")?;
             push_name(text, rows, cache)?;
             push_numbered(text, b" ", u64::from(object))?;
         }
         Turn::Free { cpu, object } => {
-            push_numbered(text, b"free 0 ", u64::from(cpu))?;
+            push_numbered(text, b"free ", u64::from(worker))?;
+            push_numbered(text, b" ", u64::from(cpu))?;
             push_numbered(text, b" ", u64::from(object))?;
         }
     }
     push_words(text, b"\n")
+}
+
+/// Puts the lines between two rounds behind a text.
+fn push_cut(text: &mut Vec<u8>, workers: u32, slabinfo: bool) -> Result<(), NoMemory>
+    ensures { OnOk result (text.new.items ≡ text.old.items ++ cut_text workers slabinfo) }
+{
+    let words: &[u8] = if slabinfo {
+        b"done\nslabinfo\nround "
+    } else {
+        b"done\nround "
+    };
+    push_numbered(text, words, u64::from(workers))?;
+    push_words(text, b"\n")
+}
+
+/// Puts the lines of a step behind a text.
+fn push_step(text: &mut Vec<u8>, rows: &[Row], workers: u32, step: &Step) -> Result<(), NoMemory>
+    ensures { OnOk result (text.new.items ≡ text.old.items ++ step_text rows.now workers step.now) }
+{
+    match step {
+        Step::Does { worker, turn } => push_turn(text, rows, *worker, turn),
+        Step::Cut { slabinfo } => push_cut(text, workers, *slabinfo),
+    }
 }
 
 /// Puts the lines of the machine and of its caches behind a text.
@@ -97,15 +124,34 @@ fn push_rows(text: &mut Vec<u8>, rows: &[Row]) -> Result<(), NoMemory>
     Ok(())
 }
 
-/// Puts the lines of a round of one worker behind a text.
-fn push_round(text: &mut Vec<u8>, rows: &[Row], turns: &[Turn]) -> Result<(), NoMemory>
-    ensures { OnOk result (text.new.items ≡ text.old.items ++ round_text rows.now turns.now) }
+/// Puts the lines of rounds behind a text.
+fn push_round(
+    text: &mut Vec<u8>,
+    rows: &[Row],
+    workers: u32,
+    steps: &[Step],
+) -> Result<(), NoMemory>
+    ensures { OnOk result (text.new.items ≡ text.old.items ++ round_text rows.now workers steps.now) }
 {
-    push_words(text, b"round 1\n")?;
-    for turn in turns {
-        push_turn(text, rows, turn)?;
-    }
+    push_numbered(text, b"round ", u64::from(workers))?;
+    push_words(text, b"\n")?;
+    push_steps(text, rows, workers, steps)?;
     push_words(text, b"done\n")
+}
+
+/// Puts the lines of steps behind a text.
+fn push_steps(
+    text: &mut Vec<u8>,
+    rows: &[Row],
+    workers: u32,
+    steps: &[Step],
+) -> Result<(), NoMemory>
+    ensures { OnOk result (text.new.items ≡ text.old.items ++ flat_map (step_text rows.now workers) steps.now) }
+{
+    for step in steps {
+        push_step(text, rows, workers, step)?;
+    }
+    Ok(())
 }
 
 /// Puts the lines below the comments behind a text.
@@ -114,11 +160,15 @@ pub(crate) fn push_body(
     text: &mut Vec<u8>,
     cpus: u32,
     rows: &[Row],
-    turns: &[Turn],
+    tunes: &[Tune],
+    workers: u32,
+    steps: &[Step],
 ) -> Result<(), NoMemory>
-    ensures { OnOk result (text.new.items ≡ text.old.items ++ body_text cpus rows.now turns.now) }
+    ensures { OnOk result (text.new.items
+        ≡ text.old.items ++ body_text cpus rows.now tunes.now workers steps.now) }
 {
     push_machine(text, cpus, rows)?;
-    push_round(text, rows, turns)?;
+    push_tunes(text, rows, tunes)?;
+    push_round(text, rows, workers, steps)?;
     push_words(text, b"slabinfo\nend\n")
 }

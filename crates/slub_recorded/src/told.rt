@@ -2,12 +2,15 @@
 
 ghost use Rattle.std.specs.Prelude.{◌≡◌, ◌∷◌, ◌++◌, [], flat_map, All, IfOk, OnOk};
 ghost use Rattle.slub_recorded.specs.Comments.{IsNote};
-ghost use Rattle.slub_recorded.specs.Told.{count_fate, fate_notes, note_text, Tells, word_text};
+ghost use Rattle.slub_recorded.specs.declared.told.Note.TheVariants.{Count as Counted, Of as ToldOf};
+ghost use Rattle.slub_recorded.specs.Told.{about_text, count_fate, fate_notes, note_text, Tells, word_text};
 
 use crate::naming::{Namer, Title};
 use crate::pairing::Fate;
 use crate::text::{push_numbered, push_words};
 use slub_common::no_memory::NoMemory;
+use slub_object_layout::name::Name;
+use slub_recording::event::{KmemAct, KmemEvent, KmemKind};
 use slub_recording::recording::Recording;
 use std::alloc::Global;
 
@@ -51,6 +54,16 @@ pub enum Word {
     Group,
     Groups,
     Cpus,
+    /// Events of each kind.
+    CacheAllocs,
+    Kmallocs,
+    CacheFrees,
+    Kfrees,
+    Rounds,
+    /// Frees by another worker than that of their CPU.
+    ByHolder,
+    /// Settings that are for no cache of the group.
+    NoCache,
 }
 
 impl Word {
@@ -89,15 +102,58 @@ impl Word {
             Word::Group => b"group",
             Word::Groups => b"groups",
             Word::Cpus => b"CPUs, and CPU c is c modulo this",
+            Word::CacheAllocs => b"kmem_cache_alloc",
+            Word::Kmallocs => b"kmalloc",
+            Word::CacheFrees => b"kmem_cache_free",
+            Word::Kfrees => b"kfree",
+            Word::Rounds => b"rounds",
+            Word::ByHolder => {
+                b"frees made by the worker that held the object, on the CPU that freed"
+            }
+            Word::NoCache => b"settings of no cache that is here",
+        }
+    }
+}
+
+/// What is told of a cache.
+#[derive(Clone, Copy, Debug)]
+pub enum About {
+    /// Its frees of what the recording didn't allocate.
+    UnknownFrees,
+    /// Its slot, where another cache of that slot stands before it.
+    Letter,
+    /// Its objects, where it is in no group.
+    LeftOutCache,
+}
+
+impl About {
+    /// What is told, in words.
+    fn text(&self) -> &'static [u8]
+        ensures { result.now ≡ about_text self.now }
+    {
+        match self {
+            About::UnknownFrees => {
+                b"frees of pointers that were not allocated in the recording, "
+            }
+            About::Letter => b"slot of a cache whose R only keeps it from merging with another, ",
+            About::LeftOutCache => b"objects of a cache that fits in no group, ",
         }
     }
 }
 
 /// A number that is told.
 #[derive(Clone, Copy, Debug)]
-pub struct Note {
-    pub word: Word,
-    pub number: u64,
+pub enum Note {
+    Count {
+        word: Word,
+        number: u64,
+    },
+    /// Of the cache of this name.
+    Of {
+        about: About,
+        name: Name,
+        number: u64,
+    },
 }
 
 /// How much there is of what.
@@ -114,6 +170,11 @@ pub struct Counts {
     pub group: u32,
     pub groups: u32,
     pub cpus: u32,
+    pub rounds: u64,
+    /// Frees by another worker than that of their CPU.
+    pub by_holder: u64,
+    /// Settings that are for no cache of the trace.
+    pub no_cache: u64,
 }
 
 /// How many events had this fate.
@@ -131,9 +192,9 @@ fn count_namer(titles: &[Title], namer: Namer) -> u64 {
 
 /// Tells a number.
 fn put(notes: &mut Vec<Note>, word: Word, number: u64) -> Result<(), NoMemory>
-    ensures { OnOk result (notes.new.items ≡ notes.old.items ++ record { word = word; number = number } ∷ []) }
+    ensures { OnOk result (notes.new.items ≡ notes.old.items ++ Counted word number ∷ []) }
 {
-    notes.push(Note { word, number })?;
+    notes.push(Note::Count { word, number })?;
     Ok(())
 }
 
@@ -169,7 +230,41 @@ fn put_counts(notes: &mut Vec<Note>, titles: &[Title], counts: &Counts) -> Resul
     put(notes, Word::LeftOut, counts.left_out)?;
     put(notes, Word::Group, u64::from(counts.group))?;
     put(notes, Word::Groups, u64::from(counts.groups))?;
+    put(notes, Word::Rounds, counts.rounds)?;
+    put(notes, Word::ByHolder, counts.by_holder)?;
+    put(notes, Word::NoCache, counts.no_cache)?;
     put(notes, Word::Cpus, u64::from(counts.cpus))
+}
+
+/// How many events there are of a kind.
+fn count_kind(events: &[KmemEvent], kind: KmemKind) -> u64 {
+    events.iter().filter(|e| kind_of(&e.act) == kind).count() as u64
+}
+
+/// The tracepoint of an event.
+fn kind_of(act: &KmemAct) -> KmemKind {
+    match act {
+        KmemAct::CacheAlloc { .. } => KmemKind::CacheAlloc,
+        KmemAct::Kmalloc { .. } => KmemKind::Kmalloc,
+        KmemAct::CacheFree { .. } => KmemKind::CacheFree,
+        KmemAct::Kfree => KmemKind::Kfree,
+    }
+}
+
+/// Tells how many events there are of each kind.
+fn put_kinds(notes: &mut Vec<Note>, events: &[KmemEvent]) -> Result<(), NoMemory> {
+    put(
+        notes,
+        Word::CacheAllocs,
+        count_kind(events, KmemKind::CacheAlloc),
+    )?;
+    put(notes, Word::Kmallocs, count_kind(events, KmemKind::Kmalloc))?;
+    put(
+        notes,
+        Word::CacheFrees,
+        count_kind(events, KmemKind::CacheFree),
+    )?;
+    put(notes, Word::Kfrees, count_kind(events, KmemKind::Kfree))
 }
 
 /// Tells what the recording says of itself, and what was put in and is left of it.
@@ -196,16 +291,44 @@ pub(crate) fn tell(
     fates: &[Fate],
     titles: &[Title],
     counts: &Counts,
+    listed: &[Note],
 ) -> Result<Vec<Note>, NoMemory>
     ensures { IfOk result (λ notes. Tells notes.items fates.now) }
 {
     let mut notes = Vec::new(alloc);
     put_fates(&mut notes, fates)?;
     let mut more = Vec::new(alloc);
+    put_kinds(&mut more, recording.events.as_slice())?;
     put_counts(&mut more, titles, counts)?;
     put_rest(&mut more, recording, fates, counts)?;
+    more.extend_from_slice(listed)?;
     notes.extend_from_slice(more.as_slice())?;
     Ok(notes)
+}
+
+/// Puts a comment that counts behind a text.
+fn push_count(text: &mut Vec<u8>, word: &Word, number: u64) -> Result<(), NoMemory>
+    ensures text { OnOk result (text.new.items ≡ text.old.items ++ note_text (Counted word.now number)) }
+    ensures comment { OnOk result (IsNote (Counted word.now number)) }
+{
+    push_words(text, b"# ")?;
+    push_words(text, word.text())?;
+    push_numbered(text, b": ", number)?;
+    push_words(text, b"\n")?;
+    Ok(())
+}
+
+/// Puts a comment on a cache behind a text.
+fn push_of(text: &mut Vec<u8>, about: &About, name: &Name, number: u64) -> Result<(), NoMemory>
+    ensures text { OnOk result (text.new.items ≡ text.old.items ++ note_text (ToldOf about.now name.now number)) }
+    ensures comment { OnOk result (IsNote (ToldOf about.now name.now number)) }
+{
+    push_words(text, b"# ")?;
+    push_words(text, about.text())?;
+    push_words(text, name.as_bytes())?;
+    push_numbered(text, b": ", number)?;
+    push_words(text, b"\n")?;
+    Ok(())
 }
 
 /// Puts a comment behind a text.
@@ -213,12 +336,14 @@ fn push_note(text: &mut Vec<u8>, note: &Note) -> Result<(), NoMemory>
     ensures text { OnOk result (text.new.items ≡ text.old.items ++ note_text note.now) }
     ensures comment { OnOk result (IsNote note.now) }
 {
-    let number = note.number;
-    push_words(text, b"# ")?;
-    push_words(text, note.word.text())?;
-    push_numbered(text, b": ", number)?;
-    push_words(text, b"\n")?;
-    Ok(())
+    match note {
+        Note::Count { word, number } => push_count(text, word, *number),
+        Note::Of {
+            about,
+            name,
+            number,
+        } => push_of(text, about, name, *number),
+    }
 }
 
 /// Puts comments behind a text.

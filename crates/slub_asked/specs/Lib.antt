@@ -1,0 +1,3 @@
+pub mod Stop
+pub mod Asked
+pub mod Ending

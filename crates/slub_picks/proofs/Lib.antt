@@ -1,0 +1,8 @@
+pub mod Splits
+pub mod Entries
+pub mod Saying
+pub mod Options
+pub mod Asking
+pub mod Walking
+pub mod Making
+pub mod Retelling

@@ -1,0 +1,11 @@
+pub mod Spelling
+pub mod List
+pub mod Words
+pub mod Asked
+pub mod Turns
+pub mod Misfits
+pub mod Walks
+pub mod Statuses
+pub mod Faults
+pub mod Made
+pub mod Laws

@@ -1,0 +1,4 @@
+pub mod Takes
+pub mod Lives
+pub mod Naming
+pub mod Peels

@@ -1,0 +1,10 @@
+pub mod Ranges
+pub mod Fields
+pub mod Cpus
+pub mod Marks
+pub mod Slabs
+pub mod Caches
+pub mod Board
+pub mod Frames
+pub mod Laws
+pub mod State

@@ -1,0 +1,14 @@
+pub mod Columns
+pub mod Labels
+pub mod Spots
+pub mod Functions
+pub mod Fields
+pub mod Words
+pub mod Says
+pub mod Turns
+pub mod Changes
+pub mod AtOnce
+pub mod Checked
+pub mod Answers
+pub mod Roles
+pub mod Hands

@@ -72,7 +72,7 @@ function draw() {
       const all = [s, f, s.slabs.get(f), c, t, places.get(f), roles.get(f)];
       return [f, slabKey(...all), () => slabPart(...all)];
     }));
-    put(others, shown.others ? `${count(shown.others, 'slab')} more aren’t drawn.` : '');
+    put(others, shown.others ? `${count(shown.others, 'slab')} more aren't drawn.` : '');
   });
   const slabs = [...s.slabs.values()];
   put($('legend'), legendPart(slabs.some(x => x.objects > 64), slabs.some(x => x.checked)));
@@ -135,7 +135,7 @@ function play(on) {
   const end = () => view.at >= view.round.turns.length;
   if (on && end()) go(0);
   view.timer = on ? setInterval(() => { go(view.at + 1); if (end()) play(false); }, 800) : null;
-  $('play').textContent = on ? '■ stop' : '▶ play';
+  $('play').textContent = on ? '\u25a0 stop' : '\u25b6 play';
   $('play').setAttribute('aria-pressed', String(on));
 }
 
@@ -260,7 +260,7 @@ function checkKeys(round, i, press, stands) {
   press(' ');
   if (!view.timer) throw new Error('Space plays nothing');
   press(' ');
-  if (view.timer) throw new Error('Space doesn’t stop');
+  if (view.timer) throw new Error("Space doesn't stop");
   press('?');
   if (!$('help').open) throw new Error('? shows nothing');
   press('?');

@@ -30,7 +30,7 @@ function touch(t, ...keys) {
 function nowPart(v, s, t) {
   if (!t) return beginPart(v);
   const spot = SPOTS.get(t.spot) ?? {}, by = t.by === 'profile' ? '<span class="dim">no function of the kernel</span>' : `<code>${esc(t.by)}()</code>`;
-  return `<h2>${who(t.w)} · ${esc(t.event)} · ${esc(t.spot)} ${by}</h2><p>${esc(spot.does ?? '')}</p>`
+  return `<h2>${who(t.w)} \u00b7 ${esc(t.event)} \u00b7 ${esc(t.spot)} ${by}</h2><p>${esc(spot.does ?? '')}</p>`
     + (spot.linux ? `<p class="linux">Linux 6.1: ${esc(spot.linux)}</p>` : '') + wordPart(t) + whyPart(v, t) + t.notes.map((n, i) => metPart(n, n.spot === t.notes[i - 1]?.spot)).join('');
 }
 
@@ -39,18 +39,18 @@ function beginPart(v) {
   const first = r.first.map(n => metPart(n)).join('');
   return `<h2>Round ${r.number}, before the first turn</h2>${items}
     <p>${count(r.workers, 'worker')} ${r.workers === 1 ? 'makes all' : 'take'} ${count(r.turns.length, 'turn')}, one atomic step each.</p>${first}
-    <p class="linux"><kbd>→</kbd> and <kbd>←</kbd> make one turn on and back, <kbd>↓</kbd> and <kbd>↑</kbd> lead to an answer or a lost exchange,
+    <p class="linux"><kbd>\u2192</kbd> and <kbd>\u2190</kbd> make one turn on and back, <kbd>\u2193</kbd> and <kbd>\u2191</kbd> lead to an answer or a lost exchange,
     <kbd>Space</kbd> plays; <kbd>?</kbd> shows all keys.</p>`;
 }
 
 // The word of the turn, field by field: as it was and is, or of a lost exchange as it was noted, wanted and found.
 function wordPart(t) {
   const [kind] = t.word, { was, is } = fieldsIn(kind, t.says), names = FIELDS[kind];
-  const step = t.lost ? 'exchange <span class="lost">✕ lost</span>' : t.step === 'exchange won' ? 'exchange <span class="good">✓ won</span>' : esc(t.step);
-  const caption = `<span class="word">${esc(nameOf(t.word))}</span> <span class="mono dim">${esc(t.key)}</span> · ${step}`;
+  const step = t.lost ? 'exchange <span class="lost">\u2715 lost</span>' : t.step === 'exchange won' ? 'exchange <span class="good">\u2713 won</span>' : esc(t.step);
+  const caption = `<span class="word">${esc(nameOf(t.word))}</span> <span class="mono dim">${esc(t.key)}</span> \u00b7 ${step}`;
   if (!names) {
-    const told = t.lost ? `wanted <b>${esc(was.is)} → ${esc(is.is)}</b>, found <span class="lost">${esc(t.found)}</span>`
-      : t.step === 'load' ? `says <b>${esc(is.is)}</b>` : was.is === is.is ? `stays <b>${esc(is.is)}</b>` : was.is === undefined ? `is now <b>${esc(is.is)}</b>` : `<b>${esc(was.is)} → ${esc(is.is)}</b>`;
+    const told = t.lost ? `wanted <b>${esc(was.is)} \u2192 ${esc(is.is)}</b>, found <span class="lost">${esc(t.found)}</span>`
+      : t.step === 'load' ? `says <b>${esc(is.is)}</b>` : was.is === is.is ? `stays <b>${esc(is.is)}</b>` : was.is === undefined ? `is now <b>${esc(is.is)}</b>` : `<b>${esc(was.is)} \u2192 ${esc(is.is)}</b>`;
     return `<p>${caption} <span class="mono">${told}</span></p>`;
   }
   const row = (title, cell) => `<tr><th scope="row">${title}</th>${names.map(cell).join('')}</tr>`;
@@ -62,7 +62,7 @@ function wordPart(t) {
   else {
     const found = t.found?.startsWith('cache ') ? {} : fieldsIn(kind, t.found ?? '').is;
     rows = row('noted', k => `<td>${esc(was[k])}</td>`) + row('wanted', k => `<td${changed(k)}>${esc(is[k])}</td>`)
-      + row('found', k => k in found ? `<td class="off">≠ ${esc(found[k])}</td>` : `<td>${esc(was[k])}</td>`);
+      + row('found', k => k in found ? `<td class="off">\u2260 ${esc(found[k])}</td>` : `<td>${esc(was[k])}</td>`);
   }
   return `<table><caption>${caption}</caption><thead><tr><td></td>${names.map(k => `<th scope="col">${k}</th>`).join('')}</tr></thead>`
     + `<tbody>${rows}</tbody></table>`;
@@ -86,7 +86,7 @@ function whyPart(v, t) {
   if (at < 0) return '';
   const changes = changesOf(v.round, t.key, at + 1, t.n - 1).filter(u => u.w !== t.w);
   if (!t.lost) return turns[at].says === t.says ? `<p>It is what it was when it was noted, at turn ${at + 1}.</p>`
-    : `<p><span class="lost">≠</span> It isn’t what was noted at turn ${at + 1}. ${changedBy(changes)}, so the lock is given back and the free begins anew.</p>`;
+    : `<p><span class="lost">\u2260</span> It isn't what was noted at turn ${at + 1}. ${changedBy(changes)}, so the lock is given back and the free begins anew.</p>`;
   return `<p>w${t.w} noted this word at turn ${at + 1}. ${changedBy(changes)}, so w${t.w} has to look again.</p>`;
 }
 function changedBy(changes) {
@@ -99,7 +99,7 @@ function changedBy(changes) {
 function metPart(n, again) {
   if (n.mark === '=') {
     const cut = n.text.indexOf(': '), answer = n.text.slice(cut + 2), good = isGood(answer);
-    return `<p class="met">${good ? '<span class="good">✓</span>' : '<span class="lost">✕</span>'} Answer to ${who(n.w)}, ${esc(n.text.slice(0, cut))}: <b>${esc(answer)}</b></p>`;
+    return `<p class="met">${good ? '<span class="good">\u2713</span>' : '<span class="lost">\u2715</span>'} Answer to ${who(n.w)}, ${esc(n.text.slice(0, cut))}: <b>${esc(answer)}</b></p>`;
   }
   if (n.mark === ':') return `<p class="met">${who(n.w)} has in hand now: <b>${esc(n.text.slice(8))}</b></p>`;
   return `<p class="met">At once, ${esc(n.spot)} <code class="dim">${esc(n.by)}()</code>: <b>${esc(nameOf(n.word))}</b> ${esc(n.says)}.${again ? '' : ` <span class="dim">${esc(SPOTS.get(n.spot)?.does ?? '')}</span>`}</p>`;
@@ -113,8 +113,8 @@ function lockPart(s, name) {
 }
 function chainPart(row, most) {
   if (!row.length) return '<span class="dim">none</span>';
-  const cut = row.length > most ? [...row.slice(0, most - 1), '…', row[row.length - 1]] : row;
-  return `<span class="mono">${cut.join(' → ')}</span>${row.length > most ? ` <span class="dim">(${row.length})</span>` : ''}`;
+  const cut = row.length > most ? [...row.slice(0, most - 1), '\u2026', row[row.length - 1]] : row;
+  return `<span class="mono">${cut.join(' \u2192 ')}</span>${row.length > most ? ` <span class="dim">(${row.length})</span>` : ''}`;
 }
 
 function headPart(c) {
@@ -125,7 +125,7 @@ function cpuParts(s, c, t) {
   const cpus = c.checked ? [] : c.cpus.map((word, i) => {
     const list = c.lists[i], slabs = slabsFrom(s, list.front, list.count);
     return `<div class="box${touch(t, `cpu ${i} ${c.title}`, `list ${i} ${c.title}`)}"><h3>CPU ${i}</h3>
-      <div class="mono">tid ${esc(word.tid)} · slab ${shown(word.slab)} · head ${shown(word.head)}</div><dl>
+      <div class="mono">tid ${esc(word.tid)} \u00b7 slab ${shown(word.slab)} \u00b7 head ${shown(word.head)}</div><dl>
       <dt>freelist</dt><dd>${chainPart(word.slab === null ? [] : walk(s, word.slab, word.head), 8)}</dd>
       <dt>partial list</dt><dd>${slabs.length ? chainPart(slabs.map(f => `slab ${f}`), 4) : '<span class="dim">none</span>'}</dd></dl></div>`;
   });
@@ -154,21 +154,21 @@ function drawnSlabs(s, c, roles, t) {
 
 function roleText(role) {
   if (!role) return 'on no list';
-  return { cpu: `current on CPU ${role.cpu}`, list: `on CPU ${role.cpu}’s partial list`, node: 'on the node’s list', string: `in w${role.w}’s hand, in a string`,
-    hand: `in w${role.w}’s hand: ${role.role}` }[role.kind];
+  return { cpu: `current on CPU ${role.cpu}`, list: `on CPU ${role.cpu}'s partial list`, node: "on the node's list", string: `in w${role.w}'s hand, in a string`,
+    hand: `in w${role.w}'s hand: ${role.role}` }[role.kind];
 }
 
 // Of an object: the class of its cell, its sign, the words below and those on hovering.
 function placeParts(s, f, x, i, place) {
-  const next = s.next.get(f)?.[i], to = x.checked ? '' : next === null || next === undefined ? '→·' : `→${next}`;
+  const next = s.next.get(f)?.[i], to = x.checked ? '' : next === null || next === undefined ? '\u2192\u00b7' : `\u2192${next}`;
   const nth = n => n === 0 ? 'first' : `number ${n + 1}`;
   switch (place?.kind) {
     case 'held': return ['held', place.o, `w${place.w}`, `held by w${place.w} as object ${place.o}`, place.w.toString(16)];
-    case 'board': return ['board', place.o, 'board', `object ${place.o}, on the board: with the caller, who may free it`, '•'];
-    case 'cpu': return [`cpu${place.n ? '' : ' head'}`, to, `cpu ${place.cpu}`, `on CPU ${place.cpu}’s freelist, ${nth(place.n)}`, 'c'];
-    case 'own': return [`own${place.n ? '' : ' head'}`, x.checked ? '·' : to, x.checked ? 'free' : 'own', x.checked ? `free, ${nth(place.n)} to be given` : `on the slab’s own freelist, ${nth(place.n)}`, 's'];
+    case 'board': return ['board', place.o, 'board', `object ${place.o}, on the board: with the caller, who may free it`, '\u2022'];
+    case 'cpu': return [`cpu${place.n ? '' : ' head'}`, to, `cpu ${place.cpu}`, `on CPU ${place.cpu}'s freelist, ${nth(place.n)}`, 'c'];
+    case 'own': return [`own${place.n ? '' : ' head'}`, x.checked ? '\u00b7' : to, x.checked ? 'free' : 'own', x.checked ? `free, ${nth(place.n)} to be given` : `on the slab's own freelist, ${nth(place.n)}`, 's'];
     case 'hand': return ['hand', to, `w${place.w}`, `in the hand of w${place.w}`, 'h'];
-    case 'aside': return ['aside', '✕', 'aside', 'set aside: it was found damaged, or free in a damaged slab', '✕'];
+    case 'aside': return ['aside', '\u2715', 'aside', 'set aside: it was found damaged, or free in a damaged slab', '\u2715'];
     default: return ['astray', '?', '', 'in no place', '?'];
   }
 }
@@ -192,7 +192,7 @@ function slabPart(s, f, x, c, t, places, roles) {
   });
   const mine = roles[0], badge = (is, yes, no) => `<span class="badge${is ? ' yes' : ''}">${is ? yes : no}</span>`;
   const facts = x.checked ? `<span class="dim">${x.free.length} free, ${x.aside.length} aside of ${x.objects}</span>${badge(c.node.includes(f), 'listed', 'not listed')}`
-    : `<span class="mono dim">inuse ${x.inuse} of ${x.objects} · own head ${shown(x.head)}</span>${badge(x.frozen, 'frozen', 'not frozen')}${badge(x.listed, 'listed', 'not listed')}`;
+    : `<span class="mono dim">inuse ${x.inuse} of ${x.objects} \u00b7 own head ${shown(x.head)}</span>${badge(x.frozen, 'frozen', 'not frozen')}${badge(x.listed, 'listed', 'not listed')}`;
   const where = x.checked && mine?.kind !== 'hand' ? '' : `<span${mine?.w === undefined ? '' : ` class="who" data-w="${mine.w}" title="${esc(ROLES[mine.role] ?? '')}"`}>${roleText(mine)}</span>`;
   const label = said.map(g => `${g.from === g.to ? `object ${g.from}` : `objects ${g.from} to ${g.to}`} ${g.full}`).join('; ');
   return `<div class="box slab${touch(t, `slab ${f}`, `link ${f}`)}"><div class="top"><h3>slab ${f}</h3>${facts}${where}</div>
@@ -244,13 +244,13 @@ function workerPart(v, s, w, t) {
   const stand = !next ? mine.length : goesOn ? done - 1 : done, from = mine.length <= 10 ? 0 : Math.max(0, Math.min(stand - 3, mine.length - 9)), to = mine.length <= 10 ? mine.length : from + 9;
   const rows = mine.slice(from, to).map((e, k) => {
     const i = from + k, answer = answers[i], open = i === stand;
-    const mark = answer === undefined ? (open && last?.event === e.head ? '▸' : '·') : isGood(answer) ? '✓' : '✕';
-    const kind = mark === '✓' ? 'good' : mark === '✕' ? 'lost' : '';
+    const mark = answer === undefined ? (open && last?.event === e.head ? '\u25b8' : '\u00b7') : isGood(answer) ? '\u2713' : '\u2715';
+    const kind = mark === '\u2713' ? 'good' : mark === '\u2715' ? 'lost' : '';
     return `<li class="ev${open ? ' cur' : ''}"${open ? ' aria-current="step"' : ''}><span class="${kind}">${mark}</span>`
       + `<span>${esc(e.text)}</span><span class="a ${kind === 'lost' ? 'lost' : ''}">${esc(answer ?? '')}${open && goesOn ? ', goes on' : ''}</span></li>`;
   });
-  if (from) rows.unshift(`<li class="ev dim"><span>…</span><span>${count(from, 'event')} before</span></li>`);
-  if (to < mine.length) rows.push(`<li class="ev dim"><span>…</span><span>${count(mine.length - to, 'event')} more</span></li>`);
+  if (from) rows.unshift(`<li class="ev dim"><span>\u2026</span><span>${count(from, 'event')} before</span></li>`);
+  if (to < mine.length) rows.push(`<li class="ev dim"><span>\u2026</span><span>${count(mine.length - to, 'event')} more</span></li>`);
   const held = [...s.held[w]].map(([o, [f, i]]) => `<span class="chip has" data-w="${w}">${o} = ${f}.${i}</span>`).join(' ');
   const locks = [...s.locks].filter(([, x]) => x === w).map(([name]) => `<span class="chip has" data-w="${w}">${esc(name)}</span>`).join(' ');
   const stands = !next ? (r.end ? 'at its end' : 'here the log ends') : last?.lost && last.word[0] === 'lock' && next.key === last.key ? `waits at <b>${esc(next.spot)}</b>` : `next: <b>${esc(next.spot)}</b>`;
@@ -277,16 +277,16 @@ function notedPart(v, s, w, next) {
   const note = turns[at], said = fieldsIn(kind, note.says).is, now = wordNow(s, note.word) ?? {}, off = FIELDS[kind].filter(k => said[k] !== now[k]);
   const changes = changesOf(v.round, note.key, at + 1, v.at).filter(u => u.w !== w), loaded = next.spot === 'Pop' && turns.slice(at, v.at).reverse().find(u => u.w === w && u.spot === 'LoadNext');
   const what = `noted at turn ${note.n}: <b>${esc(note.key)}</b> <span class="mono">${FIELDS[kind].map(k => off.includes(k) ? `<b>${k} ${esc(said[k])}</b>` : `${k} ${esc(said[k])}`).join(' ')}</span>${loaded ? `, next <span class="mono">${esc(loaded.says)}</span>` : ''}`;
-  if (!off.length) return `<dd class="noted"><span class="good">✓</span> ${what} <span class="dim">${changes.length ? 'so again' : 'still so'}</span></dd>`;
-  return `<dd class="noted stale">≠ ${what}<br><b>changed since</b>: now <span class="mono">${off.map(k => `${k} ${esc(now[k] ?? 'gone')}`).join(' ')}</span>${changes.length ? `, by ${saysChange(changes[changes.length - 1])}` : ''}</dd>`;
+  if (!off.length) return `<dd class="noted"><span class="good">\u2713</span> ${what} <span class="dim">${changes.length ? 'so again' : 'still so'}</span></dd>`;
+  return `<dd class="noted stale">\u2260 ${what}<br><b>changed since</b>: now <span class="mono">${off.map(k => `${k} ${esc(now[k] ?? 'gone')}`).join(' ')}</span>${changes.length ? `, by ${saysChange(changes[changes.length - 1])}` : ''}</dd>`;
 }
 
 function legendPart(tiny, checked) {
   const cell = (kind, sign, letter, text) => `<span><i class="o ${kind}" data-w="0">${tiny ? letter : sign}</i>${text}</span>`;
-  const cells = [cell('held', '7', '0', 'held by a worker'), cell('board', '7', '•', 'on the board'), cell('cpu', '→4', 'c', 'on a CPU’s freelist'),
-    cell('own', '→4', 's', checked ? 'slab’s own, or free' : 'slab’s own freelist'), cell('hand', '→4', 'h', 'in a worker’s hand'), cell('cpu head', '→4', 'c', 'first of its freelist')];
-  if (checked) cells.push(cell('aside', '✕', '✕', 'set aside'));
-  const signs = tiny ? '' : '<p>7: the number that it has in the trace. →4: the free pointer, to object 4; →· ends a freelist.</p>';
+  const cells = [cell('held', '7', '0', 'held by a worker'), cell('board', '7', '\u2022', 'on the board'), cell('cpu', '\u21924', 'c', "on a CPU's freelist"),
+    cell('own', '\u21924', 's', checked ? "slab's own, or free" : "slab's own freelist"), cell('hand', '\u21924', 'h', "in a worker's hand"), cell('cpu head', '\u21924', 'c', 'first of its freelist')];
+  if (checked) cells.push(cell('aside', '\u2715', '\u2715', 'set aside'));
+  const signs = tiny ? '' : '<p>7: the number that it has in the trace. \u21924: the free pointer, to object 4; \u2192\u00b7 ends a freelist.</p>';
   return `<h2 class="dim">Places of objects</h2>${cells.join('')}${signs}`;
 }
 
@@ -303,7 +303,7 @@ function lanesPart(v, from, to, fit) {
   for (let w = 0; w < workers; w++)
     out.push(`<div class="w" data-w="${w}" style="grid-area:${w + 2}/1">w${w}</div><div class="rail" style="grid-area:${w + 2}/2/auto/-1"></div>`);
   for (let i = from; i < to; i++) {
-    const t = turns[i], answer = t.notes.find(n => n.mark === '='), sign = t.lost ? '✕ ' : answer ? (isGood(answer.text.slice(answer.text.indexOf(': ') + 2)) ? '✓ ' : '✗ ') : '';
+    const t = turns[i], answer = t.notes.find(n => n.mark === '='), sign = t.lost ? '\u2715 ' : answer ? (isGood(answer.text.slice(answer.text.indexOf(': ') + 2)) ? '\u2713 ' : '\u2717 ') : '';
     out.push(`<div class="n${i === v.at - 1 ? ' at' : ''}" style="grid-area:1/${i - from + 2}">${t.n}</div>`
       + `<div class="t${t.lost ? ' miss' : ''}${i >= v.at ? ' late' : ''}" data-w="${t.w}" data-n="${t.n}" style="grid-area:${t.w + 2}/${i - from + 2}" title="turn ${t.n}: w${t.w}, ${esc(t.event)}, ${esc(t.spot)}, ${esc(t.step)}">${sign}${esc(t.spot)}</div>`);
   }
@@ -330,13 +330,13 @@ function wholePart(round) {
 function logLines(v) {
   const { round, at } = v, n = round.turns.length, from = Math.max(0, at - 30), to = Math.min(n, at + 30), out = [];
   const part = (name, kind, text, turn) => out.push([name, `<div class="${kind}"${turn ? ` data-n="${turn}"` : ''}>${esc(text)}</div>`]);
-  if (from) part('before', 'dim', `   … ${count(from, 'turn')} before`);
+  if (from) part('before', 'dim', `   \u2026 ${count(from, 'turn')} before`);
   for (let i = from; i < to; i++) {
-    const t = round.turns[i], lines = [`${i === at - 1 ? '▶' : ' '}${t.lost ? '✕' : ' '} ${t.line}`];
-    for (const k of t.notes) lines.push(`${k.mark === '=' ? (isGood(k.text.slice(k.text.indexOf(': ') + 2)) ? ' ✓' : ' ✗') : '  '} ${k.line}`);
+    const t = round.turns[i], lines = [`${i === at - 1 ? '\u25b6' : ' '}${t.lost ? '\u2715' : ' '} ${t.line}`];
+    for (const k of t.notes) lines.push(`${k.mark === '=' ? (isGood(k.text.slice(k.text.indexOf(': ') + 2)) ? ' \u2713' : ' \u2717') : '  '} ${k.line}`);
     part(t.n, `t${i === at - 1 ? ' cur' : ''}${i >= at ? ' late' : t.lost ? ' miss' : ''}`, lines.join('\n'), t.n);
   }
-  if (to < n) part('behind', 'dim', `   … ${count(n - to, 'turn')} behind`);
+  if (to < n) part('behind', 'dim', `   \u2026 ${count(n - to, 'turn')} behind`);
   return out;
 }
 // What the log has behind the last turn: totals, replies, picks.

@@ -9,6 +9,7 @@
 #![tactic(auto)]
 
 mod output;
+mod page;
 mod shown;
 
 use output::{HELD, ended};
@@ -18,6 +19,7 @@ use slub_edges::gate::OpenGate;
 use slub_outcomes::run::run as outcomes;
 use slub_outcomes::status::Status;
 use slub_recorded::run::run as recorded;
+use slub_steps::run::{Page, run as steps};
 use std::alloc::{AllocError, Global};
 use std::io::{BufWriter, IsTerminal, Read, Write};
 use std::process::ExitCode;
@@ -35,10 +37,10 @@ fn words(rt: &(impl Env + AllocGlobal)) -> Result<Vec<String>, AllocError> {
     }
 }
 
-/// Whether the command is `recorded`; any other is for `outcomes` to read.
-fn is_recorded(words: &[String]) -> bool {
+/// Whether the first word is this one. A command that is neither `steps` nor `recorded` is for `outcomes` to read.
+fn is_command(words: &[String], name: &str) -> bool {
     match words.first() {
-        Some(command) => command.as_str() == "recorded",
+        Some(command) => command.as_str() == name,
         None => false,
     }
 }
@@ -57,7 +59,16 @@ fn work<R: Clock + Eprint + Threads + Wait + Sync, I: Read + Drop, O: Write + Dr
     };
     let mut source = ReadSource::of(input);
     let mut sink = WriteSink::of(buffer);
-    let status = if is_recorded(words) {
+    let status = if is_command(words, "steps") {
+        let back = page::behind_log(alloc)?;
+        let page = Page {
+            front: page::before_log(),
+            back: back.as_slice(),
+        };
+        let (after, status) = steps(rt, alloc, words, page, &mut source, sink, &OpenGate);
+        sink = after;
+        status.number()
+    } else if is_command(words, "recorded") {
         recorded(alloc, words, &mut source, &mut sink).number()
     } else {
         let mut shown = Shown::of(rt, is_shown);

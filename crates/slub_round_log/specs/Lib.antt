@@ -1,0 +1,4 @@
+pub mod Told
+pub mod Choices
+pub mod Log
+pub mod Laws

@@ -1,9 +1,10 @@
 #!/usr/bin/env bash
-# documents.sh [PROGRAM]: tries what README.md and docs/TEACH.md tell a reader to type. A line of a code block that begins with
+# documents.sh [SLUB [TOOLS]]: tries what README.md and docs/TEACH.md tell a reader to type. A line of a code block that begins with
 # `$ ` is a command, and the lines below it are what it prints; `..` stands for lines that are left out. A command of ./slub
 # is run: where it is that of an example, examples/ has its whole output and its status; else all that it prints stands in the
 # document, and its status is 0. Of every other command it is asked whether such a script is here. Last, each file and crate
-# that any document names must be here. Without PROGRAM the program is made by `rt try`, unproved, in about a minute.
+# that any document names must be here. Where the first word is steps, outcomes or recorded, the program is slub_tools, and slub
+# else. A program that isn't given is made by `rt try`, unproved, in about a minute.
 top=$(cd "$(dirname "${BASH_SOURCE[0]}")/.." && pwd) || exit 2
 room=$(mktemp -d) || exit 2
 trap 'rm -rf "$room"' EXIT
@@ -66,6 +67,7 @@ lay_case() {
     printf '%s\n' "${words[@]:1}" >"$room/words"
     example=$(example_of "$input")
     local case=$room/cases/${name##*/}
+    case ${words[1]} in steps | outcomes | recorded) case=$room/tools/${name##*/} ;; esac
     cp "$room/words" "$case.args"
     cat "$input" >"$case"
     if [ -n "$example" ]; then
@@ -77,7 +79,7 @@ lay_case() {
     fi
 }
 
-mkdir "$room/cases"
+mkdir "$room/cases" "$room/tools"
 take_commands "$top/README.md" README
 take_commands "$top/docs/TEACH.md" TEACH
 for command in "$room"/*.command; do
@@ -94,8 +96,9 @@ while read -r told; do
     wants "$told is told, and not tried" grep -qxF -- "$told" "$room"/*.command
 done <"$room/told"
 
-"$top/tests/run-cases" "$room/cases" "$@" >"$room/results" 2>"$room/log"
-for case in "$room"/cases/*.stdout; do
+"$top/tests/run-cases" "$room/cases" ${1+"$1"} >"$room/results" 2>"$room/log"
+CRATE=slub_tools "$top/tests/run-cases" "$room/tools" ${2+"$2"} >>"$room/results" 2>>"$room/log"
+for case in "$room"/cases/*.stdout "$room"/tools/*.stdout; do
     name=$(basename "$case" .stdout)
     wanted=$(cat "$room/$name.status" 2>/dev/null || echo 0)
     result=$(sed -n "s/^$name //p" "$room/results")

@@ -2,7 +2,7 @@
 # examples.sh [SLUB [TOOLS]]: each examples/NAME.out against what the program writes: for the words of NAME.args, one a
 # line (without it: replay --replies), the input NAME.trace or NAME.recording (without either: none) and the status of NAME.status
 # (without it: 0). One trace may stand for several names: of TRACE.WAY it is TRACE.trace. Where the first word is
-# outcomes or recorded, the program is slub_tools, and slub else. A program that isn't given is made by `rt try`, unproved, in about
+# steps, outcomes or recorded, the program is slub_tools, and slub else. A program that isn't given is made by `rt try`, unproved, in about
 # a minute.
 top=$(cd "$(dirname "${BASH_SOURCE[0]}")/.." && pwd) || exit 2
 room=$(mktemp -d) || exit 2
@@ -16,7 +16,7 @@ for out in "$top"/examples/*.out; do
     example=${out%.out}
     program=slub
     if [ -f "$example.args" ]; then
-        case $(head -1 "$example.args") in outcomes | recorded) program=tools ;; esac
+        case $(head -1 "$example.args") in steps | outcomes | recorded) program=tools ;; esac
     fi
     case=$room/$program/${example##*/}
     cp "$out" "$case.stdout"

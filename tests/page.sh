@@ -1,8 +1,10 @@
 #!/usr/bin/env bash
-# page.sh [FOLDER]: makes a page of page/sample.log, of each log of page/samples and of each FOLDER/*.stdout, and opens it in headless
-# Chromium with `#check`: the page replays each round against the state that is printed after it, looks that each object is in
+# page.sh [FOLDER]: makes a page of page/sample.log, of each log of page/samples and of examples, and of each FOLDER/*.stdout, and opens
+# it in headless Chromium with `#check`: the page replays each round against the state that is printed after it, looks that each object is in
 # one place after each turn, and presses its keys. A log with one word changed must differ. How long a key takes is printed.
-# Without Chromium the same check runs in node, but for the keys; without either the script says so and ends with 0.
+# The texts that the program holds for its pages must be those of page/, and where it is built, its pages of the examples must be
+# those that page/make makes of the logs. Without Chromium the same check runs in node, but for the keys; without either
+# the script says so and ends with 0.
 top=$(cd "$(dirname "${BASH_SOURCE[0]}")/.." && pwd) || exit 2
 room=$(mktemp -d) || exit 2
 trap 'rm -rf "$room"' EXIT
@@ -144,6 +146,7 @@ has_none() { ! grep -nE 'https?:|src=|\b(import|fetch|XMLHttpRequest|localStorag
 
 logs=("$top/page/sample.log" "$top"/page/samples/*.log)
 ours=${#logs[@]}
+logs+=("$top"/examples/*.steps.out)
 if [ -n "$1" ]; then logs+=("$1"/*.stdout); fi
 "$top/page/make" front >"$room/front" && "$top/page/make" back >"$room/back" || exit
 long </dev/null >"$room/long.log"
@@ -165,6 +168,22 @@ for i in "${!logs[@]}"; do
 done
 case_is "a long log: what its page finds" finds long "$room/long.log"
 if [ -n "$chromium" ]; then echo "tests/page.sh: at 2,016 turns a key takes $(sed -n 's/^ms=//p' "$room/long.found") ms (100 are meant)"; fi
+is_held() { "$top/page/make" program "$room/held" && diff -r "$room/held" "$top/crates/slub_tools/src/page" >&2; }
+case_is "crates/slub_tools/src/page isn't what page/make program makes" is_held
+tools=$top/crates/slub_tools/out/slub_tools
+is_page() {
+    local words
+    mapfile -t words <"$1.steps.args"
+    "$tools" "${words[@]}" --page <"$1.trace" >"$room/program.html"
+    "$top/page/make" <"$1.steps.out" | cmp -s - "$room/program.html"
+}
+if [ -x "$tools" ]; then
+    for args in "$top"/examples/*.steps.args; do
+        case_is "$(basename "$args"): the program's page isn't that of page/make" is_page "${args%.steps.args}"
+    done
+else
+    echo "tests/page.sh: the pages that the program makes weren't looked at, since it isn't built"
+fi
 case_is "the page has something of the network or stores something" has_none log0
 
 echo "page: $passed passed, $failed failed"

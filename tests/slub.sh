@@ -191,6 +191,8 @@ wants "a file among the words of a replay ends with status 2" ends 2
 wants "it says how the file is read" eval "says 'use < some.trace' && calls ''"
 run outcomes some.trace
 wants "so does one among the words of outcomes" eval "ends 2 && says 'use < some.trace' && calls ''"
+run steps --seed 7 some.trace
+wants "and one among the words of steps" eval "ends 2 && says 'use < some.trace' && calls ''"
 run recorded some.trace
 wants "and one among the words of recorded" eval "ends 2 && says 'use < some.trace' && calls ''"
 run whatif some.trace
@@ -202,6 +204,10 @@ run replay --how serial --seed 7
 wants "an option's value is no file" is_proved replay --how serial --seed 7
 run outcomes --seeds 7 --from 7 --round 7
 wants "nor is one of outcomes" wrote 'slub_tools got outcomes --seeds 7 --from 7 --round 7'
+run steps --picks 7 --round 7
+wants "nor is one of steps" wrote 'slub_tools got steps --picks 7 --round 7'
+run recorded --group 7 --cpus 7 --workers 7 --rounds 7 --tune 7
+wants "nor is one of recorded" wrote 'slub_tools got recorded --group 7 --cpus 7 --workers 7 --rounds 7 --tune 7'
 
 script -qec "$PWD/slub replay" /dev/null <<<'status 0' >"$room/err" 2>&1
 wants "a replay from a terminal says that it waits" says 'waiting for input'

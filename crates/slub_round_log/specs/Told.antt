@@ -108,7 +108,14 @@ context_behind c hs = fold context_after c hs
 
 -- nothing was noted yet
 abbrev pub nothing_noted : Before
-nothing_noted = record { spot = Between; event = 0; frame = 0; string = None; run = record { frame = 0; order = 0; objects = 0 }; reports = 0 }
+nothing_noted = record {
+  spot = Between;
+  event = 0;
+  frame = 0;
+  string = None;
+  run = record { frame = 0; order = 0; objects = 0 };
+  reports = 0;
+}
 
 -- no turn is made, and no worker has seen a slab word
 abbrev pub first_context : Context

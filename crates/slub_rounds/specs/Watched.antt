@@ -97,7 +97,8 @@ IsUnendedWatched begins_round chooses hears halts watch (unended.Halted why) aft
 -- the watcher had the round end
 abbrev pub IsUnwatched : {W H : Type 0} → (Facts → W → List Local → W → Type 0)
     → (Facts → W → System → ℕ → W → Type 0) → (Facts → W → Happening → W → Type 0)
-    → (Facts → W → System → H → W → Type 0) → State → List ℕ → Round → W → W → Unwatched H → Type 0
+    → (Facts → W → System → H → W → Type 0) → State → List ℕ → Round → W → W → Unwatched H
+    → Type 0
 IsUnwatched begins_round chooses hears halts s ids round watch after (NoMemory lists) =
     (lists ≡ s) × (after ≡ watch)
 IsUnwatched begins_round chooses hears halts s ids round watch after TurnsSpent =

@@ -54,7 +54,8 @@ node_row s title cache =
 -- ---- the whole
 
 -- the cache, its CPUs, their lists, its node and its slabs
-abbrev pub live_rows : State → ℕ → List ℕ → List (List ℕ × ℕ) → ℕ → List ℕ → Layout → List ℕ
+abbrev pub live_rows
+    : State → ℕ → List ℕ → List (List ℕ × ℕ) → ℕ → List ℕ → Layout → List ℕ
 live_rows s first ids live cache title layout =
     cache_row live cache title layout ++ cpu_rows s first ids title cache
     ++ list_rows s title cache ++ node_row s title cache ++ slab_rows s cache

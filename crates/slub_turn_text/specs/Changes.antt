@@ -101,7 +101,8 @@ aside_lines front before (Pool pool) = []
 
 -- the lines of a change: the worker before it, the values and the worker after it, and the reply
 -- that came of it, which isn't noted yet. None where nothing is done at once
-abbrev pub change_lines : RoundLabels → Facts → (ℕ → LockValue) → Before → Local → Option Reply → List ℕ
+abbrev pub change_lines
+    : RoundLabels → Facts → (ℕ → LockValue) → Before → Local → Option Reply → List ℕ
 change_lines labels m value before l reply =
     let columns = change_front labels before l in
     if is_at_once before.spot

@@ -1,5 +1,5 @@
 -- What a log keeps while a round is made, and what becomes of it by what it hears.
-use Rattle.std.specs.Prelude.{◌≡◌, ◌≢◌, ◌⊎◌, ℕ, Bool, ◌&&◌, if◌then◌else◌, List, [], ◌∷◌, ◌++◌, flat_map, Option, Some, None, IfSome}
+use Rattle.std.specs.Prelude.{◌≡◌, ◌≢◌, ℕ, Bool, ◌&&◌, if◌then◌else◌, List, [], ◌∷◌, ◌++◌, flat_map, Option, Some, None, IfSome}
 use Rattle.std.specs.Io.KnownBytes.{Appends}
 use Rattle.slub_edges.specs.Edges.{AppendsFront, Rose}
 use Rattle.slub_core.specs.Facts.{Facts}
@@ -141,11 +141,10 @@ pub record Picks (k : Kept) (unfinished : List ℕ) (worker : ℕ) (after : Kept
   pub choice : Chooses k.choice unfinished worker after.choice
   pub rest : after ≡ record k { choice = after.choice }
 
--- why a round is ended before its time; at the end of the round none is unfinished
+-- why a round is ended before its time
 abbrev pub IsHalt : Kept → List ℕ → Halt → Type 0
 IsHalt k unfinished (Failed fault) = k.fault ≡ Some fault
-IsHalt k unfinished (Unfit misfit) =
-    (k.fault ≡ None) × (Refuses k.choice unfinished misfit ⊎ Refuses k.choice [] misfit)
+IsHalt k unfinished (Unfit misfit) = (k.fault ≡ None) × Refuses k.choice unfinished misfit
 
 -- the round is ended before its time
 pub record Halts (k : Kept) (unfinished : List ℕ) (halt : Halt) (after : Kept) : Type 0 where

@@ -1,6 +1,6 @@
 //! A round by schedule, on any machine whose workers make turns, by whatever says whose turn comes next.
 
-ghost use Rattle.std.specs.Prelude.{◌≡◌, ◌<◌, ◌≤◌, ℕ, Bool, false, length, slice_index, slice_index_or, IfErr, IfOk, MatchResult};
+ghost use Rattle.std.specs.Prelude.{◌≡◌, ◌<◌, ◌≤◌, ℕ, Bool, false, [], length, slice_index, slice_index_or, IfErr, IfOk, MatchResult};
 ghost use Rattle.slub_core.specs.Setup.{Setup};
 ghost use Rattle.slub_core.specs.Run.{System, Pick, idle, turn};
 ghost use Rattle.slub_schedule.specs.Schedule.{is_finished, unfinished};
@@ -60,6 +60,7 @@ pub trait Machine {
     /// Each worker is finished: whether nothing is left to be said.
     fn end(&mut self) -> Result<(), Self::Halt>
         requires ready { is_ready self.old }
+        requires finished { unfinished (system self.old) ≡ [] }
         ensures ready { is_ready self.new }
         ensures setup { setup self.new ≡ setup self.old }
         ensures system { system self.new ≡ system self.old }
@@ -112,6 +113,7 @@ pub fn scheduled<M: Machine>(
 /// Each worker is finished: whether this is an end.
 fn ended<M: Machine>(machine: &mut M) -> Result<(), Unended<M::Halt>>
     requires ready { M.is_ready machine.old }
+    requires finished { unfinished (M.system machine.old) ≡ [] }
     ensures setup { M.setup machine.new ≡ M.setup machine.old }
     ensures ready { M.is_ready machine.new }
     ensures system { M.system machine.new ≡ M.system machine.old }

@@ -1,6 +1,6 @@
 //! Who watches a round step by step.
 
-ghost use Rattle.std.specs.Prelude.{◌≡◌, ℕ, ◌<◌, ◌≤◌, List, length, slice_index, IfOk, IfErr, MatchResult};
+ghost use Rattle.std.specs.Prelude.{◌≡◌, ℕ, ◌<◌, ◌≤◌, List, [], length, slice_index, IfOk, IfErr, MatchResult};
 ghost use Rattle.slub_core.specs.Facts.{Facts};
 ghost use Rattle.slub_core.specs.Local.{Local};
 ghost use Rattle.slub_core.specs.Run.{System};
@@ -53,6 +53,7 @@ pub trait Watch {
 
     /// Each worker of the machine is finished.
     fn end(&mut self, machine: &Machine) -> Result<(), Self::Halt>
+        requires { unfinished (system_of machine.now.table machine.now.values.items machine.now.locals.items) ≡ [] }
         ensures { MatchResult result (λ _. is_done machine.now.setup self.old (system_of machine.now.table machine.now.values.items machine.now.locals.items) self.new) (λ halt. halts machine.now.setup self.old (system_of machine.now.table machine.now.values.items machine.now.locals.items) halt self.new) };
 
     /// A worker has begun its call, or goes on with it, and makes its step next.

@@ -1,5 +1,5 @@
 use Rattle.std.proofs.Common.{◌≡◌, ◌≤◌, sym, ap, ◌∙◌, subst, arith, length}
-use Rattle.slub_schedule.proofs.Making.{made_concluded, some_left, none_left, turn_made, turn_kept, turn_less, worker_at}
+use Rattle.slub_schedule.proofs.Making.{made_concluded, some_left, none_left, nothing_left, turn_made, turn_kept, turn_less, worker_at}
 use Rattle.slub_schedule.specs.Schedule.{unfinished}
 use Rattle.slub_schedule.proofs.machine.scheduled.Goals as goal
 use Rattle.slub_schedule.proofs.machine.scheduled.Goals.{then-turn, else-turn}
@@ -18,6 +18,12 @@ returns-then-is_empty-2-clause-ends g c =
     let none = none_left (length c.loop.order) (sym c.if-is_empty-2.true ∙ c.is_empty-2.ensures) in
     let e = c.ended-then-is_empty-2.ensures in
     made_concluded t.setup t.system t.chooses t.notes t.is_done t.halts _ c.loop.counter _ _ _ i.made (omega (arith, i.counter, c.requires.turns)) (ap (λ ws. length ws) (sym i.order) ∙ none) e.system e.ends
+
+pub ended-requires-clause-finished : goal.ended-requires-clause-finished
+ended-requires-clause-finished g c = nothing_left c.loop.order _ c.loop.invariant.order (sym c.if-is_empty.true ∙ c.is_empty.ensures)
+
+pub ended-then-is_empty-2-requires-clause-finished : goal.ended-then-is_empty-2-requires-clause-finished
+ended-then-is_empty-2-requires-clause-finished g c = nothing_left c.loop.order _ c.loop.invariant.order (sym c.if-is_empty-2.true ∙ c.is_empty-2.ensures)
 
 pub turn-requires-clause-worker : goal.turn-requires-clause-worker
 turn-requires-clause-worker g c =

@@ -135,9 +135,9 @@ pub none_left : (n : ℕ) → true ≡ (n == 0) → n ≡ 0
 none_left n is = eqb-true n 0 (sym is)
 
 -- where the order is empty no worker is unfinished
-pub nothing_left : (order : List ℕ) (s : System) → order ≡ unfinished s → true ≡ (length order == 0) → unfinished s ≡ []
-nothing_left [] s is none = sym is
-nothing_left (x ∷ xs) s is none = absurd (let e : suc (length xs) ≡ 0 = none_left (suc (length xs)) none in let never : ⊥ = omega (arith, e) in never)
+pub nothing_left : (order unfinished : List ℕ) → order ≡ unfinished → true ≡ (length order == 0) → unfinished ≡ []
+nothing_left [] unfinished is none = sym is
+nothing_left (x ∷ xs) unfinished is none = absurd (let e : suc (length xs) ≡ 0 = none_left (suc (length xs)) none in let never : ⊥ = omega (arith, e) in never)
 
 -- the worker at a place among those that are unfinished
 pub worker_at : (s t : System) (order : List ℕ) (place worker : ℕ) → order ≡ unfinished s → place < length order → worker ≡ slice_index order place → t ≡ s → (worker < length t.locals) × (is_finished (get_or t.locals worker idle) ≡ false)

@@ -22,8 +22,8 @@ returns-then-is_empty-2-clause-ends g c =
 pub ended-requires-clause-finished : goal.ended-requires-clause-finished
 ended-requires-clause-finished g c = nothing_left c.loop.order _ c.loop.invariant.order (sym c.if-is_empty.true ∙ c.is_empty.ensures)
 
-pub ended-then-is_empty-2-requires-clause-finished : goal.ended-then-is_empty-2-requires-clause-finished
-ended-then-is_empty-2-requires-clause-finished g c = nothing_left c.loop.order _ c.loop.invariant.order (sym c.if-is_empty-2.true ∙ c.is_empty-2.ensures)
+pub ended-requires-then-is_empty-2-clause-finished : goal.ended-requires-then-is_empty-2-clause-finished
+ended-requires-then-is_empty-2-clause-finished g c = nothing_left c.loop.order _ c.loop.invariant.order (sym c.if-is_empty-2.true ∙ c.is_empty-2.ensures)
 
 pub turn-requires-clause-worker : goal.turn-requires-clause-worker
 turn-requires-clause-worker g c =

@@ -1,7 +1,8 @@
 //! The way along a part: whose turn comes next.
 
-ghost use Rattle.std.specs.Prelude.{◌≡◌, ◌≤◌, ◌<◌, ℕ, ◌+◌, Bool, true, false, List, [], ◌∷◌, ◌++◌, length, Some, IfOk, MatchResult, slice_get};
+ghost use Rattle.std.specs.Prelude.{◌≡◌, ◌≢◌, ◌≤◌, ◌<◌, ℕ, ◌+◌, Bool, true, false, List, [], ◌∷◌, ◌++◌, length, Some, IfErr, IfOk, MatchResult, slice_get};
 ghost use Rattle.slub_picks.specs.declared.walk.Misfit.{Misfit};
+ghost use Rattle.slub_picks.specs.declared.walk.Misfit.TheVariants.{PicksEnd};
 ghost use Rattle.slub_picks.specs.Misfits.{IsMisfit, is_full, needs_more};
 ghost use Rattle.slub_picks.specs.Turns.{Say, Turn, goes_on, is_among};
 ghost use Rattle.slub_picks.specs.Walks.{IsAlong, IsNext, Looks};
@@ -169,7 +170,8 @@ impl<'a> Walk<'a> {
 
     /// The end of the round, where no worker has an event left: whether the part is at its end, too.
     pub fn end(&mut self) -> Result<(), Misfit>
-        ensures { (turns : List Turn) → IsAlong self.old turns []
+        ensures short { IfErr result (λ misfit. misfit ≢ PicksEnd) }
+        ensures ends { (turns : List Turn) → IsAlong self.old turns []
             → MatchResult result (λ _. Say self.old.workers self.old.entries.now turns [])
             (λ misfit. IsMisfit self.old.workers self.old.entries.now turns [] misfit) }
     {

@@ -1,6 +1,7 @@
 -- Whose turn comes next by a part of a list of picks.
-use Rattle.std.proofs.Common.{◌≡◌, ℕ, List, [], Result, Ok, Err, IfOk, IfErr, MatchResult, sym, subst}
+use Rattle.std.proofs.Common.{◌≡◌, ◌≢◌, ℕ, List, [], Result, Ok, Err, IfOk, IfErr, MatchResult, sym, subst}
 use Rattle.slub_picks.specs.declared.walk.Misfit.{Misfit}
+use Rattle.slub_picks.specs.declared.walk.Misfit.TheVariants.{PicksEnd}
 use Rattle.slub_picks.specs.declared.walk.Walk.{Walk}
 use Rattle.slub_picks.specs.Misfits.{IsMisfit}
 use Rattle.slub_picks.specs.Turns.{Say, Turn}
@@ -18,6 +19,9 @@ module _ {U : Type 0} (choice : Choice) (walk : Walk) (is : choice ≡ Part walk
 
   pub refused : (r : Result U Misfit) (unfinished : List ℕ) (Told : List Turn → Type 0) → ((turns : List Turn) → IsAlong walk turns unfinished
       → MatchResult r (λ _. Told turns) (λ misfit. IsMisfit walk.workers walk.entries.now turns unfinished misfit))
+      → IfErr r (λ misfit. misfit ≢ PicksEnd)
       → IfErr r (λ misfit. Refuses choice unfinished misfit)
-  refused (Ok x) unfinished Told ends = tt
-  refused (Err misfit) unfinished Told ends = let P : Choice → Type 0 = λ x. Refuses x unfinished misfit in subst P (sym is) ends
+  refused (Ok x) unfinished Told ends short = tt
+  refused (Err misfit) unfinished Told ends short =
+      let P : Choice → Type 0 = λ x. Refuses x unfinished misfit in
+      subst P (sym is) (ends, λ early. absurd (short early))

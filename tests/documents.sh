@@ -1,10 +1,11 @@
 #!/usr/bin/env bash
-# documents.sh [SLUB [TOOLS]]: tries what README.md and docs/TEACH.md tell a reader to type. A line of a code block that begins with
-# `$ ` is a command, and the lines below it are what it prints; `..` stands for lines that are left out. A command of ./slub
-# is run: where it is that of an example, examples/ has its whole output and its status; else all that it prints stands in the
-# document, and its status is 0. Of every other command it is asked whether such a script is here. Last, each file and crate
-# that any document names must be here. Where the first word is steps, outcomes or recorded, the program is slub_tools, and slub
-# else. A program that isn't given is made by `rt try`, unproved, in about a minute.
+# documents.sh [SLUB [TOOLS]]: tries what README.md, docs/TEACH.md and docs/RECORDED.md tell a reader to type. A line of a code
+# block that begins with `$ ` is a command, and the lines below it are what it prints; `..` stands for lines that are left out. A
+# command of ./slub is run: where it is that of an example, examples/ has its whole output and its status; else all that it prints
+# stands in the document, and its status is 0. `./slub whatif` isn't run here: it must be that of an example, and
+# tests/examples.sh runs it. Of every other command it is asked whether such a script is here. Last, each file and crate that any
+# document names must be here. Where the first word is steps, outcomes or recorded, the program is slub_tools, and slub else. A
+# program that isn't given is made by `rt try`, unproved, in about a minute.
 top=$(cd "$(dirname "${BASH_SOURCE[0]}")/.." && pwd) || exit 2
 room=$(mktemp -d) || exit 2
 trap 'rm -rf "$room"' EXIT
@@ -40,14 +41,17 @@ is_excerpt() {
     ' "$2" "$1"
 }
 
-# The example with the words of $room/words and the input $1, or nothing.
+# The example with the words of $room/words and the input $1, or nothing. Its input is as tests/examples.sh has it; whatif has
+# none.
 example_of() {
     local out example trace
     for out in "$top"/examples/*.out; do
         example=${out%.out}
         trace=$example.trace
         [ -f "$trace" ] || trace=${example%.*}.trace
-        [ -f "$trace" ] || trace=/dev/null
+        [ -f "$trace" ] || trace=$example.recording
+        if [ ! -f "$trace" ] && [ -f "${example%.*}.recording" ]; then trace=${example%.*}.out; fi
+        if [ ! -f "$trace" ] || [ "$(head -1 "$example.args" 2>/dev/null)" = whatif ]; then trace=/dev/null; fi
         if [ -f "$example.args" ]; then cat "$example.args"; else printf 'replay\n--replies\n'; fi >"$room/theirs"
         if cmp -s "$room/words" "$room/theirs" && cmp -s "$1" "$trace"; then
             echo "$example"
@@ -67,7 +71,14 @@ lay_case() {
     printf '%s\n' "${words[@]:1}" >"$room/words"
     example=$(example_of "$input")
     local case=$room/cases/${name##*/}
-    case ${words[1]} in steps | outcomes | recorded) case=$room/tools/${name##*/} ;; esac
+    case ${words[1]} in
+    steps | outcomes | recorded) case=$room/tools/${name##*/} ;;
+    whatif)
+        if [ -z "$example" ]; then fails "$(<"$name.command"): no example has these words"; return; fi
+        wants "$(<"$name.command"): examples/${example##*/}.out is not what is printed" is_excerpt "$name.printed" "$example.out"
+        return
+        ;;
+    esac
     cp "$room/words" "$case.args"
     cat "$input" >"$case"
     if [ -n "$example" ]; then
@@ -82,6 +93,7 @@ lay_case() {
 mkdir "$room/cases" "$room/tools"
 take_commands "$top/README.md" README
 take_commands "$top/docs/TEACH.md" TEACH
+take_commands "$top/docs/RECORDED.md" RECORDED
 for command in "$room"/*.command; do
     read -r word other _ <"$command"
     case $word in

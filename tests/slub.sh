@@ -7,12 +7,36 @@ trap 'rm -rf "$room"' EXIT
 passed=0
 failed=0
 
-# A program that says what reached it, and ends with the status that its input names.
+# A program that says what reached it, and ends with the status that its input names. For whatif, where there are ROWS: of two
+# groups of caches `recorded` makes a trace that holds only its words, and `replay` of that prints the rows of these words.
 mkdir -p "$room/bin" "$room/calls"
 cat >"$room/bin/program" <<'END'
 #!/usr/bin/env bash
-echo "${0##*/} got $*"
 cat >"$CALLS/input"
+if [ -f "$CALLS/rows" ]; then
+    case $1 in
+    recorded)
+        if grep -qxF "words ${*:2}. is bad" "$CALLS/rows"; then
+            echo "slub: bad words ${*:2}"
+            exit 3
+        fi
+        echo '# groups: 2'
+        echo "words ${*:2}."
+        exit
+        ;;
+    replay)
+        words=$(grep '^words ' "$CALLS/input")
+        printf 'slabinfo - version: 2.1\n# name\n'
+        awk -v words="$words" '
+            $0 == words { inside = 1; next }
+            /^words / { inside = 0 }
+            inside { print $1, $2, $3, "64 64", $4, ": tunables 0 0 0 : slabdata", $5, $5, 0 }' "$CALLS/rows"
+        ! grep -qxF "$words is refused" "$CALLS/rows"
+        exit
+        ;;
+    esac
+fi
+echo "${0##*/} got $*"
 read -r _ status <"$CALLS/input"
 exit "${status:-0}"
 END
@@ -195,10 +219,61 @@ run steps --seed 7 some.trace
 wants "and one among the words of steps" eval "ends 2 && says 'use < some.trace' && calls ''"
 run recorded some.trace
 wants "and one among the words of recorded" eval "ends 2 && says 'use < some.trace' && calls ''"
+run whatif
+wants "so does whatif without a file" eval "ends 2 && calls ''"
 run whatif some.trace
 wants "whatif without a setting ends with status 2" eval "ends 2 && calls ''"
 run whatif some.trace dentry:speed:3
 wants "so does one with a setting that is none" eval "ends 2 && says 'no setting: dentry:speed:3' && calls ''"
+
+# whatif: a row is a name, active and all objects, pages of a slab and slabs.
+if command -v awk >/dev/null; then
+    mkdir "$room/temporary"
+    export TMPDIR=$room/temporary
+    cat >"$CALLS/rows" <<'END'
+words --group 1.
+kmalloc-8 512 512 1 1
+dentry 60 63 1 3
+filp 16 32 2 2
+words --group 1 --tune all:min_partial:0 --tune pid:cpu_partial:7.
+kmalloc-8 512 512 1 1
+dentry 60 84 1 4
+filp 16 16 2 1
+words --group 2.
+pid 20 32 1 1
+task_struct 30 3000 8 1000
+words --group 2 --tune all:min_partial:0 --tune pid:cpu_partial:7.
+pid 32 32 1 1
+task_struct 30 270 8 90
+END
+    table='cache slabs objects free frames
+task_struct 1000->90 3000->270 2970->240 8000->720
+dentry 3->4 63->84 3->24 3->4
+filp 2->1 32->16 16->0 4->2
+pid 1->1 32->32 12->0 1->1
+kmalloc-8 1->1 512->512 0->0 1->1'
+    has_table() { [ "$(tr -s ' ' <"$room/out")" = "$table" ]; }
+    run whatif some.trace all:min_partial:0 pid:cpu_partial:7
+    wants "whatif prints the rows of all groups, the greatest changes first" has_table
+    wants "its status is 0, and it says nothing else" eval "ends 0 && [ ! -s '$room/err' ]"
+    wants "the columns stand below each other" [ "$(cut -c25 "$room/out" | tr -d '\n')" = s13211 ]
+    wants "it leaves no file behind" [ -z "$(ls -A "$TMPDIR")" ]
+    script=$room/link run whatif some.trace all:min_partial:0 pid:cpu_partial:7
+    wants "whatif through a symbolic link" has_table
+    run whatif some.trace dentri:min_partial:0
+    wants "a setting of no cache is told" says 'the recording has no cache dentri'
+    echo 'words --group 2. is refused' >>"$CALLS/rows"
+    run whatif some.trace all:min_partial:0 pid:cpu_partial:7
+    wants "what a replay refuses is told" eval "ends 1 && has_table && says 'refused in group 2, before the settings'"
+    echo 'words --group 2 --tune all:min_partial:4097. is bad' >>"$CALLS/rows"
+    run whatif some.trace all:min_partial:4097
+    wants "the status of a conversion that fails is the script's, and its line" eval "ends 3 && wrote 'slub: bad words --group 2 --tune all:min_partial:4097'"
+    wants "then too no file is left behind" [ -z "$(ls -A "$TMPDIR")" ]
+    rm "$CALLS/rows"
+    unset TMPDIR
+else
+    echo "tests/slub.sh: the tables of whatif: skipped, since there is no awk"
+fi
 touch serial 7
 run replay --how serial --seed 7
 wants "an option's value is no file" is_proved replay --how serial --seed 7

@@ -16,8 +16,9 @@ use Rattle.slub_recorded.specs.declared.text.Row.{Row}
 use Rattle.slub_recorded.specs.declared.told.Note.{Note}
 use Rattle.slub_recorded.specs.declared.tunes.Tune.{Tune}
 use Rattle.slub_recorded.specs.declared.turns.Turn.{Turn}
+use Rattle.slub_recorded.specs.Caches.{caches_of}
 use Rattle.slub_recorded.specs.Comments.{IsNote, IsComment}
-use Rattle.slub_recorded.specs.Converted.{IsConverted, IsTraceText, IsTune, cpus_asked, place_of, titles}
+use Rattle.slub_recorded.specs.Converted.{AreShown, IsConverted, IsTraceText, IsTune, cpus_asked, caches, place_of, titles}
 use Rattle.slub_recorded.specs.Groups.{AreApart}
 use Rattle.slub_recorded.specs.Lines.{IsRow}
 use Rattle.slub_recorded.specs.Naming.{titles_of}
@@ -58,6 +59,7 @@ pub record Made (recording : Recording) (options : Options) (tunes : List Tune) 
   pub rows_are : All IsRow rows
   pub few_rows : length rows ≤ 32
   pub apart : AreApart rows
+  pub shown : AreShown recording options cpus rows notes
   pub fit : All IsTune tunes
   pub named : places ≡ map (place_of rows) (titles recording)
   pub moves_are : moves ≡ (seen recording.events).moves
@@ -96,6 +98,7 @@ converted recording options tunes cpus rows places moves fates notes text turns 
       few_cpus = made.few_cpus;
       few_caches = made.few_rows;
       apart = made.apart;
+      shown = made.shown;
       next = next;
       cut = refl;
       done = done;
@@ -119,6 +122,15 @@ titles_are recording events p names objects moves v ee ne oe me =
     let os : objects ≡ (seen recording.events).objects = oe ∙ were.2 ∙ ap (λ e. (seen e).objects) ee in
     let ms : moves ≡ (seen recording.events).moves = me ∙ were.0 ∙ ap (λ e. (seen e).moves) ee in
     ap (λ n. titles_of n objects moves) ne ∙ ap (λ o. titles_of recording.names.keys o moves) os ∙ ap (λ m. titles_of recording.names.keys (seen recording.events).objects m) ms
+
+-- the caches of what a pairing has are those of the recording
+pub caches_are : (recording : Recording) (events : List KmemEvent) (p : Pairing) (ts : List Title) (objects : List Born) (moves : List Move)
+    → view p ≡ seen events → events ≡ recording.events → ts ≡ titles recording → objects ≡ p.objects.items → moves ≡ p.moves.items → caches_of ts objects moves ≡ caches recording
+caches_are recording events p ts objects moves v ee te oe me =
+    let were = moves_seen p (seen events) v in
+    let os : objects ≡ (seen recording.events).objects = oe ∙ were.2 ∙ ap (λ e. (seen e).objects) ee in
+    let ms : moves ≡ (seen recording.events).moves = me ∙ were.0 ∙ ap (λ e. (seen e).moves) ee in
+    ap (λ t. caches_of t objects moves) te ∙ ap (λ o. caches_of (titles recording) o moves) os ∙ ap (λ m. caches_of (titles recording) (seen recording.events).objects m) ms
 
 -- the same, with what slices are lent of each part
 pub joined : (recording : Recording) (options : Options) (tunes : List Tune) (cpus : ℕ) (rows : List Row) (places : List (Option ℕ)) (moves : List Move) (fates : List Fate) (notes : List Note) (text : List ℕ)

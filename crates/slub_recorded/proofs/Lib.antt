@@ -16,3 +16,9 @@ pub mod Slots
 pub mod Rows
 pub mod Steps
 pub mod Cutting
+pub mod Framed
+pub mod Grouping
+pub mod Packing
+pub mod Placing
+pub mod Rooms
+pub mod Shown

@@ -12,10 +12,10 @@ use Rattle.slub_recorded.specs.declared.groups.Split.{Split}
 use Rattle.slub_recorded.specs.declared.text.Row.{Row}
 use Rattle.slub_recorded.specs.Groups.{AreApart, FitTrace, IsSplit, frames_of, letters_of, row_of, unlettered}
 
-sums : (slot : ℕ) (cs : List Chosen) → count_by (λ (r : Row). r.slot == slot) (map row_of cs) ≡ count_by (λ (c : Chosen). c.slot == slot) cs
+sums : (slot : ℕ) (cs : List Chosen) → count_by (λ (r : Row). r.slot == slot) (map row_of cs) ≡ count_by (λ (c : Chosen). c.cache.slot == slot) cs
 sums slot cs = fold-map (λ a (r : Row). a + cond (r.slot == slot) 1 0) row_of 0 cs
 
-letters_count : (slot : ℕ) (cs : List Chosen) → length (letters_of slot (map row_of cs)) ≡ count_by (λ (c : Chosen). c.slot == slot) cs
+letters_count : (slot : ℕ) (cs : List Chosen) → length (letters_of slot (map row_of cs)) ≡ count_by (λ (c : Chosen). c.cache.slot == slot) cs
 unfolding letters_of
 letters_count slot cs =
     let p : Row → Bool = λ r. r.slot == slot in
@@ -41,24 +41,24 @@ front [] b is less letter = ap (λ x. x ∷ []) letter
 front (x ∷ []) b is less letter = ap (λ (l : List Bool). l ++ b ∷ []) is ∙ ap (λ y. false ∷ y ∷ []) letter
 front (x ∷ y ∷ ls) b is less letter = absurd (omega arith)
 
-with_one : (c : Chosen) (slot : ℕ) (b : Bool) → (c.slot == slot) ≡ b → (ls : List Bool) → ls ≡ take (length ls) (false ∷ true ∷ []) → (c.slot ≡ slot → length ls < 2) → (c.slot ≡ slot → c.second ≡ (length ls == 1))
+with_one : (c : Chosen) (slot : ℕ) (b : Bool) → (c.cache.slot == slot) ≡ b → (ls : List Bool) → ls ≡ take (length ls) (false ∷ true ∷ []) → (c.cache.slot ≡ slot → length ls < 2) → (c.cache.slot ≡ slot → c.second ≡ (length ls == 1))
     → ls ++ cond b (c.second ∷ []) [] ≡ take (length (ls ++ cond b (c.second ∷ []) [])) (false ∷ true ∷ [])
-with_one c slot true same ls is less letter = front ls c.second is (less (eqb-true c.slot slot same)) (letter (eqb-true c.slot slot same))
+with_one c slot true same ls is less letter = front ls c.second is (less (eqb-true c.cache.slot slot same)) (letter (eqb-true c.cache.slot slot same))
 with_one c slot false same ls is less letter =
     let P : List Bool → Type 0 = λ l. l ≡ take (length l) (false ∷ true ∷ []) in
     subst P (sym (append-nil ls)) is
 
-apart_more : (taken : List Chosen) (c : Chosen) (same : ℕ) → AreApart (map row_of taken) → same ≡ count_by (λ (o : Chosen). o.slot == c.slot) taken → same < 2 → c.second ≡ (same == 1) → AreApart (map row_of (taken ++ c ∷ []))
+apart_more : (taken : List Chosen) (c : Chosen) (same : ℕ) → AreApart (map row_of taken) → same ≡ count_by (λ (o : Chosen). o.cache.slot == c.cache.slot) taken → same < 2 → c.second ≡ (same == 1) → AreApart (map row_of (taken ++ c ∷ []))
 unfolding AreApart
 apart_more taken c same apart is less letter slot =
     let ls : List Bool = letters_of slot (map row_of taken) in
     let P : List Bool → Type 0 = λ l. l ≡ take (length l) (false ∷ true ∷ []) in
-    let whole : letters_of slot (map row_of (taken ++ c ∷ [])) ≡ ls ++ cond (c.slot == slot) (c.second ∷ []) [] =
+    let whole : letters_of slot (map row_of (taken ++ c ∷ [])) ≡ ls ++ cond (c.cache.slot == slot) (c.second ∷ []) [] =
     ap (letters_of slot) (map-append row_of taken (c ∷ [])) ∙ letters_append slot (map row_of taken) (row_of c ∷ []) ∙ ap (λ l. ls ++ l) (letters_one slot (row_of c)) in
     let Q : ℕ → Type 0 = λ s. length (letters_of s (map row_of taken)) ≡ same in
-    let long : c.slot ≡ slot → length ls ≡ same = λ at. subst Q at (letters_count c.slot taken ∙ sym is) in
+    let long : c.cache.slot ≡ slot → length ls ≡ same = λ at. subst Q at (letters_count c.cache.slot taken ∙ sym is) in
     let N : ℕ → Type 0 = λ n. n < 2 in
-    subst P (sym whole) (with_one c slot (c.slot == slot) refl ls (apart slot) (λ at. subst N (sym (long at)) less) (λ at. letter ∙ ap (λ n. n == 1) (sym (long at))))
+    subst P (sym whole) (with_one c slot (c.cache.slot == slot) refl ls (apart slot) (λ at. subst N (sym (long at)) less) (λ at. letter ∙ ap (λ n. n == 1) (sym (long at))))
 
 frames_more : (taken : List Chosen) (c : Chosen) → frames_of (taken ++ c ∷ []) ≡ frames_of taken + c.frames
 unfolding frames_of
@@ -81,7 +81,7 @@ none_yet split taken frames others =
       fits = subst FitTrace (sym taken) nothing;
     }
 
-fits_more : (taken : List Chosen) (c : Chosen) (same : ℕ) → FitTrace taken → length taken < 32 → same ≡ count_by (λ (o : Chosen). o.slot == c.slot) taken → same < 2 → c.second ≡ (same == 1) → frames_of taken + c.frames ≤ 4095 → FitTrace (taken ++ c ∷ [])
+fits_more : (taken : List Chosen) (c : Chosen) (same : ℕ) → FitTrace taken → length taken < 32 → same ≡ count_by (λ (o : Chosen). o.cache.slot == c.cache.slot) taken → same < 2 → c.second ≡ (same == 1) → frames_of taken + c.frames ≤ 4095 → FitTrace (taken ++ c ∷ [])
 fits_more taken c same fits room is less letter sum =
     let more = frames_more taken c in
     let long = length-append taken (c ∷ []) in
@@ -124,8 +124,8 @@ left given old new c is taken frames others =
       fits = subst FitTrace (sym taken) is.fits;
     }
 
-pub took : (given : List Chosen) (old new : Split) (c d : Chosen) (same : ℕ) → IsSplit given old → unlettered d ≡ unlettered c → d.slot ≡ c.slot → d.frames ≡ c.frames → d.second ≡ (same == 1)
-    → same ≡ count_by (λ (o : Chosen). o.slot == c.slot) old.taken.items → same < 2 → length old.taken.items < 32 → new.frames ≡ old.frames + c.frames → new.frames ≤ 4095
+pub took : (given : List Chosen) (old new : Split) (c d : Chosen) (same : ℕ) → IsSplit given old → unlettered d ≡ unlettered c → d.cache.slot ≡ c.cache.slot → d.frames ≡ c.frames → d.second ≡ (same == 1)
+    → same ≡ count_by (λ (o : Chosen). o.cache.slot == c.cache.slot) old.taken.items → same < 2 → length old.taken.items < 32 → new.frames ≡ old.frames + c.frames → new.frames ≤ 4095
     → new.taken.items ≡ old.taken.items ++ d ∷ [] → new.others.items ≡ old.others.items → IsSplit (given ++ c ∷ []) new
 took given old new c d same is plain slot frame letter count less room sum most taken others =
     let P : List Chosen → List Chosen → Type 0 = λ t o. IsPermutation (map unlettered (given ++ c ∷ [])) (map unlettered t ++ map unlettered o) in
@@ -134,7 +134,7 @@ took given old new c d same is plain slot frame letter count less room sum most 
     let more = frames_more old.taken.items d in
     let at = is.frames in
     let now : new.frames ≡ frames_of (old.taken.items ++ d ∷ []) = omega (arith, more, at, sum, frame) in
-    let S : ℕ → Type 0 = λ s. same ≡ count_by (λ (o : Chosen). o.slot == s) old.taken.items in
+    let S : ℕ → Type 0 = λ s. same ≡ count_by (λ (o : Chosen). o.cache.slot == s) old.taken.items in
     record {
       all = subst T (sym taken) (subst O (sym others) (sooner given old.taken.items old.others.items c d plain is.all));
       frames = now ∙ ap frames_of (sym taken);

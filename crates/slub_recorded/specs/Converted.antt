@@ -1,24 +1,27 @@
 -- What a conversion promises.
-use Rattle.std.specs.Prelude.{◌≡◌, ℕ, ◌+◌, ◌<◌, ◌≤◌, ◌⊎◌, ⊤, min, max, unwrap_or, false, List, [], ◌++◌, length, All, Option, map, position, flat_map}
+use Rattle.std.specs.Prelude.{◌≡◌, ℕ, ◌+◌, ◌<◌, ◌≤◌, ◌⊎◌, ⊤, min, max, unwrap_or, false, List, [], ◌++◌, length, All, Contains, Option, map, position, flat_map}
 use Rattle.std.specs.Str.{bytes_eq}
 use Rattle.slub_recording.specs.declared.recording.Recording.{Recording}
 use Rattle.slub_recorded.specs.declared.convert.ConvertFault.{ConvertFault}
 use Rattle.slub_recorded.specs.declared.convert.ConvertFault.TheVariants.{NoMemory, TooManyCpus, NoSuchGroup, TooManyObjects, TooLong}
 use Rattle.slub_recorded.specs.declared.convert.Options.{Options}
+use Rattle.slub_recorded.specs.declared.groups.Cache.{Cache}
 use Rattle.slub_recorded.specs.declared.naming.Title.{Title}
 use Rattle.slub_recorded.specs.declared.rounds.Step.{Step}
 use Rattle.slub_recorded.specs.declared.text.Row.{Row}
 use Rattle.slub_recorded.specs.declared.told.Note.{Note}
 use Rattle.slub_recorded.specs.declared.tunes.Tune.{Tune}
 use Rattle.slub_recorded.specs.declared.turns.Turn.{Turn}
+use Rattle.slub_recorded.specs.Caches.{caches_of}
 use Rattle.slub_recorded.specs.Comments.{IsNote}
 use Rattle.slub_recorded.specs.Groups.{AreApart}
 use Rattle.slub_recorded.specs.Lines.{IsTraceOf, trace_lines}
+use Rattle.slub_recorded.specs.Members.{AreGrouped, Member, in_group, in_none, row_for, unlettered_row}
 use Rattle.slub_recorded.specs.Naming.{titles_of}
 use Rattle.slub_recorded.specs.Pairing.{seen}
 use Rattle.slub_recorded.specs.Rounds.{AreHeld, count_workers, steps_of, turns_in}
 use Rattle.slub_recorded.specs.Text.{body_text}
-use Rattle.slub_recorded.specs.Told.{Tells, note_text}
+use Rattle.slub_recorded.specs.Told.{Tells, left_note, note_text}
 use Rattle.slub_recorded.specs.Tunes.{head_text}
 use Rattle.slub_recorded.specs.Turns.{AreNext, turns_of}
 
@@ -42,6 +45,11 @@ abbrev pub titles : Recording → List Title
 titles recording =
     titles_of recording.names.keys (seen recording.events).objects (seen recording.events).moves
 
+-- its caches
+abbrev pub caches : Recording → List Cache
+caches recording =
+    caches_of (titles recording) (seen recording.events).objects (seen recording.events).moves
+
 -- the CPUs of a trace: those asked for, else all that the recording tells of or has events of
 abbrev pub cpus_asked : Recording → Options → ℕ
 cpus_asked recording options = unwrap_or options.cpus
@@ -61,6 +69,17 @@ IsFault recording options (TooLong bytes) = 16777216 < bytes
 abbrev pub turns_by : Recording → List (Option ℕ) → ℕ → List Turn
 turns_by recording places cpus = turns_of places cpus (seen recording.events).moves
 
+-- the caches of a trace are those of the group that is asked for, in their order, and each cache of
+-- the recording that is in no group is told
+pub record AreShown (recording : Recording) (options : Options) (cpus : ℕ) (rows : List Row)
+    (notes : List Note) : Type 0 where
+  pub members : List Member
+  pub grouped : AreGrouped cpus (caches recording) members
+  pub shown : map unlettered_row rows ≡ map row_for (in_group options.group members)
+  pub group : 1 ≤ options.group
+  pub told_large : All (λ cache. Contains notes (left_note cache)) grouped.others
+  pub told_beyond : All (λ need. Contains notes (left_note need.cache)) (in_none members)
+
 -- the bytes are a trace of the settings in which the allocations and frees of kept objects stand in
 -- recorded order, each on its CPU, and nothing else
 pub record IsConverted (recording : Recording) (options : Options) (tunes : List Tune)
@@ -78,6 +97,8 @@ pub record IsConverted (recording : Recording) (options : Options) (tunes : List
   pub some_cpu : 1 ≤ cpus
   pub few_cpus : cpus ≤ 16
   pub few_caches : length rows ≤ 32
+  -- they are those of the group that is asked for
+  pub shown : AreShown recording options cpus rows notes
   -- at most two caches of a slot, of which the second has the letter R
   pub apart : AreApart rows
   -- each object is allocated under the next number, and freed at most once, after it

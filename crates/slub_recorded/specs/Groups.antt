@@ -6,7 +6,8 @@ use Rattle.slub_recorded.specs.declared.text.Row.{Row}
 
 -- the line of a cache
 abbrev pub row_of : Chosen → Row
-row_of cache = record { name = cache.name; slot = cache.slot; reclaim = cache.second }
+row_of one =
+    record { name = one.cache.name; slot = one.cache.slot; reclaim = one.second }
 
 -- of the caches of a slot, in their order: whether each has the letter R
 unfoldable pub letters_of : ℕ → List Row → List Bool

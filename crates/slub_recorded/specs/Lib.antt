@@ -13,4 +13,6 @@ pub mod Naming
 pub mod Words
 pub mod Stop
 pub mod Run
+pub mod Caches
 pub mod Groups
+pub mod Members

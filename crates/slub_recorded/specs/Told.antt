@@ -1,6 +1,7 @@
 -- What is told of a conversion, in comments.
 use Rattle.std.specs.Prelude.{◌≡◌, ℕ, ◌+◌, ◌==◌, List, [], ◌∷◌, ◌++◌, codes, count_by}
 use Rattle.std.specs.Fmt.{decimal}
+use Rattle.slub_recorded.specs.declared.groups.Cache.{Cache}
 use Rattle.slub_recorded.specs.declared.pairing.Fate.{Fate}
 use Rattle.slub_recorded.specs.declared.pairing.Fate.TheVariants as fate
 use Rattle.slub_recorded.specs.declared.told.About.{About}
@@ -55,6 +56,10 @@ about_text UnknownFrees = codes "frees of pointers that were not allocated in th
 about_text Letter = codes "slot of a cache whose R only keeps it from merging with another, "
 about_text LeftOutCache = codes "objects of a cache that fits in no group, "
 
+-- a cache that fits in no group is told, with how many objects it has
+abbrev pub left_note : Cache → Note
+left_note cache = Of LeftOutCache cache.name cache.objects
+
 -- a comment without its line feed
 abbrev pub note_words : Note → List ℕ
 note_words (Count word number) = codes "# " ++ word_text word ++ codes ": " ++ decimal number
@@ -99,6 +104,10 @@ fate_notes fates =
 -- the fates of all events are told first, and then more
 abbrev pub Tells : List Note → List Fate → Type 0
 Tells notes fates = (more : List Note) × (notes ≡ fate_notes fates ++ more)
+
+-- these are told last
+abbrev pub EndsIn : List Note → List Note → Type 0
+EndsIn notes listed = (front : List Note) × (notes ≡ front ++ listed)
 
 -- the sum of what notes tell
 abbrev pub sum_told : List Note → ℕ

@@ -3,14 +3,15 @@
 ghost use Rattle.std.specs.Prelude.{◌≡◌, ◌<◌, ◌≤◌, length, map, position, All, IfErr, IfOk, IfSome, OnOk};
 ghost use Rattle.std.specs.Str.{bytes_eq};
 ghost use Rattle.slub_recorded.specs.Converted.{IsConverted, IsFault, IsTraceText, IsTune, cpus_asked, place_of};
-ghost use Rattle.slub_recorded.specs.Groups.{row_of};
+ghost use Rattle.slub_recorded.specs.Groups.{FitTrace, row_of};
 ghost use Rattle.slub_recorded.specs.Lines.{IsRow};
+ghost use Rattle.slub_recorded.specs.Members.{IsGrouped};
 ghost use Rattle.slub_recorded.specs.Turns.{count_kept, turns_of};
 ghost use Rattle.slub_recorded.specs.declared.convert.ConvertFault.TheVariants.{NoMemory as OutOfMemory};
 ghost use Rattle.slub_recorded.specs.declared.convert.Options.{Options as OptionsOf};
 ghost use Rattle.slub_recording.specs.declared.recording.Recording.{Recording as RecordingOf};
 
-use crate::groups::{Chosen, caches_of, group};
+use crate::groups::{Cache, Chosen, Groups, caches_of, group};
 use crate::listed::{count_by_holder, count_no_cache, count_rounds, list};
 use crate::naming::{Title, titles};
 use crate::pairing::{Move, pair};
@@ -93,6 +94,30 @@ fn cpus_of(recording: &Recording, options: &Options) -> Result<u32, ConvertFault
     Ok(cpus)
 }
 
+/// The caches of the group that is asked for.
+fn group_of(
+    alloc: Global,
+    caches: &[Cache],
+    cpus: u32,
+    options: &Options,
+) -> Result<Groups, ConvertFault>
+    requires some { 1 ≤ cpus }
+    requires few { cpus ≤ 16 }
+    ensures fits { IfOk result (λ g. FitTrace g.chosen.items) }
+    ensures grouped { IfOk result (IsGrouped cpus caches.now options.now.group) }
+    ensures group { OnOk result (1 ≤ options.now.group) }
+    ensures fault { (recording : RecordingOf) → IfErr result (IsFault recording options.now) }
+{
+    let groups = group(alloc, caches, cpus, options.group)?;
+    if options.group == 0 || groups.groups < options.group {
+        return Err(ConvertFault::NoSuchGroup {
+            group: options.group,
+            groups: groups.groups,
+        });
+    }
+    Ok(groups)
+}
+
 /// The line of a cache.
 fn row(name: &Name, slot: u32, reclaim: bool) -> Row
     ensures fits { IsRow result }
@@ -113,7 +138,7 @@ fn rows_of(alloc: Global, chosen: &[Chosen]) -> Result<Vec<Row>, NoMemory>
 {
     let mut rows = Vec::with_capacity(alloc, chosen.len())?;
     for one in chosen {
-        rows.push(row(&one.name, one.slot, one.second))?;
+        rows.push(row(&one.cache.name, one.cache.slot, one.second))?;
     }
     Ok(rows)
 }
@@ -216,13 +241,7 @@ pub fn convert(
     let titles = titles(alloc, recording.names.as_slice(), objects, moves)?;
     let named = titles.as_slice();
     let caches = caches_of(alloc, named, objects, moves)?;
-    let groups = group(alloc, caches.caches.as_slice(), cpus, options.group)?;
-    if options.group == 0 || groups.groups < options.group {
-        return Err(ConvertFault::NoSuchGroup {
-            group: options.group,
-            groups: groups.groups,
-        });
-    }
+    let groups = group_of(alloc, caches.caches.as_slice(), cpus, options)?;
     let shown = rows_of(alloc, groups.chosen.as_slice())?;
     let rows = shown.as_slice();
     let places = places_of(alloc, rows, named)?;

@@ -18,7 +18,8 @@
 //!   once; `Rounds` where rounds begin and who does what, and what it is that no worker frees what
 //!   another one got in the same round; `Naming` the name of each object's cache; `Text` the bytes,
 //!   `Lines` the lines of the grammar of traces that they spell; `Tunes` those of settings; `Told` the
-//!   comments; `Groups` which caches may stand together; `Converted` what a conversion promises.
+//!   comments; `Caches` the caches of a recording, `Members` the group of each, `Groups` which caches
+//!   may stand together; `Converted` what a conversion promises.
 //! - Laws: `laws`. What is told of fates adds up, and what `Naming` folds over moves is the slot of
 //!   the first object whose free says a name, and the name that an object's own free says.
 //!
@@ -41,6 +42,15 @@
 //! Each object has the name that `naming` gives it (`specs/Naming.antt`). It is kept exactly where a
 //! cache of the trace has this name, and is of the first such cache.
 //!
+//! The recording has one cache for each name (`specs/Caches.antt`). Its slot is that of the first of
+//! its objects. It needs whole slabs for the greatest number of its objects that live at a time,
+//! with the slot as size and words as alignment (`IsNeed` of `specs/Members.antt`). The cache with
+//! most objects comes first, and of two with as many the one whose name does. Each is in the first of
+//! 256 groups that has room for it beside those before it: fewer than 32 caches, fewer than two of
+//! its slot, and 4095 page frames for all. The caches of the trace are those of the group that is
+//! asked for, all of them, in this order. Each cache that no group has room for, or that needs more
+//! page frames than there are, is told with how many objects it has (`AreShown`).
+//!
 //! Of the caches of a trace at most two have the same slot, and of two the second has the letter R.
 //! Those of a group together need at most 4095 page frames, and parting a group off loses no cache
 //! and has none twice (`specs/Groups.antt`).
@@ -48,8 +58,8 @@
 //! A fault has its cause (`IsFault`): for `TooManyCpus` a number of CPUs of 0 or above 16, for
 //! `NoSuchGroup` one that isn't among the groups, for the other limits more than they allow.
 //!
-//! No clause says which caches come first, nor that a cache's slot is that of its objects, nor that a
-//! fault comes wherever it has a cause.
+//! No clause says that a fault comes wherever it has a cause, nor that all objects of a cache have the
+//! slot of the first.
 #![tactic(auto)]
 
 pub mod convert;

@@ -1,6 +1,9 @@
 //! What is told of single caches.
 
-ghost use Rattle.std.specs.Prelude.{◌≤◌};
+ghost use Rattle.std.specs.Prelude.{◌≡◌, ◌≤◌, ◌++◌, ◌∷◌, [], All, Contains, IfOk, OnOk};
+ghost use Rattle.slub_recorded.specs.declared.told.Note.TheVariants.{Of as ToldOf};
+ghost use Rattle.slub_recorded.specs.Members.{IsLeftOut};
+ghost use Rattle.slub_recorded.specs.Told.{left_note};
 
 use crate::groups::{Cache, Chosen, is_left_out};
 use crate::pairing::Fate;
@@ -15,7 +18,9 @@ use slub_recording::recording::Recording;
 use std::alloc::Global;
 
 /// Tells a number of a cache.
-fn put(notes: &mut Vec<Note>, about: About, name: &Name, number: u64) -> Result<(), NoMemory> {
+fn put(notes: &mut Vec<Note>, about: About, name: &Name, number: u64) -> Result<(), NoMemory>
+    ensures { OnOk result (notes.new.items ≡ notes.old.items ++ ToldOf about name.now number ∷ []) }
+{
     notes.push(Note::Of {
         about,
         name: *name,
@@ -95,6 +100,9 @@ fn put_left_out(
 ) -> Result<(), NoMemory>
     requires some { 1 ≤ cpus }
     requires few { cpus ≤ 16 }
+    ensures { OnOk result (All
+        (λ cache. IsLeftOut cpus cache beyond.now → Contains notes.new.items (left_note cache))
+        caches.now) }
 {
     for cache in caches {
         if is_left_out(cache, cpus, beyond) {
@@ -116,6 +124,9 @@ pub(crate) fn list(
 ) -> Result<Vec<Note>, NoMemory>
     requires some { 1 ≤ cpus }
     requires few { cpus ≤ 16 }
+    ensures { IfOk result (λ notes. All
+        (λ cache. IsLeftOut cpus cache beyond.now → Contains notes.items (left_note cache))
+        caches.now) }
 {
     let mut notes = Vec::new(alloc);
     put_unknown(alloc, &mut notes, recording, fates)?;

@@ -3,7 +3,7 @@
 ghost use Rattle.std.specs.Prelude.{◌≡◌, ◌∷◌, ◌++◌, [], flat_map, All, IfOk, OnOk};
 ghost use Rattle.slub_recorded.specs.Comments.{IsNote};
 ghost use Rattle.slub_recorded.specs.declared.told.Note.TheVariants.{Count as Counted, Of as ToldOf};
-ghost use Rattle.slub_recorded.specs.Told.{about_text, count_fate, fate_notes, note_text, Tells, word_text};
+ghost use Rattle.slub_recorded.specs.Told.{about_text, count_fate, fate_notes, note_text, EndsIn, Tells, word_text};
 
 use crate::naming::{Namer, Title};
 use crate::pairing::Fate;
@@ -293,7 +293,8 @@ pub(crate) fn tell(
     counts: &Counts,
     listed: &[Note],
 ) -> Result<Vec<Note>, NoMemory>
-    ensures { IfOk result (λ notes. Tells notes.items fates.now) }
+    ensures fates { IfOk result (λ notes. Tells notes.items fates.now) }
+    ensures listed { IfOk result (λ notes. EndsIn notes.items listed.now) }
 {
     let mut notes = Vec::new(alloc);
     put_fates(&mut notes, fates)?;

@@ -1,3 +1,11 @@
 pub mod Counting
+pub mod Doing
 pub mod Dues
+pub mod Ends
+pub mod Finishing
+pub mod Following
+pub mod Lives
 pub mod Putting
+pub mod Telling
+pub mod Texts
+pub mod Watching

@@ -23,6 +23,10 @@ use Rattle.slub_steps.proofs.Counting.{counted-few, counted-first, counted-plain
 pub round-here : (trace : Trace) (number : ℕ) (it : Item) (round : Round) → number < length trace.items → it ≡ get_or trace.items number it → it ≡ item.Round round → slice_get trace.items number ≡ Some (item.Round round)
 round-here trace number it round within at is = slice_get_read trace.items (length trace.items) number it refl within at ∙ ap (λ (it : Item). Some it) is
 
+-- the item of the number is this
+pub item-here : (trace : Trace) (number : ℕ) (it : Item) → number < length trace.items → it ≡ get_or trace.items number it → slice_get trace.items number ≡ Some it
+item-here trace number it within at = slice_get_read trace.items (length trace.items) number it refl within at
+
 pub counts-round : (m : MachineState) (trace : Trace) (number : ℕ) (round : Round) (r : Result (MachineState × Done) Stop) → IsSound trace → IsReadyMachine m trace number → slice_get trace.items number ≡ Some (item.Round round)
     → IfOk r (λ done. IsRoundDone m.lists round done.1 done.0.lists) → IfOk r (λ done. IsReadyMachine done.0 trace (number + 1)) → IfOk r (λ done. CountsOn trace number m.lists done.1 done.0.lists)
 counts-round m trace number round (Ok done) sound ready here does next = λ dones so_far. counted-round m trace number round done.1 dones done.0 sound ready here so_far does next.lists.coherent

@@ -1,2 +1,7 @@
 pub mod Counted
+pub mod Inner
+pub mod Live
+pub mod Rounds
 pub mod Run
+pub mod Sayers
+pub mod Written

@@ -1,8 +1,11 @@
 //! The live names, and what items do to them.
 
+ghost use Rattle.std.specs.Prelude.{◌≡◌, OnOk, option_copied, slice_get};
+ghost use Rattle.slub_steps.specs.Live.{live_after, live_all, live_created, live_destroyed, live_served};
+
 use slub_common::no_memory::NoMemory;
 use slub_object_layout::name::Name;
-use slub_slabinfo_text::client::{ClientAnswer, ClientDone};
+use slub_slabinfo_text::client::ClientAnswer;
 use slub_slabinfo_text::journal::Done;
 use slub_slabinfo_text::names::class_names;
 use slub_state_text::names::LiveNames;
@@ -10,7 +13,9 @@ use slub_trace::create::{CreateRefusal, Created};
 use slub_trace::trace::{Item, Trace};
 
 /// The name at a place of the trace's names.
-fn name_at(trace: &Trace, place: u32) -> Option<&Name> {
+fn name_at(trace: &Trace, place: u32) -> Option<&Name>
+    ensures { option_copied result ≡ slice_get trace.now.names place }
+{
     trace.names.as_slice().get(place as usize)
 }
 
@@ -19,7 +24,9 @@ fn created(
     live: &mut LiveNames,
     name: Option<&Name>,
     answer: &Result<Created, CreateRefusal>,
-) -> Result<(), NoMemory> {
+) -> Result<(), NoMemory>
+    ensures { OnOk result (live.new ≡ live_created live.old (option_copied name.entry) answer.now) }
+{
     match (name, answer) {
         (Some(name), Ok(Created::New(cache) | Created::Merged { cache, title: _ })) => {
             live.add(name, *cache)
@@ -28,39 +35,52 @@ fn created(
     }
 }
 
-/// The creations of a `kmalloc` line were answered, in rising order of the classes.
-fn classes_created(
+/// Creations under these names were answered, one after the other.
+fn all_created(
     live: &mut LiveNames,
+    names: &[Name],
     answers: &[Result<Created, CreateRefusal>],
-) -> Result<(), NoMemory> {
-    let classes = class_names();
-    for (name, answer) in classes.iter().zip(answers) {
+) -> Result<(), NoMemory>
+    ensures { OnOk result (live.new ≡ live_all live.old names.now answers.now) }
+{
+    for (name, answer) in names.iter().zip(answers) {
         created(live, Some(name), answer)?;
     }
     Ok(())
 }
 
+/// A client's line was answered: `kmalloc` creates the caches of the classes, in rising order.
+fn served(live: &mut LiveNames, answer: &ClientAnswer) -> Result<(), NoMemory>
+    ensures { OnOk result (live.new ≡ live_served live.old answer.now) }
+{
+    match answer {
+        ClientAnswer::Created(answers) => all_created(live, &class_names(), answers.as_slice()),
+        _ => Ok(()),
+    }
+}
+
+/// A name was destroyed.
+fn destroyed(live: &mut LiveNames, name: Option<&Name>)
+    ensures { live.new ≡ live_destroyed live.old (option_copied name.entry) }
+{
+    if let Some(name) = name {
+        live.remove(name);
+    }
+}
+
 /// An item was done.
-pub fn note(live: &mut LiveNames, trace: &Trace, item: &Item, done: &Done) -> Result<(), NoMemory> {
+pub fn note(live: &mut LiveNames, trace: &Trace, item: &Item, done: &Done) -> Result<(), NoMemory>
+    ensures { OnOk result (live.new ≡ live_after trace.now live.old item.now done.now) }
+{
     match (item, done) {
         (Item::Cache { name, spec: _ }, Done::Created(answer)) => {
             created(live, name_at(trace, *name), answer)
         }
         (Item::Destroy { name }, Done::Destroyed(Ok(_))) => {
-            if let Some(name) = name_at(trace, *name) {
-                live.remove(name);
-            }
+            destroyed(live, name_at(trace, *name));
             Ok(())
         }
-        (
-            Item::Client(_),
-            Done::Client(
-                ClientDone {
-                    answer: ClientAnswer::Created(answers),
-                    rounds: _,
-                },
-            ),
-        ) => classes_created(live, answers.as_slice()),
+        (Item::Client(_), Done::Client(outcome)) => served(live, &outcome.answer),
         _ => Ok(()),
     }
 }

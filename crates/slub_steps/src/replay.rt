@@ -1,16 +1,22 @@
 //! Replaying a trace step by step.
 
-ghost use Rattle.std.specs.Prelude.{◌≡◌, ◌+◌, ◌-◌, ◌^◌, ◌<◌, ◌∷◌, ◌++◌, [], IfOk, OnOk, length};
+ghost use Rattle.std.specs.Prelude.{◌≡◌, ◌+◌, ◌-◌, ◌^◌, ◌<◌, ◌∷◌, ◌++◌, [], false, IfErr, IfOk, MatchOption, OnOk, length, nat_le};
+ghost use Rattle.std.specs.Option.{option_map_or};
 ghost use Rattle.slub_lists.specs.Coherent.{IsCoherent};
 ghost use Rattle.slub_trace.specs.Sound.{IsSound};
 ghost use Rattle.slub_slabinfo_text.specs.Journal.{IsEmpty};
 ghost use Rattle.slub_slabinfo_text.specs.Lawful.{opening_of};
-ghost use Rattle.slub_law_replay.specs.declared.way.Way.TheVariants.{Schedule};
-ghost use Rattle.slub_law_replay.specs.Runs.{DoesAt, IsReadyMachine, machine_of};
+ghost use Rattle.slub_law_replay.specs.Runs.{IsReadyMachine, machine_of};
+ghost use Rattle.slub_asked.specs.declared.stop.Stop.TheVariants.{NoMemory as Want};
 ghost use Rattle.slub_steps.specs.Counted.{AreCounted, AreFew, CountsOn};
+ghost use Rattle.slub_steps.specs.Inner.{AreBefore, FinishesLog, IsGoodEnd, LacksEnd, MovesOn, RunsItems, StopsPlain, WritesItem, WritesPlain, WritesTotal, wanted_by};
+ghost use Rattle.slub_steps.specs.Live.{live_after};
+ghost use Rattle.slub_steps.specs.Written.{shows};
 
+use crate::choices::{RoundCounts, choice_of};
 use crate::live::note;
 use crate::round::{Place, do_round};
+use crate::writing::write_item;
 use slub_asked::stop::Stop;
 use slub_edges::edges::Sink;
 use slub_edges::gate::Gate;
@@ -18,46 +24,15 @@ use slub_edges::pieces::write_lines;
 use slub_items::machine::{Machine, Stopped};
 use slub_law_replay::way::Way as ReplayWay;
 use slub_picks::faults::Bad;
-use slub_picks::list::{Part, PickList};
-use slub_picks::walk::Walk;
+use slub_picks::list::Part;
 use slub_picks::words::Way;
-use slub_round_log::choice::Choice;
-use slub_schedule::draws::Draws;
-use slub_slabinfo_text::item::ItemText;
 use slub_slabinfo_text::journal::{Done, Journal};
 use slub_slabinfo_text::journal_text::push_sums;
 use slub_state_text::names::LiveNames;
-use slub_trace::event::Round;
 use slub_trace::trace::{Item, Trace};
 use std::alloc::Global;
 use std::sync::Wait;
 use std::thread::Threads;
-
-/// How many rounds were done.
-#[derive(Clone, Copy, Debug)]
-pub struct RoundCounts {
-    /// How many `round` lines.
-    lines: u32,
-    /// How many of them of two or more workers.
-    several: usize,
-}
-
-impl RoundCounts {
-    /// Behind the item.
-    fn after(self, item: &Item) -> RoundCounts {
-        match item {
-            Item::Round(round) if round.workers > 1 => RoundCounts {
-                lines: self.lines.saturating_add(1),
-                several: self.several.saturating_add(1),
-            },
-            Item::Round(_) => RoundCounts {
-                lines: self.lines.saturating_add(1),
-                several: self.several,
-            },
-            _ => self,
-        }
-    }
-}
 
 /// What is done of a trace so far.
 #[derive(Drop)]
@@ -71,7 +46,10 @@ pub struct Progress<K: Sink> {
 impl<K: Sink> Progress<K> {
     /// Nothing is done.
     pub fn open(alloc: Global, sink: K) -> Progress<K>
-        ensures { IsEmpty result.journal }
+        ensures empty { IsEmpty result.journal }
+        ensures live { result.live ≡ [] }
+        ensures rounds { result.rounds ≡ record { lines = 0; several = 0 } }
+        ensures sink { result.sink ≡ sink }
     {
         Progress {
             sink,
@@ -81,33 +59,6 @@ impl<K: Sink> Progress<K> {
                 lines: 0,
                 several: 0,
             },
-        }
-    }
-}
-
-/// The part of this number of the rounds of two or more workers.
-fn part_at(list: &PickList, number: usize) -> Option<&Part> {
-    list.parts.as_slice().get(number)
-}
-
-/// Who says whose turn comes next, in the round behind so many others.
-fn choice_of<'a>(
-    way: &'a Way,
-    nothing: &'a Part,
-    round: &Round,
-    before: RoundCounts,
-) -> Choice<'a> {
-    if round.workers <= 1 {
-        return Choice::Alone;
-    }
-    match way {
-        Way::Seed(seed) => Choice::Seed(Draws::open(seed.wrapping_add(u64::from(before.lines)))),
-        Way::Picks(list) => {
-            let part = match part_at(list, before.several) {
-                Some(part) => part,
-                None => nothing,
-            };
-            Choice::Part(Walk::open(part, round.workers as usize))
         }
     }
 }
@@ -126,7 +77,7 @@ fn do_plain<R: Threads + Wait + Sync, K: Sink, G: Gate + Sync>(
     requires sound { IsSound trace.now }
     requires within { number < length trace.now.items }
     requires ready { IsReadyMachine machine trace.now number }
-    ensures done { IfOk result (λ done. DoesAt (Schedule 0) machine trace.now number done.1 done.0) }
+    ensures written { WritesPlain trace.now number machine is_shown (record { taken = K.taken sink.old; faults = K.faults sink.old }) (record { taken = K.taken sink.new; faults = K.faults sink.new }) result }
     ensures ready { IfOk result (λ done. IsReadyMachine done.0 trace.now (number + 1)) }
 {
     let way = ReplayWay::Schedule { seed: 0 };
@@ -134,16 +85,14 @@ fn do_plain<R: Threads + Wait + Sync, K: Sink, G: Gate + Sync>(
         Ok(done) => done,
         Err(stopped) => return Err(stop_of(&stopped)),
     };
-    if is_shown {
-        let mut text = ItemText::new(alloc);
-        text.make(alloc, trace, number, &done, true)?;
-        text.write(sink, trace, number, &done, true)?;
-    }
+    write_item(alloc, sink, trace, number, is_shown, b"", &done)?;
     Ok((after, done))
 }
 
 /// Why an item that wasn't done stops the run.
-fn stop_of(stopped: &Stopped) -> Stop {
+fn stop_of(stopped: &Stopped) -> Stop
+    ensures { StopsPlain stopped.now result }
+{
     match stopped {
         Stopped::NoMemory(_) => Stop::NoMemory,
         Stopped::TurnsSpent => Stop::TurnsSpent,
@@ -177,8 +126,11 @@ fn do_one<R: Threads + Wait + Sync, K: Sink, G: Gate + Sync>(
     requires within { number < length trace.now.items }
     requires ready { IsReadyMachine machine trace.now number }
     requires few { number < 2 ^ 64 - 1 }
+    requires before { AreBefore before trace.now number }
+    requires nothing { plan.nothing.now.entries ≡ [] }
     ensures ready { IfOk result.1 (λ done. IsReadyMachine done.0 trace.now (number + 1)) }
     ensures counted { IfOk result.1 (λ done. CountsOn trace.now number machine.lists done.1 done.0.lists) }
+    ensures written { WritesItem (wanted_by plan.entry) trace.now number machine live.now (record { taken = K.taken sink; faults = K.faults sink }) (record { taken = K.taken result.0; faults = K.faults result.0 }) result.1 }
 {
     let mut sink = sink;
     match &trace.items.as_slice()[number] {
@@ -211,6 +163,8 @@ fn keep(
 ) -> Result<Machine, Stop>
     ensures same { IfOk result (λ after. after ≡ machine) }
     ensures put { OnOk result (journal.new.items ≡ journal.old.items ++ done ∷ []) }
+    ensures live { OnOk result (live.new ≡ live_after trace.now live.old item.now done) }
+    ensures want { IfErr result (λ stop. stop ≡ Want) }
 {
     note(live, trace, item, &done)?;
     journal.items.push(done)?;
@@ -234,8 +188,12 @@ impl<K: Sink> Progress<K> {
         requires ready { IsReadyMachine machine trace.now number }
         requires few { number < 2 ^ 64 - 1 }
         requires counted { AreCounted trace.now number self.journal.items machine.lists }
+        requires before { AreBefore self.rounds trace.now number }
+        requires nothing { plan.nothing.now.entries ≡ [] }
         ensures ready { IfOk result.1 (λ after. IsReadyMachine after trace.now (number + 1)) }
         ensures counted { IfOk result.1 (λ after. AreCounted trace.now (number + 1) result.0.journal.items after.lists) }
+        ensures before { AreBefore result.0.rounds trace.now (number + 1) }
+        ensures moved { MovesOn (wanted_by plan.entry) trace.now number machine self.journal.items self.live (record { taken = K.taken self.sink; faults = K.faults self.sink }) result.0.journal.items result.0.live (record { taken = K.taken result.0.sink; faults = K.faults result.0.sink }) result.1 }
     {
         let Progress {
             sink,
@@ -272,7 +230,9 @@ impl<K: Sink> Progress<K> {
     }
 
     /// Whether all is done that is asked for.
-    fn is_done(&self, plan: Plan) -> bool {
+    fn is_done(&self, plan: Plan) -> bool
+        ensures { result ≡ option_map_or (λ only. nat_le only self.now.rounds.lines) plan.entry.round false }
+    {
         match plan.round {
             Some(round) => self.rounds.lines >= round,
             None => false,
@@ -293,8 +253,12 @@ impl<K: Sink> Progress<K> {
         requires opened { machine ≡ machine_of trace.now }
         requires coherent { IsCoherent (opening_of trace.now) }
         requires empty { IsEmpty self.journal }
+        requires live { self.live ≡ [] }
+        requires rounds { self.rounds ≡ record { lines = 0; several = 0 } }
+        requires nothing { plan.nothing.now.entries ≡ [] }
         ensures coherent { IfOk result.1 (λ after. IsCoherent after.lists) }
         ensures few { IfOk result.1 (λ _. AreFew result.0.journal.items) }
+        ensures run { RunsItems (wanted_by plan.entry) trace.now result.0.journal.items result.0.rounds (record { taken = K.taken self.sink; faults = K.faults self.sink }) (record { taken = K.taken result.0.sink; faults = K.faults result.0.sink }) result.1 }
     {
         let mut progress = self;
         let mut machine = machine;
@@ -312,39 +276,60 @@ impl<K: Sink> Progress<K> {
         (progress, Ok(machine))
     }
 
-    /// Says what came of the whole trace.
-    pub fn finish(&mut self, alloc: Global, plan: Plan, machine: &Machine) -> Result<(), Stop>
+    /// Writes the total line.
+    fn write_total(&mut self, alloc: Global, machine: &Machine) -> Result<(), Stop>
         requires coherent { IsCoherent machine.now.lists }
         requires few { AreFew self.old.journal.items }
+        ensures written { WritesTotal self.old.journal.items machine.now.lists (record { taken = K.taken self.old.sink; faults = K.faults self.old.sink }) (record { taken = K.taken self.new.sink; faults = K.faults self.new.sink }) result }
+        ensures items { self.new.journal.items ≡ self.old.journal.items }
+        ensures rounds { self.new.rounds ≡ self.old.rounds }
     {
-        if let Some(round) = plan.round {
-            return if self.rounds.lines < round {
-                Err(Stop::of_picks(alloc, Bad::NoRound(round)))
-            } else {
-                Ok(())
-            };
-        }
         let sums = machine.total(self.journal.items.as_slice());
         let mut text = Vec::new(alloc);
         push_sums(&mut text, &sums)?;
         write_lines(&mut self.sink, text.as_slice())?;
         self.journal.total = Some(sums);
-        match plan.way {
-            Way::Picks(list) if list.parts.as_slice().len() > self.rounds.several => {
-                let bad = Bad::PartsLeft {
-                    parts: list.parts.as_slice().len(),
-                    rounds: self.rounds.several,
-                };
-                Err(Stop::of_picks(alloc, bad))
-            }
-            _ => Ok(()),
+        Ok(())
+    }
+
+    /// Writes what stands behind the items, and says what is lacking.
+    pub fn finish(&mut self, alloc: Global, plan: Plan, machine: &Machine) -> Result<(), Stop>
+        requires coherent { IsCoherent machine.now.lists }
+        requires few { AreFew self.old.journal.items }
+        ensures finished { FinishesLog (wanted_by plan.entry) self.old.journal.items machine.now.lists self.old.rounds (record { taken = K.taken self.old.sink; faults = K.faults self.old.sink }) (record { taken = K.taken self.new.sink; faults = K.faults self.new.sink }) result }
+        ensures items { self.new.journal.items ≡ self.old.journal.items }
+    {
+        if plan.round.is_none() {
+            self.write_total(alloc, machine)?;
         }
+        match lacking(plan, self.rounds) {
+            None => Ok(()),
+            Some(bad) => Err(Stop::of_picks(alloc, bad)),
+        }
+    }
+}
+
+/// What is lacking once all is done: the round that is to be shown, or rounds for all parts of the picks.
+fn lacking(plan: Plan, rounds: RoundCounts) -> Option<Bad>
+    ensures { MatchOption result (IsGoodEnd (wanted_by plan.entry) rounds) (LacksEnd (wanted_by plan.entry) rounds) }
+{
+    match (plan.round, plan.way) {
+        (Some(round), _) if rounds.lines < round => Some(Bad::NoRound(round)),
+        (None, Way::Picks(list)) if list.parts.as_slice().len() > rounds.several => {
+            Some(Bad::PartsLeft {
+                parts: list.parts.as_slice().len(),
+                rounds: rounds.several,
+            })
+        }
+        _ => None,
     }
 }
 
 impl Plan<'_> {
     /// Whether the round that the `round` line of this number begins is shown.
-    fn shows(&self, number: u32) -> bool {
+    fn shows(&self, number: u32) -> bool
+        ensures { result ≡ shows (wanted_by self.now) number }
+    {
         match self.round {
             Some(round) => number == round,
             None => true,

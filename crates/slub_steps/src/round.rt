@@ -6,18 +6,19 @@ ghost use Rattle.slub_trace.specs.Sound.{IsSound};
 ghost use Rattle.slub_slabinfo_text.specs.Texts.{IsNamed};
 ghost use Rattle.slub_law_replay.specs.Runs.{IsReadyMachine};
 ghost use Rattle.slub_items.specs.Watched.{IsDue};
-ghost use Rattle.slub_steps.specs.Counted.{IsOutcome, IsRoundDone};
+ghost use Rattle.slub_steps.specs.Counted.{IsRoundDone};
+ghost use Rattle.slub_steps.specs.Inner.{ClosesBy, ClosesRound, HaltsBy, IsFirstKept, OpensAs, StopsBy, due_of, ids_among, stop_by};
+ghost use Rattle.slub_steps.specs.Rounds.{IsOpening, WritesRound, labels_of};
+ghost use Rattle.slub_steps.specs.Sayers.{Sayer};
 
+use crate::titles::titles_of;
+use crate::writing::{show, write_item};
 use slub_asked::stop::Stop;
 use slub_common::no_memory::NoMemory;
-use slub_common::sequence::Sequence;
 use slub_edges::edges::Sink;
-use slub_edges::pieces::write_lines;
 use slub_items::machine::Machine;
 use slub_items::watched::Unwatched;
-use slub_list_machine::lists::Lists;
 use slub_log_text::parts::{Counts, Shown, put_closing, put_opening};
-use slub_object_layout::name::Name;
 use slub_open_close::ids::Ids;
 use slub_picks::faults::Bad;
 use slub_picks::made::Made;
@@ -25,7 +26,6 @@ use slub_round_log::choice::Choice;
 use slub_round_log::context::Context;
 use slub_round_log::kept::{Fault, Halt, Kept};
 use slub_round_log::log::Log;
-use slub_slabinfo_text::item::ItemText;
 use slub_slabinfo_text::journal::{Done, RoundResult};
 use slub_state_text::names::LiveNames;
 use slub_trace::event::Round;
@@ -43,22 +43,10 @@ pub struct Place {
     pub is_shown: bool,
 }
 
-/// The titles of the live caches, by number.
-fn titles_of(alloc: Global, lists: &Lists) -> Result<Sequence<Option<Name>>, NoMemory>
-    requires { IsCoherent lists.now }
-{
-    let caches = lists.caches();
-    let mut titles = vec![in alloc; None; 32]?;
-    for cache in caches.in_order() {
-        if let Some(title) = titles.get_mut(usize::from(*cache)) {
-            *title = Some(*caches.title(*cache));
-        }
-    }
-    Ok(Sequence::from_vec(titles))
-}
-
 /// The ids beside a machine: its own, or others where it keeps none.
-fn ids_of<'a>(machine: &'a Machine, others: &'a Option<Ids>) -> &'a [u32] {
+fn ids_of<'a>(machine: &'a Machine, others: &'a Option<Ids>) -> &'a [u32]
+    ensures { result.now ≡ ids_among machine.entry.now.ids others.entry.now }
+{
     match (machine.ids(), others) {
         (Some(ids), _) => ids.by_word.as_slice(),
         (None, Some(others)) => others.by_word.as_slice(),
@@ -76,10 +64,10 @@ fn opening(
     live: &LiveNames,
 ) -> Result<Vec<u8>, NoMemory>
     requires coherent { IsCoherent machine.now.lists }
-    requires cpus { trace.now.cpus ≤ 16 }
     requires workers { round.now.workers ≤ 16 }
+    ensures { IfOk result (λ text. (sayer : Sayer) → IsOpening (due_of place trace.now round.now sayer live.now) machine.now text.items) }
 {
-    let first = Some(Ids::first(alloc, 0, trace.cpus)?);
+    let first = Some(Ids::first(alloc, 0, machine.lists().cpus())?);
     let before = Shown {
         lists: machine.lists(),
         first: trace.tid,
@@ -103,6 +91,7 @@ fn closing(
     kept: &Kept,
 ) -> Result<Vec<u8>, NoMemory>
     requires { IsCoherent machine.now.lists }
+    ensures { IfOk result (λ text. ClosesBy place trace.now round.now live.now machine.now left.now kept.now text.items) }
 {
     let after = Shown {
         lists: machine.lists(),
@@ -132,6 +121,7 @@ fn kept<'a>(
     requires coherent { IsCoherent machine.now.lists }
     requires workers { round.now.workers ≤ 16 }
     requires named { All (λ event. IsNamed trace.now.names event.act) round.now.events }
+    ensures { IfOk result (λ k. IsFirstKept k (labels_of trace.now machine.now.lists round.now) choice.entry is_shown) }
 {
     let titles = titles_of(alloc, machine.lists())?;
     let labels = Labels::open(
@@ -153,24 +143,23 @@ fn kept<'a>(
     })
 }
 
-/// Why a round ended before its time, after so many turns. What failed in its log comes first.
-fn stop_of(
-    alloc: Global,
-    why: Unwatched<Machine, Halt>,
-    fault: Option<Fault>,
-    round: u32,
-    turns: u64,
-) -> Stop {
-    match (fault, why) {
-        (Some(Fault::Write), _) | (_, Unwatched::Halted(Halt::Failed(Fault::Write))) => {
-            Stop::WriteFault
-        }
-        (Some(Fault::NoMemory), _)
-        | (_, Unwatched::NoMemory(_) | Unwatched::Halted(Halt::Failed(Fault::NoMemory))) => {
-            Stop::NoMemory
-        }
-        (None, Unwatched::TurnsSpent) => Stop::TurnsSpent,
-        (None, Unwatched::Halted(Halt::Unfit(misfit))) => {
+/// What a fault of a log stops the run for.
+fn stop_by(fault: Fault) -> Stop
+    ensures { result ≡ stop_by fault }
+{
+    match fault {
+        Fault::Write => Stop::WriteFault,
+        Fault::NoMemory => Stop::NoMemory,
+    }
+}
+
+/// What a log that has its round end stops the run for, after so many turns.
+fn stop_for(alloc: Global, halt: Halt, round: u32, turns: u64) -> Stop
+    ensures { HaltsBy halt round turns result }
+{
+    match halt {
+        Halt::Failed(fault) => stop_by(fault),
+        Halt::Unfit(misfit) => {
             let bad = Bad::InRound {
                 misfit,
                 round,
@@ -181,12 +170,24 @@ fn stop_of(
     }
 }
 
-/// Writes a text, if it is shown.
-fn show<K: Sink>(sink: &mut K, is_shown: bool, text: &[u8]) -> Result<(), Stop> {
-    if is_shown {
-        write_lines(sink, text)?;
+/// Why a round ended before its time, after so many turns. What failed in its log comes first.
+fn stop_of(
+    alloc: Global,
+    why: Unwatched<Machine, Halt>,
+    fault: Option<Fault>,
+    round: u32,
+    turns: u64,
+) -> Stop
+    ensures { StopsBy fault why round turns result }
+{
+    if let Some(fault) = fault {
+        return stop_by(fault);
     }
-    Ok(())
+    match why {
+        Unwatched::NoMemory(_) => Stop::NoMemory,
+        Unwatched::TurnsSpent => Stop::TurnsSpent,
+        Unwatched::Halted(halt) => stop_for(alloc, halt, round, turns),
+    }
 }
 
 /// Writes what stands behind the turns of a round that was done.
@@ -205,7 +206,7 @@ fn close_round<K: Sink>(
     requires coherent { IsCoherent machine.lists }
     requires sound { IsSound trace.now }
     requires within { place.number < length trace.now.items }
-    ensures { IfOk result.1 (λ done. (done.0 ≡ machine) × IsOutcome outcome done.1) }
+    ensures { ClosesRound place trace.now round.now live.now machine left outcome kept.now (record { taken = K.taken sink; faults = K.faults sink }) (record { taken = K.taken result.0; faults = K.faults result.0 }) result.1 }
 {
     let mut sink = sink;
     let tail = match closing(alloc, &machine, &left, trace, place, round, live, kept) {
@@ -213,7 +214,20 @@ fn close_round<K: Sink>(
         Err(NoMemory) => return (sink, Err(Stop::NoMemory)),
     };
     let done = Done::Round(outcome);
-    match finish(alloc, &mut sink, trace, place, tail.as_slice(), &done) {
+    let Place {
+        number,
+        is_shown,
+        ..
+    } = place;
+    match write_item(
+        alloc,
+        &mut sink,
+        trace,
+        number,
+        is_shown,
+        tail.as_slice(),
+        &done,
+    ) {
         Ok(()) => (sink, Ok((machine, done))),
         Err(stop) => (sink, Err(stop)),
     }
@@ -233,6 +247,7 @@ pub fn do_round<K: Sink>(
     requires { IsDue machine trace.now place.number round.now }
     ensures done { IfOk result.1 (λ done. IsRoundDone machine.lists round.now done.1 done.0.lists) }
     ensures ready { IfOk result.1 (λ done. IsReadyMachine done.0 trace.now (place.number + 1)) }
+    ensures written { (sayer : Sayer) → OpensAs sayer round.now.workers choice.entry → WritesRound (due_of place trace.now round.now sayer live.now) place.is_shown machine (record { taken = K.taken sink; faults = K.faults sink }) (record { taken = K.taken result.0; faults = K.faults result.0 }) result.1 }
 {
     let mut sink = sink;
     let head = match opening(alloc, &machine, trace, place, round, live) {
@@ -258,25 +273,4 @@ pub fn do_round<K: Sink>(
             (sink, Err(stop))
         }
     }
-}
-
-/// Writes what stands behind the turns, and the replies and damages.
-fn finish<K: Sink>(
-    alloc: Global,
-    sink: &mut K,
-    trace: &Trace,
-    place: Place,
-    tail: &[u8],
-    done: &Done,
-) -> Result<(), Stop>
-    requires sound { IsSound trace.now }
-    requires within { place.number < length trace.now.items }
-{
-    if place.is_shown {
-        let mut text = ItemText::new(alloc);
-        text.make(alloc, trace, place.number, done, true)?;
-        write_lines(sink, tail)?;
-        text.write(sink, trace, place.number, done, true)?;
-    }
-    Ok(())
 }

@@ -1,18 +1,21 @@
 //! The top call.
 
-ghost use Rattle.std.specs.Prelude.{◌≡◌, map, string_bytes};
+ghost use Rattle.std.specs.Prelude.{◌≡◌, [], if◌then◌else◌, Some, map, string_bytes};
 ghost use Rattle.slub_picks.specs.Words.{AreBadWords};
 ghost use Rattle.slub_trace.specs.Sound.{IsSound};
-ghost use Rattle.slub_steps.specs.Run.{IsRunOf};
+ghost use Rattle.slub_cli.specs.Run.{done_status};
+ghost use Rattle.slub_steps.specs.Run.{IsLogOf, IsRunOf, wanted_of};
+ghost use Rattle.slub_steps.specs.Written.{WritesLog, status_as};
 
 use crate::replay::{Plan, Progress};
+use crate::writing::show;
 use slub_asked::asked::{Asked, read_asked};
 use slub_asked::ending::end;
 use slub_asked::stop::Stop;
 use slub_cli::status::{Status as Done, done_status};
 use slub_common::no_memory::NoMemory;
 use slub_common::sequence::Sequence;
-use slub_edges::edges::{Sink, Source};
+use slub_edges::edges::{Failed, Sink, Source};
 use slub_edges::gate::Gate;
 use slub_edges::pieces::write_lines;
 use slub_items::machine::Machine;
@@ -34,7 +37,9 @@ pub struct Page<'a> {
 }
 
 /// How a run ended that did all that was asked for.
-fn done_as(trace: Trace, journal: &Journal) -> Status {
+fn done_as(trace: Trace, journal: &Journal) -> Status
+    ensures { result ≡ status_as (done_status (Some trace) journal.now) }
+{
     match done_status(&Some(trace), journal) {
         Done::Fine => Status::Fine,
         Done::NoMemory => Status::NoMemory,
@@ -52,14 +57,15 @@ fn replay<R: Threads + Wait + Sync, K: Sink, G: Gate + Sync>(
     sink: K,
 ) -> (K, Result<Status, Stop>)
     requires { IsSound trace }
+    ensures { WritesLog (wanted_of request.now) trace (record { taken = K.taken sink; faults = K.faults sink }) (record { taken = K.taken result.0; faults = K.faults result.0 }) result.1 }
 {
     let mut sink = sink;
     let mut head = Vec::new(alloc);
-    if put_head(&mut head, &trace, &request.way).is_err() {
+    if let Err(NoMemory) = put_head(&mut head, &trace, &request.way) {
         return (sink, Err(Stop::NoMemory));
     }
-    if write_lines(&mut sink, head.as_slice()).is_err() {
-        return (sink, Err(Stop::WriteFault));
+    if let Err(stop) = show(&mut sink, true, head.as_slice()) {
+        return (sink, Err(stop));
     }
     let machine = match Machine::open(alloc, &trace) {
         Ok(machine) => machine,
@@ -76,15 +82,26 @@ fn replay<R: Threads + Wait + Sync, K: Sink, G: Gate + Sync>(
     let (mut progress, result) = Progress::open(alloc, sink).do_items(
         rt, gate, alloc, plan, machine, &trace,
     );
-    let result = match result {
-        Ok(machine) => progress.finish(alloc, plan, &machine),
-        Err(stop) => Err(stop),
+    let machine = match result {
+        Ok(machine) => machine,
+        Err(stop) => {
+            let Progress { sink, .. } = progress;
+            return (sink, Err(stop));
+        }
     };
+    let finished = progress.finish(alloc, plan, &machine);
     let Progress { sink, journal, .. } = progress;
-    match result {
+    match finished {
         Ok(()) => (sink, Ok(done_as(trace, &journal))),
         Err(stop) => (sink, Err(stop)),
     }
+}
+
+/// A text of a page, where a page is asked for.
+fn page_text(is_page: bool, text: &[u8]) -> &[u8]
+    ensures { result.now ≡ (if is_page then text.now else []) }
+{
+    if is_page { text } else { b"" }
 }
 
 /// Replays the trace that was read, and writes the log, in its page where one was asked for.
@@ -97,15 +114,13 @@ fn write_log<R: Threads + Wait + Sync, K: Sink, G: Gate + Sync>(
     sink: K,
 ) -> (K, Status)
     requires { IsSound asked.trace }
+    ensures { IsLogOf asked (record { front = page.entry.front.now; back = page.entry.back.now }) (record { taken = K.taken sink; faults = K.faults sink }) (record { taken = K.taken result.0; faults = K.faults result.0 }) result.1 }
 {
     let Asked { request, trace } = asked;
-    let (front, back): (&[u8], &[u8]) = if request.page {
-        (page.front, page.back)
-    } else {
-        (&[], &[])
-    };
+    let front = page_text(request.page, page.front);
+    let back = page_text(request.page, page.back);
     let mut sink = sink;
-    if write_lines(&mut sink, front).is_err() {
+    if let Err(Failed) = write_lines(&mut sink, front) {
         return (sink, Status::WriteFault);
     }
     let (mut sink, outcome) = replay(rt, gate, alloc, &request, trace, sink);
@@ -134,7 +149,7 @@ pub fn run<R: Threads + Wait + Sync, S: Source, K: Sink, G: Gate + Sync>(
       told = S.rest source.old;
       left = S.rest source.new;
       read = (S.faults source.old, S.faults source.new);
-    }) (K.taken sink) (K.taken result.0) (K.faults sink, K.faults result.0) result.1 }
+    }) (record { front = page.entry.front.now; back = page.entry.back.now }) (record { taken = K.taken sink; faults = K.faults sink }) (record { taken = K.taken result.0; faults = K.faults result.0 }) result.1 }
     ensures untouched { AreBadWords (map string_bytes words.now) → source.new ≡ source.old }
 {
     match read_asked(alloc, words, source) {

@@ -1,2 +1,4 @@
 pub mod Times
 pub mod Numbers
+pub mod Lines
+pub mod Names

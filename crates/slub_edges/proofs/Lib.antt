@@ -1,3 +1,4 @@
 pub mod Lines
 pub mod Offers
 pub mod Told
+pub mod Windows

@@ -3,3 +3,4 @@ pub mod Memory
 pub mod Adapters
 pub mod Reading
 pub mod Pieces
+pub mod Window

@@ -4,14 +4,16 @@
 //! and where it knows its bytes it tells them, so that the contracts above can say what was read
 //! and what was written. Here stand the two traits, ends in memory that fail when they are told
 //! to, ends that never fail, adapters over the readers and writers of std, and what is built on
-//! the traits alone: writing a whole piece, writing a text line by line, reading to the end. The
+//! the traits alone: writing a whole piece, writing a text line by line, reading to the end, and a
+//! window onto a source, by which a long one is read piece by piece. The
 //! order of threads comes from outside too: a `Gate` is what each worker of a round by threads
 //! passes before its events, so that a test can hold one up, and is told at their end how often the
 //! worker had to wait. It tells nothing.
 //!
 //! Contracts cite `Rose` and `AppendsFront` (`specs/Edges.antt`), the pieces that a sink is given
 //! (`specs/Pieces.antt`), the states of the ends in memory (`specs/Memory.antt`), what an adapter
-//! holds (`specs/Adapters.antt`), what comes of reading to the end (`specs/Reading.antt`), and std's
+//! holds (`specs/Adapters.antt`), what comes of reading to the end (`specs/Reading.antt`), the bytes of a
+//! window (`specs/Window.antt`), and std's
 //! words on known bytes: `Appends`, `Consumes`, `IsAtEnd`, which claim nothing where an end tells
 //! nothing. `proofs/Told.antt` has the lemmas on them for the crates above.
 //!
@@ -35,3 +37,4 @@ pub mod pieces;
 pub mod reading;
 #[cfg(test)]
 mod tests;
+pub mod window;

@@ -7,7 +7,8 @@ use Rattle.slub_recording.specs.declared.fault.LineFault.{LineFault}
 use Rattle.slub_recording.specs.declared.fault.RecordingFault.TheVariants.{TraceDat, PerfData, BadLine}
 use Rattle.slub_recording.specs.declared.line.Said.{Said}
 use Rattle.slub_recording.specs.declared.line.Said.TheVariants.{Passed, Cpus, Buffer, Lost, Other, Kmem}
-use Rattle.slub_recording.specs.Recording.{Above, Recorded, start, after, recorded_after, with_some, read_from, cut_lines, reading, is_kmem, kmem_lines, trace_dat, perf_data}
+use Rattle.slub_recording.specs.Recording.{Above, Recorded, start, after, recorded_after, with_some, read_from, reading, is_kmem, kmem_lines, trace_dat, perf_data}
+use Rattle.slub_common.specs.Lines.{cut_lines}
 use Rattle.slub_recording.specs.Says.{says}
 use Rattle.slub_recording.specs.Words.{strip}
 

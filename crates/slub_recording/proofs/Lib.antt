@@ -7,3 +7,4 @@ pub mod Readings
 pub mod Counts
 pub mod Soundness
 pub mod Orders
+pub mod Windows

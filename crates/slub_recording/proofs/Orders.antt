@@ -8,7 +8,8 @@ use Rattle.slub_recording.specs.declared.fault.RecordingFault.TheVariants.{BadLi
 use Rattle.slub_recording.specs.declared.line.Said.{Said}
 use Rattle.slub_recording.specs.declared.line.Said.TheVariants.{Passed, Cpus, Buffer, Lost, Other, Kmem}
 use Rattle.slub_recording.specs.Order.{point_of, points_of, points_in}
-use Rattle.slub_recording.specs.Recording.{Above, Recorded, start, after, event_of, recorded_after, read_from, cut_lines, reading}
+use Rattle.slub_recording.specs.Recording.{Above, Recorded, start, after, event_of, recorded_after, read_from, reading}
+use Rattle.slub_common.specs.Lines.{cut_lines}
 use Rattle.slub_recording.specs.Says.{says}
 use Rattle.slub_recording.proofs.Counts.{some_is, lines_read}
 

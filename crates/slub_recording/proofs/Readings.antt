@@ -1,14 +1,8 @@
--- What comes of lines, and of reading a source.
-use Rattle.std.proofs.Common.{◌≡◌, ℕ, ◌+◌, ◌<◌, ◌≤◌, true, false, Result, Ok, Err, Option, Some, None, List, [], ◌∷◌, length, refl, sym, subst, arith, inl, inr, length-append, Bor, is_some}
-use Rattle.std.proofs.lemmas.Bool.{cases_Bool, true≢false, false≢true}
-use Rattle.std.specs.declared.vec.Vec.{Vec}
-use Rattle.std.specs.declared.alloc.Global.{Global}
+-- What comes of lines, and of the end of them.
+use Rattle.std.proofs.Common.{◌≡◌, ℕ, ◌+◌, ◌<◌, ◌≤◌, Result, Ok, Err, Option, Some, None, List, [], ◌∷◌, length, refl, sym, subst, arith, inl, inr, length-append}
+use Rattle.std.proofs.lemmas.Bool.{cases_Bool}
 use Rattle.std.specs.List.{list_any}
 use Rattle.std.specs.Str.{bytes_eq}
-use Rattle.slub_edges.specs.declared.reading.ReadAllFault.{ReadAllFault}
-use Rattle.slub_edges.specs.declared.reading.ReadAllFault.TheVariants as all
-use Rattle.slub_edges.specs.Reading.{ReadsAll}
-use Rattle.slub_edges.proofs.Told.{Consumes-whole, Consumes-longer}
 use Rattle.slub_recording.specs.declared.event.KmemEvent.{KmemEvent}
 use Rattle.slub_recording.specs.declared.fault.LineFault.TheVariants.{Unfinished}
 use Rattle.slub_recording.specs.declared.fault.RecordingFault.{RecordingFault}
@@ -19,11 +13,9 @@ use Rattle.slub_recording.specs.declared.line.SaidAct.{SaidAct}
 use Rattle.slub_recording.specs.declared.line.SaidAct.TheVariants as said
 use Rattle.slub_recording.specs.declared.line.Time.{Time}
 use Rattle.slub_recording.specs.declared.recording.Recording.{Recording}
-use Rattle.slub_recording.specs.Reads.{Reads}
-use Rattle.slub_recording.specs.Recording.{Above, Recorded, recorded, start, after, recorded_after, with_text, sites_after, names_after, steps_back, is_before, with_some, end_of, read_from, reading, trace_dat, perf_data}
+use Rattle.slub_recording.specs.Recording.{Above, Recorded, recorded, start, after, recorded_after, with_text, sites_after, names_after, steps_back, is_before, with_some, end_of, read_from}
 use Rattle.slub_recording.specs.State.{IsModest, read_below, IsFault, IsAnswer, Takes, Stops}
-use Rattle.slub_recording.specs.Texts.{fault_of_source}
-use Rattle.slub_recording.specs.Words.{Gives, split_at, strip}
+use Rattle.slub_recording.specs.Words.{split_at}
 use Rattle.slub_recording.proofs.Splits.{lines_cut, lines_none}
 
 -- ---- counts stay within the lines
@@ -128,55 +120,12 @@ pub end_whole : (a : Above) (rest : List ℕ) → length rest ≡ 0 → (a.recor
 end_whole a [] none some = some_events a.recorded a.recorded.events some
 end_whole a (b ∷ bs) none some = absurd (let never : ⊥ = omega arith in never)
 
--- ---- a source
-
--- all bytes were read, and this is what they are read as
-pub reads_all : (told left : Option (List ℕ)) (old new : ℕ) (bytes : Vec ℕ Global) (result : Result Recording RecordingFault) → ReadsAll told left old new 268435456 (Ok bytes) → IsAnswer (reading bytes.items) result → Reads told left old new result
-reads_all told left old new bytes (Ok recording) (read, ended, short, still) is =
-    (record { bytes = bytes.items; all_told = Consumes-whole told left bytes.items read ended; within = short; spells = is }, ended, still)
-reads_all told left old new bytes (Err ReadFault) (read, ended, short, still) is = absurd is
-reads_all told left old new bytes (Err TooLong) (read, ended, short, still) is = absurd is
-reads_all told left old new bytes (Err TraceDat) (read, ended, short, still) is =
-    (record { bytes = bytes.items; all_told = Consumes-whole told left bytes.items read ended; within = short; spells = is }, ended, still)
-reads_all told left old new bytes (Err PerfData) (read, ended, short, still) is =
-    (record { bytes = bytes.items; all_told = Consumes-whole told left bytes.items read ended; within = short; spells = is }, ended, still)
-reads_all told left old new bytes (Err (BadLine line why)) (read, ended, short, still) is =
-    (record { bytes = bytes.items; all_told = Consumes-whole told left bytes.items read ended; within = short; spells = is }, ended, still)
-reads_all told left old new bytes (Err NoKmemEvent) (read, ended, short, still) is =
-    (record { bytes = bytes.items; all_told = Consumes-whole told left bytes.items read ended; within = short; spells = is }, ended, still)
-reads_all told left old new bytes (Err NoMemory) (read, ended, short, still) is = still
-
--- they were not
-pub reads_none : (told left : Option (List ℕ)) (old new : ℕ) (fault : ReadAllFault) → ReadsAll told left old new 268435456 (Err fault) → Reads told left old new (Err (fault_of_source fault))
-reads_none told left old new all.Failed reads = reads.1
-reads_none told left old new all.TooLong reads = (Consumes-longer told left 268435456 reads.0 reads.1 reads.2, reads.3)
-reads_none told left old new all.NoMemory reads = reads.1
-
 -- what a line more leaves stays modest
 pub modest_parts : (a : Above) (s : Said) (lines : ℕ) (time : Option Time) (r : Recorded) → lines ≡ a.lines + 1 → r ≡ recorded_after a s → IsModest a → a.lines < 268435456 → IsModest (record { lines = lines; time = time; recorded = r })
 modest_parts a s lines time r counted is modest room =
     let more = modest_after a s modest room in
     let P : ℕ → Recorded → Type 0 = λ n x. IsModest (record { lines = n; time = time; recorded = x }) in
     subst (λ n. P n r) (sym counted) (subst (λ x. P (a.lines + 1) x) (sym is) (record { few = more.few; events = more.events; sites = more.sites; names = more.names; back = more.back; others = more.others }))
-
--- ---- the files of the tools
-
-pub reads_dat : (bytes : List ℕ) (r : Option (Bor (List ℕ))) → Gives (λ x. x.now) r (strip trace_dat bytes) → true ≡ is_some r → reading bytes ≡ Err TraceDat
-unfolding reading
-reads_dat bytes None front is = absurd (true≢false is)
-reads_dat bytes (Some x) front is = rw front refl
-
-pub reads_perf : (bytes : List ℕ) (r q : Option (Bor (List ℕ))) → Gives (λ x. x.now) r (strip trace_dat bytes) → false ≡ is_some r → Gives (λ x. x.now) q (strip perf_data bytes) → true ≡ is_some q → reading bytes ≡ Err PerfData
-unfolding reading
-reads_perf bytes (Some x) q dat none perf is = absurd (false≢true none)
-reads_perf bytes None None dat none perf is = absurd (true≢false is)
-reads_perf bytes None (Some y) dat none perf is = rw (dat, perf) refl
-
-pub reads_text : (bytes : List ℕ) (r q : Option (Bor (List ℕ))) → Gives (λ x. x.now) r (strip trace_dat bytes) → false ≡ is_some r → Gives (λ x. x.now) q (strip perf_data bytes) → false ≡ is_some q → reading bytes ≡ read_below start bytes
-unfolding reading
-reads_text bytes (Some x) q dat none perf other = absurd (false≢true none)
-reads_text bytes None (Some y) dat none perf other = absurd (false≢true other)
-reads_text bytes None None dat none perf other = rw (dat, perf) refl
 
 -- an answer stays one of what is read
 pub answer_from : (read other : Result Recorded RecordingFault) (r : Result Recording RecordingFault) → read ≡ other → IsAnswer other r → IsAnswer read r

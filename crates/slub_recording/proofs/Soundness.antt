@@ -16,7 +16,8 @@ use Rattle.slub_recording.specs.declared.line.Said.TheVariants.{Passed, Cpus, Bu
 use Rattle.slub_recording.specs.declared.line.SaidAct.{SaidAct}
 use Rattle.slub_recording.specs.declared.line.SaidAct.TheVariants as said
 use Rattle.slub_recording.specs.declared.recording.Recording.{Recording}
-use Rattle.slub_recording.specs.Recording.{Above, Recorded, recorded, empty, start, after, place_of, with_text, sites_after, names_after, act_of, event_of, with_event, recorded_after, with_some, read_from, cut_lines, reading}
+use Rattle.slub_recording.specs.Recording.{Above, Recorded, recorded, empty, start, after, place_of, with_text, sites_after, names_after, act_of, event_of, with_event, recorded_after, with_some, read_from, reading}
+use Rattle.slub_common.specs.Lines.{cut_lines}
 use Rattle.slub_recording.specs.Says.{says}
 use Rattle.slub_recording.specs.Sound.{IsPlaced, IsPlacedWhole, IsSound}
 use Rattle.slub_recording.specs.State.{IsAnswer}
@@ -134,7 +135,7 @@ sound_from a (text ∷ texts) rest r whole is = by (says text) refl (λ b w h. s
         let more : read_from (after a s) texts rest ≡ Ok r = rw (says_is, read_from) at is in
         behind (after a s) (whole_after a s whole) more
 
-sound_reading : (bytes : List ℕ) (r : Recorded) → reading bytes ≡ Ok r → IsSound r
+pub sound_reading : (bytes : List ℕ) (r : Recorded) → reading bytes ≡ Ok r → IsSound r
 sound_reading bytes r is =
     sound_from start (cut_lines bytes).0 (cut_lines bytes).1 r whole_start (lines_read bytes r is)
 

@@ -7,7 +7,7 @@ use Rattle.std.specs.Str.{bytes_eq}
 use Rattle.slub_recording.specs.Acts.{has_flag}
 use Rattle.slub_recording.specs.Heads.{cpu_of, cpu_at}
 use Rattle.slub_recording.specs.Words.{Gives, is_blank, is_blank_front, with_front, words, parts, strip_last, split_at, value_in, field_of}
-use Rattle.slub_recording.specs.Recording.{cut_lines}
+use Rattle.slub_common.specs.Lines.{cut_lines}
 use Rattle.slub_recording.proofs.Fronts.{cases_Option, same_pair}
 
 -- ---- words

@@ -6,7 +6,8 @@ use Rattle.std.proofs.lemmas.List.{length-map, map-append, take_all, take_more, 
 use Rattle.std.proofs.lemmas.List.Elements.{All-cons, All-nil}
 use Rattle.slub_common.specs.Numbers.{is_digit}
 use Rattle.slub_object_layout.specs.Name.{IsName, IsLetterOrDigit, IsNameByte}
-use Rattle.slub_recording.specs.Names.{is_letter_or_digit, is_name_byte, first_of, later_of}
+use Rattle.slub_common.specs.Names.{is_letter_or_digit, is_name_byte}
+use Rattle.slub_recording.specs.Names.{first_of, later_of}
 
 -- ---- bytes of names
 

@@ -10,3 +10,4 @@ pub mod Sound
 pub mod Order
 pub mod ExcerptFields
 pub mod State
+pub mod Window

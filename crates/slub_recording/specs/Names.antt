@@ -1,13 +1,6 @@
 -- Names that titles of caches are turned into.
-use Rattle.std.specs.Prelude.{ℕ, ◌==◌, Bool, ◌&&◌, ◌||◌, List, [], ◌∷◌, Option, Some, None, nat_le, take, map, if◌then◌else◌}
-use Rattle.slub_common.specs.Numbers.{is_digit}
-
-abbrev pub is_letter_or_digit : ℕ → Bool
-is_letter_or_digit c = (nat_le 65 c && nat_le c 90) || (nat_le 97 c && nat_le c 122) || is_digit c
-
--- `A-Z a-z 0-9 _ . -`
-abbrev pub is_name_byte : ℕ → Bool
-is_name_byte c = is_letter_or_digit c || c == 95 || c == 46 || c == 45
+use Rattle.std.specs.Prelude.{ℕ, List, [], ◌∷◌, Option, Some, None, take, map, if◌then◌else◌}
+use Rattle.slub_common.specs.Names.{is_letter_or_digit, is_name_byte}
 
 -- a byte in front of a name: one that can't stand there is `x` (*profile*)
 abbrev pub first_of : ℕ → ℕ

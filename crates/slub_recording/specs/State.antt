@@ -5,7 +5,8 @@ use Rattle.slub_recording.specs.declared.fault.RecordingFault.TheVariants.{ReadF
 use Rattle.slub_recording.specs.declared.line.Said.{Said}
 use Rattle.slub_recording.specs.declared.recording.Recording.{Recording}
 use Rattle.slub_recording.specs.declared.state.State.{State}
-use Rattle.slub_recording.specs.Recording.{Above, Recorded, recorded, after, read_from, cut_lines}
+use Rattle.slub_recording.specs.Recording.{Above, Recorded, recorded, after, read_from}
+use Rattle.slub_common.specs.Lines.{cut_lines}
 use Rattle.slub_recording.specs.Says.{says}
 
 -- what the lines above say

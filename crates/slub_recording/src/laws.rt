@@ -2,7 +2,8 @@
 
 ghost use Rattle.std.specs.Prelude.{◌≡◌, length, Ok};
 ghost use Rattle.slub_recording.specs.Order.{points_in, points_of};
-ghost use Rattle.slub_recording.specs.Recording.{Recorded, cut_lines, kmem_lines, reading};
+ghost use Rattle.slub_recording.specs.Recording.{Recorded, kmem_lines, reading};
+ghost use Rattle.slub_common.specs.Lines.{cut_lines};
 
 /// Every line that is an event of the four kinds is an event of the recording.
 pub fn every_kmem_line_is_an_event(bytes: &[u8])

@@ -12,9 +12,10 @@
 //!   `Says` what a line says. `Recording` has what lines say together, and reading as a function
 //!   on bytes, `Reads` what a caller of `read_recording` is promised, `Sound` what holds of every
 //!   recording, `Texts` the texts of faults.
-//! - Reading: `reading` has `read_recording`. All bytes are read first, at most 256 MiB, and then
-//!   taken line by line (`words`, `numbers`, `heads`, `acts`, `titles`, `says`). `state` holds what
-//!   the lines above say. Sites and names are looked up by their hashes, so that each line costs
+//! - Reading: `reading` has `read_recording`. Bytes are read by a window (`slub_edges`), at most 256
+//!   MiB in all, and taken from it line by line (`words`, `numbers`, `heads`, `acts`, `titles`,
+//!   `says`), so that no more of them is kept than the window. `state` holds what the lines above
+//!   say. Sites and names are looked up by their hashes, so that each line costs
 //!   steps in its length alone. Text that isn't UTF-8, and lines of any length, are ordinary input.
 //! - Laws: `laws`.
 //!

@@ -1,10 +1,14 @@
 //! Reading a recording.
 
-ghost use Rattle.std.specs.Prelude.{◌≡◌, ◌+◌, ◌≤◌, ◌<◌, ◌^◌, length, IfOk, IfErr, OnOk};
+ghost use Rattle.std.specs.Prelude.{◌≡◌, ◌+◌, ◌≤◌, ◌<◌, ◌^◌, None, true, length, IfOk, IfErr, OnOk};
+ghost use Rattle.std.specs.Io.KnownBytes.{IsAtEnd};
+ghost use Rattle.slub_edges.specs.Window.{count_of, items};
 ghost use Rattle.slub_recording.specs.Reads.{Reads};
-ghost use Rattle.slub_recording.specs.Recording.{start, recorded, reading, end_of};
+ghost use Rattle.slub_recording.specs.Recording.{start, recorded, reading, end_of, trace_dat, perf_data};
 ghost use Rattle.slub_recording.specs.Sound.{IsSound};
-ghost use Rattle.slub_recording.specs.State.{above, IsModest, read_below, IsFault, IsAnswer, Takes, Stops};
+ghost use Rattle.slub_recording.specs.State.{above, IsModest, read_below, IsAnswer, Takes, Stops};
+ghost use Rattle.slub_recording.specs.Window.{Leads, Passes, ReadsOn, Refuses};
+ghost use Rattle.slub_recording.specs.Words.{strip};
 
 use crate::fault::{LineFault, RecordingFault, Stop, of_source};
 use crate::recording::Recording;
@@ -12,29 +16,35 @@ use crate::says::say;
 use crate::state::State;
 use crate::words::{after, cut};
 use slub_edges::edges::Source;
-use slub_edges::reading::read_all;
+use slub_edges::window::Window;
 use std::alloc::Global;
 
 /// The most bytes of a recording: 256 MiB (*profile*).
 pub const RECORDING_MAX: usize = 268435456;
 
 /// Reads a source to its end, and answers the recording that its bytes spell: at most
-/// `RECORDING_MAX` bytes. At an error the bytes that were read are lost.
+/// `RECORDING_MAX` bytes, of which no more are kept than a window of them. At an error the bytes
+/// that were read are lost.
 pub fn read_recording<S: Source>(alloc: Global, source: &mut S) -> Result<Recording, RecordingFault>
     ensures reads { Reads (S.rest source.old) (S.rest source.new) (S.faults source.old) (S.faults source.new) result }
     ensures sound { IfOk result (λ recording. IsSound (recorded recording)) }
     ensures counts { S.faults source.old ≤ S.faults source.new }
 {
-    match read_all(alloc, source, RECORDING_MAX) {
-        Ok(bytes) => read_bytes(alloc, bytes.as_slice()),
+    let mut window = match Window::new(alloc) {
+        Ok(window) => window,
+        Err(_) => return Err(RecordingFault::NoMemory),
+    };
+    match window.fill(source, RECORDING_MAX) {
+        Ok(true) => read_bytes(alloc, window.as_slice()),
+        Ok(false) => read_on(alloc, source, window),
         Err(fault) => Err(of_source(fault)),
     }
 }
 
-/// The recording that bytes spell.
-fn read_bytes(alloc: Global, bytes: &[u8]) -> Result<Recording, RecordingFault>
-    requires { length bytes.now ≤ 268435456 }
-    ensures { IsAnswer (reading bytes.now) result }
+/// Whether bytes begin as a file of the tools does, and not as their text.
+fn look(bytes: &[u8]) -> Result<(), RecordingFault>
+    ensures text { OnOk result ((strip trace_dat bytes.now ≡ None) × (strip perf_data bytes.now ≡ None)) }
+    ensures file { IfErr result (Refuses reading bytes.now) }
 {
     if after(bytes, b"\x17\x08\x44tracing").is_some() {
         return Err(RecordingFault::TraceDat);
@@ -42,7 +52,18 @@ fn read_bytes(alloc: Global, bytes: &[u8]) -> Result<Recording, RecordingFault>
     if after(bytes, b"PERFILE2").is_some() {
         return Err(RecordingFault::PerfData);
     }
-    read_text(alloc, bytes)
+    Ok(())
+}
+
+/// The recording that bytes spell.
+fn read_bytes(alloc: Global, bytes: &[u8]) -> Result<Recording, RecordingFault>
+    requires { length bytes.now ≤ 268435456 }
+    ensures { IsAnswer (reading bytes.now) result }
+{
+    match look(bytes) {
+        Ok(()) => read_text(alloc, bytes),
+        Err(fault) => Err(fault),
+    }
 }
 
 /// The recording that the lines of a text say.
@@ -54,6 +75,73 @@ fn read_text(alloc: Global, bytes: &[u8]) -> Result<Recording, RecordingFault>
     match take_lines(alloc, &mut state, bytes) {
         Ok(rest) => end(state, rest),
         Err(fault) => Err(fault),
+    }
+}
+
+/// The recording that the first bytes of a source spell, and those behind them.
+fn read_on<S: Source>(
+    alloc: Global,
+    source: &mut S,
+    mut window: Window,
+) -> Result<Recording, RecordingFault>
+    requires count { count_of window ≡ length (items window) }
+    requires few { count_of window ≤ 268435456 }
+    requires long { 65536 ≤ length (items window) }
+    ensures reads { ReadsOn reading (items window) (S.rest source.old) (S.rest source.new) (S.faults source.old) (S.faults source.new) result }
+    ensures counts { S.faults source.old ≤ S.faults source.new }
+{
+    match look(window.as_slice()) {
+        Ok(()) => read_lines(alloc, source, window),
+        Err(fault) => Err(pass_on(source, &mut window, false, fault)),
+    }
+}
+
+/// The recording that the lines of a source say, of which these are the first bytes.
+fn read_lines<S: Source>(
+    alloc: Global,
+    source: &mut S,
+    mut window: Window,
+) -> Result<Recording, RecordingFault>
+    requires count { count_of window ≡ length (items window) }
+    requires few { count_of window ≤ 268435456 }
+    ensures reads { ReadsOn (read_below start) (items window) (S.rest source.old) (S.rest source.new) (S.faults source.old) (S.faults source.new) result }
+    ensures counts { S.faults source.old ≤ S.faults source.new }
+{
+    let mut state = State::new(alloc);
+    let mut ended = false;
+    loop {
+        if let Err(fault) = take_window(alloc, &mut state, &mut window) {
+            return Err(pass_on(source, &mut window, ended, fault));
+        }
+        if ended {
+            return end(state, window.as_slice());
+        }
+        match window.fill(source, RECORDING_MAX) {
+            Ok(last) => ended = last,
+            Err(fault) => return Err(of_source(fault)),
+        }
+    }
+}
+
+/// Reads the rest of a source behind a fault, unless it has ended: a read that fails and a source
+/// that is too long are told before the fault.
+fn pass_on<S: Source>(
+    source: &mut S,
+    window: &mut Window,
+    ended: bool,
+    fault: RecordingFault,
+) -> RecordingFault
+    requires few { count_of window.old ≤ 268435456 }
+    requires ended { ended ≡ true → IsAtEnd (S.rest source.old) }
+    ensures passes { Passes fault (S.rest source.old) (S.rest source.new) (count_of window.old) (S.faults source.old) (S.faults source.new) result }
+    ensures counts { S.faults source.old ≤ S.faults source.new }
+{
+    if ended {
+        return fault;
+    }
+    match window.pass_rest(source, RECORDING_MAX) {
+        Ok(()) => fault,
+        Err(other) => of_source(other),
     }
 }
 
@@ -86,9 +174,11 @@ fn take_lines<'a>(
 ) -> Result<&'a [u8], RecordingFault>
     requires modest { IsModest (above state.old) }
     requires room { state.old.lines + length bytes.now ≤ 268435456 }
-    ensures taken { IfOk result (λ rest. read_below (above state.old) bytes.now ≡ end_of (above state.new) rest.now) }
-    ensures refused { IfErr result (IsFault (read_below (above state.old) bytes.now)) }
+    ensures taken { IfOk result (λ rest. Leads (above state.old) bytes.now rest.now (above state.new)) }
+    ensures last { IfOk result (λ rest. read_below (above state.new) rest.now ≡ end_of (above state.new) rest.now) }
+    ensures refused { IfErr result (Refuses (read_below (above state.old)) bytes.now) }
     ensures modest { OnOk result (IsModest (above state.new)) }
+    ensures room { IfOk result (λ rest. state.new.lines + length rest.now ≤ state.old.lines + length bytes.now) }
 {
     let mut rest = bytes;
     while let Some((text, behind)) = cut(rest, b'\n') {
@@ -98,6 +188,25 @@ fn take_lines<'a>(
         rest = behind;
     }
     Ok(rest)
+}
+
+/// Takes all finished lines of a window. What follows the last line feed stays.
+fn take_window(alloc: Global, state: &mut State, window: &mut Window) -> Result<(), RecordingFault>
+    requires modest { IsModest (above state.old) }
+    requires room { state.old.lines + length (items window.old) ≤ 268435456 }
+    ensures taken { OnOk result (Leads (above state.old) (items window.old) (items window.new) (above state.new)) }
+    ensures last { OnOk result (read_below (above state.new) (items window.new) ≡ end_of (above state.new) (items window.new)) }
+    ensures refused { IfErr result (Refuses (read_below (above state.old)) (items window.old)) }
+    ensures modest { OnOk result (IsModest (above state.new)) }
+    ensures room { OnOk result (state.new.lines + length (items window.new) ≤ state.old.lines + length (items window.old)) }
+    ensures count { count_of window.new ≡ count_of window.old }
+{
+    let rest = match take_lines(alloc, state, window.as_slice()) {
+        Ok(rest) => rest.len(),
+        Err(fault) => return Err(fault),
+    };
+    window.keep(rest);
+    Ok(())
 }
 
 /// The recording of lines, with these bytes behind the last line feed.

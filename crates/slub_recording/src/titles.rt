@@ -1,7 +1,8 @@
 //! Names that titles of caches are turned into.
 
 ghost use Rattle.std.specs.Prelude.{◌≡◌, ◌≤◌, ◌∷◌, length, map, Some};
-ghost use Rattle.slub_recording.specs.Names.{is_letter_or_digit, is_name_byte, first_of, later_of, name_of};
+ghost use Rattle.slub_recording.specs.Names.{first_of, later_of, name_of};
+ghost use Rattle.slub_common.specs.Names.{is_letter_or_digit, is_name_byte};
 
 use crate::excerpt::front;
 use slub_object_layout::name::Name;

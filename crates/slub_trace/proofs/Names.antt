@@ -6,7 +6,8 @@ use Rattle.std.proofs.lemmas.Bool.{false≢true, and_parts, and_from, leb-true, 
 use Rattle.std.proofs.lemmas.List.Elements.{All-cons, All-nil, All-tail}
 use Rattle.std.proofs.lemmas.Bool.Decides.{nat_tests}
 use Rattle.slub_object_layout.specs.Name.{IsName, IsLetterOrDigit, IsNameByte}
-use Rattle.slub_trace.specs.Names.{is_name, is_letter_or_digit, is_name_byte}
+use Rattle.slub_common.specs.Names.{is_letter_or_digit, is_name_byte}
+use Rattle.slub_trace.specs.Names.{is_name}
 
 -- a letter or a digit by its test
 letter_tells : (c : ℕ) → (is_letter_or_digit c ≡ true → IsLetterOrDigit c) × (IsLetterOrDigit c → is_letter_or_digit c ≡ true)

@@ -1,13 +1,7 @@
 -- The test of a name, byte by byte.
 use Rattle.std.specs.Prelude.{ℕ, ◌==◌, ◌&&◌, ◌||◌, Bool, false, List, [], ◌∷◌, length, nat_le}
 use Rattle.std.specs.List.{list_all}
-use Rattle.slub_common.specs.Numbers.{is_digit}
-
-abbrev pub is_letter_or_digit : ℕ → Bool
-is_letter_or_digit c = (nat_le 65 c && nat_le c 90) || (nat_le 97 c && nat_le c 122) || is_digit c
-
-abbrev pub is_name_byte : ℕ → Bool
-is_name_byte c = is_letter_or_digit c || c == 95 || c == 46 || c == 45
+use Rattle.slub_common.specs.Names.{is_letter_or_digit, is_name_byte}
 
 -- a letter or a digit, and at most 30 bytes more
 abbrev pub is_name : List ℕ → Bool

@@ -13,7 +13,6 @@ pub mod Readings
 pub mod Reasons
 pub mod Soundness
 pub mod Texts
-mod Windows
 pub mod WordTexts
 pub mod WrittenWords
 mod Drawn

@@ -21,7 +21,8 @@ use Rattle.slub_trace.specs.Ranges.{IsTid}
 use Rattle.slub_trace_reader.specs.Grammar.{MayStand, InRange, ClientInRange, IsObject, AreObjects, IsOffset, IsInRound, HasRoom, HasCache, HasSource, IsFresh, IsKnown, IsWritten, IsLine, IsOneLine, IsTrace}
 use Rattle.slub_trace_reader.specs.Lines.{IsPassed}
 use Rattle.slub_trace_reader.specs.Numbers.{allocates, needs}
-use Rattle.slub_trace_reader.specs.Reading.{cut_lines, with_byte, is_first, is_second, is_between, is_in_round, is_after, may_stand, is_tid, is_object, are_objects, is_offset, client_in_range, in_range, has_room, has_source, has_cache, are_fresh, are_known, is_written, first_of, lack_of, good_or, judged, judge, end_of, read_from, reading}
+use Rattle.slub_trace_reader.specs.Reading.{is_first, is_second, is_between, is_in_round, is_after, may_stand, is_tid, is_object, are_objects, is_offset, client_in_range, in_range, has_room, has_source, has_cache, are_fresh, are_known, is_written, first_of, lack_of, good_or, judged, judge, end_of, read_from, reading}
+use Rattle.slub_common.specs.Lines.{with_byte, cut_lines}
 use Rattle.slub_trace_reader.specs.State.{IsModest, Lacks}
 use Rattle.slub_trace_reader.proofs.LinesBelow.{Went, went_start, went_modest, leads_more, went_bad, went_unfinished, went_no_end, went_all, tells_trace, trace_once, bad_no_trace, bad_once}
 use Rattle.slub_trace_reader.proofs.Reasons.{first_form, first_reason, fit_line, none_said}

@@ -17,7 +17,11 @@ use Rattle.slub_trace_reader.specs.Grammar.{AreLines, IsOneLine, IsTrace}
 use Rattle.slub_trace_reader.specs.Parsing.{StopsAt}
 use Rattle.slub_trace_reader.specs.Reads.{Reads}
 use Rattle.slub_trace_reader.specs.State.{IsModest}
-use Rattle.slub_trace_reader.specs.Window.{Grows, Counts, StopsRead, Leads, StopsBehind, next_of, Stands, IsRead, StopsLines}
+use Rattle.slub_edges.specs.declared.reading.ReadAllFault.{ReadAllFault}
+use Rattle.slub_edges.specs.declared.reading.ReadAllFault.TheVariants as end
+use Rattle.slub_edges.specs.Window.{Grows, Counts, StopsRead}
+use Rattle.slub_edges.proofs.Windows.{stops_from}
+use Rattle.slub_trace_reader.specs.Window.{Leads, StopsBehind, fault_of, next_of, Stands, IsRead, StopsLines}
 use Rattle.slub_trace_reader.proofs.LinesBelow.{modest_start, leads_modest, trace_once, bad_at, went_bad, went_all, tells_trace}
 
 -- bytes that are none
@@ -63,46 +67,6 @@ leads_longer s bytes rest more a leads = record {
   says = leads.says;
 }
 
--- ---- pieces
-
-pub grows_none : (told : Option (List ℕ)) (bytes : List ℕ) (count : ℕ) → Grows told told bytes bytes count count
-grows_none told bytes count = record { more = []; read = Consumes-nil told; behind = sym (append-nil bytes); counted = omega arith }
-
-pub grows_on : (a b c : Option (List ℕ)) (x y z : List ℕ) (k m n : ℕ) → Grows a b x y k m → Grows b c y z m n → Grows a c x z k n
-grows_on a b c x y z k m n first second = record {
-  more = first.more ++ second.more;
-  read = Consumes-trans a b c first.more second.more first.read second.read;
-  behind = second.behind ∙ ap (λ l. l ++ second.more) first.behind ∙ append_assoc x first.more second.more;
-  counted = omega (arith, first.counted, second.counted, length-append first.more second.more);
-}
-
-pub counts_none : (told : Option (List ℕ)) (count : ℕ) → Counts told told count count
-counts_none told count = record { more = []; read = Consumes-nil told; counted = omega arith }
-
-pub counts_on : (a b c : Option (List ℕ)) (x y : List ℕ) (k m n : ℕ) → Counts a b k m → Grows b c x y m n → Counts a c k n
-counts_on a b c x y k m n first second = record {
-  more = first.more ++ second.more;
-  read = Consumes-trans a b c first.more second.more first.read second.read;
-  counted = omega (arith, first.counted, second.counted, length-append first.more second.more);
-}
-
--- a stop behind counted bytes is one from before them
-pub stops_from : (a b c : Option (List ℕ)) (k m old mid new : ℕ) (fault : TraceFault) → Counts a b k m → mid ≡ old → StopsRead b c m mid new fault → StopsRead a c k old new fault
-stops_from a b c k m old mid new (BadLine line why) counts still stops = stops
-stops_from a b c k m old mid new NoMemory counts still stops = stops ∙ still
-stops_from a b c k m old mid new TooLong counts still stops = (
-  record {
-    more = counts.more ++ stops.0.more;
-    read = Consumes-trans a b c counts.more stops.0.more counts.read stops.0.read;
-    over = omega (arith, counts.counted, stops.0.over, length-append counts.more stops.0.more);
-  },
-  stops.1 ∙ still,
-)
-stops_from a b c k m old mid new ReadFault counts still stops = subst (λ n. Rose n new) still stops
-
-pub counts_of : (a b : Option (List ℕ)) (x y : List ℕ) (k m : ℕ) → Grows a b x y k m → Counts a b k m
-counts_of a b x y k m grows = record { more = grows.more; read = grows.read; counted = grows.counted }
-
 -- ---- what was read
 
 pub stands_none : (told : Option (List ℕ)) (a : Above) → a ≡ start → Stands told told [] 0 a
@@ -128,15 +92,14 @@ stands_counts a b x n m s stands same = record { more = stands.all; read = stand
 -- ---- ends
 
 -- why reading stops is why no lines were read
-pub read_stops : (a b c : Option (List ℕ)) (x : List ℕ) (n m old mid new : ℕ) (s : Above) (fault : TraceFault) → Stands a b x n s → m ≡ n → mid ≡ old → StopsRead b c m mid new fault → StopsLines a c old new fault
+pub read_stops : (a b c : Option (List ℕ)) (x : List ℕ) (n m old mid new : ℕ) (s : Above) (fault : ReadAllFault) → Stands a b x n s → m ≡ n → mid ≡ old → StopsRead 16777216 b c m mid new fault → StopsLines a c old new (fault_of fault)
 read_stops a b c x n m old mid new s fault stands same still stops =
-    by fault (stops_from a b c 0 m old mid new fault (stands_counts a b x n m s stands same) still stops)
+    by fault (stops_from 16777216 a b c 0 m old mid new fault (stands_counts a b x n m s stands same) still stops)
   where
-    by : (fault : TraceFault) → StopsRead a c 0 old new fault → StopsLines a c old new fault
-    by (BadLine line why) stops = absurd stops
-    by NoMemory stops = stops
-    by TooLong stops = stops
-    by ReadFault stops = stops
+    by : (fault : ReadAllFault) → StopsRead 16777216 a c 0 old new fault → StopsLines a c old new (fault_of fault)
+    by end.NoMemory stops = stops
+    by end.TooLong stops = stops
+    by end.Failed stops = stops
 
 -- what a window's first bad line is, whatever comes behind its bytes
 stands_bad : (a b : Option (List ℕ)) (x more : List ℕ) (n line : ℕ) (why : Why) (s : Above) (stands : Stands a b x n s) → StopsBehind s x (BadLine line why) → IsFirstBad (stands.all ++ more) line why

@@ -1,5 +1,6 @@
 -- Why bytes are no trace: the first bad line, and the first reason that it is bad for.
 use Rattle.std.specs.Prelude.{◌≡◌, ◌≢◌, ℕ, ◌+◌, ◌<◌, List, [], ◌∷◌, ◌++◌, codes}
+use Rattle.std.specs.Fmt.{decimal}
 use Rattle.slub_trace_reader.specs.declared.line.Line.{Line}
 use Rattle.slub_trace_reader.specs.declared.place.Place.TheVariants.{After}
 use Rattle.slub_trace_reader.specs.declared.reading.Why.{Why}
@@ -86,3 +87,11 @@ why_text ObjectTwice = codes "object twice"
 why_text UnknownObject = codes "unknown object"
 why_text ReadBeforeWrite = codes "read before write"
 why_text NoEnd = codes "no end"
+
+-- a line of the program's own
+abbrev pub fault_line : List ℕ → List ℕ
+fault_line why = codes "slub: " ++ why ++ 10 ∷ []
+
+-- `slub: line N: WHY`
+abbrev pub bad_line : ℕ → Why → List ℕ
+bad_line line why = fault_line (codes "line " ++ decimal line ++ codes ": " ++ why_text why)

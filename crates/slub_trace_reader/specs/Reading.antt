@@ -15,20 +15,7 @@ use Rattle.slub_trace_reader.specs.Above.{Above, start, after, trace_of, workers
 use Rattle.slub_trace_reader.specs.Forms.{is_passed, line_of}
 use Rattle.slub_trace.specs.Ranges.{step_of}
 use Rattle.slub_trace_reader.specs.Numbers.{allocates, needs}
-
--- ---- lines
-
--- a byte in front of finished lines and a rest
-abbrev pub with_byte : ℕ → List (List ℕ) → List ℕ → List (List ℕ) × List ℕ
-with_byte b [] rest = ([], b ∷ rest)
-with_byte b (line ∷ lines) rest = ((b ∷ line) ∷ lines, rest)
-
--- the lines that end with a line feed, and the bytes behind the last of them
-unfoldable pub cut_lines : List ℕ → List (List ℕ) × List ℕ
-cut_lines [] = ([], [])
-cut_lines (b ∷ bs) =
-    if b == 10 then ([] ∷ (cut_lines bs).0, (cut_lines bs).1)
-    else with_byte b (cut_lines bs).0 (cut_lines bs).1
+use Rattle.slub_common.specs.Lines.{with_byte, cut_lines}
 
 -- ---- tests
 

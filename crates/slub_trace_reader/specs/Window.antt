@@ -1,48 +1,24 @@
--- For private clauses: the bytes that were read and not yet taken, and the lines in front of them.
-use Rattle.std.specs.Prelude.{◌≡◌, ℕ, ◌+◌, ◌<◌, ◌≤◌, List, [], ◌∷◌, ◌++◌, length, slice_range, Option}
+-- For private clauses: the lines in front of the bytes of a window.
+use Rattle.std.specs.Prelude.{◌≡◌, ℕ, ◌≤◌, List, [], ◌∷◌, ◌++◌, length, Option}
 use Rattle.std.specs.Io.KnownBytes.{Consumes, IsAtEnd}
+use Rattle.slub_edges.specs.declared.reading.ReadAllFault.{ReadAllFault}
+use Rattle.slub_edges.specs.declared.reading.ReadAllFault.TheVariants as end
 use Rattle.slub_edges.specs.Edges.{Rose}
+use Rattle.slub_edges.specs.Window.{IsOver}
 use Rattle.slub_trace_reader.specs.declared.line.Line.{Line}
 use Rattle.slub_trace_reader.specs.declared.reading.TraceFault.{TraceFault}
 use Rattle.slub_trace_reader.specs.declared.reading.TraceFault.TheVariants.{ReadFault, TooLong, BadLine, NoMemory}
 use Rattle.slub_trace_reader.specs.declared.reading.Why.{Why}
-use Rattle.slub_trace_reader.specs.declared.window.Window.{Window}
 use Rattle.slub_trace_reader.specs.Above.{Above, start, after_all}
 use Rattle.slub_trace_reader.specs.Faults.{Next, Cut, Nothing, IsFirstBad}
 use Rattle.slub_trace_reader.specs.Grammar.{AreLines}
 use Rattle.slub_trace_reader.specs.Parsing.{StopsFront, Tells}
 
--- ---- bytes
-
--- the bytes of a window
-abbrev pub items : Window → List ℕ
-items w = slice_range w.bytes.items w.start w.end
-
--- bytes that the source gave came behind those of a window, and were counted
-pub record Grows (told left : Option (List ℕ)) (old new : List ℕ) (before count : ℕ) : Type 0 where
-  pub more : List ℕ
-  pub read : Consumes told left more
-  pub behind : new ≡ old ++ more
-  pub counted : count ≡ before + length more
-
--- bytes that the source gave were counted
-pub record Counts (told left : Option (List ℕ)) (before count : ℕ) : Type 0 where
-  pub more : List ℕ
-  pub read : Consumes told left more
-  pub counted : count ≡ before + length more
-
--- the source gave so many bytes that those before and they are too many
-pub record IsOver (told left : Option (List ℕ)) (before : ℕ) : Type 0 where
-  pub more : List ℕ
-  pub read : Consumes told left more
-  pub over : 16777216 < before + length more
-
--- why reading goes no further: a read failed, too many bytes came, or want of memory
-abbrev pub StopsRead : Option (List ℕ) → Option (List ℕ) → ℕ → ℕ → ℕ → TraceFault → Type 0
-StopsRead told left before old new (BadLine line why) = ⊥
-StopsRead told left before old new NoMemory = new ≡ old
-StopsRead told left before old new TooLong = IsOver told left before × (new ≡ old)
-StopsRead told left before old new ReadFault = Rose old new
+-- why a source gave no more
+abbrev pub fault_of : ReadAllFault → TraceFault
+fault_of end.Failed = ReadFault
+fault_of end.TooLong = TooLong
+fault_of end.NoMemory = NoMemory
 
 -- ---- lines
 
@@ -98,5 +74,5 @@ pub record IsReadBad (told left : Option (List ℕ)) (line : ℕ) (why : Why) : 
 abbrev pub StopsLines : Option (List ℕ) → Option (List ℕ) → ℕ → ℕ → TraceFault → Type 0
 StopsLines told left old new (BadLine line why) = IsReadBad told left line why × (new ≡ old)
 StopsLines told left old new NoMemory = new ≡ old
-StopsLines told left old new TooLong = IsOver told left 0 × (new ≡ old)
+StopsLines told left old new TooLong = IsOver 16777216 told left 0 × (new ≡ old)
 StopsLines told left old new ReadFault = Rose old new

@@ -6,7 +6,7 @@
 //!   caller of `read_trace` is promised. `Forms` is the reading of one line as a function, which
 //!   the code computes and `Lines` does not share, and `Reading` that of all bytes.
 //! - Reading: `reading` has `read_trace`. The text is never held whole: a source is read into a
-//!   window of 64 KiB (`window`), which doubles for a line that is longer, and lines are taken from
+//!   window of 64 KiB (of `slub_edges`), which doubles for a line that is longer, and lines are taken from
 //!   it as long as a line feed is left. A bad line is told only once the rest of the source was
 //!   read and counted, since a read that fails and a source that is too long come before it. Each
 //!   line costs steps in its length alone, and takes no memory but for what it adds, save marks by
@@ -50,6 +50,5 @@ mod quick;
 pub mod reading;
 mod state;
 mod taking;
-mod window;
 mod words;
 mod written;

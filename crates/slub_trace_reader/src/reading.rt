@@ -6,20 +6,23 @@
 
 ghost use Rattle.std.specs.Prelude.{◌≡◌, ◌+◌, ◌<◌, ◌≤◌, ◌^◌, [], length, IfOk, IfErr, OnOk, IfSome, IfNone};
 ghost use Rattle.slub_trace_reader.specs.declared.place.Place.TheVariants.{After};
-ghost use Rattle.slub_trace_reader.specs.declared.reading.TraceFault.TheVariants.{ReadFault, NoMemory};
+ghost use Rattle.slub_trace_reader.specs.declared.reading.TraceFault.TheVariants.{NoMemory};
+ghost use Rattle.slub_edges.specs.Window.{items, count_of};
 ghost use Rattle.slub_trace_reader.specs.Faults.{why_text, Finished};
 ghost use Rattle.slub_trace_reader.specs.Grammar.{IsOneLine};
 ghost use Rattle.slub_trace_reader.specs.Parsing.{Takes, TakesFront, StopsAt, StopsFront};
 ghost use Rattle.slub_trace_reader.specs.State.{above, IsModest, Keeps};
 ghost use Rattle.slub_trace_reader.specs.Reads.{Reads};
-ghost use Rattle.slub_trace_reader.specs.Window.{items, next_of, IsRead, Leads, StopsBehind, StopsLines};
+ghost use Rattle.slub_trace_reader.specs.Window.{fault_of, next_of, IsRead, Leads, StopsBehind, StopsLines};
 ghost use Rattle.slub_trace.specs.Sound.{IsSound};
 
 use crate::line::say;
 use crate::state::State;
-use crate::window::Window;
 use crate::words::cut;
-use slub_edges::edges::{Failed, Source};
+use slub_common::limits::INPUT_MAX;
+use slub_edges::edges::Source;
+use slub_edges::reading::ReadAllFault;
+use slub_edges::window::Window;
 use slub_trace::trace::Trace;
 use std::alloc::{AllocError, Global};
 
@@ -81,11 +84,15 @@ pub enum TraceFault {
     NoMemory,
 }
 
-impl From<Failed> for TraceFault {
-    ghost from_gives = { λ _ e. e ≡ ReadFault };
+impl From<ReadAllFault> for TraceFault {
+    ghost from_gives = { λ x e. e ≡ fault_of x };
 
-    fn from(_e: Failed) -> TraceFault {
-        TraceFault::ReadFault
+    fn from(e: ReadAllFault) -> TraceFault {
+        match e {
+            ReadAllFault::Failed => TraceFault::ReadFault,
+            ReadAllFault::TooLong => TraceFault::TooLong,
+            ReadAllFault::NoMemory => TraceFault::NoMemory,
+        }
     }
 }
 
@@ -182,7 +189,7 @@ fn take_lines(alloc: Global, state: &mut State, window: &mut Window) -> Result<(
     ensures none { OnOk result (IsOneLine (items window.new)) }
     ensures keeps { OnOk result (Keeps state.new) }
     ensures room { OnOk result (state.new.count + length (items window.new) ≤ state.old.count + length (items window.old)) }
-    ensures count { window.new.count ≡ window.old.count }
+    ensures count { count_of window.new ≡ count_of window.old }
     ensures refused { IfErr result (StopsBehind (above state.old) (items window.old)) }
 {
     let rest = take_all(alloc, state, window.as_slice())?;
@@ -226,10 +233,10 @@ fn read_lines<S: Source>(alloc: Global, source: &mut S) -> Result<State, TraceFa
     let mut window = Window::new(alloc)?;
     let mut state = State::new(alloc);
     loop {
-        let ended = window.fill(source)?;
+        let ended = window.fill(source, INPUT_MAX)?;
         if let Err(fault) = take_lines(alloc, &mut state, &mut window) {
             if !ended {
-                window.pass_rest(source)?;
+                window.pass_rest(source, INPUT_MAX)?;
             }
             return Err(fault);
         }

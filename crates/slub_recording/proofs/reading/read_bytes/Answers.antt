@@ -1,13 +1,10 @@
-use Rattle.slub_recording.proofs.Readings.{reads_dat, reads_perf, reads_text, answer_from}
+use Rattle.slub_recording.specs.Recording.{reading}
+use Rattle.slub_recording.proofs.Readings.{answer_from}
+use Rattle.slub_recording.proofs.Windows.{refuses_whole, text_reads}
 use Rattle.slub_recording.proofs.reading.read_bytes.Goals as goal
 
-pub returns-then-is_some : goal.returns-then-is_some
-returns-then-is_some c = reads_dat c.args.bytes.now c.after.result c.after.ensures c.if-is_some.ensures
+pub returns-in-Ok : goal.returns-in-Ok
+returns-in-Ok c = answer_from _ _ c.read_text.result (text_reads c.args.bytes.now c.in-Ok.ensures.text.0 c.in-Ok.ensures.text.1) c.read_text.ensures
 
-pub returns-then-is_some-2 : goal.returns-then-is_some-2
-returns-then-is_some-2 c =
-    reads_perf c.args.bytes.now c.after.result c.after-2.result c.after.ensures c.if-is_some.ensures c.after-2.ensures c.if-is_some-2.ensures
-
-pub returns : goal.returns
-returns c =
-    answer_from _ _ c.read_text.result (reads_text c.args.bytes.now c.after.result c.after-2.result c.after.ensures c.if-is_some.ensures c.after-2.ensures c.if-is_some-2.ensures) c.read_text.ensures
+pub returns-in-Err : goal.returns-in-Err
+returns-in-Err c = refuses_whole reading c.args.bytes.now c.in-Err.fault c.in-Err.ensures.file

@@ -1,18 +1,20 @@
-use Rattle.std.proofs.Common.{ap, arith, length, sym}
-use Rattle.slub_recording.specs.Recording.{reading}
-use Rattle.slub_recording.proofs.Readings.{answer_from, reads_all, reads_none}
+use Rattle.slub_edges.specs.Window.{items}
 use Rattle.slub_recording.proofs.Soundness.{sound_answer}
+use Rattle.slub_recording.proofs.Windows.{first_read, reads_first, reads_on, sound_on}
 use Rattle.slub_recording.proofs.reading.read_recording.Goals as goal
 
-pub read_bytes-requires : goal.read_bytes-requires
-read_bytes-requires g c = omega (arith, ap length c.as_slice.ensures.value, c.in-Ok.ensures.all.2)
+pub returns-in-Ok-true-clause-sound : goal.returns-in-Ok-true-clause-sound
+returns-in-Ok-true-clause-sound g c = sound_answer c.as_slice.result.now c.read_bytes.result c.read_bytes.ensures
 
-pub returns-in-Ok-clause-reads : goal.returns-in-Ok-clause-reads
-returns-in-Ok-clause-reads g c =
-    reads_all _ _ _ _ c.in-Ok.bytes c.read_bytes.result c.in-Ok.ensures.all (answer_from _ _ c.read_bytes.result (ap reading (sym c.as_slice.ensures.value)) c.read_bytes.ensures)
+pub returns-in-Ok-false-clause-sound : goal.returns-in-Ok-false-clause-sound
+returns-in-Ok-false-clause-sound g c = sound_on _ _ _ _ _ c.read_on.result c.read_on.ensures.reads
 
-pub returns-in-Err-clause-reads : goal.returns-in-Err-clause-reads
-returns-in-Err-clause-reads g c = rw c.of_source.ensures (reads_none _ _ _ _ c.in-Err.fault c.in-Err.ensures.all)
+pub returns-in-Ok-true-clause-reads : goal.returns-in-Ok-true-clause-reads
+returns-in-Ok-true-clause-reads g c =
+    let filled = c.in-Ok-true.ensures in
+    reads_first _ _ _ (items c.in-Ok.window) (items c.fill.new.self) _ _ _ _ c.read_bytes.result filled.grows c.in-Ok.ensures.none c.in-Ok.ensures.count c.as_slice.ensures filled.few (filled.end c.in-Ok-true.field-0-test) filled.still c.read_bytes.ensures
 
-pub returns-in-Ok-clause-sound : goal.returns-in-Ok-clause-sound
-returns-in-Ok-clause-sound g c = sound_answer c.as_slice.result.now c.read_bytes.result c.read_bytes.ensures
+pub returns-in-Ok-false-clause-reads : goal.returns-in-Ok-false-clause-reads
+returns-in-Ok-false-clause-reads g c =
+    let filled = c.in-Ok-false.ensures in
+    reads_on _ _ _ (items c.fill.new.self) _ _ _ c.read_on.result (first_read _ _ (items c.in-Ok.window) (items c.fill.new.self) _ _ filled.grows c.in-Ok.ensures.none) filled.still c.read_on.ensures.reads

@@ -1,7 +1,7 @@
 use Rattle.std.proofs.Common.{List, ℕ, ◌≡◌, ◌≤◌, ◌++◌, ◌-◌, length, take, drop, slice_range, refl, sym, ap, ◌∙◌, arith}
 use Rattle.std.proofs.lemmas.List.{length-take-le, length-drop}
-use Rattle.slub_trace_reader.proofs.Windows.{grown_in}
-use Rattle.slub_trace_reader.proofs.window.Window.read_piece.Goals as goal
+use Rattle.slub_edges.proofs.Windows.{grown_in}
+use Rattle.slub_edges.proofs.window.Window.read_piece.Goals as goal
 
 pub returns-clause-grows : goal.returns-clause-grows
 returns-clause-grows g c =

@@ -1,5 +1,10 @@
--- The bytes of a window where a piece was read behind them, and where the last of them stay.
-use Rattle.std.proofs.Common.{◌≡◌, ℕ, ◌+◌, ◌-◌, ◌≤◌, List, ◌++◌, length, length-append, take, drop, slice_range, refl, sym, ap, ◌∙◌, arith}
+-- The bytes of a window where a piece was read behind them, and where the last of them stay; and what comes of reading by it.
+use Rattle.std.proofs.Common.{◌≡◌, ℕ, ◌+◌, ◌-◌, ◌≤◌, Option, List, [], ◌++◌, length, length-append, append_assoc, append-nil, take, drop, slice_range, refl, sym, ap, ◌∙◌, subst, arith}
+use Rattle.std.proofs.KnownBytes.{Consumes-nil, Consumes-trans}
+use Rattle.slub_edges.specs.declared.reading.ReadAllFault.{ReadAllFault}
+use Rattle.slub_edges.specs.declared.reading.ReadAllFault.TheVariants.{Failed, TooLong, NoMemory}
+use Rattle.slub_edges.specs.Edges.{Rose}
+use Rattle.slub_edges.specs.Window.{Grows, Counts, StopsRead}
 use Rattle.std.proofs.lemmas.List.{take_at, drop_at, take-append-le, drop-append-le, drop-take, drop-drop, length-take-le, length-drop}
 use borrow.Rule.Slice.PartMut.{put_mid, post_of}
 use lib.Seq.{take-add}
@@ -35,3 +40,42 @@ kept xs start end last ordered within fits =
     ap (λ j. take j (drop (end - last) xs)) some ∙ ap (λ j. take last (drop j xs)) first ∙ ap (take last) (sym (drop-drop (end - start - last) start xs))
     ∙ sym (drop-take (end - start - last) last (drop start xs)) ∙ ap (λ j. drop (end - start - last) (take j (drop start xs))) (sym parts)
     ∙ ap (λ j. drop (j - last) (slice_range xs start end)) (sym long)
+
+-- ---- pieces
+
+pub grows_none : (told : Option (List ℕ)) (bytes : List ℕ) (count : ℕ) → Grows told told bytes bytes count count
+grows_none told bytes count = record { more = []; read = Consumes-nil told; behind = sym (append-nil bytes); counted = omega arith }
+
+pub grows_on : (a b c : Option (List ℕ)) (x y z : List ℕ) (k m n : ℕ) → Grows a b x y k m → Grows b c y z m n → Grows a c x z k n
+grows_on a b c x y z k m n first second = record {
+  more = first.more ++ second.more;
+  read = Consumes-trans a b c first.more second.more first.read second.read;
+  behind = second.behind ∙ ap (λ l. l ++ second.more) first.behind ∙ append_assoc x first.more second.more;
+  counted = omega (arith, first.counted, second.counted, length-append first.more second.more);
+}
+
+pub counts_none : (told : Option (List ℕ)) (count : ℕ) → Counts told told count count
+counts_none told count = record { more = []; read = Consumes-nil told; counted = omega arith }
+
+pub counts_on : (a b c : Option (List ℕ)) (x y : List ℕ) (k m n : ℕ) → Counts a b k m → Grows b c x y m n → Counts a c k n
+counts_on a b c x y k m n first second = record {
+  more = first.more ++ second.more;
+  read = Consumes-trans a b c first.more second.more first.read second.read;
+  counted = omega (arith, first.counted, second.counted, length-append first.more second.more);
+}
+
+pub counts_of : (a b : Option (List ℕ)) (x y : List ℕ) (k m : ℕ) → Grows a b x y k m → Counts a b k m
+counts_of a b x y k m grows = record { more = grows.more; read = grows.read; counted = grows.counted }
+
+-- a stop behind counted bytes is one from before them
+pub stops_from : (most : ℕ) (a b c : Option (List ℕ)) (k m old mid new : ℕ) (fault : ReadAllFault) → Counts a b k m → mid ≡ old → StopsRead most b c m mid new fault → StopsRead most a c k old new fault
+stops_from most a b c k m old mid new NoMemory counts still stops = stops ∙ still
+stops_from most a b c k m old mid new TooLong counts still stops = (
+  record {
+    more = counts.more ++ stops.0.more;
+    read = Consumes-trans a b c counts.more stops.0.more counts.read stops.0.read;
+    over = omega (arith, counts.counted, stops.0.over, length-append counts.more stops.0.more);
+  },
+  stops.1 ∙ still,
+)
+stops_from most a b c k m old mid new Failed counts still stops = subst (λ n. Rose n new) still stops

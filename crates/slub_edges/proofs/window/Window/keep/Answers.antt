@@ -1,6 +1,6 @@
 use Rattle.std.proofs.Common.{arith}
-use Rattle.slub_trace_reader.proofs.Windows.{kept}
-use Rattle.slub_trace_reader.proofs.window.Window.keep.Goals as goal
+use Rattle.slub_edges.proofs.Windows.{kept}
+use Rattle.slub_edges.proofs.window.Window.keep.Goals as goal
 
 pub returns-clause-kept : goal.returns-clause-kept
 returns-clause-kept c =

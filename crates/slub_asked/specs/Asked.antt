@@ -11,7 +11,7 @@ use Rattle.slub_trace_reader.specs.Reads.{IsBadIn, IsTooLong, Spells}
 use Rattle.slub_asked.specs.declared.asked.Asked.{Asked}
 use Rattle.slub_asked.specs.declared.stop.Stop.{Stop}
 use Rattle.slub_asked.specs.declared.stop.Stop.TheVariants.{BadWords, BadLine, TooLong, ReadFault, NoMemory}
-use Rattle.slub_asked.specs.Stop.{bad_line}
+use Rattle.slub_trace_reader.specs.Faults.{bad_line}
 
 -- what a run had, and what it left of its source
 pub record Call : Type 0 where

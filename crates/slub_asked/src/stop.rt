@@ -2,7 +2,8 @@
 
 ghost use Rattle.std.specs.Prelude.{◌≡◌, IfOk};
 ghost use Rattle.slub_asked.specs.declared.stop.Stop.TheVariants.{NoMemory as Want, WriteFault as Fault};
-ghost use Rattle.slub_asked.specs.Stop.{IsBadStopOf, IsStopOf, bad_line, stop_line, stop_status};
+ghost use Rattle.slub_asked.specs.Stop.{IsBadStopOf, IsStopOf, stop_line, stop_status};
+ghost use Rattle.slub_trace_reader.specs.Faults.{bad_line};
 
 use slub_common::no_memory::NoMemory;
 use slub_edges::edges::Failed;

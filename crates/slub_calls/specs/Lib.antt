@@ -4,4 +4,5 @@ pub mod NumberHasher
 pub mod Share
 pub mod Changes
 pub mod Events
+pub mod Replies
 pub mod ChangeLaws

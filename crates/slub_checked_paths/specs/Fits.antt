@@ -3,7 +3,7 @@
 use Rattle.std.specs.Prelude.{◌+◌, ◌*◌, ◌<◌, ◌≤◌, List}
 use Rattle.slub_page_pool.specs.Block.{CanPut}
 use Rattle.slub_red_zone.specs.State.{CheckedState, Has, IsUsed}
-use Rattle.slub_red_zone.specs.Sound.{IsSized}
+use Rattle.slub_object_layout.specs.Layout.{IsSized}
 use Rattle.slub_core.specs.declared.call.CallKind.{CallKind}
 use Rattle.slub_core.specs.declared.call.CallKind.TheVariants.{Alloc, Free, Write, Read, Poke, Trim, Flush}
 use Rattle.slub_core.specs.declared.spot.CheckedSpot.{CheckedSpot}

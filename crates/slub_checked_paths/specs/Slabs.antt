@@ -7,7 +7,7 @@ use Rattle.slub_trace.specs.declared.reply.Reply.TheVariants.{NoMemory}
 use Rattle.slub_core.specs.declared.local.FrameRun.{FrameRun}
 use Rattle.slub_core.specs.World.{LockValue, Nothing, Node, Checked, Pool}
 use Rattle.slub_core.specs.Checked.{slabs_in, run_at}
-use Rattle.slub_core.specs.Facts.{no_layout}
+use Rattle.slub_object_layout.specs.Layout.{no_layout}
 
 -- it is the slabs of a checked cache
 abbrev pub IsCheckedValue : LockValue → Type 0

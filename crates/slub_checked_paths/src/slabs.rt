@@ -3,7 +3,8 @@
 
 ghost use Rattle.std.specs.Prelude.{◌≡◌, ◌+◌, ◌*◌, ◌<◌, ◌≤◌, ◌&&◌, nat_lt, if◌then◌else◌, MatchResult, Some, None};
 ghost use Rattle.slub_red_zone.specs.State.{IsUsed, Has, slab_of, objects_in};
-ghost use Rattle.slub_red_zone.specs.Sound.{IsSound, IsSized};
+ghost use Rattle.slub_red_zone.specs.Sound.{IsSound};
+ghost use Rattle.slub_object_layout.specs.Layout.{IsSized};
 ghost use Rattle.slub_red_zone.specs.Steps.{Gives, damage_of_used, with_taken, with_byte, with_word, word_of, with_given, with_new_slab};
 ghost use Rattle.slub_core.specs.Setup.{node_lock};
 ghost use Rattle.slub_core.specs.World.{Checked, update};

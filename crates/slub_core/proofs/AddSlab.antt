@@ -27,7 +27,8 @@ use Rattle.slub_core.specs.Local.{Worker, nobody, here, run_of}
 use Rattle.slub_core.specs.Discard.{with_put}
 use Rattle.slub_core.specs.Checked.{slabs_of, slabs_in, slab_added, slab_refused, checked_at_once}
 use Rattle.slub_core.specs.Placed.{owned}
-use Rattle.slub_core.specs.Listed.{covered_by, takes, IsSized, IsCheckedOf}
+use Rattle.slub_core.specs.Listed.{covered_by, takes, IsCheckedOf}
+use Rattle.slub_object_layout.specs.Layout.{IsSized}
 use Rattle.slub_core.specs.Fresh.{IsHeldRun, IsAtWork}
 use Rattle.slub_core.specs.Coherent.{Stands}
 use Rattle.slub_core.proofs.CheckedBytes.{length-set_slot, length-new_bytes}

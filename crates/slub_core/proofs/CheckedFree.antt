@@ -26,7 +26,8 @@ use Rattle.slub_core.specs.World.{World, LockValue, Checked, set_value, cache_at
 use Rattle.slub_core.specs.Local.{Worker, nobody, here, loses, stays}
 use Rattle.slub_core.specs.Checked.{slot_of, with_slabs, run_at}
 use Rattle.slub_core.specs.Placed.{owned}
-use Rattle.slub_core.specs.Listed.{takes, IsSized, IsCheckedOf}
+use Rattle.slub_core.specs.Listed.{takes, IsCheckedOf}
+use Rattle.slub_object_layout.specs.Layout.{IsSized}
 use Rattle.slub_core.specs.Fresh.{IsHeldRun, IsAtWork}
 use Rattle.slub_core.specs.Coherent.{Stands}
 use Rattle.slub_core.proofs.CheckedBytes.{length-set_slot}

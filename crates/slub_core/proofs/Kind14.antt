@@ -28,7 +28,7 @@ use Rattle.slub_core.specs.Discard.{discard_advance, way_of_discarded}
 use Rattle.slub_core.specs.Free.{free_advance}
 use Rattle.slub_core.specs.Offline.{trim_advance}
 use Rattle.slub_core.specs.Checked.{checked_advance}
-use Rattle.slub_core.specs.Listed.{IsSized}
+use Rattle.slub_object_layout.specs.Layout.{IsSized}
 use Rattle.slub_core.specs.Fresh.{IsHeldRun, IsAtWork}
 use Rattle.slub_core.specs.Coherent.{Stands}
 use Rattle.slub_core.proofs.Locks.{ComesTo, lent, give-node, give-pool}

@@ -5,19 +5,18 @@ use Rattle.std.proofs.lemmas.Bool.{cases_eq, cases_lt, eq-eqb, ne_eqb, lt-ltb, l
 use Rattle.std.proofs.lemmas.List.Elements.{All-head}
 use Rattle.slub_common.specs.Times.{times}
 use Rattle.slub_object_layout.specs.declared.layout.Layout.{Layout}
-use Rattle.slub_object_layout.specs.Layout.{IsWithinBounds}
+use Rattle.slub_object_layout.specs.Layout.{IsWithinBounds, order_for, IsSized}
 use Rattle.slub_words.specs.declared.slab.SlabWord.{SlabWord}
 use Rattle.slub_core.specs.declared.local.Known.{Known}
 use Rattle.slub_core.specs.declared.local.FrameRun.{FrameRun}
 use Rattle.slub_core.specs.declared.step.Answer.TheVariants.{Done}
 use Rattle.slub_core.specs.declared.spot.Spot.TheVariants.{InAlloc}
 use Rattle.slub_core.specs.declared.spot.AllocSpot.TheVariants.{Make, LoadReady}
-use Rattle.slub_core.specs.Setup.{order_for}
 use Rattle.slub_core.specs.World.{World, set_slab, pointer, IsChain, one_if, sum_below, size_in, objects_at, object_at, cache_at, order_at, in_chain, live, off_list, covers}
 use Rattle.slub_core.specs.Local.{Worker, hand_from, run_in, run_of}
 use Rattle.slub_core.specs.Alloc.{alloc_advance, made_word}
 use Rattle.slub_core.specs.Spots.{Ready}
-use Rattle.slub_core.specs.Listed.{home_of, covered_by, IsSized}
+use Rattle.slub_core.specs.Listed.{home_of, covered_by}
 use Rattle.slub_core.specs.Fresh.{AreHands, AreHeld, IsHeldRun, IsWalk, IsAtWork, rising_next}
 use Rattle.slub_core.specs.Coherent.{Stands}
 use Rattle.slub_core.proofs.Counts.{places-cons, homes-cons, roles-cons}

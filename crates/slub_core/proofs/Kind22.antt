@@ -13,7 +13,7 @@ use Rattle.slub_core.specs.declared.spot.Spot.TheVariants.{InDiscard}
 use Rattle.slub_core.specs.declared.spot.Discard.{Discard}
 use Rattle.slub_core.specs.declared.spot.Discard.TheVariants.{FromAway, FromFree, FromMove, FromTrim}
 use Rattle.slub_core.specs.declared.spot.DiscardSpot.TheVariants.{Unmake, LockDiscard}
-use Rattle.slub_core.specs.Setup.{order_for}
+use Rattle.slub_object_layout.specs.Layout.{order_for}
 use Rattle.slub_core.specs.Words.{no_slab_word}
 use Rattle.slub_core.specs.World.{World, set_slab, one_if, sum_below, size_in, objects_at, object_at, cache_at, order_at, in_run, in_chain, live, covers}
 use Rattle.slub_core.specs.Local.{Worker, hand_of}

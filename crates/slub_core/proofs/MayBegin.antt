@@ -8,9 +8,9 @@ use Rattle.slub_core.specs.declared.call.Call.{Call}
 use Rattle.slub_core.specs.declared.call.CallKind.TheVariants.{Alloc}
 use Rattle.slub_core.specs.declared.local.Known.{Known}
 use Rattle.slub_core.specs.Setup.{Setup}
-use Rattle.slub_core.specs.World.{World}
+use Rattle.slub_core.specs.World.{World, one_if}
 use Rattle.slub_core.specs.Local.{Local, Worker, nobody}
-use Rattle.slub_core.specs.Replies.{one_if, asked_in, is_alloc, names_object}
+use Rattle.slub_core.specs.Replies.{asked_in, is_alloc, names_object}
 use Rattle.slub_core.specs.Accounted.{had, known_of, Fits, IsAccounted}
 use Rattle.slub_core.proofs.TaleKnowns.{place_of-object}
 use Rattle.slub_core.proofs.TaleReplies.{told-of}

@@ -5,7 +5,7 @@ use Rattle.std.proofs.lemmas.Bool.{cases_lt, lt-ltb, false≢true}
 use Rattle.std.proofs.lemmas.List.Elements.{All-head}
 use Rattle.slub_common.specs.Times.{times}
 use Rattle.slub_object_layout.specs.declared.layout.Layout.{Layout}
-use Rattle.slub_object_layout.specs.Layout.{IsWithinBounds}
+use Rattle.slub_object_layout.specs.Layout.{IsWithinBounds, IsSized}
 use Rattle.slub_page_pool.specs.FreeFrames.{FreeFrames, IsPool}
 use Rattle.slub_page_pool.specs.Block.{CanPut, less_run}
 use Rattle.slub_page_pool.proofs.FreeRuns.{IsTaken-free, IsTaken-aligned}
@@ -27,7 +27,7 @@ use Rattle.slub_core.specs.Alloc.{found_run, noted_dry, run_taken, way_of_run, a
 use Rattle.slub_core.specs.Discard.{with_put, discard_at_once}
 use Rattle.slub_core.specs.Checked.{move_run, way_of_found, checked_at_once}
 use Rattle.slub_core.specs.Spots.{beside_discard, has_run, scans}
-use Rattle.slub_core.specs.Listed.{takes, covered_by, IsSized}
+use Rattle.slub_core.specs.Listed.{takes, covered_by}
 use Rattle.slub_core.specs.Fresh.{IsRun, IsHeldRun, IsHeldString, AreHeld, IsAtWork}
 use Rattle.slub_core.specs.Coherent.{Stands}
 use Rattle.slub_core.proofs.Counts.{roles-cons}

@@ -14,7 +14,7 @@ use Rattle.slub_core.specs.declared.local.FrameRun.{FrameRun}
 use Rattle.slub_core.specs.Setup.{Setup, pool_after}
 use Rattle.slub_core.specs.World.{one_if, in_run}
 use Rattle.slub_core.specs.Alloc.{run_found, or_least, found_run, noted_dry}
-use Rattle.slub_core.specs.Listed.{IsSized}
+use Rattle.slub_object_layout.specs.Layout.{IsSized}
 
 -- ---- the free frames, counted
 

@@ -9,13 +9,14 @@ use Rattle.slub_words.specs.declared.slab.SlabWord.{SlabWord}
 use Rattle.slub_words.specs.declared.board.BoardWord.{BoardWord}
 use Rattle.slub_core.specs.declared.local.Known.{Known}
 use Rattle.slub_core.specs.declared.local.FrameRun.{FrameRun}
-use Rattle.slub_core.specs.Setup.{IsPlain, IsSetup, node_lock, order_for}
+use Rattle.slub_core.specs.Setup.{IsPlain, IsSetup, node_lock}
+use Rattle.slub_object_layout.specs.Layout.{order_for, IsSized}
 use Rattle.slub_core.specs.World.{World, Chains, LockValue, update, set_slab, pointer, objects_at, cache_at, order_at, object_at, objects_in_values, on_board, frames_in, size_in, one_if, sum_below, live, off_list, in_run, covers, IsChain}
 use Rattle.slub_core.specs.Local.{Worker, here, hand_of, run_of}
 use Rattle.slub_core.specs.Offline.{scanned_slab}
 use Rattle.slub_core.specs.Spots.{roles, stored_in}
 use Rattle.slub_core.specs.Placed.{owned}
-use Rattle.slub_core.specs.Listed.{home_of, homes, on_lists, marked_of, covered_by, takes, IsSized}
+use Rattle.slub_core.specs.Listed.{home_of, homes, on_lists, marked_of, covered_by, takes}
 use Rattle.slub_core.specs.Fresh.{IsHeldRun, IsAtWork, end_of}
 use Rattle.slub_core.specs.Coherent.{Stands}
 use Rattle.slub_core.proofs.Counts.{All-from_no_sum, places-cons, homes-cons, roles-cons}

@@ -7,11 +7,11 @@ use Rattle.std.proofs.lemmas.List.Elements.{All-map, All-cons, All-head, All-tai
 use Rattle.slub_core.specs.declared.call.Call.{Call}
 use Rattle.slub_core.specs.declared.local.Answered.{Answered}
 use Rattle.slub_core.specs.Setup.{Setup}
-use Rattle.slub_core.specs.World.{World, world_from, world_of, pool_of}
+use Rattle.slub_core.specs.World.{World, world_from, world_of, pool_of, one_if}
 use Rattle.slub_core.specs.Local.{Local, Worker}
 use Rattle.slub_core.specs.Steps.{rested}
 use Rattle.slub_core.specs.Run.{run, IsFinished}
-use Rattle.slub_core.specs.Replies.{one_if, given_in, freed_in, dry_in, holding, Later, Caused}
+use Rattle.slub_core.specs.Replies.{given_in, freed_in, dry_in, holding, Later, Caused}
 use Rattle.slub_core.specs.Accounted.{had, public, known_of, IsTold, IsAccounted}
 use Rattle.slub_core.specs.Opening.{IsNew, opened}
 use Rattle.slub_core.specs.Round.{in_order, freed_over, held_over, outcome, IsRound}

@@ -6,7 +6,7 @@ use Rattle.slub_object_layout.specs.declared.layout.Layout.{Layout}
 use Rattle.slub_object_layout.proofs.Slots.{mul-words}
 use Rattle.slub_core.specs.Setup.{Setup, IsSetup, pointer_at, word_at}
 use Rattle.slub_core.specs.World.{sum_below, in_run}
-use Rattle.slub_core.specs.Listed.{IsSized}
+use Rattle.slub_object_layout.specs.Layout.{IsSized}
 use Rattle.slub_core.proofs.Update.{term_le_sum}
 
 -- the word begins in the object's slot

@@ -3,7 +3,8 @@ use Rattle.std.proofs.Common.{◌≡◌, ℕ, zero, suc, ◌-◌, ◌<◌, ◌�
 use Rattle.std.specs.Prelude.{nat_lt}
 use Rattle.std.proofs.lemmas.Bool.{cases_eq, cases_lt, cases_Bool, lt-ltb, le-ltb}
 use Rattle.slub_red_zone.specs.State.{CheckedState}
-use Rattle.slub_core.specs.Setup.{Setup, IsPlain, IsChecked, node_lock, order_for}
+use Rattle.slub_core.specs.Setup.{Setup, IsPlain, IsChecked, node_lock}
+use Rattle.slub_object_layout.specs.Layout.{order_for}
 use Rattle.slub_core.specs.World.{World, Chains, LockValue, Nothing, Node, Checked, Pool, size_in, order_in, objects_in_values, cache_in_values, order_in_values, objects_at, cache_at, order_at, object_at, one_if, sum_below, live}
 use Rattle.slub_core.specs.Listed.{IsGuarded, IsCheckedOf, IsShaped}
 use Rattle.slub_core.proofs.Update.{term_le_sum}

@@ -10,10 +10,10 @@ use Rattle.slub_core.specs.declared.call.Call.{Call}
 use Rattle.slub_core.specs.declared.call.CallKind.{CallKind}
 use Rattle.slub_core.specs.declared.local.Known.{Known}
 use Rattle.slub_core.specs.Setup.{Setup}
-use Rattle.slub_core.specs.World.{World, pool_of}
+use Rattle.slub_core.specs.World.{World, pool_of, one_if}
 use Rattle.slub_core.specs.Local.{Local, Worker, nobody, no_call, here, call_of, address_in}
 use Rattle.slub_core.specs.Spots.{doing, is_freeing}
-use Rattle.slub_core.specs.Replies.{one_if, is_alloc, names_object, is_given, is_freed, is_dry, least_order, holds_after, holding, knows_after, knows, address_after, address_by, cache_after, cache_by, Public, Cause}
+use Rattle.slub_core.specs.Replies.{is_alloc, names_object, is_given, is_freed, is_dry, least_order, holds_after, holding, knows_after, knows, address_after, address_by, cache_after, cache_by, Public, Cause}
 use Rattle.slub_core.specs.Accounted.{boarded, public, place_of, known_of, Fits, IsDoing, IsTold, IsWritten, IsAccounted}
 use Rattle.slub_core.proofs.TaleKnowns.{known_of-here, known_of-other, fits-set, distinct-set, asked-drop, length-drop}
 use Rattle.slub_core.proofs.TaleStep.{Onward, Moved, caused-later, told-later, told_step}

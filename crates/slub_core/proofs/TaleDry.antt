@@ -7,11 +7,11 @@ use Rattle.slub_trace.specs.declared.reply.Reply.TheVariants as reply
 use Rattle.slub_core.specs.declared.call.CallKind.TheVariants.{Alloc}
 use Rattle.slub_core.specs.declared.local.Answered.{Answered}
 use Rattle.slub_core.specs.Setup.{Setup, pool_lock}
-use Rattle.slub_core.specs.World.{World, Pool, pool_in, pool_of}
+use Rattle.slub_core.specs.World.{World, Pool, pool_in, pool_of, one_if}
 use Rattle.slub_core.specs.Local.{Worker, call_of}
 use Rattle.slub_core.specs.Alloc.{noted_dry, pool_with}
 use Rattle.slub_core.specs.Spots.{doing, is_freeing}
-use Rattle.slub_core.specs.Replies.{one_if, is_dry, least_order, dry_in}
+use Rattle.slub_core.specs.Replies.{is_dry, least_order, dry_in}
 use Rattle.slub_core.specs.Accounted.{IsAccounted}
 use Rattle.slub_core.proofs.Update.{update_same}
 use Rattle.slub_core.proofs.TaleReplies.{AnswersKept, told-of, told_same}

@@ -13,12 +13,12 @@ use Rattle.slub_core.specs.declared.call.CallKind.TheVariants.{Alloc}
 use Rattle.slub_core.specs.declared.local.Known.{Known}
 use Rattle.slub_core.specs.declared.local.Answered.{Answered}
 use Rattle.slub_core.specs.Setup.{Setup}
-use Rattle.slub_core.specs.World.{World, cache_at, object_at, on_board}
+use Rattle.slub_core.specs.World.{World, cache_at, object_at, on_board, one_if}
 use Rattle.slub_core.specs.Local.{Local, Worker, nobody, here, address_in}
 use Rattle.slub_core.specs.Spots.{doing, is_freeing}
 use Rattle.slub_core.specs.Placed.{held_as, held}
 use Rattle.slub_core.specs.Coherent.{Stands}
-use Rattle.slub_core.specs.Replies.{one_if, is_given, given_in, freed_in, address_after, address_by, address_on}
+use Rattle.slub_core.specs.Replies.{is_given, given_in, freed_in, address_after, address_by, address_on}
 use Rattle.slub_core.specs.Accounted.{boarded, had, public, place_of, known_of, IsAccounted}
 use Rattle.slub_core.proofs.Exists.{owned-object}
 use Rattle.slub_core.proofs.ValueStep.{known-owned, board-object}

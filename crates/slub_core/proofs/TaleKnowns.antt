@@ -8,7 +8,8 @@ use Rattle.slub_core.specs.declared.call.Call.{Call}
 use Rattle.slub_core.specs.declared.local.Known.{Known}
 use Rattle.slub_core.specs.Setup.{Setup}
 use Rattle.slub_core.specs.Local.{nobody, no_call}
-use Rattle.slub_core.specs.Replies.{one_if, asked_in, is_alloc}
+use Rattle.slub_core.specs.Replies.{asked_in, is_alloc}
+use Rattle.slub_core.specs.World.{one_if}
 use Rattle.slub_core.specs.Accounted.{place_of, known_of, AreDistinct, Fits}
 
 -- a change that keeps the number keeps all places

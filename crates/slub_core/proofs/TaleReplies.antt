@@ -17,10 +17,10 @@ use Rattle.slub_core.specs.declared.local.Answered.{Answered}
 use Rattle.slub_core.specs.declared.spot.Spot.{Spot}
 use Rattle.slub_core.specs.declared.spot.Spot.TheVariants.{Between, InAlloc, InPutAway, InDiscard, InPutOnList, InFree, InMoveSet, InOffline, InTrim, WriteWord, ReadWord, InChecked}
 use Rattle.slub_core.specs.Setup.{Setup}
-use Rattle.slub_core.specs.World.{World, pool_of, content}
+use Rattle.slub_core.specs.World.{World, pool_of, content, one_if}
 use Rattle.slub_core.specs.Local.{Local, Worker, nobody, no_call, here, call_of, address_in}
 use Rattle.slub_core.specs.Spots.{doing, frees, is_freeing}
-use Rattle.slub_core.specs.Replies.{one_if, names_object, is_given, is_freed, is_dry, least_order, holds_after, holding, knows_after, knows, address_after, address_by, cache_after, cache_by, wrote_after, last_wrote, Public, Cause}
+use Rattle.slub_core.specs.Replies.{names_object, is_given, is_freed, is_dry, least_order, holds_after, holding, knows_after, knows, address_after, address_by, cache_after, cache_by, wrote_after, last_wrote, Public, Cause}
 use Rattle.slub_core.specs.Accounted.{boarded, public, place_of, known_of, Fits, IsDoing, IsTold, IsWritten, IsAccounted}
 use Rattle.slub_core.proofs.TaleKnowns.{asked-drop, length-drop}
 use Rattle.slub_core.proofs.TaleStep.{Onward, Moved, caused-later, told-later, told_step}

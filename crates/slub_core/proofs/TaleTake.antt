@@ -13,10 +13,10 @@ use Rattle.slub_core.specs.declared.call.CallKind.TheVariants.{Free}
 use Rattle.slub_core.specs.declared.local.Known.{Known}
 use Rattle.slub_core.specs.declared.local.Answered.{Answered}
 use Rattle.slub_core.specs.Setup.{Setup}
-use Rattle.slub_core.specs.World.{World, set_board, update}
+use Rattle.slub_core.specs.World.{World, set_board, update, one_if}
 use Rattle.slub_core.specs.Local.{Local, Worker, nobody, here, address_in}
 use Rattle.slub_core.specs.Spots.{doing, is_freeing}
-use Rattle.slub_core.specs.Replies.{one_if, is_given, given_in, cache_after, cache_by, address_by, address_on, holding, holds_after, last_wrote, wrote_after, Public, Cause, Caused}
+use Rattle.slub_core.specs.Replies.{is_given, given_in, cache_after, cache_by, address_by, address_on, holding, holds_after, last_wrote, wrote_after, Public, Cause, Caused}
 use Rattle.slub_core.specs.Accounted.{boarded, public, known_of, NamesCache, IsWritten, IsAccounted}
 use Rattle.slub_core.proofs.Update.{update_at, update_other}
 use Rattle.slub_core.proofs.TaleKnowns.{known_of-here, known_of-other, fits-set, distinct-set}

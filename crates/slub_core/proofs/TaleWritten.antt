@@ -10,12 +10,12 @@ use Rattle.slub_core.specs.declared.call.Call.{Call}
 use Rattle.slub_core.specs.declared.call.CallKind.{CallKind}
 use Rattle.slub_core.specs.declared.local.Known.{Known}
 use Rattle.slub_core.specs.Setup.{Setup, word_at}
-use Rattle.slub_core.specs.World.{World, content, set_memory, exists_at, object_at}
+use Rattle.slub_core.specs.World.{World, content, set_memory, exists_at, object_at, one_if}
 use Rattle.slub_core.specs.Local.{Local, Worker, nobody, no_call, here, call_of}
 use Rattle.slub_core.specs.Spots.{frees}
 use Rattle.slub_core.specs.Placed.{held_as, owned}
 use Rattle.slub_core.specs.Coherent.{Stands}
-use Rattle.slub_core.specs.Replies.{one_if, is_alloc, names_object, last_wrote, wrote_after, asked_in}
+use Rattle.slub_core.specs.Replies.{is_alloc, names_object, last_wrote, wrote_after, asked_in}
 use Rattle.slub_core.specs.Accounted.{boarded, place_of, known_of, calls_of, AreReadable, IsDoing, IsWritten, IsAccounted}
 use Rattle.slub_core.proofs.Exists.{IsPlainObject, plain-object, owned-object, object_at-le, alone}
 use Rattle.slub_core.proofs.ValueStep.{known-owned}

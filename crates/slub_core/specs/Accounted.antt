@@ -7,10 +7,10 @@ use Rattle.slub_core.specs.declared.call.CallKind.TheVariants.{Alloc, Write, Rea
 use Rattle.slub_core.specs.declared.local.Known.{Known}
 use Rattle.slub_core.specs.declared.local.Answered.{Answered}
 use Rattle.slub_core.specs.Setup.{Setup}
-use Rattle.slub_core.specs.World.{World, content, pool_of}
+use Rattle.slub_core.specs.World.{World, content, pool_of, one_if}
 use Rattle.slub_core.specs.Local.{Local, Worker, nobody, here, call_of, address_in}
 use Rattle.slub_core.specs.Spots.{doing, frees, is_freeing}
-use Rattle.slub_core.specs.Replies.{one_if, given_in, freed_in, asked_in, dry_in, holding, knows, address_by, address_on, cache_by, last_wrote, is_alloc, names_object, Public, Caused}
+use Rattle.slub_core.specs.Replies.{given_in, freed_in, asked_in, dry_in, holding, knows, address_by, address_on, cache_by, last_wrote, is_alloc, names_object, Public, Caused}
 
 -- ---- what a worker knows, by object number
 

@@ -18,7 +18,8 @@ use Rattle.slub_core.specs.declared.spot.FreeSpot.TheVariants.{GiveFree}
 use Rattle.slub_core.specs.declared.spot.MoveSet.TheVariants.{ForFree, ForOffline}
 use Rattle.slub_core.specs.declared.spot.MoveSetSpot.TheVariants.{ChooseFront}
 use Rattle.slub_core.specs.declared.spot.TrimSpot.TheVariants.{ScanNode}
-use Rattle.slub_core.specs.Setup.{Setup, order_for, pool_lock}
+use Rattle.slub_core.specs.Setup.{Setup, pool_lock}
+use Rattle.slub_object_layout.specs.Layout.{order_for}
 use Rattle.slub_core.specs.Words.{no_slab_word}
 use Rattle.slub_core.specs.World.{LockValue, pool_in}
 use Rattle.slub_core.specs.Local.{Local, Turn, Change, hand_of, run_of, at, less_hand, goes, stays}

@@ -1,7 +1,7 @@
 -- What stays while a round runs, as plain data, and the `Setup` of the step machine that it is.
 use Rattle.std.specs.Prelude.{◌≡◌, ℕ, ◌+◌, ◌/◌, ◌%◌, ◌^◌, ◌<◌, ◌≤◌, false, List, length, slice_index, slice_index_or, All}
 use Rattle.slub_object_layout.specs.declared.layout.Layout.{Layout}
-use Rattle.slub_object_layout.specs.Layout.{address_of}
+use Rattle.slub_object_layout.specs.Layout.{address_of, no_layout}
 use Rattle.slub_words.specs.Words.{steps_from_one}
 use Rattle.slub_core.specs.Setup.{Setup, Means, hardened}
 use Rattle.slub_core.specs.declared.cache.CacheFacts.{CacheFacts}
@@ -15,23 +15,6 @@ pub record Facts : Type 0 where
   pub objects : ℕ
   pub plain : List ℕ
   pub caches : List CacheFacts
-
--- where there is no cache
-abbrev pub no_layout : Layout
-no_layout = record {
-  object_size = 0;
-  inuse = 0;
-  offset = 0;
-  left_pad = 0;
-  size = 0;
-  align = 0;
-  order = 0;
-  objects = 0;
-  min_order = 0;
-  min_objects_slab = 0;
-  min_partial = 0;
-  cpu_partial_slabs = 0;
-}
 
 abbrev pub no_cache : CacheFacts
 no_cache = record { live = false; checks = false; layout = no_layout }

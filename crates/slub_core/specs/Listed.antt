@@ -13,6 +13,7 @@ use Rattle.slub_core.specs.Setup.{Setup, IsPlain, node_lock, pool_lock}
 use Rattle.slub_core.specs.World.{World, Chains, LockValue, Nothing, Node, Checked, Pool, pool_of, frames_in, size_in, objects_at, cache_at, order_at, one_if, sum_below, live, off_list, in_run, covers, Links}
 use Rattle.slub_core.specs.Local.{Worker, hand_of}
 use Rattle.slub_core.specs.Spots.{has_node, has_pool, is_marked}
+use Rattle.slub_object_layout.specs.Layout.{IsSized}
 
 -- ---- slabs
 
@@ -60,12 +61,6 @@ takes n x =
     + cond (has_pool x.local.spot) (one_if (pool_lock == n)) 0
 
 -- ---- what a lock guards
-
--- the number of objects of a slab is its layout's, or its layout's least one
-abbrev pub IsSized : Layout → ℕ → ℕ → Type 0
-IsSized layout order objects =
-    ((order ≡ layout.order) × (objects ≡ layout.objects))
-    ⊎ ((order ≡ layout.min_order) × (objects ≡ layout.min_objects_slab))
 
 pub record IsCheckedOf (m : Setup) (cache : ℕ) (slabs : CheckedState) : Type 0 where
   pub sound : IsSound slabs

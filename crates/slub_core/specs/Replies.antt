@@ -14,6 +14,7 @@ use Rattle.slub_core.specs.declared.local.Answered.{Answered}
 use Rattle.slub_core.specs.Setup.{Setup}
 use Rattle.slub_core.specs.Checked.{is_offset}
 use Rattle.slub_core.specs.Steps.{is_outside}
+use Rattle.slub_core.specs.World.{one_if}
 
 -- ---- kinds of calls and replies
 
@@ -102,9 +103,6 @@ last_wrote (d ∷ ds) o a =
     cond (d.call.object == o) (wrote_after d.call d.reply a (last_wrote ds o a)) (last_wrote ds o a)
 
 -- ---- counts
-
-abbrev pub one_if : Bool → ℕ
-one_if b = cond b 1 0
 
 -- how often the object was given, and how often it was freed
 abbrev pub given_in : ℕ → List Answered → ℕ

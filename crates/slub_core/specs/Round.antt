@@ -3,8 +3,8 @@ use Rattle.std.specs.Prelude.{◌≡◌, ℕ, ◌+◌, ◌≤◌, List, [], ◌�
 use Rattle.slub_core.specs.declared.call.Call.{Call}
 use Rattle.slub_core.specs.declared.local.Answered.{Answered}
 use Rattle.slub_core.specs.Setup.{Setup}
-use Rattle.slub_core.specs.World.{World, pool_of}
-use Rattle.slub_core.specs.Replies.{one_if, given_in, freed_in, dry_in, holding, Public, Caused}
+use Rattle.slub_core.specs.World.{World, pool_of, one_if}
+use Rattle.slub_core.specs.Replies.{given_in, freed_in, dry_in, holding, Public, Caused}
 use Rattle.slub_core.specs.Accounted.{boarded}
 
 -- a worker's calls in their order: those that have replies, the last one first, and those to come

@@ -98,7 +98,3 @@ word_at m cache frame index word = address_of frame index (m.layout cache) / 8 +
 -- hardened)
 abbrev pub hardened : ℕ → ℕ → ℕ → ℕ
 hardened cache place pointer = freelist_ptr pointer (steps_from_one (cache + 1)) (8 * place)
-
--- the order of a slab of so many objects (`oo_order`)
-abbrev pub order_for : Layout → ℕ → ℕ
-order_for layout objects = if objects == layout.objects then layout.order else layout.min_order

@@ -9,7 +9,8 @@ use Rattle.slub_words.specs.declared.cpu.CpuWord.{CpuWord}
 use Rattle.slub_words.specs.declared.slab.SlabWord.{SlabWord}
 use Rattle.slub_words.specs.declared.board.BoardWord.{BoardWord}
 use Rattle.slub_cpu_partial.specs.declared.words.ListWord.{ListWord}
-use Rattle.slub_core.specs.Setup.{Setup, pool_lock, pointer_at, word_at, hardened, order_for}
+use Rattle.slub_core.specs.Setup.{Setup, pool_lock, pointer_at, word_at, hardened}
+use Rattle.slub_object_layout.specs.Layout.{order_for}
 use Rattle.slub_core.specs.Words.{list_base, cpu_base, slab_base, board_base, memory_base, link_base, cpu_in, slab_in, board_in, list_in}
 
 -- ---- the state

@@ -1,7 +1,8 @@
 //! `discard_slab`, `__free_slab`: discarding an empty slab in hand, under the node lock.
 
 ghost use Rattle.std.specs.Prelude.{◌≡◌, None};
-ghost use Rattle.slub_core.specs.Setup.{Means, order_for};
+ghost use Rattle.slub_core.specs.Setup.{Means};
+ghost use Rattle.slub_object_layout.specs.Layout.{order_for};
 ghost use Rattle.slub_core.specs.Discard as core;
 ghost use Rattle.slub_core.specs.Offline.{if_trimming};
 ghost use Rattle.slub_core.specs.Local.{goes};

@@ -14,7 +14,7 @@ use Rattle.slub_lists.specs.declared.lists.CpuLists.{CpuLists}
 use Rattle.slub_lists.specs.State.{State}
 use Rattle.slub_lists.specs.Alloc.{cache_of, checked_of, node_of, lists_of, no_lists}
 use Rattle.slub_lists.specs.Coherent.{IsCacheOf, IsCheckedOf}
-use Rattle.slub_lists.specs.Places.{no_layout}
+use Rattle.slub_object_layout.specs.Layout.{no_layout}
 use Rattle.slub_lists.proofs.FlushingCpu.{ages-most}
 use Rattle.slub_core.specs.declared.local.Known.{Known}
 use Rattle.slub_core.specs.Setup.{Setup, node_lock}

@@ -10,14 +10,14 @@ use Rattle.slub_common.proofs.Sums.{element-counted}
 use Rattle.slub_common.proofs.Times.{times-contained}
 use Rattle.slub_common.proofs.Writes.{inside-of}
 use Rattle.slub_object_layout.specs.declared.layout.Layout.{Layout}
-use Rattle.slub_object_layout.specs.Layout.{IsWithinBounds}
+use Rattle.slub_object_layout.specs.Layout.{IsWithinBounds, no_layout}
 use Rattle.slub_cache_create.specs.declared.caches.Cache.{Cache}
 use Rattle.slub_cache_create.specs.Sound.{IsLiveCache}
 use Rattle.slub_red_zone.specs.State.{CheckedState}
 use Rattle.slub_lists.specs.State.{State}
 use Rattle.slub_lists.specs.Alloc.{cache_of, checked_of, node_of}
 use Rattle.slub_lists.specs.Coherent.{IsConsistent, IsCacheOf, times_partial}
-use Rattle.slub_lists.specs.Places.{layout_at, no_layout}
+use Rattle.slub_lists.specs.Places.{layout_at}
 use Rattle.slub_lists.proofs.CheckedSlabs.{at_some, was-checked}
 use Rattle.slub_lists.proofs.CheckedGiving.{the-value}
 use Rattle.slub_lists.proofs.Places.{listed-is, slab-inside}

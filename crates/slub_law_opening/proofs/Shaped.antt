@@ -9,7 +9,7 @@ use Rattle.slub_common.proofs.Sums.{element-counted}
 use Rattle.slub_common.proofs.Writes.{inside-of}
 use Rattle.slub_page_pool.specs.FreeFrames as pool
 use Rattle.slub_object_layout.specs.declared.layout.Layout.{Layout}
-use Rattle.slub_object_layout.specs.Layout.{is_checked}
+use Rattle.slub_object_layout.specs.Layout.{IsSized, is_checked, no_layout}
 use Rattle.slub_red_zone.specs.State.{CheckedState, SlabState, no_slab, objects_in}
 use Rattle.slub_red_zone.specs.Objects.{shape_at, shape_of}
 use Rattle.slub_red_zone.specs.Sound.{IsSlab}
@@ -21,7 +21,7 @@ use Rattle.slub_lists.specs.declared.lists.Held.{Held}
 use Rattle.slub_lists.specs.State.{State}
 use Rattle.slub_lists.specs.Alloc.{slab_of, own_free, cache_of, checked_of, lists_of, node_of, no_lists, held_here}
 use Rattle.slub_lists.specs.Coherent.{IsCoherent, IsShaped, AreChecked, IsCheckedOf, IsCacheOf, IsSlabOf, Agrees, IsAccounted, held_under}
-use Rattle.slub_lists.specs.Places.{layout_at, no_layout}
+use Rattle.slub_lists.specs.Places.{layout_at}
 use Rattle.slub_lists.proofs.CheckedSlabs.{at_some}
 use Rattle.slub_lists.proofs.Places.{object-of}
 use Rattle.slub_core.specs.declared.local.Known.{Known}
@@ -111,13 +111,13 @@ module _ (s t : State) (b : Beside) (w : World) (xs : List Worker) (coherent : I
     value-at : w.value (suc k) ≡ Checked c
     value-at = rests.values (suc k) (omega arith) ∙ value
 
-    sized-here : (f : ℕ) (z : SlabState) → get_or c.slabs f None ≡ Some z → (1 ≤ objects_in z) × steps.IsSized c.layout z.order (objects_in z)
+    sized-here : (f : ℕ) (z : SlabState) → get_or c.slabs f None ≡ Some z → (1 ≤ objects_in z) × IsSized c.layout z.order (objects_in z)
     sized-here f z e =
         let slab = at_some (get_or c.slabs f None) z (IsSlab c.layout) e (guards.0.sound.slab f) in
         let bounds = guards.0.sound.layout.bounds in
         (some slab.sized bounds.objects bounds.min_objects_slab, slab.sized)
       where
-        some : {order objects : ℕ} → steps.IsSized c.layout order objects → (1 ≤ c.layout.objects) × (c.layout.objects ≤ 512) → (1 ≤ c.layout.min_objects_slab) × (c.layout.min_objects_slab ≤ c.layout.objects) → 1 ≤ objects
+        some : {order objects : ℕ} → IsSized c.layout order objects → (1 ≤ c.layout.objects) × (c.layout.objects ≤ 512) → (1 ≤ c.layout.min_objects_slab) × (c.layout.min_objects_slab ≤ c.layout.objects) → 1 ≤ objects
         some (inl e) a d = omega (arith, e.1, a.0)
         some (inr e) a d = omega (arith, e.1, d.0)
 
@@ -238,8 +238,8 @@ module _ (s t : State) (b : Beside) (w : World) (xs : List Worker) (coherent : I
         let sized = stands.listed.shaped.sized f l in
         let here : IsSlabOf live.0.layout x =
         subst (λ (l : Layout). IsSlabOf l x) (ap (λ (m : Setup). m.layout (w.slab f).cache) rests.setup ∙ ap (layout_at t) own ∙ layout-is x.cache live.0 live.1)
-        (subst (λ n. steps.IsSized (w.setup.layout (w.slab f).cache) x.order n) (sym (word-objects w f l) ∙ q.objects)
-        (subst (λ n. steps.IsSized (w.setup.layout (w.slab f).cache) n (w.slab f).objects) q.order sized)) in
+        (subst (λ n. IsSized (w.setup.layout (w.slab f).cache) x.order n) (sym (word-objects w f l) ∙ q.objects)
+        (subst (λ n. IsSized (w.setup.layout (w.slab f).cache) n (w.slab f).objects) q.order sized)) in
         subst (λ o. MatchOption o ⊥ (λ live. IsSlabOf live.layout x)) (sym live.1) here)
     | inr g ↦ (
         let none : (w.slab f).objects ≡ 0 = omega arith in
@@ -264,7 +264,7 @@ module _ (s t : State) (b : Beside) (w : World) (xs : List Worker) (coherent : I
           let order : x.order ≡ z.order = ap (λ (z : Slab). z.order) (sym same) ∙ y.3 in
           let size : x.objects ≡ objects_in z = ap (λ (z : Slab). z.objects) (sym same) ∙ y.4 in
           subst (λ (l : Layout). IsSlabOf l x) (sym (layouts k c below was))
-          (subst (λ n. steps.IsSized c.layout n x.objects) (sym order) (subst (λ n. steps.IsSized c.layout z.order n) (sym size) sized))
+          (subst (λ n. IsSized c.layout n x.objects) (sym order) (subst (λ n. IsSized c.layout z.order n) (sym size) sized))
         where
           injected : {x y : Slab} → Some x ≡ Some y → x ≡ y
           injected e = cc

@@ -13,7 +13,7 @@ use Rattle.slub_lists.specs.Coherent.{IsConsistent, Agrees}
 use Rattle.slub_lists.specs.Places.{layout_at}
 use Rattle.slub_lists.proofs.CheckedSlabs.{was-checked}
 use Rattle.slub_lists.proofs.Places.{objects-few, order-of-slab, checked-unfrozen}
-use Rattle.slub_core.specs.Setup.{order_for}
+use Rattle.slub_object_layout.specs.Layout.{order_for}
 use Rattle.slub_core.specs.Words.{no_slab_word}
 use Rattle.slub_core.specs.World.{World, LockValue, size_in, order_in, objects_in_values, cache_in_values, order_in_values, objects_at, cache_at, order_at, one_if, sum_below}
 use Rattle.slub_core.proofs.StepValues.{alone-in}

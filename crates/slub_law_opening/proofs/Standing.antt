@@ -27,7 +27,8 @@ use Rattle.slub_core.specs.Local.{Worker, nobody}
 use Rattle.slub_core.specs.Run.{idle}
 use Rattle.slub_core.specs.World.{World, Chains, frames_in, pool_in, pool_of, size_in, objects_at, cache_at, order_at, one_if, sum_below, live, off_list}
 use Rattle.slub_core.specs.Placed.{IsPlaced}
-use Rattle.slub_core.specs.Listed.{IsListed, IsShaped, IsStocked, IsSized, IsGuarded, home_of, homes, on_lists, marked_of, covered_by, frame_roles, takes}
+use Rattle.slub_core.specs.Listed.{IsListed, IsShaped, IsStocked, IsGuarded, home_of, homes, on_lists, marked_of, covered_by, frame_roles, takes}
+use Rattle.slub_object_layout.specs.Layout.{IsSized}
 use Rattle.slub_core.specs.Fresh.{IsFresh, IsAtWork}
 use Rattle.slub_core.specs.Coherent.{Stands}
 use Rattle.slub_core.proofs.Update.{sum_below_same}

@@ -4,14 +4,14 @@ use Rattle.std.specs.Prelude.{IsSome, IfSome, nat_lt, slice_index_or, unwrap_or,
 use Rattle.std.proofs.lemmas.Bool.{cases_lt, false≢true, eqb-true, leb-true, not-false}
 use Rattle.std.proofs.lemmas.List.Elements.{All-head}
 use Rattle.slub_object_layout.specs.declared.layout.Layout.{Layout}
-use Rattle.slub_object_layout.specs.Layout.{address_of}
+use Rattle.slub_object_layout.specs.Layout.{address_of, IsSized}
 use Rattle.slub_trace.specs.declared.damage.Damage.{Damage}
 use Rattle.slub_red_zone.specs.declared.checked.Slot.{Slot}
 use Rattle.slub_red_zone.specs.declared.checked.Run.{Run}
 use Rattle.slub_red_zone.specs.declared.checked.CheckedGive.{CheckedGive}
 use Rattle.slub_red_zone.specs.declared.checked.CheckedGive.TheVariants as give
 use Rattle.slub_red_zone.specs.State.{SlabState, CheckedState, Has as HasSlab, no_slab, slab_of, objects_in}
-use Rattle.slub_red_zone.specs.Sound.{IsSound, IsSlab, IsSized}
+use Rattle.slub_red_zone.specs.Sound.{IsSound, IsSlab}
 use Rattle.slub_red_zone.specs.Steps.{Gives, IsSpare, damage_of_used, with_taken, without_slab, with_byte, with_given, with_new_slab, with_word, place_of}
 use Rattle.slub_red_zone.specs.Zones.{red_inactive}
 use Rattle.slub_red_zone.proofs.Objects.{taken-object}

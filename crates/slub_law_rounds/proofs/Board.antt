@@ -36,7 +36,7 @@ use Rattle.slub_law_opening.specs.Rests.{held_on}
 use Rattle.slub_calls.specs.Calls.{events_by, rooms_for}
 use Rattle.slub_law_rounds.specs.Answered.{Answered, is_alloc_of, of_worker, times_freed, times_given}
 use Rattle.slub_law_rounds.specs.Round.{IsBoardAfter, IsGiftOf, Spot, WasGivenAt, spot_after, spot_asked, spot_by, spot_of, spot_under}
-use Rattle.slub_law_rounds.specs.Ran.{AreReplies}
+use Rattle.slub_calls.specs.Replies.{AreReplies}
 use Rattle.slub_law_rounds.proofs.Split.{back}
 use Rattle.slub_law_rounds.proofs.TellingRan.{spot_from, spot-told}
 use Rattle.slub_law_rounds.proofs.CausesRan.{spot-here}

@@ -30,7 +30,7 @@ use Rattle.slub_calls.specs.Calls.{call_for, events_by, rooms_for}
 use Rattle.slub_law_rounds.specs.Answered as law
 use Rattle.slub_law_rounds.specs.Answered.{Answered, IsAfter, of_worker}
 use Rattle.slub_law_rounds.specs.Round.{IsByteAt, IsOfChecked, IsOwnBytes, IsPokedUnder, Spot, spot_by}
-use Rattle.slub_law_rounds.specs.Ran.{AreReplies}
+use Rattle.slub_calls.specs.Replies.{AreReplies}
 use Rattle.slub_law_rounds.specs.Contents as contents
 use Rattle.slub_law_rounds.proofs.Split.{told, back, back-append}
 use Rattle.slub_law_rounds.proofs.Meeting.{IsMet, IsQuiet, Meets, gave, lacked, freed, found, wrote, poked, quiet, fold-back}

@@ -7,7 +7,7 @@ use Rattle.std.proofs.lemmas.Option.{none-some, same_Some}
 use Rattle.slub_trace.specs.declared.event.Act.{Act}
 use Rattle.slub_trace.specs.declared.event.Act.TheVariants.{Alloc, Free, Write, Read, Poke, Trim, Flush}
 use Rattle.slub_object_layout.specs.declared.layout.Layout.{Layout}
-use Rattle.slub_object_layout.specs.Layout.{address_of}
+use Rattle.slub_object_layout.specs.Layout.{address_of, no_layout}
 use Rattle.slub_trace.specs.declared.reply.Reply.{Reply}
 use Rattle.slub_trace.specs.declared.reply.Reply.TheVariants as reply
 use Rattle.slub_words.specs.declared.board.BoardWord.{BoardWord}
@@ -17,7 +17,7 @@ use Rattle.slub_lists.specs.declared.lists.Held.{Held}
 use Rattle.slub_lists.specs.State.{State}
 use Rattle.slub_lists.specs.Alloc.{cache_of, checked_of, named}
 use Rattle.slub_lists.specs.Coherent.{IsCoherent, held_under}
-use Rattle.slub_lists.specs.Places.{layout_at, no_layout}
+use Rattle.slub_lists.specs.Places.{layout_at}
 use Rattle.slub_lists.specs.Words.{is_word}
 use Rattle.slub_lists.proofs.ObjectWords.{held-cache}
 use Rattle.slub_core.specs.declared.call.Call.{Call}

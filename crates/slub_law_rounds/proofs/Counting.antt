@@ -21,6 +21,7 @@ use Rattle.slub_core.specs.declared.call.Call.{Call}
 use Rattle.slub_core.specs.declared.local.Known.{Known}
 use Rattle.slub_core.specs.declared.local.Answered.{Answered as Done}
 use Rattle.slub_core.specs.Replies as core
+use Rattle.slub_core.specs.World.{one_if}
 use Rattle.slub_law_opening.specs.Opening.{Beside, setup_of}
 use Rattle.slub_calls.specs.Calls.{call_for}
 use Rattle.slub_law_rounds.specs.Answered.{Answered, did_free, found_bad, gave as did_give, holds_after, is_alloc_of, is_corrupt, is_free_of, last_written, times_given, times_taken, written_after}
@@ -130,7 +131,7 @@ module _ (table : Table) (rooms : List Known) (o word : ℕ) where
   written-step ds event _ _ is (lacked place x k is_k) none = rw is (sym (same-either (eqb x o) (core.last_wrote ds o word)))
   written-step ds event _ _ is (freed x address) none = rw is (by (eqb x o) (rw is at none))
     where
-      by : (b : Bool) → core.one_if (true && b) + core.freed_in o ds ≡ 0 → core.last_wrote ds o word ≡ cond b None (core.last_wrote ds o word)
+      by : (b : Bool) → one_if (true && b) + core.freed_in o ds ≡ 0 → core.last_wrote ds o word ≡ cond b None (core.last_wrote ds o word)
       by true none = absurd (omega (arith, none))
       by false none = refl
   written-step ds event _ _ is (found x damage) none = rw is (sym (same-either (eqb x o) (core.last_wrote ds o word)))
@@ -167,14 +168,14 @@ module _ (s : State) (b : Beside) (rooms : List Known) (order : ℕ) (lives : (k
       let layout : layout_at s k ≡ live.0.layout = rw live.1 refl in
       rw is (rw live.1 (ap (λ (l : Layout). eqb l.min_order order) (sym layout)))
 
-  not-dry : (p c : Bool) → cond (false && p) 1 0 ≡ core.one_if (false && c)
+  not-dry : (p c : Bool) → cond (false && p) 1 0 ≡ one_if (false && c)
   not-dry p c = refl
 
-  quiet-dry : (p c : Bool) (r : Reply) → IsQuiet r → cond (kinds.is_no_frames r && p) 1 0 ≡ core.one_if (core.is_dry r && c)
+  quiet-dry : (p c : Bool) (r : Reply) → IsQuiet r → cond (kinds.is_no_frames r && p) 1 0 ≡ one_if (core.is_dry r && c)
   quiet-dry p c reply.NoFrames none = absurd none
   quiet-dry p c r none = refl
 
-  dry-one : (event : Event) (a : Act) (r : Reply) → event.act ≡ a → Meets s.table a r → cond (lacks s order (event, r)) 1 0 ≡ core.one_if (core.is_dry r && eqb (core.least_order (setup_of s b) (call_for s.table rooms event.cpu event.act).cache) order)
+  dry-one : (event : Event) (a : Act) (r : Reply) → event.act ≡ a → Meets s.table a r → cond (lacks s order (event, r)) 1 0 ≡ one_if (core.is_dry r && eqb (core.least_order (setup_of s b) (call_for s.table rooms event.cpu event.act).cache) order)
   dry-one event _ _ is (gave place x address) = refl
   dry-one event _ _ is (lacked place x k is_k) = rw is (ap (λ b. cond b 1 0) (least-is place k is_k))
   dry-one event _ _ is (freed x address) = refl

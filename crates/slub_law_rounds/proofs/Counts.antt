@@ -21,7 +21,7 @@ use Rattle.slub_slabinfo_text.specs.Lawful.{lacks}
 use Rattle.slub_core.specs.declared.local.Known.{Known}
 use Rattle.slub_core.specs.declared.local.Answered.{Answered as Done}
 use Rattle.slub_core.specs.Local.{Local}
-use Rattle.slub_core.specs.World.{World}
+use Rattle.slub_core.specs.World.{World, one_if}
 use Rattle.slub_core.specs.Accounted.{boarded}
 use Rattle.slub_core.specs.Replies as core
 use Rattle.slub_core.specs.Round.{freed_over, given_over, held_over, outcome}
@@ -29,7 +29,7 @@ use Rattle.slub_schedule.specs.Finished.{knowers}
 use Rattle.slub_law_opening.specs.Opening.{Beside, board_word, setup_of}
 use Rattle.slub_calls.specs.Calls.{events_by, rooms_for}
 use Rattle.slub_law_rounds.specs.Answered.{Answered, did_free, found_bad, gave, holding, of_worker, times_freed, times_given, times_taken}
-use Rattle.slub_law_rounds.specs.Ran.{AreReplies}
+use Rattle.slub_calls.specs.Replies.{AreReplies}
 use Rattle.slub_law_rounds.proofs.Split.{told, back, back-append, done_by, dones-are}
 use Rattle.slub_law_rounds.proofs.Meeting.{IsMet, all-met}
 use Rattle.slub_law_rounds.proofs.TellingRan.{holding-told, given-told, freed-told}
@@ -39,11 +39,11 @@ use Rattle.slub_law_rounds.proofs.Ended.{Ended}
 
 -- ---- one worker, from some of its replies to more
 
-one-at_most : (h : Bool) → core.one_if h ≤ 1
+one-at_most : (h : Bool) → one_if h ≤ 1
 one-at_most true = omega arith
 one-at_most false = omega arith
 
-more-step : (same : Bool) (r : Reply) (h : Bool) (f : ℕ) → core.one_if h + f ≤ core.one_if (cond same (core.holds_after r h) h) + (core.one_if (core.is_freed r && same) + f)
+more-step : (same : Bool) (r : Reply) (h : Bool) (f : ℕ) → one_if h + f ≤ one_if (cond same (core.holds_after r h) h) + (one_if (core.is_freed r && same) + f)
 more-step true (reply.Given a) h f = let few = one-at_most h in omega (arith, few)
 more-step false (reply.Given a) h f = omega arith
 more-step true (reply.Freed a) h f = let few = one-at_most h in omega (arith, few)
@@ -55,7 +55,7 @@ more-step false r h f = omega arith
 
 -- holding an object and having freed it are no less later
 more-back : (s : State) (rooms : List Known) (o : ℕ) (own : List Answered) (ds : List Done)
-    → core.one_if (core.holding ds o) + core.freed_in o ds ≤ core.one_if (core.holding (back s.table rooms own ds) o) + core.freed_in o (back s.table rooms own ds)
+    → one_if (core.holding ds o) + core.freed_in o ds ≤ one_if (core.holding (back s.table rooms own ds) o) + core.freed_in o (back s.table rooms own ds)
 more-back s rooms o [] ds = omega arith
 more-back s rooms o (one ∷ own) ds =
     let d = told s.table rooms one in
@@ -135,13 +135,13 @@ module _ (s : State) (b : Beside) (round : Round) (replies : List Reply) (openin
   -- a worker that holds an object was given it or took it
   held-few : (o : ℕ) → held_over o dones ≤ times_given o answers + times_taken o answers
   held-few o =
-      let each = sum-below (λ k. core.one_if (core.holding (its_done k) o)) (λ k. times_given o (of_worker k answers) + times_taken o (of_worker k answers)) workers (λ k. by k (holding o (of_worker k answers)) refl) in
+      let each = sum-below (λ k. one_if (core.holding (its_done k) o)) (λ k. times_given o (of_worker k answers) + times_taken o (of_worker k answers)) workers (λ k. by k (holding o (of_worker k answers)) refl) in
       let two = sum-add (λ k. times_given o (of_worker k answers)) (λ k. times_taken o (of_worker k answers)) workers in
-      omega (arith, over (λ (ds : List Done). core.one_if (core.holding ds o)), each, two, shares (gave o) answers round.workers below, shares (λ one. did_free o one || found_bad o one) answers round.workers below)
+      omega (arith, over (λ (ds : List Done). one_if (core.holding ds o)), each, two, shares (gave o) answers round.workers below, shares (λ one. did_free o one || found_bad o one) answers round.workers below)
     where
-      by : (k : ℕ) (h : Bool) → holding o (of_worker k answers) ≡ h → core.one_if (core.holding (its_done k) o) ≤ times_given o (of_worker k answers) + times_taken o (of_worker k answers)
+      by : (k : ℕ) (h : Bool) → holding o (of_worker k answers) ≡ h → one_if (core.holding (its_done k) o) ≤ times_given o (of_worker k answers) + times_taken o (of_worker k answers)
       by k false is =
-          let not_held : core.one_if (core.holding (its_done k) o) ≡ 0 = ap core.one_if (sym (holding-told s.table (rooms k) o (of_worker k answers) (met-by k)) ∙ is) in omega (arith, not_held)
+          let not_held : one_if (core.holding (its_done k) o) ≡ 0 = ap one_if (sym (holding-told s.table (rooms k) o (of_worker k answers) (met-by k)) ∙ is) in omega (arith, not_held)
       by k true is = elim (holds-taken o (of_worker k answers) false is) [
         | inl never ↦ absurd (false≢true never)
         | inr some ↦ (let few = one-at_most (core.holding (its_done k) o) in omega (arith, some, few))
@@ -161,12 +161,12 @@ module _ (s : State) (b : Beside) (round : Round) (replies : List Reply) (openin
   pub kept-by : (k : ℕ) (own more : List Answered) (o : ℕ) → k < round.workers → of_worker k answers ≡ own ++ more → core.holding (back s.table (rooms k) own []) o ≡ true → core.freed_in o (back s.table (rooms k) own []) ≡ 0
   kept-by k own more o inside split holds =
       let done : its_done k ≡ back s.table (rooms k) more (back s.table (rooms k) own []) = ap (λ xs. back s.table (rooms k) xs []) split ∙ back-append s.table (rooms k) own more [] in
-      let here : core.one_if (core.holding (back s.table (rooms k) own []) o) ≡ 1 = ap core.one_if holds in
+      let here : one_if (core.holding (back s.table (rooms k) own []) o) ≡ 1 = ap one_if holds in
       let more_so = more-back s (rooms k) o more (back s.table (rooms k) own []) in
-      let last : core.one_if (core.holding (get_or dones k []) o) + core.freed_in o (get_or dones k []) ≡ core.one_if (core.holding (back s.table (rooms k) more (back s.table (rooms k) own [])) o) + core.freed_in o (back s.table (rooms k) more (back s.table (rooms k) own []))
-      = ap (λ ds. core.one_if (core.holding ds o) + core.freed_in o ds) (done-at k inside ∙ done) in
-      let mine = at-most (λ (ds : List Done). core.one_if (core.holding ds o) + core.freed_in o ds) dones k [] (omega (arith, inside, many)) in
-      let all = sum-add (λ (ds : List Done). core.one_if (core.holding ds o)) (core.freed_in o) dones in
+      let last : one_if (core.holding (get_or dones k []) o) + core.freed_in o (get_or dones k []) ≡ one_if (core.holding (back s.table (rooms k) more (back s.table (rooms k) own [])) o) + core.freed_in o (back s.table (rooms k) more (back s.table (rooms k) own []))
+      = ap (λ ds. one_if (core.holding ds o) + core.freed_in o ds) (done-at k inside ∙ done) in
+      let mine = at-most (λ (ds : List Done). one_if (core.holding ds o) + core.freed_in o ds) dones k [] (omega (arith, inside, many)) in
+      let all = sum-add (λ (ds : List Done). one_if (core.holding ds o)) (core.freed_in o) dones in
       omega (arith, here, more_so, last, mine, all, ended.law.count o, ended.law.once o)
 
   -- ---- one worker alone takes an object
@@ -183,9 +183,9 @@ module _ (s : State) (b : Beside) (round : Round) (replies : List Reply) (openin
     | inr differ ↦ absurd (
         let here = took-inside o one first in
         let there = took-inside o other second in
-        let know : (k : ℕ) → k < round.workers → 0 < times_taken o (of_worker k answers) → core.one_if (core.knows (get_or dones k []) o) ≡ 1 = λ k inside some.
-        ap (λ ds. core.one_if (core.knows ds o)) (done-at k inside) ∙ ap core.one_if (knows-told s.table (rooms k) o (of_worker k answers) (met-by k) some) in
-        let two = two-at-most (λ (ds : List Done). core.one_if (core.knows ds o)) dones one other [] differ (omega (arith, here, many)) (omega (arith, there, many)) in
-        let all : sum_by (λ (ds : List Done). core.one_if (core.knows ds o)) dones ≡ knowers o ls = sum_by-map (λ (ds : List Done). core.one_if (core.knows ds o)) (λ (l : Local). l.done) ls in
+        let know : (k : ℕ) → k < round.workers → 0 < times_taken o (of_worker k answers) → one_if (core.knows (get_or dones k []) o) ≡ 1 = λ k inside some.
+        ap (λ ds. one_if (core.knows ds o)) (done-at k inside) ∙ ap one_if (knows-told s.table (rooms k) o (of_worker k answers) (met-by k) some) in
+        let two = two-at-most (λ (ds : List Done). one_if (core.knows ds o)) dones one other [] differ (omega (arith, here, many)) (omega (arith, there, many)) in
+        let all : sum_by (λ (ds : List Done). one_if (core.knows ds o)) dones ≡ knowers o ls = sum_by-map (λ (ds : List Done). one_if (core.knows ds o)) (λ (l : Local). l.done) ls in
         omega (arith, two, all, know one here first, know other there second, ended.counted.kept.one_worker o))
   ]

@@ -33,14 +33,14 @@ use Rattle.slub_core.specs.declared.local.Known.{Known}
 use Rattle.slub_core.specs.declared.spot.Spot.TheVariants.{InChecked}
 use Rattle.slub_core.specs.declared.spot.CheckedSpot.TheVariants.{DoChecked, AddSlab, LockRun, GiveChecked}
 use Rattle.slub_core.specs.Setup.{Setup, node_lock, pool_lock}
-use Rattle.slub_core.specs.World.{World, LockValue, Checked, Pool, update, pool_of}
+use Rattle.slub_core.specs.World.{World, LockValue, Checked, Pool, update, pool_of, one_if}
 use Rattle.slub_core.specs.Local.{Local, Worker, Change, here, call_of, address_in, run_of, at, loses, noted}
 use Rattle.slub_core.specs.Checked.{slabs_of, slabs_in, slot_of, with_slabs, gave, is_spare, run_at, took_back, is_offset, slab_added, do_checked, checked_at_once}
 use Rattle.slub_core.specs.Discard.{with_put}
 use Rattle.slub_core.specs.Spots.{is_freeing}
 use Rattle.slub_core.specs.Listed.{IsCheckedOf}
 use Rattle.slub_core.specs.Coherent.{Stands}
-use Rattle.slub_core.specs.Replies.{one_if, holding, is_given, given_in, freed_in, address_on}
+use Rattle.slub_core.specs.Replies.{holding, is_given, given_in, freed_in, address_on}
 use Rattle.slub_core.specs.Accounted.{had, known_of, IsAccounted}
 use Rattle.slub_core.proofs.CheckedBytes.{length-set_slot}
 use Rattle.slub_core.proofs.CheckedStep.{the-slabs, shape-size}

@@ -12,9 +12,9 @@ use Rattle.slub_lists.specs.Coherent.{held_under, laid_down}
 use Rattle.slub_core.specs.declared.local.Known.{Known}
 use Rattle.slub_core.specs.declared.local.Answered.{Answered as Done}
 use Rattle.slub_core.specs.Local.{Local}
-use Rattle.slub_core.specs.World.{World, pool_of}
+use Rattle.slub_core.specs.World.{World, pool_of, one_if}
 use Rattle.slub_core.specs.Accounted.{AreDistinct, known_of, place_of}
-use Rattle.slub_core.specs.Replies.{one_if, holding}
+use Rattle.slub_core.specs.Replies.{holding}
 use Rattle.slub_core.specs.Round.{IsRound, held_over}
 use Rattle.slub_schedule.specs.Finished.{HoldsAsTold}
 use Rattle.slub_schedule.specs.Closed.{held_by, or_held, word_of}

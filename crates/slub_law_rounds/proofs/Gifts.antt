@@ -10,7 +10,8 @@ use Rattle.slub_red_zone.specs.declared.checked.CheckedGive.{CheckedGive}
 use Rattle.slub_red_zone.specs.declared.checked.CheckedGive.TheVariants as give
 use Rattle.slub_trace.specs.declared.damage.Damage.{Damage}
 use Rattle.slub_red_zone.specs.State.{SlabState, CheckedState, Has as HasSlab, slab_of, slot_of as slot_bytes, objects_in}
-use Rattle.slub_red_zone.specs.Sound.{IsSound, IsSized}
+use Rattle.slub_red_zone.specs.Sound.{IsSound}
+use Rattle.slub_object_layout.specs.Layout.{IsSized}
 use Rattle.slub_red_zone.specs.Objects.{idle, one_of, here as here_slot}
 use Rattle.slub_red_zone.specs.Steps.{Gives, IsSpare, damage_of_used, with_taken, without_slab, with_given, with_new_slab, new_slab}
 use Rattle.slub_red_zone.proofs.Changed.{gives-bytes, takes-bytes}
@@ -27,13 +28,13 @@ use Rattle.slub_core.specs.declared.local.Known.{Known}
 use Rattle.slub_core.specs.declared.spot.Spot.TheVariants.{InChecked}
 use Rattle.slub_core.specs.declared.spot.CheckedSpot.TheVariants.{DoChecked}
 use Rattle.slub_core.specs.Setup.{Setup, node_lock}
-use Rattle.slub_core.specs.World.{World, LockValue, Checked}
+use Rattle.slub_core.specs.World.{World, LockValue, Checked, one_if}
 use Rattle.slub_core.specs.Local.{Local, Worker, here, call_of}
 use Rattle.slub_core.specs.Checked.{slot_of, with_slabs}
 use Rattle.slub_core.specs.Spots.{in_checked, doing}
 use Rattle.slub_core.specs.Listed.{IsCheckedOf}
 use Rattle.slub_core.specs.Coherent.{Stands}
-use Rattle.slub_core.specs.Replies.{one_if, holding, freed_in, address_on}
+use Rattle.slub_core.specs.Replies.{holding, freed_in, address_on}
 use Rattle.slub_core.specs.Accounted.{boarded, had, public, known_of, IsAccounted}
 use Rattle.slub_core.proofs.CheckedSpots.{held-object}
 use Rattle.slub_core.proofs.TaleKnowns.{known_of-other}

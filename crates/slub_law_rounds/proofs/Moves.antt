@@ -9,7 +9,7 @@ use Rattle.std.proofs.lemmas.List.Elements.{All-nil, All-cons, All-append, All-w
 use Rattle.std.proofs.lemmas.Option.{slice_get_past}
 use Rattle.slub_common.proofs.Writes.{at_written}
 use Rattle.slub_object_layout.specs.declared.layout.Layout.{Layout}
-use Rattle.slub_object_layout.specs.Layout.{address_of}
+use Rattle.slub_object_layout.specs.Layout.{address_of, IsSized}
 use Rattle.slub_red_zone.specs.declared.slab.ObjectState.{ObjectState}
 use Rattle.slub_red_zone.specs.declared.slab.ObjectState.TheVariants.{Free, Used, Aside}
 use Rattle.slub_red_zone.specs.declared.checked.CheckedGive.{CheckedGive}
@@ -19,7 +19,7 @@ use Rattle.slub_red_zone.specs.declared.checked.Slot.{Slot}
 use Rattle.slub_trace.specs.declared.damage.Damage.{Damage}
 use Rattle.slub_trace.specs.declared.damage.Report.{Report}
 use Rattle.slub_red_zone.specs.State.{SlabState, CheckedState, Has, IsUsed, no_slab, slab_at, slab_of, state_of, is_free, is_aside, objects_in, aside_in, bytes_of}
-use Rattle.slub_red_zone.specs.Sound.{IsSound, IsSized}
+use Rattle.slub_red_zone.specs.Sound.{IsSound}
 use Rattle.slub_red_zone.specs.Steps.{Gives, IsNext, IsOffset, IsSpare, place_of, damage_of_free, damage_of_used, next_is_damaged, next_is_whole, nothing_listed, new_slab, report_of, set_aside, slab_set_aside, slab_with_given, slab_with_taken, with_byte, with_damaged, with_given, with_new_slab, with_taken, with_word, without_slab}
 use Rattle.slub_red_zone.specs.declared.zones.Part.{Part}
 use Rattle.slub_red_zone.specs.Bytes.{Tells}

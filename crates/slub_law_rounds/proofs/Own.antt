@@ -10,14 +10,14 @@ use Rattle.slub_red_zone.specs.Objects.{idle}
 use Rattle.slub_core.specs.declared.local.Answered.{Answered}
 use Rattle.slub_core.specs.declared.local.Known.{Known}
 use Rattle.slub_core.specs.Setup.{Setup, node_lock}
-use Rattle.slub_core.specs.World.{World, LockValue, Checked, update, idle_in, object_at}
+use Rattle.slub_core.specs.World.{World, LockValue, Checked, update, idle_in, object_at, one_if}
 use Rattle.slub_core.specs.Local.{Worker, nobody, here, address_in}
 use Rattle.slub_core.specs.Checked.{slabs_in}
 use Rattle.slub_core.specs.Spots.{in_checked}
 use Rattle.slub_core.specs.Placed.{held_as, held, owned}
 use Rattle.slub_core.specs.Fresh.{IsAtWork}
 use Rattle.slub_core.specs.Coherent.{Stands}
-use Rattle.slub_core.specs.Replies.{one_if, holding}
+use Rattle.slub_core.specs.Replies.{holding}
 use Rattle.slub_core.specs.Accounted.{had, place_of, known_of, IsAccounted}
 use Rattle.slub_core.proofs.CheckedStep.{object-there}
 use Rattle.slub_core.proofs.Exists.{alone, object_at-le, owned-object}

@@ -5,14 +5,13 @@ use Rattle.std.proofs.lemmas.Bool.{cases_eq, eq-eqb, leb-true, not-false}
 use Rattle.std.proofs.lemmas.List.Sums.{sum_by-cons, get_or-le-sum_by}
 use Rattle.std.proofs.lemmas.List.{get_or-set_same, length-set, length-replicate}
 use Rattle.slub_object_layout.specs.declared.layout.Layout.{Layout}
-use Rattle.slub_object_layout.specs.Layout.{address_of}
+use Rattle.slub_object_layout.specs.Layout.{address_of, IsSized}
 use Rattle.slub_red_zone.specs.declared.slab.ObjectState.TheVariants.{Free as FreeObject}
 use Rattle.slub_red_zone.specs.declared.checked.Slot.{Slot}
 use Rattle.slub_red_zone.specs.declared.checked.Run.{Run}
 use Rattle.slub_red_zone.specs.declared.checked.CheckedGive.{CheckedGive}
 use Rattle.slub_red_zone.specs.declared.checked.CheckedGive.TheVariants as give
 use Rattle.slub_red_zone.specs.State.{SlabState, CheckedState, Has as HasSlab, no_slab, slab_of, slot_of as slot_bytes, objects_in, bytes_of}
-use Rattle.slub_red_zone.specs.Sound.{IsSized}
 use Rattle.slub_red_zone.specs.Objects.{idle, here as here_slot}
 use Rattle.slub_red_zone.specs.Steps.{Gives, IsOffset, damage_of_used, with_taken, without_slab, with_byte, with_given, with_new_slab, with_word, new_slab, place_of, slab_with_taken}
 use Rattle.slub_red_zone.specs.Changes.{IsObject}
@@ -34,7 +33,7 @@ use Rattle.slub_core.specs.declared.local.FrameRun.{FrameRun}
 use Rattle.slub_core.specs.declared.spot.Spot.TheVariants.{InChecked}
 use Rattle.slub_core.specs.declared.spot.CheckedSpot.TheVariants.{DoChecked}
 use Rattle.slub_core.specs.Setup.{node_lock}
-use Rattle.slub_core.specs.World.{World, Checked, object_at, cache_at, covers, idle_in}
+use Rattle.slub_core.specs.World.{World, Checked, object_at, cache_at, covers, idle_in, one_if}
 use Rattle.slub_core.specs.Local.{Worker, nobody, here, call_of}
 use Rattle.slub_core.specs.Checked.{slabs_in, slot_of, with_slabs}
 use Rattle.slub_core.specs.Spots.{in_checked}
@@ -42,7 +41,7 @@ use Rattle.slub_core.specs.Placed.{held_as, owned}
 use Rattle.slub_core.specs.Listed.{covered_by, IsCheckedOf}
 use Rattle.slub_core.specs.Coherent.{Stands}
 use Rattle.slub_core.specs.Round.{freed_over}
-use Rattle.slub_core.specs.Replies.{one_if, freed_in}
+use Rattle.slub_core.specs.Replies.{freed_in}
 use Rattle.slub_core.specs.Accounted.{known_of, IsAccounted}
 use Rattle.slub_core.proofs.Apart.{run-covers, held-run, run-live, role-most}
 use Rattle.slub_core.proofs.CheckedSpots.{held-object}

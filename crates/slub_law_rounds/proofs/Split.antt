@@ -19,7 +19,7 @@ use Rattle.slub_core.specs.Run.{idle}
 use Rattle.slub_core.specs.Round.{in_order}
 use Rattle.slub_calls.specs.Calls.{call_for, calls_for, events_by, rooms_for, worker_of, workers_of}
 use Rattle.slub_law_rounds.specs.Answered.{Answered, of_worker}
-use Rattle.slub_law_rounds.specs.Ran.{AreReplies}
+use Rattle.slub_calls.specs.Replies.{AreReplies}
 
 -- an event with its reply, as a call of a worker with these rooms
 abbrev pub told : Table → List Known → Answered → Done

@@ -14,6 +14,7 @@ use Rattle.slub_core.specs.declared.call.Call.{Call}
 use Rattle.slub_core.specs.declared.local.Known.{Known}
 use Rattle.slub_core.specs.declared.local.Answered.{Answered as Done}
 use Rattle.slub_core.specs.Replies as core
+use Rattle.slub_core.specs.World.{one_if}
 use Rattle.slub_core.specs.Setup.{Setup}
 use Rattle.slub_words.specs.declared.board.BoardWord.{BoardWord}
 use Rattle.slub_calls.specs.Calls.{call_for, cache_named}
@@ -148,23 +149,23 @@ module _ (s : State) (rooms : List Known) (m : Setup) (before : ℕ → Option B
 -- ---- how often an object was given and freed
 
 module _ (table : Table) (rooms : List Known) (o : ℕ) where
-  not-both : (b c : Bool) → cond (b && false) 1 0 ≡ core.one_if (false && c)
+  not-both : (b c : Bool) → cond (b && false) 1 0 ≡ one_if (false && c)
   not-both true c = refl
   not-both false c = refl
 
-  both : (b : Bool) → cond (b && true) 1 0 ≡ core.one_if (true && b)
+  both : (b : Bool) → cond (b && true) 1 0 ≡ one_if (true && b)
   both true = refl
   both false = refl
 
-  still-given : (b c : Bool) (r : Reply) → IsStill r → cond (b && kinds.is_given r) 1 0 ≡ core.one_if (core.is_given r && c)
+  still-given : (b c : Bool) (r : Reply) → IsStill r → cond (b && kinds.is_given r) 1 0 ≡ one_if (core.is_given r && c)
   still-given b c (reply.Given a) still = absurd still
   still-given b c r still = not-both b c
 
-  still-freed : (b c : Bool) (r : Reply) → IsStill r → cond (b && kinds.is_freed r) 1 0 ≡ core.one_if (core.is_freed r && c)
+  still-freed : (b c : Bool) (r : Reply) → IsStill r → cond (b && kinds.is_freed r) 1 0 ≡ one_if (core.is_freed r && c)
   still-freed b c (reply.Freed a) still = absurd still
   still-freed b c r still = not-both b c
 
-  given-one : (event : Event) (a : Act) (r : Reply) → event.act ≡ a → Meets table a r → cond (did_give o (event, r)) 1 0 ≡ core.one_if (core.is_given r && eqb (call_for table rooms event.cpu event.act).object o)
+  given-one : (event : Event) (a : Act) (r : Reply) → event.act ≡ a → Meets table a r → cond (did_give o (event, r)) 1 0 ≡ one_if (core.is_given r && eqb (call_for table rooms event.cpu event.act).object o)
   given-one event _ _ is (gave place x address) = rw is (both (eqb x o))
   given-one event _ _ is (lacked place x k is_k) = rw is (not-both (eqb x o) (eqb x o))
   given-one event _ _ is (freed x address) = rw is refl
@@ -173,7 +174,7 @@ module _ (table : Table) (rooms : List Known) (o : ℕ) where
   given-one event _ _ is (poked x offset byte) = rw is refl
   given-one event a r is (quiet _ _ none) = still-given (is_alloc_of o event.act) (eqb (call_for table rooms event.cpu event.act).object o) r (quiet-still r none)
 
-  freed-one : (event : Event) (a : Act) (r : Reply) → event.act ≡ a → Meets table a r → cond (did_free o (event, r)) 1 0 ≡ core.one_if (core.is_freed r && eqb (call_for table rooms event.cpu event.act).object o)
+  freed-one : (event : Event) (a : Act) (r : Reply) → event.act ≡ a → Meets table a r → cond (did_free o (event, r)) 1 0 ≡ one_if (core.is_freed r && eqb (call_for table rooms event.cpu event.act).object o)
   freed-one event _ _ is (gave place x address) = rw is refl
   freed-one event _ _ is (lacked place x k is_k) = rw is refl
   freed-one event _ _ is (freed x address) = rw is (both (eqb x o))

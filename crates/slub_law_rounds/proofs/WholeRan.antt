@@ -43,7 +43,8 @@ use Rattle.slub_calls.specs.Laws.{MayDo}
 use Rattle.slub_calls.proofs.Fitting.{may_begin}
 use Rattle.slub_law_rounds.specs.Answered.{Answered}
 use Rattle.slub_law_rounds.specs.Round.{CountsWant, HaveCauses, IsOfSlab, IsRound}
-use Rattle.slub_law_rounds.specs.Ran.{AreReplies, RunsRound, system_after}
+use Rattle.slub_law_rounds.specs.Ran.{RunsRound, system_after}
+use Rattle.slub_calls.specs.Replies.{AreReplies}
 use Rattle.slub_law_rounds.specs.Laws.{DrawnRoundsAreLawful, RoundsAreLawful}
 use Rattle.slub_law_rounds.proofs.Split.{told, back, back-append}
 use Rattle.slub_law_rounds.proofs.Meeting.{all-met, caused-first}

@@ -18,7 +18,8 @@ use Rattle.slub_words.specs.declared.board.BoardWord.{BoardWord}
 use Rattle.slub_core.specs.declared.call.Call.{Call}
 use Rattle.slub_core.specs.declared.local.Answered.{Answered}
 use Rattle.slub_core.specs.Setup.{Setup}
-use Rattle.slub_core.specs.Replies.{one_if, is_freed, holds_after, holding, knows_after, knows, freed_in, Public, Cause, Caused}
+use Rattle.slub_core.specs.Replies.{is_freed, holds_after, holding, knows_after, knows, freed_in, Public, Cause, Caused}
+use Rattle.slub_core.specs.World.{one_if}
 use Rattle.slub_core.proofs.TaleRest.{holding-knows}
 use Rattle.slub_law_rounds.proofs.Bytes.{piece-here}
 use Rattle.slub_law_rounds.proofs.Clean.{slot-byte}

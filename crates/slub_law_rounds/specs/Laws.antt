@@ -14,7 +14,8 @@ use Rattle.slub_calls.specs.Laws.{MayDo}
 use Rattle.slub_slabinfo_text.specs.declared.journal.RoundResult.{RoundResult}
 use Rattle.slub_slabinfo_text.specs.Lawful.{AreLedgers, found_in}
 use Rattle.slub_law_rounds.specs.Round.{IsRound}
-use Rattle.slub_law_rounds.specs.Ran.{AreReplies, RunsRound, system_after}
+use Rattle.slub_law_rounds.specs.Ran.{RunsRound, system_after}
+use Rattle.slub_calls.specs.Replies.{AreReplies}
 
 -- a round that can be done, and that was run from coherent lists whose objects are all on the
 -- board, is lawful: in whatever order its workers made their turns

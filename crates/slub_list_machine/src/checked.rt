@@ -2,10 +2,9 @@
 //! from a checked cache and freeing to it.
 
 ghost use Rattle.std.specs.Prelude.{◌≡◌, ◌<◌, ◌≤◌, ◌^◌, length, IsSome, MatchOption, None, Some, slice_index_or, slice_set};
-ghost use Rattle.slub_object_layout.specs.Layout.{address_of};
+ghost use Rattle.slub_object_layout.specs.Layout.{address_of, IsSized};
 ghost use Rattle.slub_page_pool.specs.Block.{CanPut, with_run};
 ghost use Rattle.slub_page_pool.specs.FreeFrames.{IsPool};
-ghost use Rattle.slub_red_zone.specs.Sound.{IsSized};
 ghost use Rattle.slub_red_zone.specs.State.{Has, IsUsed};
 ghost use Rattle.slub_lists.specs.Alloc.{checked_of, with_held, HasLayout, IsLive};
 ghost use Rattle.slub_lists.specs.Checked.{AllocatesChecked, AllocatesNewChecked, FreesChecked, kept_by, put_back};

@@ -11,7 +11,8 @@ use Rattle.slub_page_pool.specs.FreeFrames.{FreeFrames, IsPool}
 use Rattle.slub_common.specs.Times.{times}
 use Rattle.slub_object_layout.specs.declared.layout.Layout.{Layout}
 use Rattle.slub_red_zone.specs.Objects.{AddsGivenSlab, here, idle, one_of, shape_at, shape_of}
-use Rattle.slub_red_zone.specs.Sound.{IsSized, IsSound}
+use Rattle.slub_red_zone.specs.Sound.{IsSound}
+use Rattle.slub_object_layout.specs.Layout.{IsSized}
 use Rattle.slub_red_zone.specs.State.{CheckedState, Has}
 use Rattle.slub_lists.specs.declared.lists.Slab.{Slab}
 use Rattle.slub_lists.specs.declared.lists.Held.{Held}

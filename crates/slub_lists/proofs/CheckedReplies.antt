@@ -3,12 +3,11 @@ use Rattle.std.proofs.Common.{◌≡◌, ℕ, zero, suc, ◌^◌, ◌<◌, ◌�
 use Rattle.slub_page_pool.specs.Block.{CanPut}
 use Rattle.slub_page_pool.specs.FreeFrames.{IsPool}
 use Rattle.slub_object_layout.specs.declared.layout.Layout.{Layout}
-use Rattle.slub_object_layout.specs.Layout.{address_of}
+use Rattle.slub_object_layout.specs.Layout.{address_of, IsSized}
 use Rattle.slub_red_zone.specs.declared.checked.CheckedGive.TheVariants as give
 use Rattle.slub_red_zone.specs.declared.checked.Slot.{Slot}
 use Rattle.slub_common.specs.declared.no_memory.NoMemory.{NoMemory}
 use Rattle.slub_red_zone.specs.Objects.{AddsGivenSlab, AddsReports, findable}
-use Rattle.slub_red_zone.specs.Sound.{IsSized}
 use Rattle.slub_red_zone.specs.State.{CheckedState, Has}
 use Rattle.slub_red_zone.specs.Steps.{with_given as slab_given, with_new_slab}
 use Rattle.slub_lists.specs.declared.lists.Run.{Run}

@@ -6,7 +6,7 @@ use Rattle.std.proofs.lemmas.Bool.{cases_eq, eq-eqb, ne_eqb, cond-true, cond-fal
 use Rattle.std.proofs.lemmas.Bool.Decides.{nat_tests}
 use Rattle.std.proofs.lemmas.Nat.{row_fits, same_from_place}
 use Rattle.slub_object_layout.specs.declared.layout.Layout.{Layout}
-use Rattle.slub_object_layout.specs.Layout.{IsInSlot, address_of}
+use Rattle.slub_object_layout.specs.Layout.{IsInSlot, address_of, no_layout, order_for}
 use Rattle.slub_cache_create.specs.declared.caches.Cache.{Cache}
 use Rattle.slub_common.specs.Times.{times}
 use Rattle.slub_red_zone.specs.State.{CheckedState, SlabState}
@@ -25,7 +25,7 @@ use Rattle.slub_lists.proofs.CheckedGiving.{the-value, layout-live, slab-sized}
 use Rattle.slub_lists.proofs.CheckedTaking.{going-unlisted, held-slab}
 use Rattle.slub_lists.proofs.ObjectWords.{slots-fit, word-ends}
 use Rattle.slub_lists.proofs.Apart.{one-slab}
-use Rattle.slub_lists.specs.Places.{IsByteOf, IsCurrent, IsOff, IsWithin, layout_at, no_layout, pointer_at, order_for}
+use Rattle.slub_lists.specs.Places.{IsByteOf, IsCurrent, IsOff, IsWithin, layout_at, pointer_at}
 use Rattle.slub_lists.proofs.Counting.{once-length}
 use Rattle.slub_lists.proofs.Listed.{current-counted-at}
 use Rattle.slub_common.proofs.Times.{times-cons}

@@ -3,36 +3,15 @@
 use Rattle.std.specs.Prelude.{◌≡◌, ℕ, ◌+◌, ◌/◌, ◌^◌, ◌<◌, ◌≤◌, ◌==◌, if◌then◌else◌, [], true, false, Some, None}
 use Rattle.std.specs.Option.{option_map_or}
 use Rattle.slub_object_layout.specs.declared.layout.Layout.{Layout}
-use Rattle.slub_object_layout.specs.Layout.{IsInSlot, address_of}
+use Rattle.slub_object_layout.specs.Layout.{IsInSlot, address_of, no_layout, order_for}
 use Rattle.slub_lists.specs.declared.lists.Slab.{Slab}
 use Rattle.slub_lists.specs.State.{State}
 use Rattle.slub_lists.specs.Alloc.{cache_of, checked_of, own_free, slab_of}
 use Rattle.slub_lists.specs.Coherent.{times_current, times_partial}
 
--- where no cache is live
-abbrev pub no_layout : Layout
-no_layout = record {
-  object_size = 0;
-  inuse = 0;
-  offset = 0;
-  left_pad = 0;
-  size = 0;
-  align = 0;
-  order = 0;
-  objects = 0;
-  min_order = 0;
-  min_objects_slab = 0;
-  min_partial = 0;
-  cpu_partial_slabs = 0;
-}
-
 -- the layout of the live cache of a number
 abbrev pub layout_at : State → ℕ → Layout
 layout_at s cache = option_map_or (λ live. live.layout) (cache_of s cache) no_layout
-
--- the order of a slab of so many objects
-abbrev pub order_for : Layout → ℕ → ℕ
-order_for layout objects = if objects == layout.objects then layout.order else layout.min_order
 
 -- the number of the memory word that is an object's free pointer while it is free
 abbrev pub pointer_at : Layout → ℕ → ℕ → ℕ

@@ -224,3 +224,30 @@ pub record IsInPointer (frame index : ℕ) (layout : Layout) (byte : ℕ) : Type
 pub record IsInUse (frame index : ℕ) (layout : Layout) (byte : ℕ) : Type 0 where
   pub from : address_of frame index layout ≤ byte
   pub below : byte < address_of frame index layout + layout.inuse
+
+-- where there is no cache
+abbrev pub no_layout : Layout
+no_layout = record {
+  object_size = 0;
+  inuse = 0;
+  offset = 0;
+  left_pad = 0;
+  size = 0;
+  align = 0;
+  order = 0;
+  objects = 0;
+  min_order = 0;
+  min_objects_slab = 0;
+  min_partial = 0;
+  cpu_partial_slabs = 0;
+}
+
+-- the order of a slab of so many objects (`oo_order`)
+abbrev pub order_for : Layout → ℕ → ℕ
+order_for layout objects = if objects == layout.objects then layout.order else layout.min_order
+
+-- the order and the number of objects are the layout's, or its least ones
+abbrev pub IsSized : Layout → ℕ → ℕ → Type 0
+IsSized layout order objects =
+    ((order ≡ layout.order) × (objects ≡ layout.objects))
+    ⊎ ((order ≡ layout.min_order) × (objects ≡ layout.min_objects_slab))

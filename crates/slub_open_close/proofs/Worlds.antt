@@ -4,9 +4,9 @@ use Rattle.std.specs.Prelude.{nat_lt}
 use Rattle.std.specs.Option.{option_or}
 use Rattle.std.proofs.lemmas.Bool.{cases_lt, cond-true, cond-false, lt-ltb, le-ltb}
 use Rattle.slub_object_layout.specs.declared.layout.Layout.{Layout}
-use Rattle.slub_object_layout.specs.Layout.{address_of}
+use Rattle.slub_object_layout.specs.Layout.{address_of, order_for}
 use Rattle.slub_lists.specs.declared.lists.Slab.{Slab}
-use Rattle.slub_core.specs.Setup.{Setup, hardened, order_for, pointer_at}
+use Rattle.slub_core.specs.Setup.{Setup, hardened, pointer_at}
 use Rattle.slub_core.specs.Words.{cpu_base, slab_base, board_base, memory_base, link_base, cpu_in, slab_in, board_in, list_in}
 use Rattle.slub_core.specs.World.{World, LockValue, world_of, world_from, word_in, board_words, pointer, size_in, order_in, objects_in_values, cache_in_values, order_in_values, objects_at, cache_at, order_at}
 use Rattle.slub_core.proofs.StepValues.{word-objects, word-cache, word-order, unworded-cache, unworded-objects}

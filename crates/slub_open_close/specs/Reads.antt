@@ -6,7 +6,7 @@ use Rattle.slub_words.specs.declared.slab.SlabWord.{SlabWord}
 use Rattle.slub_lists.specs.declared.lists.Slab.{Slab}
 use Rattle.slub_lists.specs.declared.lists.CpuLists.{CpuLists}
 use Rattle.slub_lists.specs.declared.lists.Held.{Held}
-use Rattle.slub_core.specs.Setup.{order_for}
+use Rattle.slub_object_layout.specs.Layout.{order_for}
 use Rattle.slub_core.specs.Words.{list_base, cpu_base, slab_base, cpu_in, slab_in, board_in, list_in}
 use Rattle.slub_core.specs.World.{LockValue, size_in, order_in}
 use Rattle.slub_core.specs.Facts.{Facts, cache_of, pointer_in, found_in}

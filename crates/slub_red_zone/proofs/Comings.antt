@@ -12,7 +12,8 @@ use Rattle.slub_red_zone.specs.declared.totals.Totals.{Totals}
 use Rattle.slub_red_zone.specs.State.{SlabState, CheckedState, Has, no_slab, slab_of, free_in, used_in, aside_in, objects_in}
 use Rattle.slub_red_zone.specs.Steps.{new_slab, with_new_slab, without_slab}
 use Rattle.slub_common.specs.Times.{times}
-use Rattle.slub_red_zone.specs.Sound.{IsSound, IsSlab, IsSized, is_stocked}
+use Rattle.slub_red_zone.specs.Sound.{IsSound, IsSlab, is_stocked}
+use Rattle.slub_object_layout.specs.Layout.{IsSized}
 use Rattle.slub_red_zone.specs.Kept.{IsKept}
 use Rattle.slub_red_zone.proofs.Counting.{one_if, count-set, new-kinds}
 use Rattle.slub_red_zone.proofs.OneSlab.{few-free, new-slab}

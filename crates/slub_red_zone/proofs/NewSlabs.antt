@@ -9,7 +9,8 @@ use Rattle.slub_red_zone.specs.declared.checked.Slot.{Slot}
 use Rattle.slub_red_zone.specs.Zones.{new_slot, damage_when_given}
 use Rattle.slub_red_zone.specs.State.{SlabState, CheckedState, Has, slot_of, bytes_of}
 use Rattle.slub_red_zone.specs.Steps.{Gives, next_is_whole, GivesNew, new_slab, with_new_slab, with_given, first_of, damage_of_free}
-use Rattle.slub_red_zone.specs.Sound.{IsSound, IsSized}
+use Rattle.slub_red_zone.specs.Sound.{IsSound}
+use Rattle.slub_object_layout.specs.Layout.{IsSized}
 use Rattle.slub_red_zone.proofs.Sums.{slab_at-set}
 use Rattle.slub_red_zone.proofs.Parts.{new-long, new-given}
 use Rattle.slub_red_zone.proofs.Comings.{new-sound}

@@ -16,7 +16,8 @@ use Rattle.slub_red_zone.specs.declared.checked.Run.{Run}
 use Rattle.slub_red_zone.specs.declared.checked.Slot.{Slot}
 use Rattle.slub_red_zone.specs.State.{SlabState, CheckedState, Has, IsUsed, no_slab, slab_of, with_slab, objects_in}
 use Rattle.slub_red_zone.specs.Steps.{Gives, nothing_listed, next_is_whole, next_is_damaged, IsNext, Pokes, TakesBack, TakesEmpty, first_of, slab_with_given, slab_with_taken, slab_set_aside, set_aside, with_given, with_damaged, with_taken, relisted, listed_with, report_of, new_slab, with_new_slab}
-use Rattle.slub_red_zone.specs.Sound.{IsSound, IsSized}
+use Rattle.slub_red_zone.specs.Sound.{IsSound}
+use Rattle.slub_object_layout.specs.Layout.{IsSized}
 use Rattle.slub_red_zone.specs.Objects.{here, shape_of, findable, KeepsSlabs, KeepsOthers, KeepsIdle, KeepsObjects, GivesOne, GivesObject, TakesObject, AddsSlab, AddsGivenSlab, TakesSlab}
 use Rattle.slub_red_zone.proofs.Idle.{one_idle, same, idle-given, idle-taken, idle-aside, idle-new, idle-all, slice_get-set}
 use Rattle.slub_red_zone.proofs.OneSlab.{first-is-free}

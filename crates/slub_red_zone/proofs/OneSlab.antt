@@ -8,7 +8,8 @@ use Rattle.slub_object_layout.specs.declared.layout.Layout.{Layout}
 use Rattle.slub_red_zone.specs.declared.slab.ObjectState.TheVariants.{Free, Used, Aside}
 use Rattle.slub_red_zone.specs.State.{SlabState, is_free, free_in, used_in, aside_in, objects_in}
 use Rattle.slub_red_zone.specs.Steps.{slab_with_given, slab_with_taken, slab_set_aside, set_aside, new_slab}
-use Rattle.slub_red_zone.specs.Sound.{IsSlab, IsSized}
+use Rattle.slub_red_zone.specs.Sound.{IsSlab}
+use Rattle.slub_object_layout.specs.Layout.{IsSized}
 use Rattle.slub_red_zone.proofs.Asides.{AreFree, first-inside, free-inside, rest-free, more-free, none-left, all-free}
 use Rattle.slub_red_zone.proofs.Counting.{free-state, given-kinds, taken-kinds, aside-kinds, new-kinds, kinds-sum}
 

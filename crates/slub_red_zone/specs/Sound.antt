@@ -4,7 +4,7 @@ use Rattle.slub_common.specs.Times.{times}
 use Rattle.slub_object_layout.specs.declared.layout.Flags.{Flags}
 use Rattle.slub_object_layout.specs.declared.layout.Layout.{Layout}
 use Rattle.slub_object_layout.specs.declared.layout.Spec.{Spec}
-use Rattle.slub_object_layout.specs.Layout.{IsAccepted, IsLayout, IsWithinBounds, is_checked}
+use Rattle.slub_object_layout.specs.Layout.{IsAccepted, IsLayout, IsWithinBounds, is_checked, IsSized}
 use Rattle.slub_red_zone.specs.declared.slab.ObjectState.{ObjectState}
 use Rattle.slub_red_zone.specs.declared.slab.ObjectState.TheVariants.{Aside}
 use Rattle.slub_red_zone.specs.State.{SlabState, CheckedState, Has, is_free, objects_in, aside_count}
@@ -18,12 +18,6 @@ pub record IsLayoutFor (flags : Flags) (layout : Layout) : Type 0 where
   pub some_cpu : (1 ≤ cpus) × (cpus ≤ 16)
   pub solved : IsLayout spec cpus layout
   pub bounds : IsWithinBounds layout
-
--- the order and the number of objects are the layout's, or its least ones
-abbrev pub IsSized : Layout → ℕ → ℕ → Type 0
-IsSized layout order objects =
-    ((order ≡ layout.order) × (objects ≡ layout.objects))
-    ⊎ ((order ≡ layout.min_order) × (objects ≡ layout.min_objects_slab))
 
 -- each free object is in the list of free objects once, and nothing else is
 pub record IsFreeList (states : List ObjectState) (free : List ℕ) : Type 0 where

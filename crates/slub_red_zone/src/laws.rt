@@ -2,11 +2,11 @@
 
 ghost use Rattle.std.specs.Prelude.{◌≡◌, ◌↔◌, ℕ, ℤ, ◌+◌, ◌*◌, ◌^◌, ◌<◌, ◌≤◌, length, slice_range, IsTrue, Option, None, Some, Result, Ok};
 ghost use Rattle.std.specs.Int.{w64, from_le_bytes};
-ghost use Rattle.slub_object_layout.specs.Layout.{IsWithinBounds};
+ghost use Rattle.slub_object_layout.specs.Layout.{IsWithinBounds, IsSized};
 ghost use Rattle.slub_red_zone.specs.Zones as spec;
 ghost use Rattle.slub_trace.specs.declared.damage.Damage.{Damage};
 ghost use Rattle.slub_red_zone.specs.Bytes.{AreWhole, IsWritten, Tells};
-ghost use Rattle.slub_red_zone.specs.Sound.{IsLayoutFor, IsSized, IsSound};
+ghost use Rattle.slub_red_zone.specs.Sound.{IsLayoutFor, IsSound};
 ghost use Rattle.slub_red_zone.specs.State.{CheckedState, Has, IsUsed, bytes_of};
 ghost use Rattle.slub_red_zone.specs.Changes.{IsObject, KeepsBytes, GivesBytes, TakesBytes, PokesBytes, WritesWord};
 ghost use Rattle.slub_red_zone.specs.Steps as step;

@@ -2,7 +2,8 @@
 
 ghost use Rattle.std.specs.Prelude.{◌≡◌, ◌+◌, ◌^◌, ◌<◌, ◌≤◌, IfOk, OnOk, OnErr, OnSome, vec_capacity};
 ghost use Rattle.slub_red_zone.specs.State.{Has};
-ghost use Rattle.slub_red_zone.specs.Sound.{IsSound, IsSized};
+ghost use Rattle.slub_red_zone.specs.Sound.{IsSound};
+ghost use Rattle.slub_object_layout.specs.Layout.{IsSized};
 ghost use Rattle.slub_red_zone.specs.Steps as step;
 ghost use Rattle.slub_red_zone.specs.Objects.{AddsSlab, AddsGivenSlab, TakesSlab};
 

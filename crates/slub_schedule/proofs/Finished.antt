@@ -10,14 +10,14 @@ use Rattle.slub_trace.specs.declared.reply.Reply.TheVariants as reply
 use Rattle.slub_core.specs.declared.spot.Spot.TheVariants.{Between}
 use Rattle.slub_core.specs.declared.local.Answered.{Answered}
 use Rattle.slub_core.specs.Setup.{Setup}
-use Rattle.slub_core.specs.World.{World, world_from, world_of}
+use Rattle.slub_core.specs.World.{World, world_from, world_of, one_if}
 use Rattle.slub_core.specs.Local.{Local, Worker}
 use Rattle.slub_core.specs.Run.{System, IsFinished}
 use Rattle.slub_core.specs.Spots.{roles, may_string, has_run, frees, is_freeing}
 use Rattle.slub_core.specs.Fresh.{IsAtWork, AreHands, IsStringOf}
 use Rattle.slub_core.specs.Listed.{takes}
 use Rattle.slub_core.specs.Coherent.{IsCoherent}
-use Rattle.slub_core.specs.Replies.{one_if, given_in, freed_in, holding, knows, holds_after, knows_after, is_freed, Public}
+use Rattle.slub_core.specs.Replies.{given_in, freed_in, holding, knows, holds_after, knows_after, is_freed, Public}
 use Rattle.slub_core.specs.Accounted.{boarded, known_of, had, public, IsTold, IsWritten, IsAccounted}
 use Rattle.slub_core.specs.Law.{IsCoherentSystem}
 use Rattle.slub_core.proofs.StepHands.{no-hands}

@@ -2,9 +2,9 @@
 use Rattle.std.specs.Prelude.{◌≡◌, ℕ, ◌<◌, ◌≤◌, true, false, List, [], map, sum_by, All, Option, Some, None}
 use Rattle.slub_words.specs.declared.board.BoardWord.{BoardWord}
 use Rattle.slub_core.specs.Setup.{Setup}
-use Rattle.slub_core.specs.World.{World, Chains, content, world_of}
+use Rattle.slub_core.specs.World.{World, Chains, content, world_of, one_if}
 use Rattle.slub_core.specs.Local.{Local, Worker, address_in}
-use Rattle.slub_core.specs.Replies.{one_if, holding, knows, address_by, cache_by, last_wrote}
+use Rattle.slub_core.specs.Replies.{holding, knows, address_by, cache_by, last_wrote}
 use Rattle.slub_core.specs.Accounted.{known_of}
 use Rattle.slub_core.specs.Coherent.{IsCoherent}
 use Rattle.slub_core.specs.Run.{System}

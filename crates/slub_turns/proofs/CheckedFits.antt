@@ -6,7 +6,8 @@ use Rattle.std.proofs.lemmas.List.Elements.{All-head}
 use Rattle.slub_object_layout.specs.declared.layout.Layout.{Layout}
 use Rattle.slub_page_pool.specs.Block.{CanPut}
 use Rattle.slub_red_zone.specs.State.{SlabState, CheckedState, Has, no_slab, slab_of, objects_in}
-use Rattle.slub_red_zone.specs.Sound.{IsSound, IsSlab, IsSized}
+use Rattle.slub_red_zone.specs.Sound.{IsSound, IsSlab}
+use Rattle.slub_object_layout.specs.Layout.{IsSized}
 use Rattle.slub_core.specs.declared.call.CallKind.{CallKind}
 use Rattle.slub_core.specs.declared.call.CallKind.TheVariants.{Alloc, Free, Write, Read, Poke, Trim, Flush}
 use Rattle.slub_core.specs.declared.local.FrameRun.{FrameRun}

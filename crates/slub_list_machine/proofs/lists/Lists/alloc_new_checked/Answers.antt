@@ -3,7 +3,7 @@ use Rattle.slub_lists.specs.State.{State}
 use Rattle.slub_lists.specs.Alloc.{checked_of}
 use Rattle.slub_lists.specs.Coherent.{IsConsistent}
 use Rattle.slub_red_zone.specs.State.{Has}
-use Rattle.slub_red_zone.specs.Sound.{IsSized}
+use Rattle.slub_object_layout.specs.Layout.{IsSized}
 use Rattle.slub_lists.proofs.CheckedComing.{counted-consistent}
 use Rattle.slub_lists.proofs.CheckedGiving.{layout-live}
 use Rattle.slub_lists.proofs.CheckedReplies.{cache-live, found-first, found-new, lacking-allocates, lacking-can-put, lacking-consistent, lacking-found, live-room, made-allocates, made-consistent, made-found, made-inside, made-lengths, made-slot, none-allocates, of-slabs, some-slabs}

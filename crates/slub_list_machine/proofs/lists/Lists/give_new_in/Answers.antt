@@ -2,7 +2,7 @@ use Rattle.std.proofs.Common.{◌≡◌, IfOk, get_or, subst, arith}
 use Rattle.std.proofs.lemmas.Grind.{common_steps}
 use Rattle.slub_red_zone.specs.declared.checked.Run.{Run}
 use Rattle.slub_red_zone.specs.Objects.{AddsGivenSlab}
-use Rattle.slub_red_zone.specs.Sound.{IsSized}
+use Rattle.slub_object_layout.specs.Layout.{IsSized}
 use Rattle.slub_red_zone.specs.State.{Has}
 use Rattle.slub_red_zone.specs.Steps.{GivesNew}
 use Rattle.slub_lists.specs.State.{State}

@@ -1,6 +1,6 @@
 use Rattle.std.proofs.Common.{◌∙◌, ◌<◌, length, set, Some, sym, subst, ap, arith}
 use Rattle.slub_red_zone.specs.State.{SlabState, CheckedState, Has}
-use Rattle.slub_red_zone.specs.Sound.{IsSized}
+use Rattle.slub_object_layout.specs.Layout.{IsSized}
 use Rattle.slub_red_zone.specs.Steps.{with_new_slab}
 use Rattle.slub_red_zone.proofs.Comings.{objects-few, room-on-list, new-kept}
 use Rattle.slub_red_zone.proofs.Sums.{kept-small, same-state, kept-same}

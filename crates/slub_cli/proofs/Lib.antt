@@ -5,3 +5,4 @@ pub mod OneText
 pub mod Parts
 pub mod Ends
 pub mod Pairs
+pub mod Given

@@ -24,7 +24,8 @@ use Rattle.slub_cli.specs.declared.stop.Stop.{Stop}
 use Rattle.slub_cli.specs.declared.stop.Stop.TheVariants.{BadWords, BadLine, TooLong, ReadFault, WriteFault, NoMemory, TurnsSpent}
 use Rattle.slub_cli.specs.declared.status.Status.{Status}
 use Rattle.slub_cli.specs.declared.status.Status.TheVariants as ends
-use Rattle.slub_cli.specs.Run.{AreBadWords, Call, IsAsked, IsBadLine, IsDone, IsJournalOf, IsLayoutAnswer, IsLoadJournal, IsReplayJournal, SpendsNextRound, answer_status, bad_line, done_status, fault_line, last_begins, last_in, text_in, way_of}
+use Rattle.slub_cli.specs.Run.{AreBadWords, Call, IsAsked, IsBadLine, IsDone, IsJournalOf, IsLayoutAnswer, IsLoadJournal, IsReplayJournal, SpendsNextRound, answer_status, done_status, last_begins, last_in, text_in, way_of}
+use Rattle.slub_trace_reader.specs.Faults.{fault_line, bad_line}
 
 -- ---- what the sink tells
 
@@ -248,6 +249,11 @@ stop_line ReadFault = fault_line (codes "read fault")
 stop_line WriteFault = []
 stop_line NoMemory = fault_line (codes "out of memory")
 stop_line TurnsSpent = fault_line (codes "turns spent")
+
+-- it is a line, or none: a bad line of a trace is told by a line of the program's own
+abbrev pub HasLine : Stop → Type 0
+HasLine (BadLine line) = (number : ℕ) × (why : Why) × (line.items ≡ bad_line number why)
+HasLine _ = ⊤
 
 -- the status of a stop
 abbrev pub stop_status : Stop → Status

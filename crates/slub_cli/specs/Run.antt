@@ -22,7 +22,7 @@ use Rattle.slub_trace.specs.declared.trace.Item.TheVariants as item
 use Rattle.slub_trace.specs.declared.trace.Trace.{Trace}
 use Rattle.slub_trace_reader.specs.Grammar.{IsTrace}
 use Rattle.slub_trace_reader.specs.declared.reading.Why.{Why}
-use Rattle.slub_trace_reader.specs.Faults.{why_text}
+use Rattle.slub_trace_reader.specs.Faults.{why_text, fault_line, bad_line}
 use Rattle.slub_trace_reader.specs.Reads.{IsBadIn, IsNoTrace, IsTooLong, Spells}
 use Rattle.slub_trace.specs.Sound.{IsSound}
 use Rattle.slub_slabinfo_text.specs.declared.client.ClientAnswer.{ClientAnswer}
@@ -342,14 +342,6 @@ TellsReads c ReadFault = Rose c.read.0 c.read.1
 TellsReads c _ = c.read.1 ≡ c.read.0
 
 -- ---- what is written
-
--- a line of the program's own
-abbrev pub fault_line : List ℕ → List ℕ
-fault_line why = codes "slub: " ++ why ++ 10 ∷ []
-
--- `slub: line N: WHY`
-abbrev pub bad_line : ℕ → Why → List ℕ
-bad_line line why = fault_line (codes "line " ++ decimal line ++ codes ": " ++ why_text why)
 
 -- the line of bad input
 abbrev pub IsBadInputLine : Call → List ℕ → Type 0

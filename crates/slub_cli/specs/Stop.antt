@@ -8,7 +8,7 @@ use Rattle.slub_items.specs.declared.machine.Stopped.{Stopped}
 use Rattle.slub_items.specs.declared.machine.Stopped.TheVariants as stopped
 use Rattle.slub_cli.specs.declared.stop.Stop.{Stop}
 use Rattle.slub_cli.specs.declared.stop.Stop.TheVariants.{BadLine, TooLong, ReadFault, NoMemory, TurnsSpent}
-use Rattle.slub_cli.specs.Run.{bad_line}
+use Rattle.slub_trace_reader.specs.Faults.{bad_line}
 
 -- a fault of the reader stops the run under the like name, with the line made that tells a bad one;
 -- that may find no memory

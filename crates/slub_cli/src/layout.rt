@@ -1,6 +1,8 @@
 //! Printing the layout of a cache.
 
 ghost use Rattle.std.specs.Prelude.{◌≤◌};
+ghost use Rattle.slub_edges.specs.Pieces.{Gives};
+ghost use Rattle.slub_slabinfo_text.specs.Given.{AreWholeLines};
 ghost use Rattle.slub_cli.specs.Inner.{PrintsLayout, StopsAtWriteFault};
 
 use crate::status::{Status, answer_status};
@@ -24,6 +26,7 @@ pub fn print_layout<K: Sink>(
     ensures printed { PrintsLayout (K.taken sink.old) (K.taken sink.new)
         (K.faults sink.old, K.faults sink.new) spec.now cpus result }
     ensures write_faults { StopsAtWriteFault (K.faults sink.old) (K.faults sink.new) result }
+    ensures lines { Gives (K.pieces sink.old) (K.pieces sink.new) AreWholeLines }
     ensures counts { K.faults sink.old ≤ K.faults sink.new }
 {
     let answer = layout_of(spec, cpus);

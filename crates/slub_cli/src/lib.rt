@@ -10,8 +10,8 @@
 //!
 //! # What it promises
 //!
-//! `run`, for every source, sink and list of words, by the record `IsRunOf` and the clause
-//! `untouched`:
+//! `run`, for every source, sink and list of words, by the record `IsRunOf` and the clauses
+//! `lines` and `untouched`:
 //!
 //! - *ends*: what was asked, and
 //!   - *cause*: why the run ended so;
@@ -29,6 +29,8 @@
 //! - *one_text*: what a run wrote is a function of the trace, the way and the seed: it is the text of every journal
 //!   that is lawful for them and tells as much, but where memory was wanting, or threads of several workers made
 //!   a round;
+//! - *lines*: each line that it writes is given to the sink as one piece, and then an end of it wherever a part of it
+//!   was taken;
 //! - *untouched*: where the words don't ask for a replay, the source is as it was.
 #![tactic(auto)]
 

@@ -6,7 +6,9 @@
 //! workers pass `gate`.
 
 ghost use Rattle.std.specs.Prelude.{Bool, ◌≡◌, ◌<◌, ◌≤◌, [], None, Some, length, IfErr, IfOk, OnOk, IsSome};
+ghost use Rattle.slub_edges.specs.Pieces.{Gives};
 ghost use Rattle.slub_lists.specs.Coherent.{IsCoherent};
+ghost use Rattle.slub_slabinfo_text.specs.Given.{AreWholeLines};
 ghost use Rattle.slub_slabinfo_text.specs.Journal.{IsEmpty};
 ghost use Rattle.slub_trace.specs.Sound.{IsSound};
 ghost use Rattle.slub_slabinfo_text.specs.Lawful.{opening_of};
@@ -48,6 +50,7 @@ fn put_item<K: Sink>(
         journal.old journal.new result }
     ensures stops { IfErr result (IsItemStop (K.faults sink.old) (K.faults sink.new) journal.new) }
     ensures write_faults { StopsAtWriteFault (K.faults sink.old) (K.faults sink.new) result }
+    ensures lines { Gives (K.pieces sink.old) (K.pieces sink.new) AreWholeLines }
     ensures counts { K.faults sink.old ≤ K.faults sink.new }
 {
     text.make(alloc, trace, number, &done, replies)?;
@@ -86,6 +89,7 @@ fn do_item<R: Threads + Wait + Sync, K: Sink, G: Gate + Sync>(
         journal.old journal.new result }
     ensures stops { IfErr result (IsItemStop (K.faults sink.old) (K.faults sink.new) journal.new) }
     ensures write_faults { StopsAtWriteFault (K.faults sink.old) (K.faults sink.new) result }
+    ensures lines { Gives (K.pieces sink.old) (K.pieces sink.new) AreWholeLines }
     ensures counts { K.faults sink.old ≤ K.faults sink.new }
 {
     let (after, done) = machine.item(rt, gate, alloc, trace, number, way)?;
@@ -122,6 +126,7 @@ fn do_items<R: Threads + Wait + Sync, K: Sink, G: Gate + Sync>(
         journal.old journal.new result }
     ensures stops { IfErr result (IsItemStop (K.faults sink.old) (K.faults sink.new) journal.new) }
     ensures write_faults { StopsAtWriteFault (K.faults sink.old) (K.faults sink.new) result }
+    ensures lines { Gives (K.pieces sink.old) (K.pieces sink.new) AreWholeLines }
     ensures counts { K.faults sink.old ≤ K.faults sink.new }
 {
     let mut machine = opened;
@@ -151,6 +156,7 @@ fn do_total<K: Sink>(
         trace.now journal.old journal.new result }
     ensures stops { IfErr result (IsItemStop (K.faults sink.old) (K.faults sink.new) journal.new) }
     ensures write_faults { StopsAtWriteFault (K.faults sink.old) (K.faults sink.new) result }
+    ensures lines { Gives (K.pieces sink.old) (K.pieces sink.new) AreWholeLines }
     ensures counts { K.faults sink.old ≤ K.faults sink.new }
 {
     let sums = machine.total(journal.items.as_slice());
@@ -192,6 +198,7 @@ pub fn do_trace<R: Threads + Wait + Sync, K: Sink, G: Gate + Sync>(
         journal.new result }
     ensures stops { IfErr result (IsItemStop (K.faults sink.old) (K.faults sink.new) journal.new) }
     ensures write_faults { StopsAtWriteFault (K.faults sink.old) (K.faults sink.new) result }
+    ensures lines { Gives (K.pieces sink.old) (K.pieces sink.new) AreWholeLines }
     ensures counts { K.faults sink.old ≤ K.faults sink.new }
 {
     begin(trace, journal);

@@ -1,10 +1,12 @@
 //! The top call.
 
-ghost use Rattle.std.specs.Prelude.{◌≡◌, ◌≤◌, ℕ, List, None, map, string_bytes, IfOk};
+ghost use Rattle.std.specs.Prelude.{◌≡◌, ◌≤◌, ℕ, List, None, map, string_bytes, IfErr, IfOk};
+ghost use Rattle.slub_edges.specs.Pieces.{Gives};
 ghost use Rattle.slub_trace.specs.Sound.{IsSound};
+ghost use Rattle.slub_slabinfo_text.specs.Given.{AreWholeLines};
 ghost use Rattle.slub_slabinfo_text.specs.Journal.{IsEmpty};
 ghost use Rattle.slub_cli.specs.Run.{AsksReplay, IsRunOf, way_of};
-ghost use Rattle.slub_cli.specs.Inner.{Finishes, Loaded, ReadsInput, Replayed, StopsAtReadFault, StopsAtWriteFault, Worked, stop_line, stop_status};
+ghost use Rattle.slub_cli.specs.Inner.{Finishes, HasLine, Loaded, ReadsInput, Replayed, StopsAtReadFault, StopsAtWriteFault, Worked, stop_line, stop_status};
 
 use crate::layout::print_layout;
 use crate::replay::do_trace;
@@ -61,6 +63,7 @@ fn replay<R: Threads + Wait + Sync, S: Source, K: Sink, G: Gate + Sync>(
     }) way replies trace.new journal.new result }
     ensures read_faults { StopsAtReadFault (S.faults source.old) (S.faults source.new) result }
     ensures write_faults { StopsAtWriteFault (K.faults sink.old) (K.faults sink.new) result }
+    ensures lines { Gives (K.pieces sink.old) (K.pieces sink.new) AreWholeLines }
     ensures counts { K.faults sink.old ≤ K.faults sink.new }
 {
     let read = match read_input(alloc, source) {
@@ -107,6 +110,7 @@ fn load<R: Threads + Wait + Sync, K: Sink, G: Gate + Sync>(
     ensures loaded { Loaded (K.taken sink.old) (K.taken sink.new)
         (K.faults sink.old, K.faults sink.new) seed events workers trace.new journal.new result }
     ensures write_faults { StopsAtWriteFault (K.faults sink.old) (K.faults sink.new) result }
+    ensures lines { Gives (K.pieces sink.old) (K.pieces sink.new) AreWholeLines }
     ensures counts { K.faults sink.old ≤ K.faults sink.new }
 {
     let made = load_trace(alloc, seed, events, workers)?;
@@ -144,6 +148,7 @@ fn work<R: Threads + Wait + Sync, S: Source, K: Sink, G: Gate + Sync>(
     ensures untouched { ¬ AsksReplay (map string_bytes words.now) → source.new ≡ source.old }
     ensures read_faults { StopsAtReadFault (S.faults source.old) (S.faults source.new) result }
     ensures write_faults { StopsAtWriteFault (K.faults sink.old) (K.faults sink.new) result }
+    ensures lines { Gives (K.pieces sink.old) (K.pieces sink.new) AreWholeLines }
     ensures counts { K.faults sink.old ≤ K.faults sink.new }
 {
     let command = match read(alloc, words) {
@@ -167,8 +172,10 @@ fn work<R: Threads + Wait + Sync, S: Source, K: Sink, G: Gate + Sync>(
 
 /// Writes the line of a stop, and says how the run ended.
 fn finish<K: Sink>(sink: &mut K, end: Result<Status, Stop>) -> Status
+    requires line { IfErr end HasLine }
     ensures finishes { Finishes (K.taken sink.old) (K.taken sink.new)
         (K.faults sink.old, K.faults sink.new) end result }
+    ensures lines { Gives (K.pieces sink.old) (K.pieces sink.new) AreWholeLines }
     ensures counts { K.faults sink.old ≤ K.faults sink.new }
 {
     match end {
@@ -213,7 +220,8 @@ fn status_of(stop: &Stop) -> Status
 /// `replay` reads a trace from the source to its end, does its items in order, and writes the text of
 /// each as it is done and the total at the end; `load` does so with a trace that it makes from a number, by
 /// schedule; `layout` writes a layout. Neither of these two reads the source. The words are read before a
-/// byte of the source. Where a run ends early, one fault line says why.
+/// byte of the source. Where a run ends early, one fault line says why. Each line that is written is given to the sink
+/// as one piece.
 ///
 /// A replay does its rounds in the order of the text, by schedule or by threads: then `rt` starts a thread for each
 /// worker of a round, and the workers pass `gate` before each of their events.
@@ -234,6 +242,7 @@ pub fn run<R: Threads + Wait + Sync, S: Source, K: Sink, G: Gate + Sync>(
       read = (S.faults source.old, S.faults source.new);
       write = (K.faults sink.old, K.faults sink.new);
     }) result }
+    ensures lines { Gives (K.pieces sink.old) (K.pieces sink.new) AreWholeLines }
     ensures untouched { ¬ AsksReplay (map string_bytes words.now) → source.new ≡ source.old }
 {
     let mut trace = None;

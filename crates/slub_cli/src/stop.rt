@@ -2,7 +2,7 @@
 
 ghost use Rattle.std.specs.Prelude.{◌≡◌, IfOk};
 ghost use Rattle.slub_cli.specs.declared.stop.Stop.TheVariants.{WriteFault, NoMemory};
-ghost use Rattle.slub_cli.specs.Run.{bad_line};
+ghost use Rattle.slub_trace_reader.specs.Faults.{bad_line};
 ghost use Rattle.slub_cli.specs.Stop.{IsStopOf, item_stop};
 
 use slub_edges::edges::Failed;

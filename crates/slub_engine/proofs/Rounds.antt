@@ -52,6 +52,7 @@ ledger_own : (s now : State) (answers : List (Event × Reply)) (event : Event) (
 ledger_own s now answers event reply before after table counted noted = record {
   given = noted.given ∙ rw counted.given (sym (count_own (λ one. is_given one.1) answers event reply));
   freed = noted.freed ∙ rw counted.freed (sym (count_own (λ one. is_freed one.1) answers event reply));
+  orders = noted.orders ∙ counted.orders;
   no_frames = λ order within.
       noted.no_frames order within
       ∙ rw (counted.no_frames order within, lacks_kept s now order event reply table) (sym (count_own (lacks s order) answers event reply));
@@ -63,6 +64,7 @@ ledger_other : (s : State) (answers : List (Event × Reply)) (event : Event) (re
 ledger_other s answers event reply worker ledger differ counted = record {
   given = counted.given ∙ sym (count_other (λ one. is_given one.1) answers event reply worker differ);
   freed = counted.freed ∙ sym (count_other (λ one. is_freed one.1) answers event reply worker differ);
+  orders = counted.orders;
   no_frames = λ order within. counted.no_frames order within ∙ sym (count_other (lacks s order) answers event reply worker differ);
 }
 
@@ -102,7 +104,7 @@ blank_ledgers s ledgers blank = record {
   each = refl;
   counts = λ worker other within.
       let mine = blank worker other within in
-      record { given = mine.given; freed = mine.freed; no_frames = mine.no_frames };
+      record { given = mine.given; freed = mine.freed; orders = mine.orders; no_frames = mine.no_frames };
 }
 
 -- an element that was read, as its own default

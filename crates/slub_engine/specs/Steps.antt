@@ -62,12 +62,14 @@ KeepsUnheld s objects after =
 pub record IsBlank (ledger : Ledger) : Type 0 where
   pub given : ledger.given ≡ 0
   pub freed : ledger.freed ≡ 0
+  pub orders : length ledger.no_frames ≡ 11
   pub no_frames : (order : ℕ) → order < 11 → slice_index ledger.no_frames order ≡ 0
 
 -- one more reply is counted
 pub record Notes (s : State) (event : Event) (reply : Reply) (before after : Ledger) : Type 0 where
   pub given : after.given ≡ before.given + (if is_given reply then 1 else 0)
   pub freed : after.freed ≡ before.freed + (if is_freed reply then 1 else 0)
+  pub orders : length after.no_frames ≡ length before.no_frames
   pub no_frames : (order : ℕ) → order < 11 → slice_index after.no_frames order
       ≡ slice_index before.no_frames order + (if lacks s order (event, reply) then 1 else 0)
 

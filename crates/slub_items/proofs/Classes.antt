@@ -6,7 +6,7 @@ use Rattle.std.specs.Str.{bytes_eq}
 use Rattle.std.proofs.lemmas.List.Elements.{All-cons, All-head, All-nil}
 use Rattle.std.proofs.lemmas.List.Quantifiers.{position-Some}
 use Rattle.slub_trace.specs.declared.event.Act.TheVariants.{Alloc, Free}
-use Rattle.slub_object_layout.specs.Layout.{address_of, is_checked}
+use Rattle.slub_object_layout.specs.Layout.{address_of, is_checked, no_layout}
 use Rattle.slub_object_layout.specs.declared.layout.Spec.{Spec}
 use Rattle.slub_trace.specs.declared.create.Created.{Created}
 use Rattle.slub_trace.specs.declared.create.Created.TheVariants.{New, Merged}
@@ -20,7 +20,7 @@ use Rattle.slub_lists.specs.declared.lists.Held.{Held}
 use Rattle.slub_lists.specs.State.{State}
 use Rattle.slub_lists.specs.Alloc.{cache_of, checked_of}
 use Rattle.slub_lists.specs.Coherent.{IsCoherent, held_under}
-use Rattle.slub_lists.specs.Places.{layout_at, no_layout}
+use Rattle.slub_lists.specs.Places.{layout_at}
 use Rattle.slub_lists.proofs.CheckedSlabs.{at_some}
 use Rattle.slub_trace.specs.declared.trace.Client.{Client as Asked}
 use Rattle.slub_trace.specs.declared.trace.Client.TheVariants as line

@@ -9,7 +9,7 @@ use Rattle.slub_common.specs.Times.{times}
 use Rattle.slub_common.proofs.Times.{Contains-times, times-absent, times-contained}
 use Rattle.slub_trace.specs.declared.event.Act.TheVariants.{Alloc, Free}
 use Rattle.slub_trace.specs.declared.event.Event.{Event}
-use Rattle.slub_object_layout.specs.Layout.{address_of}
+use Rattle.slub_object_layout.specs.Layout.{address_of, no_layout}
 use Rattle.slub_trace.specs.declared.reply.Reply.{Reply}
 use Rattle.slub_trace.specs.declared.reply.Reply.TheVariants as reply
 use Rattle.slub_trace.specs.Kinds.{is_freed, is_given}
@@ -18,7 +18,7 @@ use Rattle.slub_lists.specs.declared.lists.Held.{Held}
 use Rattle.slub_lists.specs.State.{State}
 use Rattle.slub_lists.specs.Alloc.{cache_of, named}
 use Rattle.slub_lists.specs.Coherent.{held_under}
-use Rattle.slub_lists.specs.Places.{layout_at, no_layout}
+use Rattle.slub_lists.specs.Places.{layout_at}
 use Rattle.slub_lists.proofs.CheckedSlabs.{at_some}
 use Rattle.slub_lists.proofs.ObjectWords.{held-cache}
 use Rattle.slub_slabinfo_text.specs.declared.journal.RoundResult.{RoundResult}

@@ -13,7 +13,7 @@ use Rattle.slub_lists.specs.State.{State}
 use Rattle.slub_lists.specs.Alloc.{cache_of, checked_of, node_of, marked}
 use Rattle.slub_common.specs.Times.{times}
 use Rattle.slub_lists.specs.Places.{layout_at}
-use Rattle.slub_core.specs.Setup.{order_for}
+use Rattle.slub_object_layout.specs.Layout.{order_for}
 use Rattle.slub_core.specs.Local.{Local}
 use Rattle.slub_core.specs.World.{World, objects_in_values, cache_in_values, order_in_values, objects_at, cache_at, order_at}
 use Rattle.slub_core.specs.Fresh.{IsWorded}

@@ -3,7 +3,7 @@ use Rattle.std.proofs.Common.{◌≡◌, ℕ, ◌+◌, ◌%◌, ◌^◌, ◌<◌
 use Rattle.std.specs.Prelude.{nat_lt}
 use Rattle.std.proofs.lemmas.Bool.{cases_eq, cases_lt}
 use Rattle.std.proofs.lemmas.List.{get_or-set_same, get_or-set_other, set-get_or, set-set, length-set}
-use Rattle.slub_object_layout.specs.Layout.{address_of}
+use Rattle.slub_object_layout.specs.Layout.{address_of, IsSized}
 use Rattle.slub_trace.specs.declared.reply.Reply.TheVariants.{Given}
 use Rattle.slub_trace.specs.declared.reply.Reply.{Reply}
 use Rattle.slub_page_pool.specs.FreeFrames.{FreeFrames}
@@ -11,7 +11,7 @@ use Rattle.slub_red_zone.specs.declared.checked.CheckedGive.TheVariants as give
 use Rattle.slub_red_zone.specs.declared.checked.Run.{Run as SlabRun}
 use Rattle.slub_red_zone.specs.declared.checked.Slot.{Slot}
 use Rattle.slub_red_zone.specs.State.{CheckedState, Has, slab_of as checked_slab, objects_in}
-use Rattle.slub_red_zone.specs.Sound.{IsSound, IsSized}
+use Rattle.slub_red_zone.specs.Sound.{IsSound}
 use Rattle.slub_red_zone.specs.Objects.{AddsGivenSlab, GivesObject}
 use Rattle.slub_red_zone.specs.Steps.{with_new_slab, with_given}
 use Rattle.slub_red_zone.proofs.NewSlabs.{with-new-sound}

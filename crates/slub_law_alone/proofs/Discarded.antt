@@ -13,7 +13,8 @@ use Rattle.slub_lists.specs.State.{State}
 use Rattle.slub_lists.specs.Alloc.{checked_of, node_of, own_free}
 use Rattle.slub_lists.specs.Free.{discarded, order_of}
 use Rattle.slub_core.specs.Local.{Local}
-use Rattle.slub_core.specs.Setup.{Setup, node_lock, order_for, pool_lock}
+use Rattle.slub_core.specs.Setup.{Setup, node_lock, pool_lock}
+use Rattle.slub_object_layout.specs.Layout.{order_for}
 use Rattle.slub_core.specs.Words.{no_slab_word}
 use Rattle.slub_core.specs.World.{World, LockValue, Pool, update, pointer, IsChain, frames_in, size_in, order_in, objects_in_values, objects_at, cache_at, order_at}
 use Rattle.slub_core.proofs.Packed.{IsSlabFit}

@@ -9,7 +9,7 @@ use Rattle.slub_common.specs.Times.{times}
 use Rattle.slub_trace.specs.Kinds.{is_given}
 use Rattle.slub_trace.specs.declared.reply.Reply.{Reply}
 use Rattle.slub_trace.specs.declared.reply.Reply.TheVariants.{Given, NoSuchCache}
-use Rattle.slub_object_layout.specs.Layout.{address_of}
+use Rattle.slub_object_layout.specs.Layout.{address_of, no_layout}
 use Rattle.slub_cache_create.specs.declared.caches.Cache.{Cache}
 use Rattle.slub_words.specs.declared.cpu.CpuWord.{CpuWord}
 use Rattle.slub_words.specs.Words.{cpu_bits}
@@ -19,7 +19,7 @@ use Rattle.slub_lists.specs.State.{State}
 use Rattle.slub_lists.specs.Alloc.{lists_of, cache_of, checked_of, named, cpu_place, slab_of, with_given, with_lists, from_free, batch_of, AllocatesNew, Gives}
 use Rattle.slub_lists.specs.Named.{AllocatesNamed, AllocatesFrom}
 use Rattle.slub_lists.specs.Coherent.{IsConsistent, IsAccounted, held_under}
-use Rattle.slub_lists.specs.Places.{layout_at, no_layout}
+use Rattle.slub_lists.specs.Places.{layout_at}
 use Rattle.slub_lists.proofs.Accounted.{accounted-with_held}
 use Rattle.slub_lists.proofs.Coherence.{place-inside}
 use Rattle.slub_lists.proofs.Giving.{from-unchecked}

@@ -7,7 +7,7 @@ use Rattle.std.proofs.lemmas.List.{get_or-set_same, get_or-set_other, set-get_or
 use Rattle.std.proofs.lemmas.List.Elements.{All-set}
 use Rattle.slub_trace.specs.declared.reply.Reply.{Reply}
 use Rattle.slub_trace.specs.declared.reply.Reply.TheVariants.{Freed, NotHeld}
-use Rattle.slub_object_layout.specs.Layout.{address_of}
+use Rattle.slub_object_layout.specs.Layout.{address_of, no_layout}
 use Rattle.slub_cache_create.specs.declared.caches.Cache.{Cache}
 use Rattle.slub_words.specs.declared.cpu.CpuWord.{CpuWord}
 use Rattle.slub_words.specs.Words.{cpu_bits}
@@ -20,7 +20,7 @@ use Rattle.slub_lists.specs.Freeing.{Frees, FreesHeld}
 use Rattle.slub_lists.specs.Checked.{FreesChecked}
 use Rattle.slub_lists.specs.Words.{word_at}
 use Rattle.slub_lists.specs.Coherent.{IsAccounted, held_under}
-use Rattle.slub_lists.specs.Places.{layout_at, no_layout}
+use Rattle.slub_lists.specs.Places.{layout_at}
 use Rattle.slub_lists.proofs.Coherence.{place-inside}
 use Rattle.slub_lists.proofs.Giving.{from-unchecked}
 use Rattle.slub_lists.proofs.Places.{objects-few}

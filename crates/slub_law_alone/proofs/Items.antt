@@ -118,8 +118,8 @@ rounds_same s trace round one other left right whole whole' a b =
     let y = round_by s trace round other right b in
     let v : IsToldWhole (done.Round x.0) = subst IsToldWhole x.1 whole in
     let w : IsToldWhole (done.Round y.0) = subst IsToldWhole y.1 whole' in
-    let wants = same_wants s round.events x.0.replies y.0.replies x.2.last y.2.last v.0 w.0 x.2.runs y.2.runs in
-    let same = rounds_one s round x.0 y.0 left right wants v.1 w.1 x.2 y.2 in
+    let wants = same_wants s round.events x.0.replies y.0.replies x.2.last y.2.last v w x.2.runs y.2.runs in
+    let same = rounds_one s round x.0 y.0 left right wants x.2 y.2 in
     (x.1 ∙ ap (λ (result : RoundResult). done.Round result) same.0 ∙ sym y.1, same.1)
 
 items_same : (s : State) (trace : Trace) (what : Item) (one other : Done) (left right : State) → IsToldWhole one → IsToldWhole other

@@ -9,7 +9,7 @@ use Rattle.slub_common.specs.Times.{times}
 use Rattle.slub_trace.specs.declared.reply.Reply.{Reply}
 use Rattle.slub_trace.specs.declared.reply.Reply.TheVariants.{Freed}
 use Rattle.slub_object_layout.specs.declared.layout.Layout.{Layout}
-use Rattle.slub_object_layout.specs.Layout.{address_of}
+use Rattle.slub_object_layout.specs.Layout.{address_of, order_for}
 use Rattle.slub_page_pool.specs.FreeFrames.{FreeFrames}
 use Rattle.slub_page_pool.specs.Block.{with_run}
 use Rattle.slub_cache_create.specs.declared.caches.Cache.{Cache}
@@ -37,7 +37,7 @@ use Rattle.slub_core.specs.declared.step.Answer.{Answer}
 use Rattle.slub_core.specs.declared.step.Answer.TheVariants.{Done, Won, Lost}
 use Rattle.slub_core.specs.declared.step.Op.TheVariants.{Store, Exchange}
 use Rattle.slub_core.specs.declared.step.Place.TheVariants.{SlabOf, LockOf}
-use Rattle.slub_core.specs.Setup.{Setup, cpu_number, node_lock, pool_lock, order_for, pointer_at, hardened}
+use Rattle.slub_core.specs.Setup.{Setup, cpu_number, node_lock, pool_lock, pointer_at, hardened}
 use Rattle.slub_core.specs.Words.{no_slab_word, slab_in, slab_base, memory_base}
 use Rattle.slub_core.specs.World.{World, LockValue, Node, Pool, update, set_lock, set_memory, set_slab, world_of, frames_in, pool_in, objects_in_values, one_if}
 use Rattle.slub_core.specs.Fresh.{IsWorded}

@@ -16,7 +16,8 @@ use Rattle.slub_core.specs.declared.spot.Discard.TheVariants.{FromMove}
 use Rattle.slub_core.specs.declared.spot.DiscardSpot.TheVariants.{Unmake, LockDiscard, GiveDiscard}
 use Rattle.slub_core.specs.declared.spot.MoveSet.{MoveSet}
 use Rattle.slub_core.specs.declared.spot.MoveSetSpot.TheVariants.{LoadMoved, ListSlab}
-use Rattle.slub_core.specs.Setup.{Setup, node_lock, order_for, pool_lock}
+use Rattle.slub_core.specs.Setup.{Setup, node_lock, pool_lock}
+use Rattle.slub_object_layout.specs.Layout.{order_for}
 use Rattle.slub_core.specs.Words.{slab_base, link_base, slab_in, no_slab_word}
 use Rattle.slub_core.specs.World.{World, LockValue, Node, Pool, Links, update, set_lock, set_slab, world_of, frames_in, pool_in}
 use Rattle.slub_core.specs.Discard.{counts_for, with_put}

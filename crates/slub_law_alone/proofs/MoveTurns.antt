@@ -16,7 +16,8 @@ use Rattle.slub_core.specs.declared.step.Answer.{Answer}
 use Rattle.slub_core.specs.declared.step.Answer.TheVariants.{Word, Done, Won, Lost}
 use Rattle.slub_core.specs.declared.step.Op.TheVariants.{Load, Store, Exchange}
 use Rattle.slub_core.specs.declared.step.Place.TheVariants.{SlabOf, LinkOf, LockOf}
-use Rattle.slub_core.specs.Setup.{Setup, node_lock, order_for, pool_lock}
+use Rattle.slub_core.specs.Setup.{Setup, node_lock, pool_lock}
+use Rattle.slub_object_layout.specs.Layout.{order_for}
 use Rattle.slub_core.specs.Words.{slab_base, link_base, slab_in, no_slab_word}
 use Rattle.slub_core.specs.World.{LockValue, Node, Pool, update, frames_in, pool_in}
 use Rattle.slub_core.specs.Alloc.{taken_string}

@@ -13,7 +13,8 @@ use Rattle.slub_lists.specs.State.{State}
 use Rattle.slub_lists.specs.Alloc.{cache_of, checked_of, cpu_place, lists_of, node_of}
 use Rattle.slub_core.specs.declared.step.Step.{Step}
 use Rattle.slub_core.specs.declared.step.Answer.{Answer}
-use Rattle.slub_core.specs.Setup.{Setup, cpu_number, node_lock, order_for}
+use Rattle.slub_core.specs.Setup.{Setup, cpu_number, node_lock}
+use Rattle.slub_object_layout.specs.Layout.{order_for}
 use Rattle.slub_core.specs.Words.{number_of, after_op, answer_of, list_in}
 use Rattle.slub_core.specs.World.{World, LockValue, Node, update, pointer, IsChain, Links, one_if, frames_in, size_in, order_in, objects_in_values, cache_in_values, order_in_values}
 use Rattle.slub_core.specs.Fresh.{IsWorded}

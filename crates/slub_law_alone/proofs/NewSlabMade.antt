@@ -11,7 +11,7 @@ use Rattle.slub_trace.specs.declared.reply.Reply.{Reply}
 use Rattle.slub_trace.specs.declared.reply.Reply.TheVariants.{Given, NoSuchCache}
 use Rattle.slub_cache_create.specs.declared.caches.Cache.{Cache}
 use Rattle.slub_object_layout.specs.declared.layout.Layout.{Layout}
-use Rattle.slub_object_layout.specs.Layout.{address_of}
+use Rattle.slub_object_layout.specs.Layout.{address_of, order_for}
 use Rattle.slub_page_pool.specs.FreeFrames.{FreeFrames, IsPool}
 use Rattle.slub_page_pool.specs.Block.{Takes}
 use Rattle.slub_page_pool.proofs.Steps.{IsPool-less_run, Takes-unique}
@@ -44,7 +44,7 @@ use Rattle.slub_core.specs.declared.step.Answer.{Answer}
 use Rattle.slub_core.specs.declared.step.Answer.TheVariants.{Done, Won, Lost}
 use Rattle.slub_core.specs.declared.step.Op.TheVariants.{Store, Exchange}
 use Rattle.slub_core.specs.declared.step.Place.TheVariants.{LockOf, SlabOf}
-use Rattle.slub_core.specs.Setup.{Setup, cpu_number, node_lock, pool_lock, pool_after, pointer_at, hardened, order_for}
+use Rattle.slub_core.specs.Setup.{Setup, cpu_number, node_lock, pool_lock, pool_after, pointer_at, hardened}
 use Rattle.slub_core.specs.Words.{cpu_in, slab_in, cpu_base, slab_base, memory_base}
 use Rattle.slub_core.specs.World.{World, LockValue, Pool, update, set_cpu, set_slab, set_value, pointer, IsChain, world_from, world_of, frames_in, pool_in, objects_in_values, cache_in_values, order_in_values}
 use Rattle.slub_core.specs.Local.{Local, nobody, at, run_of, hand_from, answered}

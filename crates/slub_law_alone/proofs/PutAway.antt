@@ -15,7 +15,8 @@ use Rattle.slub_lists.specs.State.{State}
 use Rattle.slub_lists.specs.Alloc.{cache_of, checked_of, lists_of, node_of, own_free, slab_of, with_node}
 use Rattle.slub_lists.specs.Coherent.{IsConsistent, IsAccounted}
 use Rattle.slub_lists.specs.Free.{discarded, inuse_of, is_spare, order_of}
-use Rattle.slub_lists.specs.Places.{layout_at, no_layout}
+use Rattle.slub_lists.specs.Places.{layout_at}
+use Rattle.slub_object_layout.specs.Layout.{no_layout, order_for}
 use Rattle.slub_lists.specs.Shrink.{min_partial_of, put_away_slab, put_on_node, put_where, taken_down}
 use Rattle.slub_core.specs.declared.local.FrameRun.{FrameRun}
 use Rattle.slub_core.specs.declared.local.Hand.{Hand}
@@ -28,7 +29,7 @@ use Rattle.slub_core.specs.declared.spot.Discard.TheVariants.{FromAway}
 use Rattle.slub_core.specs.declared.spot.DiscardSpot.TheVariants.{Unmake, LockDiscard, GiveDiscard}
 use Rattle.slub_core.specs.declared.spot.OfflineSpot.TheVariants.{LoadCurrent, DetachCurrent, TakeCurrent}
 use Rattle.slub_core.specs.declared.spot.PutAwaySpot.TheVariants.{Unfreeze, GiveAway}
-use Rattle.slub_core.specs.Setup.{Setup, cpu_number, node_lock, order_for, pool_lock}
+use Rattle.slub_core.specs.Setup.{Setup, cpu_number, node_lock, pool_lock}
 use Rattle.slub_core.specs.Words.{slab_base, slab_in, no_slab_word}
 use Rattle.slub_core.specs.World.{World, LockValue, Node, Pool, IsChain, pointer, update, set_cpu, set_lock, set_slab, frames_in, pool_in, world_of}
 use Rattle.slub_core.specs.Discard.{with_put}

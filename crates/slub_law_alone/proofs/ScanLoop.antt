@@ -21,7 +21,8 @@ use Rattle.slub_lists.proofs.Sweeping.{gone-rest}
 use Rattle.slub_core.specs.declared.spot.Spot.TheVariants.{InDiscard}
 use Rattle.slub_core.specs.declared.spot.Discard.TheVariants.{FromTrim}
 use Rattle.slub_core.specs.declared.spot.DiscardSpot.TheVariants.{LockDiscard, GiveDiscard}
-use Rattle.slub_core.specs.Setup.{Setup, node_lock, order_for, pool_lock}
+use Rattle.slub_core.specs.Setup.{Setup, node_lock, pool_lock}
+use Rattle.slub_object_layout.specs.Layout.{order_for}
 use Rattle.slub_core.specs.Words.{slab_base, slab_in, no_slab_word}
 use Rattle.slub_core.specs.World.{World, LockValue, Node, Pool, update, set_lock, set_slab, world_of, frames_in, one_if, pool_in, size_in}
 use Rattle.slub_core.specs.Discard.{with_put}

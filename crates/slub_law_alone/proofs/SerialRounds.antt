@@ -48,7 +48,8 @@ use Rattle.slub_law_alone.specs.SerialLaws.{RunsAsLists, RoundsInTextAreThoseOfL
 use Rattle.slub_law_alone.specs.OnTheWay.{RoundsInTextAreThoseOfListsOrSpend}
 use Rattle.slub_law_alone.proofs.Events.{runs_with_memory_one}
 use Rattle.slub_law_alone.specs.Only.{RunsAs, RunsOfListsAreRounds}
-use Rattle.slub_law_alone.specs.Serial.{IsMade, IsSameWritten, RunsInText, call_of, replies_by, told_to}
+use Rattle.slub_law_alone.specs.Serial.{IsMade, IsSameWritten, RunsInText, call_of}
+use Rattle.slub_calls.specs.Replies.{replies_by, told_to}
 use Rattle.slub_law_alone.proofs.Acts.{alloc_steps, event_of, free_steps, read_steps, write_steps}
 use Rattle.slub_law_alone.proofs.SerialAway.{flush_steps, trim_steps}
 use Rattle.slub_law_alone.proofs.Knowing.{IsKnown, gone_under, there_is}

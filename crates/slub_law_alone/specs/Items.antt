@@ -20,7 +20,7 @@ use Rattle.slub_slabinfo_text.specs.declared.journal.Done.{Done}
 use Rattle.slub_slabinfo_text.specs.declared.journal.Done.TheVariants as done
 use Rattle.slub_slabinfo_text.specs.Lawful.{CreatesName, DoesPlain, DoesRound}
 use Rattle.slub_law_alone.specs.Outcome.{HasOneOutcome}
-use Rattle.slub_law_alone.specs.Rounds.{HasMemory, HasOrders}
+use Rattle.slub_law_alone.specs.Rounds.{HasMemory}
 
 -- ---- between rounds
 
@@ -66,9 +66,9 @@ DoesItems s trace (one ∷ items) (answer ∷ answers) after =
     (mid : State) × DoesItem s trace one answer mid × DoesItems mid trace items answers after
 DoesItems s trace _ _ after = ⊥
 
--- memory was there for each event of a round, and its ledgers have a count for each order
+-- memory was there for each event of a round
 abbrev pub IsToldWhole : Done → Type 0
-IsToldWhole (done.Round result) = All HasMemory result.replies × All HasOrders result.ledgers
+IsToldWhole (done.Round result) = All HasMemory result.replies
 IsToldWhole _ = ⊤
 
 -- what came of them, and the machine that is left

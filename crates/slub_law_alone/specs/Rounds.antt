@@ -1,10 +1,9 @@
 -- A round by the order of the text has one outcome.
-use Rattle.std.specs.Prelude.{◌≡◌, Bool, false, List, length, map, None, IfSome, ⊤, All}
+use Rattle.std.specs.Prelude.{◌≡◌, Bool, false, List, map, None, IfSome, ⊤, All}
 use Rattle.slub_trace.specs.declared.event.Act.{Act}
 use Rattle.slub_trace.specs.declared.event.Act.TheVariants.{Alloc}
 use Rattle.slub_trace.specs.declared.event.Event.{Event}
 use Rattle.slub_trace.specs.declared.event.Round.{Round}
-use Rattle.slub_trace.specs.declared.ledger.Ledger.{Ledger}
 use Rattle.slub_trace.specs.declared.reply.Reply.{Reply}
 use Rattle.slub_trace.specs.Kinds.{is_no_memory}
 use Rattle.slub_lists.specs.State.{State}
@@ -50,24 +49,16 @@ UncheckedRunsHaveOneOutcome =
 
 -- ---- a round
 
--- a ledger has a count for each of the orders 0 to 10, as its type says
-abbrev pub HasOrders : Ledger → Type 0
-HasOrders ledger = length ledger.no_frames ≡ 11
-
 -- the replies of a round, what was found damaged, the ledgers, and the machine that is left
 abbrev pub RoundsHaveOneOutcome : Type 0
 RoundsHaveOneOutcome =
     (s : State) (round : Round) (one other : RoundResult) (left right : State)
     → wants_of one.replies ≡ wants_of other.replies
-    → All HasOrders one.ledgers → All HasOrders other.ledgers
     → DoesRound s round one left → DoesRound s round other right
     → (one ≡ other) × (left ≡ right)
 
 -- the same of a round that allocates from caches that are not checked
 abbrev pub UncheckedRoundsHaveOneOutcome : Type 0
 UncheckedRoundsHaveOneOutcome =
-    (s : State) (round : Round) (one other : RoundResult) (left right : State)
-    → All (λ event. TakesNoMemory s event.act) round.events
-    → All HasOrders one.ledgers → All HasOrders other.ledgers
-    → DoesRound s round one left → DoesRound s round other right
-    → (one ≡ other) × (left ≡ right)
+    (s : State) (round : Round) → All (λ event. TakesNoMemory s event.act) round.events
+    → HasOneOutcome RoundResult State (DoesRound s round)

@@ -17,6 +17,7 @@ use Rattle.slub_core.specs.Run.{System}
 use Rattle.slub_calls.specs.Calls.{call_for, events_by, rooms_for}
 use Rattle.slub_slabinfo_text.specs.Lawful.{is_by}
 use Rattle.slub_law_alone.specs.Alone.{alone, worker_at, HasReply, HasWord}
+use Rattle.slub_calls.specs.Replies.{replies_by, told_to}
 
 -- ---- turns in the order of the text
 
@@ -42,23 +43,6 @@ RunsInText m calls (event ∷ events) first last =
     (turns : ℕ)
     × IsMade m first event.worker (calls event) (length (events_by event.worker events)) turns
     × RunsInText m calls events (alone m event.worker turns first) last
-
--- ---- replies in the order of the text
-
--- of the events and their replies, the replies to the events of this worker
-abbrev pub replies_by : ℕ → List (Event × Reply) → List Reply
-replies_by worker answers = map (λ one. one.1) (filter (is_by worker) answers)
-
--- what a worker was answered, the first reply first
-abbrev pub told_to : ℕ → List (List Answered) → List Reply
-told_to worker dones =
-    reverse (map (λ (d : Answered). d.reply) (slice_index_or dones worker []))
-
--- each event has a reply, and those to the events of a worker are what it was answered
-pub record AreReplies (events : List Event) (dones : List (List Answered))
-    (replies : List Reply) : Type 0 where
-  pub each : length replies ≡ length events
-  pub own : (worker : ℕ) → replies_by worker (zip events replies) ≡ told_to worker dones
 
 -- ---- words that were written
 

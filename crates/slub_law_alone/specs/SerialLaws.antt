@@ -19,7 +19,8 @@ use Rattle.slub_calls.specs.Calls.{workers_of}
 use Rattle.slub_calls.specs.Laws.{MayDo}
 use Rattle.slub_slabinfo_text.specs.Lawful.{RunsEvents}
 use Rattle.slub_law_alone.specs.Alone.{IsAtRest}
-use Rattle.slub_law_alone.specs.Serial.{call_of, RunsInText, AreReplies, IsSameWritten}
+use Rattle.slub_law_alone.specs.Serial.{call_of, RunsInText, IsSameWritten}
+use Rattle.slub_calls.specs.Replies.{AreReplies}
 use Rattle.slub_calls.specs.Events.{changes_of, IsGrown, RunsWithIds}
 
 -- ---- which rounds

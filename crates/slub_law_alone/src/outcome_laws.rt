@@ -7,8 +7,7 @@
 //! One thing the lists leave open: whether memory is there for the bytes of a new slab of a checked
 //! cache. Where it is wanting the reply is `NoMemory`, and the run goes back to the pool. So
 //! allocations have one outcome where memory is wanting both times or neither time, and those of
-//! caches that are not checked have one with no such word. A ledger counts the orders 0 to 10; that
-//! it has no more counts than these its type says, and the laws on rounds ask it.
+//! caches that are not checked have one with no such word.
 
 ghost use Rattle.slub_law_alone.specs.Events.{AllocationsHaveOneOutcome, AnswersHaveOneOutcome, FlushesHaveOneOutcome, FreesHaveOneOutcome, PokesHaveOneOutcome, ReadsHaveOneReply, TrimsHaveOneOutcome, UncheckedAllocationsHaveOneOutcome, WritesHaveOneOutcome};
 ghost use Rattle.slub_law_alone.specs.Items.{CreationsHaveOneOutcome, DestructionsHaveOneOutcome, JournalsHaveOneOutcome, PlainItemsHaveOneOutcome, SettingsHaveOneOutcome, ShrinksHaveOneOutcome};

@@ -1,7 +1,6 @@
 -- A round that a client makes has one outcome, and what is told of it.
-use Rattle.std.proofs.Common.{◌≡◌, ℕ, Bool, true, false, List, [], ◌∷◌, get_or, Option, Some, None, Result, Ok, Err, All, MatchOption, sym, ap, ◌∙◌, subst}
+use Rattle.std.proofs.Common.{◌≡◌, ℕ, Bool, true, false, List, [], ◌∷◌, get_or, Option, Some, None, Result, Ok, Err, MatchOption, sym, ap, ◌∙◌}
 use Rattle.std.specs.Bool.{MatchBool}
-use Rattle.std.proofs.lemmas.List.Elements.{All-head, All-tail}
 use Rattle.std.proofs.lemmas.Option.{none-some, same_Some}
 use Rattle.slub_trace.specs.declared.event.Act.{Act}
 use Rattle.slub_trace.specs.declared.reply.Reply.{Reply}
@@ -11,29 +10,18 @@ use Rattle.slub_slabinfo_text.specs.declared.client.ClientAnswer.{ClientAnswer}
 use Rattle.slub_slabinfo_text.specs.declared.client.ClientDone.{ClientDone}
 use Rattle.slub_slabinfo_text.specs.declared.client.ClientRound.{ClientRound}
 use Rattle.slub_slabinfo_text.specs.Asked.{Tells, refusal_of, round_of}
-use Rattle.slub_law_alone.specs.Rounds.{HasOrders}
 use Rattle.slub_rounds.specs.Heap.{HeapState}
 use Rattle.slub_rounds.specs.Asked.{AnswersAtOnce, DoesAsked}
-use Rattle.slub_law_replay.specs.Lines.{AreCounted}
 use Rattle.slub_law_replay.proofs.OneTextRounds.{texts-one}
 
 -- ---- rounds
 
-abbrev pub IsCounted : ClientRound → Type 0
-IsCounted round = All HasOrders round.result.ledgers
-
-pub asked-one : (h : HeapState) (cpu : ℕ) (acts : List Act) (one other : ClientRound) (left right : HeapState) → IsCounted one → IsCounted other → DoesAsked h cpu acts one left → DoesAsked h cpu acts other right
+pub asked-one : (h : HeapState) (cpu : ℕ) (acts : List Act) (one other : ClientRound) (left right : HeapState) → DoesAsked h cpu acts one left → DoesAsked h cpu acts other right
     → (one ≡ other) × (left ≡ right)
-asked-one h cpu acts one other left right counted also does again =
+asked-one h cpu acts one other left right does again =
     let same = texts-one h.lists h.ids (round_of cpu acts) one.result other.result left.lists right.lists left.ids right.ids
-    (record { memory = does.memory; orders = counted }) (record { memory = again.memory; orders = also }) does.does again.does in
+    does.memory again.memory does.does again.does in
     ((λ i. record { asked = (does.asked ∙ sym again.asked) i; result = same.result i }), λ i. record { lists = same.machine i; ids = same.ids i })
-
-pub first-counted : (rounds rest : List ClientRound) (round : ClientRound) → rounds ≡ round ∷ rest → AreCounted rounds → IsCounted round
-first-counted rounds rest round is all = All-head IsCounted round rest (subst AreCounted is all)
-
-pub second-counted : (rounds : List ClientRound) (first second : ClientRound) → rounds ≡ first ∷ second ∷ [] → AreCounted rounds → IsCounted second
-second-counted rounds first second is all = All-head IsCounted second [] (All-tail IsCounted first (second ∷ []) (subst AreCounted is all))
 
 -- the one reply of a round
 pub one-reply : (xs ys : List Reply) (x y : Reply) → xs ≡ ys → xs ≡ x ∷ [] → ys ≡ y ∷ [] → x ≡ y
@@ -58,7 +46,7 @@ same-done one other rounds answer = λ i. record { rounds = rounds i; answer = a
 -- a line that is served so makes the same rounds, is answered the same and leaves the same
 abbrev pub ServesOne : (Left : Type 0) → (ClientDone → Left → Type 0) → Type 0
 ServesOne Left Does =
-    (one other : ClientDone) (left right : Left) → AreCounted one.rounds → AreCounted other.rounds → Does one left → Does other right → (one ≡ other) × (left ≡ right)
+    (one other : ClientDone) (left right : Left) → Does one left → Does other right → (one ≡ other) × (left ≡ right)
 
 pub option-one : (X Left : Type 0) (o : Option X) (N : ClientDone → Left → Type 0) (S : X → ClientDone → Left → Type 0) → ServesOne Left N → ((x : X) → ServesOne Left (S x))
     → ServesOne Left (λ done after. MatchOption o (N done after) (λ x. S x done after))
@@ -70,4 +58,4 @@ bool-one Left true T F first second = first
 bool-one Left false T F first second = second
 
 pub at-once-one : (h : HeapState) (answer : ClientAnswer) → ServesOne HeapState (AnswersAtOnce h answer)
-at-once-one h answer one other left right counted also does again = (same-done one other (does.0 ∙ sym again.0) (does.1 ∙ sym again.1), does.2 ∙ sym again.2)
+at-once-one h answer one other left right does again = (same-done one other (does.0 ∙ sym again.0) (does.1 ∙ sym again.1), does.2 ∙ sym again.2)

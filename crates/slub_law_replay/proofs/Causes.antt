@@ -20,7 +20,8 @@ use Rattle.slub_cache_create.specs.Table.{Table}
 use Rattle.slub_lists.specs.declared.lists.Held.{Held}
 use Rattle.slub_lists.specs.State.{State}
 use Rattle.slub_lists.specs.Alloc.{cache_of, checked_of}
-use Rattle.slub_lists.specs.Places.{layout_at, no_layout}
+use Rattle.slub_lists.specs.Places.{layout_at}
+use Rattle.slub_object_layout.specs.Layout.{no_layout}
 use Rattle.slub_red_zone.specs.State.{CheckedState}
 use Rattle.slub_lists.specs.Coherent.{IsCacheOf, IsCheckedOf, IsCoherent, all_on_board, held_under}
 use Rattle.slub_lists.proofs.CheckedSlabs.{at_some}
@@ -58,7 +59,8 @@ use Rattle.slub_calls.specs.Laws.{MayDo}
 use Rattle.slub_calls.proofs.Fitting.{may_begin}
 use Rattle.slub_open_close.specs.Ids.{IsStepOf, id_at}
 use Rattle.slub_law_rounds.specs.Answered.{Answered, holding, is_alloc_of, is_corrupt, is_free_of, of_worker}
-use Rattle.slub_law_rounds.specs.Ran.{AreReplies, RunsRound, system_after}
+use Rattle.slub_law_rounds.specs.Ran.{RunsRound, system_after}
+use Rattle.slub_calls.specs.Replies.{AreReplies}
 use Rattle.slub_law_rounds.specs.Round.{IsOfChecked, Spot, layout_of, spot_by}
 use Rattle.slub_law_rounds.proofs.CausesRan.{spot-here}
 use Rattle.slub_law_rounds.proofs.Counts.{caused-by, done-at, its_done, many}

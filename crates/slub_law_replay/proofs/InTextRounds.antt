@@ -16,7 +16,8 @@ use Rattle.slub_lists.specs.State.{State}
 use Rattle.slub_cache_create.specs.Table.{Table, cache_of as live_cache}
 use Rattle.slub_lists.specs.declared.lists.Held.{Held}
 use Rattle.slub_lists.specs.Alloc.{checked_of}
-use Rattle.slub_lists.specs.Places.{layout_at, no_layout}
+use Rattle.slub_lists.specs.Places.{layout_at}
+use Rattle.slub_object_layout.specs.Layout.{no_layout}
 use Rattle.slub_lists.specs.Words.{is_word, word_at}
 use Rattle.slub_lists.specs.Coherent.{IsCoherent, all_on_board, held_under}
 use Rattle.slub_core.specs.declared.call.Call.{Call}
@@ -46,7 +47,8 @@ use Rattle.slub_law_alone.specs.Alone.{HasWord, IsAtRest}
 use Rattle.slub_law_alone.proofs.Begins.{begins_at_rest}
 use Rattle.slub_law_alone.specs.SerialLaws.{RunsAsLists, before, begun}
 use Rattle.slub_law_alone.specs.OnTheWay.{SpendsAnId}
-use Rattle.slub_law_alone.specs.Serial.{IsSameWritten, RunsInText, call_of, told_to}
+use Rattle.slub_law_alone.specs.Serial.{IsSameWritten, RunsInText, call_of}
+use Rattle.slub_calls.specs.Replies.{told_to}
 use Rattle.slub_law_alone.proofs.SerialRounds.{rounds_or_spent}
 use Rattle.slub_rounds.specs.Doing.{AwaitsEvents}
 use Rattle.slub_rounds.specs.InOrder.{AreInOrder}

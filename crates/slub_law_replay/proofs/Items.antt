@@ -20,6 +20,7 @@ use Rattle.slub_slabinfo_text.specs.declared.journal.Total.{Total}
 use Rattle.slub_slabinfo_text.specs.Lawful.{DoesPlain, IsTotal}
 use Rattle.slub_slabinfo_text.specs.Text.{text_of}
 use Rattle.slub_open_close.specs.Growth.{ids_after}
+use Rattle.slub_law_alone.specs.Items.{IsToldWhole}
 use Rattle.slub_law_alone.proofs.Items.{plain_items_one}
 use Rattle.slub_rounds.specs.Heap.{HeapState}
 use Rattle.slub_rounds.specs.BulkLines.{ServesBulkLines}
@@ -28,7 +29,7 @@ use Rattle.slub_rounds.specs.Reserves.{Reserve, ServesReserves}
 use Rattle.slub_law_replay.specs.declared.way.Way.{Way}
 use Rattle.slub_law_replay.specs.Runs.{Does, KeepsReserves, KeepsRounds, MachineState, RunsItems, Serves, heap_of, machine_of}
 use Rattle.slub_law_replay.specs.Ways.{DoesRoundBy}
-use Rattle.slub_law_replay.specs.Journals.{IsToldWhole, JournalsAreOne, TextsAreOne}
+use Rattle.slub_law_replay.specs.Journals.{JournalsAreOne, TextsAreOne}
 use Rattle.slub_law_replay.specs.Lines.{LinesHaveOneOutcome}
 use Rattle.slub_law_replay.specs.OneTextRounds.{IsFixed}
 use Rattle.slub_law_replay.proofs.BulkLines.{bulk-lines-one}
@@ -57,20 +58,20 @@ bulk-or-reserves h g reserves left-over (line.Bulkfree cpu first count) one othe
 bulk-or-reserves h g reserves left-over _ one other left right does again = does
 
 pub lines-one : LinesHaveOneOutcome
-lines-one m trace client one other left right counted also (inl does) (inl again) =
-    let same = classes-one (heap_of m) trace client one other (heap_of left) (heap_of right) counted also does.0 again.0 in
+lines-one m trace client one other left right (inl does) (inl again) =
+    let same = classes-one (heap_of m) trace client one other (heap_of left) (heap_of right) does.0 again.0 in
     record { done = same.0; heap = same.1; reserves = does.1 ∙ sym again.1 }
-lines-one m trace client one other left right counted also (inl does) (inr (inl again)) = absurd (classes-or-bulk (heap_of m) (heap_of m) trace client one other (heap_of left) (heap_of right) does.0 again.0)
-lines-one m trace client one other left right counted also (inl does) (inr (inr again)) = absurd (classes-or-reserves (heap_of m) (heap_of m) trace m.reserves right.reserves client one other (heap_of left) (heap_of right) does.0 again.0)
-lines-one m trace client one other left right counted also (inr (inl does)) (inl again) = absurd (classes-or-bulk (heap_of m) (heap_of m) trace client other one (heap_of right) (heap_of left) again.0 does.0)
-lines-one m trace client one other left right counted also (inr (inl does)) (inr (inl again)) =
-    let same = bulk-lines-one (heap_of m) client one other (heap_of left) (heap_of right) counted also does.0 again.0 in
+lines-one m trace client one other left right (inl does) (inr (inl again)) = absurd (classes-or-bulk (heap_of m) (heap_of m) trace client one other (heap_of left) (heap_of right) does.0 again.0)
+lines-one m trace client one other left right (inl does) (inr (inr again)) = absurd (classes-or-reserves (heap_of m) (heap_of m) trace m.reserves right.reserves client one other (heap_of left) (heap_of right) does.0 again.0)
+lines-one m trace client one other left right (inr (inl does)) (inl again) = absurd (classes-or-bulk (heap_of m) (heap_of m) trace client other one (heap_of right) (heap_of left) again.0 does.0)
+lines-one m trace client one other left right (inr (inl does)) (inr (inl again)) =
+    let same = bulk-lines-one (heap_of m) client one other (heap_of left) (heap_of right) does.0 again.0 in
     record { done = same.0; heap = same.1; reserves = does.1 ∙ sym again.1 }
-lines-one m trace client one other left right counted also (inr (inl does)) (inr (inr again)) = absurd (bulk-or-reserves (heap_of m) (heap_of m) m.reserves right.reserves client one other (heap_of left) (heap_of right) does.0 again.0)
-lines-one m trace client one other left right counted also (inr (inr does)) (inl again) = absurd (classes-or-reserves (heap_of m) (heap_of m) trace m.reserves left.reserves client other one (heap_of right) (heap_of left) again.0 does.0)
-lines-one m trace client one other left right counted also (inr (inr does)) (inr (inl again)) = absurd (bulk-or-reserves (heap_of m) (heap_of m) m.reserves left.reserves client other one (heap_of right) (heap_of left) again.0 does.0)
-lines-one m trace client one other left right counted also (inr (inr does)) (inr (inr again)) =
-    let same = reserves-one (heap_of m) m.reserves client one other (heap_of left) (heap_of right) left.reserves right.reserves counted also does.0 again.0 in
+lines-one m trace client one other left right (inr (inl does)) (inr (inr again)) = absurd (bulk-or-reserves (heap_of m) (heap_of m) m.reserves right.reserves client one other (heap_of left) (heap_of right) does.0 again.0)
+lines-one m trace client one other left right (inr (inr does)) (inl again) = absurd (classes-or-reserves (heap_of m) (heap_of m) trace m.reserves left.reserves client other one (heap_of right) (heap_of left) again.0 does.0)
+lines-one m trace client one other left right (inr (inr does)) (inr (inl again)) = absurd (bulk-or-reserves (heap_of m) (heap_of m) m.reserves left.reserves client other one (heap_of right) (heap_of left) again.0 does.0)
+lines-one m trace client one other left right (inr (inr does)) (inr (inr again)) =
+    let same = reserves-one (heap_of m) m.reserves client one other (heap_of left) (heap_of right) left.reserves right.reserves does.0 again.0 in
     record { done = same.0; heap = same.1; reserves = same.2 }
 
 -- ---- one item
@@ -122,7 +123,7 @@ module _ (way : Way) (m : MachineState) (trace : Trace) (one other : Done) (left
   client-one client does again =
       let x = client-by way m trace client one left does in
       let y = client-by way m trace client other right again in
-      let same = lines-one m trace client x.0 y.0 left right (subst IsToldWhole x.1 whole) (subst IsToldWhole y.1 also) x.2 y.2 in (
+      let same = lines-one m trace client x.0 y.0 left right x.2 y.2 in (
         x.1 ∙ ap (λ (outcome : ClientDone). done.Client outcome) same.done ∙ sym y.1,
         same-machine left right (ap (λ (h : HeapState). h.lists) same.heap) (ap (λ (h : HeapState). h.ids) same.heap) same.reserves (x.3 ∙ sym y.3),
       )

@@ -3,7 +3,6 @@ use Rattle.std.proofs.Common.{◌≡◌, ℕ, List, [], ◌∷◌, ◌++◌, Opt
 use Rattle.std.specs.Bool.{MatchBool}
 use Rattle.std.specs.List.{range_with_len}
 use Rattle.std.specs.Option.{option_map}
-use Rattle.std.proofs.lemmas.List.Elements.{All-cons, All-head, All-nil, All-tail}
 use Rattle.slub_trace.specs.declared.event.Act.TheVariants.{Alloc, Free}
 use Rattle.slub_object_layout.specs.declared.layout.Spec.{Spec}
 use Rattle.slub_trace.specs.declared.create.Created.{Created}
@@ -25,8 +24,7 @@ use Rattle.slub_law_alone.proofs.Creations.{creations_one}
 use Rattle.slub_rounds.specs.Heap.{HeapState}
 use Rattle.slub_rounds.specs.Asked.{AnswersAtOnce, DoesAsked}
 use Rattle.slub_rounds.specs.Kmalloc.{CreatesClasses, CreatesFor, MovesOn, Moves, ServesClasses, ServesHeld, ServesKget, ServesKmalloc, ServesKrealloc, TakesOfClass, class_name, given_answer, ids_made, is_enough, is_kmalloc, place_of_class}
-use Rattle.slub_law_replay.specs.Lines.{AreCounted}
-use Rattle.slub_law_replay.proofs.Asked.{IsCounted, ServesOne, asked-one, at-once-one, bool-one, first-counted, one-reply, option-one, same-done, tells-one}
+use Rattle.slub_law_replay.proofs.Asked.{ServesOne, asked-one, at-once-one, bool-one, one-reply, option-one, same-done, tells-one}
 
 -- ---- `kmalloc`
 
@@ -50,7 +48,7 @@ classes-made h trace (class ∷ classes) (one ∷ ones) (other ∷ others) left 
     ((λ i. first.0 i ∷ rest.0 i), rest.1)
 
 kmalloc-one : (h : HeapState) (trace : Trace) → ServesOne HeapState (ServesKmalloc h trace)
-kmalloc-one h trace one other left right counted also does again =
+kmalloc-one h trace one other left right does again =
     let same = classes-made h trace (range_with_len 0 13) does.0 again.0 left right does.3 again.3 in
     (same-done one other (does.1 ∙ sym again.1) (does.2 ∙ ap (λ (answers : List (Result Created CreateRefusal)). answer.Created answers) same.0 ∙ sym again.2), same.1)
 
@@ -61,10 +59,10 @@ abbrev TakesAt : HeapState → ℕ → ℕ → ℕ → List ClientRound → Resu
 TakesAt h cpu object place rounds told after =
     (round : ClientRound) × (reply : Reply) × (rounds ≡ round ∷ []) × DoesAsked h cpu (Alloc place object ∷ []) round after × (round.result.replies ≡ reply ∷ []) × Tells reply told
 
-module _ (h : HeapState) (cpu object : ℕ) (rounds others : List ClientRound) (one other : Result ℕ CacheRefusal) (left right : HeapState) (counted : AreCounted rounds) (also : AreCounted others) where
+module _ (h : HeapState) (cpu object : ℕ) (rounds others : List ClientRound) (one other : Result ℕ CacheRefusal) (left right : HeapState) where
   takes-at : (place : ℕ) → TakesAt h cpu object place rounds one left → TakesAt h cpu object place others other right → (rounds ≡ others) × (one ≡ other) × (left ≡ right)
   takes-at place does again =
-      let same = asked-one h cpu (Alloc place object ∷ []) does.0 again.0 left right (first-counted rounds [] does.0 does.2 counted) (first-counted others [] again.0 again.2 also) does.3 again.3 in
+      let same = asked-one h cpu (Alloc place object ∷ []) does.0 again.0 left right does.3 again.3 in
       let reply : does.1 ≡ again.1 = one-reply does.0.result.replies again.0.result.replies does.1 again.1 (ap (λ (round : ClientRound). round.result.replies) same.0) does.4 again.4 in (
         does.2 ∙ ap (λ (round : ClientRound). round ∷ []) same.0 ∙ sym again.2,
         tells-one again.1 one other (subst (λ (r : Reply). Tells r one) reply does.5) again.5,
@@ -85,8 +83,8 @@ abbrev GetsOf : HeapState → Trace → ℕ → ℕ → ℕ → ClientDone → H
 GetsOf h trace cpu object class done after = (told : Result ℕ CacheRefusal) × TakesOfClass h trace cpu class object done.rounds told after × (done.answer ≡ given_answer told)
 
 gets-of-one : (h : HeapState) (trace : Trace) (cpu object class : ℕ) → ServesOne HeapState (GetsOf h trace cpu object class)
-gets-of-one h trace cpu object class one other left right counted also does again =
-    let same = takes-one h cpu object one.rounds other.rounds does.0 again.0 left right counted also trace class does.1 again.1 in
+gets-of-one h trace cpu object class one other left right does again =
+    let same = takes-one h cpu object one.rounds other.rounds does.0 again.0 left right trace class does.1 again.1 in
     (same-done one other same.0 (does.2 ∙ ap given_answer same.1 ∙ sym again.2), same.2)
 
 kget-one : (h : HeapState) (trace : Trace) (cpu size object : ℕ) → ServesOne HeapState (ServesKget h trace cpu size object)
@@ -95,33 +93,19 @@ kget-one h trace cpu size object = option-one ℕ HeapState (class_place size) (
 -- ---- `krealloc`
 
 moves-on-one : (mid : HeapState) (cpu object : ℕ) (told : Result ℕ CacheRefusal) (first : List ClientRound) → ServesOne HeapState (MovesOn mid cpu object told first)
-moves-on-one mid cpu object (Ok address) first one other left right counted also does again =
-    let same = asked-one mid cpu (Free object ∷ []) does.0 again.0 left right (last-counted first does.0 (subst AreCounted does.2 counted)) (last-counted first again.0 (subst AreCounted again.2 also)) does.1 again.1 in
+moves-on-one mid cpu object (Ok address) first one other left right does again =
+    let same = asked-one mid cpu (Free object ∷ []) does.0 again.0 left right does.1 again.1 in
     (same-done one other (does.2 ∙ ap (λ (round : ClientRound). first ++ round ∷ []) same.0 ∙ sym again.2) (does.3 ∙ sym again.3), same.1)
-  where
-    last-counted : (first : List ClientRound) (last : ClientRound) → AreCounted (first ++ last ∷ []) → IsCounted last
-    last-counted [] last all = All-head IsCounted last [] all
-    last-counted (round ∷ rounds) last all = last-counted rounds last (All-tail IsCounted round (rounds ++ last ∷ []) all)
-moves-on-one mid cpu object (Err why) first one other left right counted also does again = (same-done one other (does.0 ∙ sym again.0) (does.1 ∙ sym again.1), does.2 ∙ sym again.2)
-
--- the rounds before are among those of the line
-first-ones : (mid : HeapState) (cpu object : ℕ) (told : Result ℕ CacheRefusal) (first : List ClientRound) (done : ClientDone) (after : HeapState) → MovesOn mid cpu object told first done after → AreCounted done.rounds → AreCounted first
-first-ones mid cpu object (Ok address) first done after does counted = front first does.0 (subst AreCounted does.2 counted)
-  where
-    front : (first : List ClientRound) (last : ClientRound) → AreCounted (first ++ last ∷ []) → AreCounted first
-    front [] last all = All-nil IsCounted
-    front (round ∷ rounds) last all =
-        All-cons IsCounted round rounds (All-head IsCounted round (rounds ++ last ∷ []) all) (front rounds last (All-tail IsCounted round (rounds ++ last ∷ []) all))
-first-ones mid cpu object (Err why) first done after does counted = subst AreCounted does.0 counted
+moves-on-one mid cpu object (Err why) first one other left right does again = (same-done one other (does.0 ∙ sym again.0) (does.1 ∙ sym again.1), does.2 ∙ sym again.2)
 
 moves-one : (h : HeapState) (trace : Trace) (cpu class object fresh : ℕ) → ServesOne HeapState (Moves h trace cpu class object fresh)
-moves-one h trace cpu class object fresh one other left right counted also does again =
-    let same = takes-one h cpu fresh does.1 again.1 does.0 again.0 does.2 again.2 (first-ones does.2 cpu object does.0 does.1 one left does.4 counted) (first-ones again.2 cpu object again.0 again.1 other right again.4 also) trace class does.3 again.3 in
+moves-one h trace cpu class object fresh one other left right does again =
+    let same = takes-one h cpu fresh does.1 again.1 does.0 again.0 does.2 again.2 trace class does.3 again.3 in
     let moved : MovesOn again.2 cpu object again.0 again.1 one left =
     subst (λ (mid : HeapState). MovesOn mid cpu object again.0 again.1 one left) same.2
     (subst (λ (told : Result ℕ CacheRefusal). MovesOn does.2 cpu object told again.1 one left) same.1
     (subst (λ (first : List ClientRound). MovesOn does.2 cpu object does.0 first one left) same.0 does.4)) in
-    moves-on-one again.2 cpu object again.0 again.1 one other left right counted also moved again.4
+    moves-on-one again.2 cpu object again.0 again.1 one other left right moved again.4
 
 abbrev MovesOrStays : HeapState → Trace → ℕ → ℕ → ℕ → ℕ → ℕ → ℕ → ClientDone → HeapState → Type 0
 MovesOrStays h trace cpu object size fresh cache class done after = MatchBool (is_enough h.lists cache size) (AnswersAtOnce h answer.Stays done after) (Moves h trace cpu class object fresh done after)
@@ -145,7 +129,7 @@ krealloc-one h trace cpu object size fresh =
 -- ---- all three
 
 pub classes-one : (h : HeapState) (trace : Trace) (client : Asked) → ServesOne HeapState (ServesClasses h trace client)
-classes-one h trace line.Kmalloc one other left right counted also does again = kmalloc-one h trace one other left right counted also does again
-classes-one h trace (line.Kget cpu size object) one other left right counted also does again = kget-one h trace cpu size object one other left right counted also does again
-classes-one h trace (line.Krealloc cpu object size fresh) one other left right counted also does again = krealloc-one h trace cpu object size fresh one other left right counted also does again
-classes-one h trace _ one other left right counted also does again = absurd does
+classes-one h trace line.Kmalloc one other left right does again = kmalloc-one h trace one other left right does again
+classes-one h trace (line.Kget cpu size object) one other left right does again = kget-one h trace cpu size object one other left right does again
+classes-one h trace (line.Krealloc cpu object size fresh) one other left right does again = krealloc-one h trace cpu object size fresh one other left right does again
+classes-one h trace _ one other left right does again = absurd does

@@ -45,7 +45,7 @@ use Rattle.slub_law_alone.specs.Only.{RunsAs}
 use Rattle.slub_law_alone.specs.Rounds.{HasMemory}
 use Rattle.slub_law_alone.specs.SerialLaws.{RunsAsLists}
 use Rattle.slub_law_alone.proofs.SerialRounds.{all_rounds}
-use Rattle.slub_law_rounds.specs.Ran.{AreReplies}
+use Rattle.slub_calls.specs.Replies.{AreReplies}
 use Rattle.slub_law_rounds.proofs.Turns.{rounds_end}
 use Rattle.slub_rounds.specs.ByText.{DoesByText, DoesRoundOnLists, IdsLast}
 use Rattle.slub_rounds.specs.InOrder.{AreInOrder, EndsInOrder}

@@ -58,7 +58,8 @@ use Rattle.slub_law_rounds.proofs.Reports.{all-flat, drop-none}
 use Rattle.slub_law_rounds.proofs.Runs.{gone_under}
 use Rattle.slub_law_rounds.proofs.Tale.{injected}
 use Rattle.slub_law_rounds.proofs.Telling.{TellsPoked}
-use Rattle.slub_law_rounds.specs.Ran.{AreReplies, RunsRound, system_after}
+use Rattle.slub_law_rounds.specs.Ran.{RunsRound, system_after}
+use Rattle.slub_calls.specs.Replies.{AreReplies}
 use Rattle.slub_law_rounds.proofs.Ended.{Ended}
 use Rattle.slub_law_rounds.proofs.Sums.{IsBelow, all-below}
 use Rattle.slub_law_rounds.proofs.WholeRan.{rounds-lawful}

@@ -29,7 +29,7 @@ use Rattle.slub_law_opening.proofs.Turns.{get_or-beyond}
 use Rattle.slub_slabinfo_text.specs.Lawful.{is_by}
 use Rattle.slub_law_alone.specs.Alone.{own_pick}
 use Rattle.slub_law_alone.proofs.Onward.{rested-grown}
-use Rattle.slub_law_rounds.specs.Ran.{AreReplies, replies_by, told_to}
+use Rattle.slub_calls.specs.Replies.{replies_by, told_to, AreReplies}
 use Rattle.slub_rounds.specs.Doing.{local_at}
 use Rattle.slub_rounds.specs.InOrder.{AreInOrder}
 use Rattle.slub_law_replay.specs.InOrder.{RefuseNothing}

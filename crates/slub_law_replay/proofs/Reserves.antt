@@ -21,8 +21,7 @@ use Rattle.slub_slabinfo_text.specs.Asked.{Tells}
 use Rattle.slub_rounds.specs.Heap.{HeapState}
 use Rattle.slub_rounds.specs.Asked.{AnswersAtOnce}
 use Rattle.slub_rounds.specs.Reserves.{AnswersLeaving, Asks, Fills, Gets, Lends, Makes, Pops, Puts, PutsBack, Refills, Reserve, ServesKept, ServesMempool, ServesMget, ServesMput, ServesReserves, TakesOne, TellsFree, fresh_reserve, has_number, is_of_cache, kept_in, place_of, reserve_at, reserves_max, with_numbers}
-use Rattle.slub_law_replay.specs.Lines.{AreCounted}
-use Rattle.slub_law_replay.proofs.Asked.{ServesOne, asked-one, at-once-one, bool-one, first-counted, one-reply, option-one, same-done, tells-one}
+use Rattle.slub_law_replay.proofs.Asked.{ServesOne, asked-one, at-once-one, bool-one, one-reply, option-one, same-done, tells-one}
 use Rattle.slub_law_replay.proofs.BulkLines.{takes-all-one}
 
 -- ---- lists, ids and reserves together
@@ -38,8 +37,8 @@ same-both : (a b : Left) → a.0 ≡ b.0 → a.1 ≡ b.1 → a ≡ b
 same-both a b heap reserves = λ i. (heap i, reserves i)
 
 leaving-one : (h : HeapState) (reserves : List Reserve) (told : ClientAnswer) → ServesOne Left (Leaves (AnswersLeaving h reserves told))
-leaving-one h reserves told one other left right counted also does again =
-    let same = at-once-one h told one other left.0 right.0 counted also does.0 again.0 in
+leaving-one h reserves told one other left right does again =
+    let same = at-once-one h told one other left.0 right.0 does.0 again.0 in
     (same.0, same-both left right same.1 (does.1 ∙ sym again.1))
 
 -- ---- `mempool`
@@ -49,8 +48,8 @@ makes-one reserves fresh None one other left right does again = (does.0 ∙ sym 
 makes-one reserves fresh (Some why) one other left right does again = (does.0 ∙ sym again.0, does.1 ∙ sym again.1)
 
 fills-one : (h : HeapState) (reserves : List Reserve) (fresh : Reserve) → ServesOne Left (Leaves (Fills h reserves fresh))
-fills-one h reserves fresh one other left right counted also does again =
-    let same = takes-all-one h 0 fresh.cache fresh.numbers does.0 again.0 one.rounds other.rounds left.0 right.0 counted also does.1 again.1 in
+fills-one h reserves fresh one other left right does again =
+    let same = takes-all-one h 0 fresh.cache fresh.numbers does.0 again.0 one.rounds other.rounds left.0 right.0 does.1 again.1 in
     let made = makes-one reserves fresh again.0 one.answer other.answer left.1 right.1 (subst (λ (refusal : Option CacheRefusal). Makes reserves fresh refusal one.answer left.1) same.0 does.2) again.2 in
     (same-done one other same.1 made.0, same-both left right same.2 made.1)
 
@@ -96,10 +95,10 @@ gets-one s reserves at (Err why) one other left right does again =
     lends-one s reserves at why again.0 again.1 one other left right
     (subst (λ (lent : Option ℕ). Lends s reserves at why lent again.1 one left) popped.0 (subst (λ (rest : List ℕ). Lends s reserves at why does.0 rest one left) popped.1 does.3)) again.3
 
-module _ (h : HeapState) (cpu place object : ℕ) (rounds others : List ClientRound) (one other : Result ℕ CacheRefusal) (left right : HeapState) (counted : AreCounted rounds) (also : AreCounted others) where
+module _ (h : HeapState) (cpu place object : ℕ) (rounds others : List ClientRound) (one other : Result ℕ CacheRefusal) (left right : HeapState) where
   takes-one-one : TakesOne h cpu place object rounds one left → TakesOne h cpu place object others other right → (rounds ≡ others) × (one ≡ other) × (left ≡ right)
   takes-one-one does again =
-      let same = asked-one h cpu (Alloc place object ∷ []) does.0 again.0 left right (first-counted rounds [] does.0 does.5 counted) (first-counted others [] again.0 again.5 also) does.2 again.2 in
+      let same = asked-one h cpu (Alloc place object ∷ []) does.0 again.0 left right does.2 again.2 in
       let reply : does.1 ≡ again.1 = one-reply does.0.result.replies again.0.result.replies does.1 again.1 (ap (λ (round : ClientRound). round.result.replies) same.0) does.3 again.3 in (
         does.5 ∙ ap (λ (round : ClientRound). round ∷ []) same.0 ∙ sym again.5,
         tells-one again.1 one other (subst (λ (r : Reply). Tells r one) reply does.4) again.4,
@@ -107,8 +106,8 @@ module _ (h : HeapState) (cpu place object : ℕ) (rounds others : List ClientRo
       )
 
 asks-one : (h : HeapState) (reserves : List Reserve) (at cpu object : ℕ) → ServesOne Left (Leaves (Asks h reserves at cpu object))
-asks-one h reserves at cpu object one other left right counted also does again =
-    let same = takes-one-one h cpu (reserve_at reserves at).cache object one.rounds other.rounds does.0 again.0 left.0 right.0 counted also does.1 again.1 in
+asks-one h reserves at cpu object one other left right does again =
+    let same = takes-one-one h cpu (reserve_at reserves at).cache object one.rounds other.rounds does.0 again.0 left.0 right.0 does.1 again.1 in
     let got = gets-one right.0.lists reserves at again.0 one.answer other.answer left.1 right.1
     (subst (λ (after : HeapState). Gets after.lists reserves at again.0 one.answer left.1) same.2 (subst (λ (told : Result ℕ CacheRefusal). Gets left.0.lists reserves at told one.answer left.1) same.1 does.2)) again.2 in
     (same-done one other same.0 got.0, same-both left right same.2 got.1)
@@ -125,8 +124,8 @@ tells-free-one (reply.Corrupt damage) one other does again = does ∙ sym again
 tells-free-one _ one other does again = absurd does
 
 puts-back-one : (h : HeapState) (cpu object : ℕ) → ServesOne HeapState (PutsBack h cpu object)
-puts-back-one h cpu object one other left right counted also does again =
-    let same = asked-one h cpu (Free object ∷ []) does.0 again.0 left right (first-counted one.rounds [] does.0 does.5 counted) (first-counted other.rounds [] again.0 again.5 also) does.2 again.2 in
+puts-back-one h cpu object one other left right does again =
+    let same = asked-one h cpu (Free object ∷ []) does.0 again.0 left right does.2 again.2 in
     let reply : does.1 ≡ again.1 = one-reply does.0.result.replies again.0.result.replies does.1 again.1 (ap (λ (round : ClientRound). round.result.replies) same.0) does.3 again.3 in (
       same-done one other (does.5 ∙ ap (λ (round : ClientRound). round ∷ []) same.0 ∙ sym again.5)
           (tells-free-one again.1 one.answer other.answer (subst (λ (r : Reply). TellsFree r one.answer) reply does.4) again.4),
@@ -142,11 +141,11 @@ GoesBack h reserves cpu object done both = PutsBack h cpu object done both.0 × 
 refills-one : (h : HeapState) (reserves : List Reserve) (at cpu object : ℕ) → ServesOne Left (Leaves (Refills h reserves at cpu object))
 refills-one h reserves at cpu object =
     bool-one Left (nat_lt (length (reserve_at reserves at).numbers) (reserve_at reserves at).min_nr) (Keeps h reserves at object) (GoesBack h reserves cpu object)
-    (λ one other left right counted also does again.
-    let same = at-once-one h answer.Kept one other left.0 right.0 counted also does.0 again.0 in
+    (λ one other left right does again.
+    let same = at-once-one h answer.Kept one other left.0 right.0 does.0 again.0 in
     (same.0, same-both left right same.1 (does.1 ∙ sym again.1)))
-    (λ one other left right counted also does again.
-    let same = puts-back-one h cpu object one other left.0 right.0 counted also does.0 again.0 in
+    (λ one other left right does again.
+    let same = puts-back-one h cpu object one other left.0 right.0 does.0 again.0 in
     (same.0, same-both left right same.1 (does.1 ∙ sym again.1)))
 
 abbrev Returns : HeapState → List Reserve → ℕ → ℕ → ℕ → ClientDone → Left → Type 0
@@ -171,13 +170,13 @@ mput-one h reserves cpu pool object =
 -- ---- all three
 
 kept-one : (h : HeapState) (reserves : List Reserve) (client : Asked) → ServesOne Left (Leaves (ServesKept h reserves client))
-kept-one h reserves (line.Mempool pool place min first) one other left right counted also does again = mempool-one h reserves (fresh_reserve pool place min first) one other left right counted also does again
-kept-one h reserves (line.Mget cpu pool object) one other left right counted also does again = mget-one h reserves cpu pool object one other left right counted also does again
-kept-one h reserves (line.Mput cpu pool object) one other left right counted also does again = mput-one h reserves cpu pool object one other left right counted also does again
-kept-one h reserves _ one other left right counted also does again = absurd does
+kept-one h reserves (line.Mempool pool place min first) one other left right does again = mempool-one h reserves (fresh_reserve pool place min first) one other left right does again
+kept-one h reserves (line.Mget cpu pool object) one other left right does again = mget-one h reserves cpu pool object one other left right does again
+kept-one h reserves (line.Mput cpu pool object) one other left right does again = mput-one h reserves cpu pool object one other left right does again
+kept-one h reserves _ one other left right does again = absurd does
 
-pub reserves-one : (h : HeapState) (reserves : List Reserve) (client : Asked) (one other : ClientDone) (left right : HeapState) (those these : List Reserve) → AreCounted one.rounds → AreCounted other.rounds
+pub reserves-one : (h : HeapState) (reserves : List Reserve) (client : Asked) (one other : ClientDone) (left right : HeapState) (those these : List Reserve)
     → ServesReserves h reserves client one left those → ServesReserves h reserves client other right these → (one ≡ other) × (left ≡ right) × (those ≡ these)
-reserves-one h reserves client one other left right those these counted also does again =
-    let same = kept-one h (kept_in h.lists reserves) client one other (left, those) (right, these) counted also does again in
+reserves-one h reserves client one other left right those these does again =
+    let same = kept-one h (kept_in h.lists reserves) client one other (left, those) (right, these) does again in
     (same.0, ap (λ (both : Left). both.0) same.1, ap (λ (both : Left). both.1) same.1)

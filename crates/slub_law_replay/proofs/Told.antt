@@ -30,7 +30,7 @@ use Rattle.slub_law_rounds.specs.Answered.{Answered, IsAfter, of_worker}
 use Rattle.slub_law_rounds.specs.Pokes.{IsPokedFree, WasPoked}
 use Rattle.slub_law_rounds.specs.Round.{Cause, FreeCause, HaveCauses, Spot, spot_by}
 use Rattle.slub_law_rounds.proofs.Poked.{IsTold, poked-later}
-use Rattle.slub_law_rounds.specs.Ran.{AreReplies}
+use Rattle.slub_calls.specs.Replies.{AreReplies}
 use Rattle.slub_law_rounds.specs.Contents as contents
 use Rattle.slub_law_rounds.proofs.Split.{told as call_told, back, back-append}
 use Rattle.slub_law_rounds.proofs.Meeting.{IsMet}

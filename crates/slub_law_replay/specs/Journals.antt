@@ -1,22 +1,15 @@
 -- A trace has one journal and one text, by every way and seed.
-use Rattle.std.specs.Prelude.{◌≡◌, Bool, length, is_some, All, ⊤}
+use Rattle.std.specs.Prelude.{◌≡◌, Bool, length, is_some, All}
 use Rattle.slub_trace.specs.declared.trace.Trace.{Trace}
-use Rattle.slub_slabinfo_text.specs.declared.journal.Done.{Done}
-use Rattle.slub_slabinfo_text.specs.declared.journal.Done.TheVariants as done
 use Rattle.slub_slabinfo_text.specs.declared.journal.Journal.{Journal}
 use Rattle.slub_slabinfo_text.specs.Text.{text_of}
+use Rattle.slub_law_alone.specs.Items.{IsToldWhole}
 use Rattle.slub_law_replay.specs.declared.way.Way.{Way}
 use Rattle.slub_law_replay.specs.Runs.{IsLawful}
-use Rattle.slub_law_replay.specs.Lines.{AreCounted}
-use Rattle.slub_law_replay.specs.OneTextRounds.{IsFixed, IsWhole}
+use Rattle.slub_law_replay.specs.OneTextRounds.{IsFixed}
 
--- memory was there for each event of a round, and ledgers have a count for each order
-abbrev pub IsToldWhole : Done → Type 0
-IsToldWhole (done.Round result) = IsWhole result
-IsToldWhole (done.Client outcome) = AreCounted outcome.rounds
-IsToldWhole _ = ⊤
-
--- two journals of a trace that tell as much: as many items, and a total both or neither
+-- two journals of a trace that tell as much: as many items, a total both or neither, and memory was
+-- there for each event of their rounds
 pub record TellAsMuch (one other : Journal) : Type 0 where
   pub items : length one.items ≡ length other.items
   pub total : is_some one.total ≡ is_some other.total

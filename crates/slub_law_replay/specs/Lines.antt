@@ -1,15 +1,9 @@
 -- A client's line has one outcome.
-use Rattle.std.specs.Prelude.{◌≡◌, List, All}
+use Rattle.std.specs.Prelude.{◌≡◌}
 use Rattle.slub_trace.specs.declared.trace.Client.{Client as Asked}
 use Rattle.slub_trace.specs.declared.trace.Trace.{Trace}
 use Rattle.slub_slabinfo_text.specs.declared.client.ClientDone.{ClientDone}
-use Rattle.slub_slabinfo_text.specs.declared.client.ClientRound.{ClientRound}
-use Rattle.slub_law_alone.specs.Rounds.{HasOrders}
 use Rattle.slub_law_replay.specs.Runs.{MachineState, Serves, heap_of}
-
--- the ledgers of these rounds have a count for each order
-abbrev pub AreCounted : List ClientRound → Type 0
-AreCounted rounds = All (λ round. All HasOrders round.result.ledgers) rounds
 
 -- the same rounds and the same answer, and after them the same lists, transaction ids and reserves
 pub record AreOneLine (one other : ClientDone) (left right : MachineState) : Type 0 where
@@ -21,6 +15,5 @@ pub record AreOneLine (one other : ClientDone) (left right : MachineState) : Typ
 abbrev pub LinesHaveOneOutcome : Type 0
 LinesHaveOneOutcome =
     (m : MachineState) (trace : Trace) (client : Asked) (one other : ClientDone)
-    (left right : MachineState) → AreCounted one.rounds → AreCounted other.rounds
-    → Serves m trace client one left → Serves m trace client other right
-    → AreOneLine one other left right
+    (left right : MachineState) → Serves m trace client one left
+    → Serves m trace client other right → AreOneLine one other left right

@@ -5,18 +5,13 @@ use Rattle.slub_trace.specs.declared.trace.Item.{Item}
 use Rattle.slub_trace.specs.declared.trace.Item.TheVariants as item
 use Rattle.slub_lists.specs.State.{State}
 use Rattle.slub_slabinfo_text.specs.declared.journal.RoundResult.{RoundResult}
-use Rattle.slub_law_alone.specs.Rounds.{HasMemory, HasOrders}
+use Rattle.slub_law_alone.specs.Rounds.{HasMemory}
 use Rattle.slub_rounds.specs.Rounds.{DoesRoundBySeed, DoesRoundInOrder}
 use Rattle.slub_rounds.specs.ByText.{DoesByText}
 use Rattle.slub_law_replay.specs.declared.way.Way.{Way}
 use Rattle.slub_law_replay.specs.declared.way.Way.TheVariants.{Serial, Schedule, Threads}
 use Rattle.slub_law_replay.specs.Runs.{IsAlone}
 use Rattle.slub_law_replay.specs.Ways.{DoesRoundBy}
-
--- memory was there for each event, and the ledgers have a count for each order
-pub record IsWhole (result : RoundResult) : Type 0 where
-  pub memory : All HasMemory result.replies
-  pub orders : All HasOrders result.ledgers
 
 -- two outcomes are one: the same replies, damages and ledgers, and after them the same machine,
 -- down to each word of its frames, and the same transaction ids
@@ -26,12 +21,13 @@ pub record AreOne (Ids : Type 0) (one other : RoundResult) (left right : State) 
   pub machine : left ≡ right
   pub ids : kept ≡ also
 
--- whatever comes of a round, and whatever is left: it is the same each time
+-- whatever comes of a round, and whatever is left: it is the same each time, where memory was there
+-- for each event
 abbrev pub HasOneEnd : (Ids : Type 0) → (RoundResult → State → Ids → Type 0) → Type 0
 HasOneEnd Ids Does =
     (one other : RoundResult) (left right : State) (kept also : Ids)
-    → IsWhole one → IsWhole other → Does one left kept → Does other right also
-    → AreOne Ids one other left right kept also
+    → All HasMemory one.replies → All HasMemory other.replies → Does one left kept
+    → Does other right also → AreOne Ids one other left right kept also
 
 -- in turns that a seed draws
 abbrev pub RoundsBySeedHaveOneOutcome : Type 0

@@ -3,8 +3,7 @@
 //! So a program that is proved to write the text of a lawful journal has no choice left, but where
 //! it ends early, where memory lacks, or where threads of several workers make a round. The laws
 //! speak of runs in which no reply is that memory was lacking for the bytes of a new slab of a
-//! checked cache. A ledger counts the orders 0 to 10; that it has no more counts than these its
-//! type says, and the laws ask it.
+//! checked cache.
 
 ghost use Rattle.slub_law_replay.specs.Journals.{JournalsAreOne, TextsAreOne};
 ghost use Rattle.slub_law_replay.specs.Lines.{LinesHaveOneOutcome};

@@ -15,7 +15,8 @@ use Rattle.slub_outcomes.specs.declared.stop.Stop.{Stop}
 use Rattle.slub_outcomes.specs.declared.words.Request.{Request}
 use Rattle.slub_outcomes.specs.Replays.{AreCounted}
 use Rattle.slub_outcomes.specs.Span.{IsSpan}
-use Rattle.slub_outcomes.specs.Stop.{bad_line, fault_line, stop_line, stop_status}
+use Rattle.slub_outcomes.specs.Stop.{stop_line, stop_status}
+use Rattle.slub_trace_reader.specs.Faults.{fault_line, bad_line}
 use Rattle.slub_outcomes.specs.Table.{table_text}
 use Rattle.slub_outcomes.specs.Words.{AreBadWords, IsRequest}
 

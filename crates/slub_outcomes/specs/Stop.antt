@@ -6,19 +6,11 @@ use Rattle.std.specs.declared.vec.Vec.{Vec}
 use Rattle.slub_trace_reader.specs.declared.reading.TraceFault.{TraceFault}
 use Rattle.slub_trace_reader.specs.declared.reading.TraceFault.TheVariants as fault
 use Rattle.slub_trace_reader.specs.declared.reading.Why.{Why}
-use Rattle.slub_trace_reader.specs.Faults.{why_text}
+use Rattle.slub_trace_reader.specs.Faults.{why_text, fault_line, bad_line}
 use Rattle.slub_outcomes.specs.declared.stop.Stop.{Stop}
 use Rattle.slub_outcomes.specs.declared.stop.Stop.TheVariants.{BadWords, BadLine, TooLong, ReadFault, NoMemory}
 use Rattle.slub_outcomes.specs.declared.status.Status.{Status}
 use Rattle.slub_outcomes.specs.declared.status.Status.TheVariants as ends
-
--- a line of the program's own
-abbrev pub fault_line : List ℕ → List ℕ
-fault_line why = codes "slub: " ++ why ++ 10 ∷ []
-
--- `slub: line N: WHY`
-abbrev pub bad_line : ℕ → Why → List ℕ
-bad_line line why = fault_line (codes "line " ++ decimal line ++ codes ": " ++ why_text why)
 
 -- a fault of the reader stops the run under the like name, with the line made that tells a bad one;
 -- that may find no memory

@@ -3,7 +3,7 @@
 ghost use Rattle.slub_outcomes.specs.Laws.{OutcomesAreOne};
 
 /// Two replays of a trace with one seed that do as many items have one outcome: where no reply is that memory was
-/// lacking, and ledgers count each order, as their type says. So a table is a function of the trace and the words.
+/// lacking. So a table is a function of the trace and the words.
 pub fn outcomes_are_one()
     ensures { OutcomesAreOne }
 {}

@@ -2,7 +2,8 @@
 
 ghost use Rattle.std.specs.Prelude.{◌≡◌, IfOk};
 ghost use Rattle.slub_outcomes.specs.declared.stop.Stop.TheVariants.{NoMemory as Want};
-ghost use Rattle.slub_outcomes.specs.Stop.{IsStopOf, bad_line, stop_line, stop_status};
+ghost use Rattle.slub_outcomes.specs.Stop.{IsStopOf, stop_line, stop_status};
+ghost use Rattle.slub_trace_reader.specs.Faults.{bad_line};
 
 use crate::status::Status;
 use slub_common::no_memory::NoMemory;

@@ -14,7 +14,7 @@ use Rattle.slub_calls.specs.Laws.{MayDo}
 use Rattle.slub_slabinfo_text.specs.declared.journal.RoundResult.{RoundResult}
 use Rattle.slub_law_rounds.specs.Round.{IsRound}
 use Rattle.slub_law_rounds.specs.Laws.{RoundsAreLawful}
-use Rattle.slub_law_rounds.specs.Ran.{AreReplies}
+use Rattle.slub_calls.specs.Replies.{AreReplies}
 use Rattle.slub_rounds.specs.InOrder.{EndsInOrder}
 use Rattle.slub_rounds.specs.Laws.{RoundsByThreadsAreLawful, RoundsInOrderAreLawful}
 use Rattle.slub_rounds.specs.Rounds.{DoesRoundBySteps, Finishes}

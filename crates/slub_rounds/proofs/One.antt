@@ -29,7 +29,7 @@ use Rattle.slub_open_close.proofs.Firsts.{one-step}
 use Rattle.slub_slabinfo_text.specs.Lawful.{AreLedgers, IsLedger, cache_numbers, found_in, reports_of, title_of}
 use Rattle.slub_slabinfo_text.specs.declared.journal.RoundResult.{RoundResult}
 use Rattle.slub_turns.specs.Means.{the_means}
-use Rattle.slub_law_rounds.specs.Ran.{replies_by, told_to}
+use Rattle.slub_calls.specs.Replies.{replies_by, told_to}
 use Rattle.slub_rounds.specs.Rounds.{DoesRoundBySteps, StandsBeside, system_begun}
 use Rattle.slub_rounds.specs.Laws.{AreOneRound, CountAlike, RoundsBySeedAreOne}
 use Rattle.slub_rounds.proofs.Lists.{same-close}

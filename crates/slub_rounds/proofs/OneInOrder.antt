@@ -20,7 +20,7 @@ use Rattle.slub_core.proofs.Update.{update_same, update_other}
 use Rattle.slub_schedule.specs.Schedule.{AreRefusedAlike, is_finished, marks_of, places_from, unfinished}
 use Rattle.slub_schedule.specs.Rounds.{IsFinishedSystem}
 use Rattle.slub_law_opening.specs.Opening.{Beside, setup_of}
-use Rattle.slub_law_rounds.specs.Ran.{AreReplies, replies_by, told_to}
+use Rattle.slub_calls.specs.Replies.{replies_by, told_to, AreReplies}
 use Rattle.slub_rounds.specs.Rounds.{system_begun}
 use Rattle.slub_rounds.specs.InOrder.{AreInOrder, EndsInOrder, answered, next_in, next_worker}
 use Rattle.slub_rounds.specs.Laws.{RoundsInOrderAreOne}

@@ -18,7 +18,7 @@ use Rattle.slub_slabinfo_text.specs.Lawful.{AreLedgers, is_by, lacks}
 use Rattle.slub_slabinfo_text.proofs.Zips.{length-snoc, zip-snoc}
 use Rattle.slub_engine.specs.Steps.{IsBelow, IsBlank, IsKnown, NotesOwn}
 use Rattle.slub_engine.proofs.Rounds.{blank_ledgers, lacks_kept, ledgers_below, ledgers_more}
-use Rattle.slub_law_rounds.specs.Ran.{AreReplies, replies_by, told_to}
+use Rattle.slub_calls.specs.Replies.{replies_by, told_to, AreReplies}
 use Rattle.slub_rounds.specs.Answers.{AreAnswered, dones_of, told_by}
 
 -- how many events of a worker are among the first so many
@@ -183,6 +183,7 @@ ledgers_before s t answers workers ledgers table are = record {
       record {
         given = mine.given;
         freed = mine.freed;
+        orders = mine.orders;
         no_frames = λ order small. mine.no_frames order small ∙ ap (λ (p : Event × Reply → Bool). count_by (λ one. is_by worker one && p one) answers) (same order);
       };
 }

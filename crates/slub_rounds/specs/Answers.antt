@@ -15,7 +15,7 @@ use Rattle.slub_slabinfo_text.specs.Lawful.{AreLedgers, found_in}
 use Rattle.slub_slabinfo_text.specs.declared.journal.RoundResult.{RoundResult}
 use Rattle.slub_engine.specs.Steps.{IsBlank, IsKnown, most_found, told_in}
 use Rattle.slub_rounds.specs.declared.answers.Answers.{Answers}
-use Rattle.slub_law_rounds.specs.Ran.{AreReplies}
+use Rattle.slub_calls.specs.Replies.{AreReplies}
 
 -- room for the answers to so many events of so many workers, on a machine before their round
 pub record IsRoomFor (s : State) (events workers : ℕ) (a : Answers) : Type 0 where

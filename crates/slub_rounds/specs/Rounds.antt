@@ -22,7 +22,7 @@ use Rattle.slub_open_close.specs.Ids.{IsStepOf}
 use Rattle.slub_turns.specs.Means.{the_means}
 use Rattle.slub_slabinfo_text.specs.Lawful.{AreLedgers, found_in}
 use Rattle.slub_slabinfo_text.specs.declared.journal.RoundResult.{RoundResult}
-use Rattle.slub_law_rounds.specs.Ran.{AreReplies}
+use Rattle.slub_calls.specs.Replies.{AreReplies}
 use Rattle.slub_rounds.specs.InOrder.{EndsInOrder, IsSpentInOrder}
 
 -- ---- the machine in words

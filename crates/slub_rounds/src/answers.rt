@@ -7,7 +7,7 @@ ghost use Rattle.slub_lists.specs.Coherent.{IsCoherent};
 ghost use Rattle.slub_core.specs.Run.{idle};
 ghost use Rattle.slub_slabinfo_text.specs.Lawful.{AreLedgers};
 ghost use Rattle.slub_engine.specs.Steps.{IsBlank, IsKnown};
-ghost use Rattle.slub_law_rounds.specs.Ran.{AreReplies};
+ghost use Rattle.slub_calls.specs.Replies.{AreReplies};
 ghost use Rattle.slub_rounds.specs.Answers.{AreAnswered, IsRoomFor, IsTold, MayTell, dones_of, told_by};
 
 use slub_common::no_memory::NoMemory;

@@ -7,3 +7,5 @@ pub mod Rows
 pub mod ItemTexts
 pub mod Pairs
 pub mod Parts
+pub mod Given
+pub mod Ended

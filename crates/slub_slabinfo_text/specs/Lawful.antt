@@ -122,11 +122,16 @@ lacks s order (event, answer) = is_no_frames answer && is_order order (least_ord
 abbrev pub is_by : ℕ → Event × Reply → Bool
 is_by worker answered = answered.0.worker == worker
 
+-- a ledger has a count for each of the orders 0 to 10
+abbrev pub HasOrders : Ledger → Type 0
+HasOrders ledger = length ledger.no_frames ≡ 11
+
 -- a worker's ledger counts the replies to its events
 pub record IsLedger (s : State) (answers : List (Event × Reply)) (worker : ℕ)
     (ledger : Ledger) : Type 0 where
   pub given : ledger.given ≡ count_by (λ one. is_by worker one && is_given one.1) answers
   pub freed : ledger.freed ≡ count_by (λ one. is_by worker one && is_freed one.1) answers
+  pub orders : HasOrders ledger
   pub no_frames : (order : ℕ) → order < 11 → slice_index ledger.no_frames order
       ≡ count_by (λ one. is_by worker one && lacks s order one) answers
 

@@ -9,3 +9,4 @@ pub mod Lawful
 pub mod Lines
 pub mod Text
 pub mod Made
+pub mod Given

@@ -3,9 +3,11 @@
 ghost use Rattle.std.specs.Prelude.{◌≡◌, ◌<◌, ◌≤◌, length, OnErr, OnOk};
 ghost use Rattle.std.specs.Io.KnownBytes.{Appends};
 ghost use Rattle.slub_edges.specs.Edges.{AppendsFront, Rose};
+ghost use Rattle.slub_edges.specs.Pieces.{Gives};
 ghost use Rattle.slub_slabinfo_text.specs.Text.{text_at};
 ghost use Rattle.slub_trace.specs.Sound.{IsSound};
 ghost use Rattle.slub_slabinfo_text.specs.Made.{made_before};
+ghost use Rattle.slub_slabinfo_text.specs.Given.{AreWholeLines};
 
 use crate::journal::Done;
 use crate::made::push_made;
@@ -65,8 +67,8 @@ impl ItemText {
         push_made(alloc, &mut self.whole, trace, number, done, replies)
     }
 
-    /// Writes the item's text; it takes no memory. Of a round the line of a reply is made when those before it are
-    /// written, and is one piece.
+    /// Writes the item's text; it takes no memory. Each line is one piece. Of a round the line of a reply is made when
+    /// those before it are written.
     pub fn write<K: Sink>(
         &mut self,
         sink: &mut K,
@@ -83,6 +85,7 @@ impl ItemText {
             (text_at replies trace.now number done.now)) }
         ensures err { OnErr result (AppendsFront (K.taken sink.old) (K.taken sink.new) 0
             (text_at replies trace.now number done.now)) }
+        ensures lines { Gives (K.pieces sink.old) (K.pieces sink.new) AreWholeLines }
         ensures counts { K.faults sink.old ≤ K.faults sink.new }
         ensures still { OnOk result (K.faults sink.new ≡ K.faults sink.old) }
         ensures failed { OnErr result (Rose (K.faults sink.old) (K.faults sink.new)) }

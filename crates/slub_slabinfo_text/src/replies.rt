@@ -4,15 +4,17 @@ ghost use Rattle.std.specs.Prelude.{◌≡◌, ◌<◌, ◌≤◌, length, flat_
 ghost use Rattle.std.specs.Io.KnownBytes.{Appends};
 ghost use Rattle.std.specs.List.{zip};
 ghost use Rattle.slub_edges.specs.Edges.{AppendsFront, Rose};
+ghost use Rattle.slub_edges.specs.Pieces.{Gives};
 ghost use Rattle.slub_slabinfo_text.specs.Texts.{IsNamed};
 ghost use Rattle.slub_slabinfo_text.specs.Lines.{event_text};
 ghost use Rattle.slub_trace.specs.Sound.{IsSound};
 ghost use Rattle.slub_slabinfo_text.specs.Made.{replies_at};
+ghost use Rattle.slub_slabinfo_text.specs.Given.{AreWholeLines};
 
 use crate::journal::Done;
 use crate::text::push_reply_line;
 use slub_edges::edges::{Failed, Sink};
-use slub_edges::pieces::write_all;
+use slub_edges::pieces::write_lines;
 use slub_object_layout::name::Name;
 use slub_trace::event::Event;
 use slub_trace::reply::Reply;
@@ -34,6 +36,7 @@ pub(crate) fn write_replies<K: Sink>(
         (replies_at replies trace.now number done.now)) }
     ensures err { OnErr result (AppendsFront (K.taken sink.old) (K.taken sink.new) 0
         (replies_at replies trace.now number done.now)) }
+    ensures lines { Gives (K.pieces sink.old) (K.pieces sink.new) AreWholeLines }
     ensures counts { K.faults sink.old ≤ K.faults sink.new }
     ensures still { OnOk result (K.faults sink.new ≡ K.faults sink.old) }
     ensures failed { OnErr result (Rose (K.faults sink.old) (K.faults sink.new)) }
@@ -67,6 +70,7 @@ pub(crate) fn write_events<K: Sink>(
         (flat_map (event_text replies names.now) (zip events.now answers.now))) }
     ensures err { OnErr result (AppendsFront (K.taken sink.old) (K.taken sink.new) 0
         (flat_map (event_text replies names.now) (zip events.now answers.now))) }
+    ensures lines { Gives (K.pieces sink.old) (K.pieces sink.new) AreWholeLines }
     ensures counts { K.faults sink.old ≤ K.faults sink.new }
     ensures still { OnOk result (K.faults sink.new ≡ K.faults sink.old) }
     ensures failed { OnErr result (Rose (K.faults sink.old) (K.faults sink.new)) }
@@ -94,6 +98,7 @@ fn write_event<K: Sink>(
         (event_text replies names.now (event.now, reply.now))) }
     ensures err { OnErr result (AppendsFront (K.taken sink.old) (K.taken sink.new) 0
         (event_text replies names.now (event.now, reply.now))) }
+    ensures lines { Gives (K.pieces sink.old) (K.pieces sink.new) AreWholeLines }
     ensures counts { K.faults sink.old ≤ K.faults sink.new }
     ensures still { OnOk result (K.faults sink.new ≡ K.faults sink.old) }
     ensures failed { OnErr result (Rose (K.faults sink.old) (K.faults sink.new)) }
@@ -102,7 +107,7 @@ fn write_event<K: Sink>(
     if replies || !reply.is_ok() {
         line.clear();
         push_reply_line(line, names, event, reply);
-        write_all(sink, line.as_slice())
+        write_lines(sink, line.as_slice())
     } else {
         Ok(())
     }

@@ -3,6 +3,7 @@ use Rattle.slub_law_replay.specs.Runs.{MachineState}
 use Rattle.slub_cli.proofs.Laws.{done_put}
 use Rattle.slub_cli.proofs.Parts.{faults_as, not_done, not_faulted, not_stopped, not_told}
 use Rattle.slub_cli.proofs.Texts.{tells_as}
+use Rattle.slub_slabinfo_text.proofs.Given.{given-none}
 use Rattle.slub_cli.proofs.replay.do_item.Goals as goal
 
 pub returns-in_err-after-clause-done : goal.returns-in_err-after-clause-done
@@ -52,3 +53,6 @@ returns-clause-done g c = record {
   ready = c.in_ok-after.ensures.ready;
   puts = c.in_ok-put_item.ensures.put;
 }
+
+pub returns-in_err-after-clause-lines : goal.returns-in_err-after-clause-lines
+returns-in_err-after-clause-lines g c = given-none (g.K.Sink.pieces c.args.sink.now)

@@ -6,6 +6,7 @@ use Rattle.slub_cli.specs.Inner.{IsItemStop}
 use Rattle.slub_cli.proofs.Laws.{no_items_lawful, totals_lawful, totals_some, totals_spent}
 use Rattle.slub_cli.proofs.Parts.{faults_as, spent_as}
 use Rattle.slub_cli.proofs.Texts.{empty_text, tells_then, took_err, took_of}
+use Rattle.slub_slabinfo_text.proofs.Given.{given-more, given-none}
 use Rattle.slub_cli.proofs.replay.do_trace.Goals as goal
 
 pub returns-in_err-opened-clause-lawful : goal.returns-in_err-opened-clause-lawful
@@ -61,3 +62,9 @@ pub returns-in_err-machine-clause-stops : goal.returns-in_err-machine-clause-sto
 returns-in_err-machine-clause-stops g c =
     let p = err_from_is_err_and c.from_residual-in_err-machine.result c.from_residual-in_err-machine.ensures.1 in
     rw (p.1, p.2) c.in_err-machine.ensures.stops
+
+pub returns-in_err-opened-clause-lines : goal.returns-in_err-opened-clause-lines
+returns-in_err-opened-clause-lines g c = given-none (g.K.Sink.pieces c.args.sink.now)
+
+pub returns-clause-lines : goal.returns-clause-lines
+returns-clause-lines g c = given-more (g.K.Sink.pieces c.args.sink.now) (g.K.Sink.pieces c.do_items.new.sink) (g.K.Sink.pieces c.do_total.new.sink) c.do_items.ensures.lines c.do_total.ensures.lines

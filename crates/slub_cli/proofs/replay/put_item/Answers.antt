@@ -3,6 +3,7 @@ use Rattle.std.proofs.lemmas.Grind.{common_steps}
 use Rattle.std.proofs.lemmas.Result.{err_from_is_err_and}
 use Rattle.slub_slabinfo_text.specs.Text.{text_at}
 use Rattle.slub_cli.proofs.Texts.{grows_text, grows_front, item_entry}
+use Rattle.slub_slabinfo_text.proofs.Given.{given-none}
 use Rattle.slub_cli.proofs.replay.put_item.Goals as goal
 
 pub returns-in_err-write-clause-told : goal.returns-in_err-write-clause-told
@@ -23,3 +24,9 @@ returns-in_err-write-clause-put g c =
 
 pub returns-clause-put : goal.returns-clause-put
 returns-clause-put g c = record { items = c.in_ok-push.ensures; total = refl; machine = record { frames = refl; cpus = refl; tid = refl } }
+
+pub returns-in_err-make-clause-lines : goal.returns-in_err-make-clause-lines
+returns-in_err-make-clause-lines g c = given-none (g.K.Sink.pieces c.args.sink.now)
+
+pub returns-in_err-push-clause-lines : goal.returns-in_err-push-clause-lines
+returns-in_err-push-clause-lines g c = given-none (g.K.Sink.pieces c.args.sink.now)

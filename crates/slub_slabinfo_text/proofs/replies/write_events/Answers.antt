@@ -11,6 +11,7 @@ use Rattle.slub_slabinfo_text.specs.Texts.{IsNamed}
 use Rattle.slub_slabinfo_text.specs.Lines.{event_text}
 use Rattle.slub_slabinfo_text.proofs.Zips.{length-snoc, pieces_more, pieces_whole}
 use Rattle.slub_slabinfo_text.proofs.Pairs.{pieces_split}
+use Rattle.slub_slabinfo_text.proofs.Given.{given-more}
 use Rattle.slub_slabinfo_text.proofs.replies.write_events.Goals as goal
 
 pub write_event-requires-clause-named : goal.write_event-requires-clause-named
@@ -27,7 +28,7 @@ loop-event-preserved g c =
     let second : iter_rest (zip_second c.into_iter-event-iterator.result) ≡ c.args.answers.now = cc in
     let turn = zip_turn c.args.events.now c.args.answers.now c.loop-event.yielded c.into_iter-event-iterator.result c.loop-event.event-iterator c.next.new.self c.next.result first second c.loop-event.yielded_by (c.in-Some.event, c.in-Some.reply) c.in-Some.is c.next.ensures.steps in
     let n : length (c.loop-event.yielded ++ (c.in-Some.event, c.in-Some.reply) ∷ []) ≡ length c.loop-event.yielded + 1 = length-snoc _ _ in
-    let (appended, still, room) = c.loop-event.invariant in
+    let (appended, still, room, given) = c.loop-event.invariant in
     let f = event_text c.args.replies c.args.names.now in
     let done = flat_map f (take (length c.loop-event.yielded) (zip c.args.events.now c.args.answers.now)) in
     let piece = f (c.in-Some.event.now, c.in-Some.reply.now) in
@@ -35,6 +36,7 @@ loop-event-preserved g c =
       rw (n, ← more) (Appends-trans (g.K.Sink.taken c.args.sink.now) (g.K.Sink.taken c.loop-event.sink) (g.K.Sink.taken c.write_event.new.sink) done piece appended c.in_ok-write_event.ensures.ok),
       c.in_ok-write_event.ensures.still ∙ still,
       c.in_ok-write_event.ensures.room,
+      given-more (g.K.Sink.pieces c.args.sink.now) (g.K.Sink.pieces c.loop-event.sink) (g.K.Sink.pieces c.write_event.new.sink) given c.in_ok-write_event.ensures.lines,
     )
 
 pub returns-in_err-write_event-clause-err : goal.returns-in_err-write_event-clause-err
@@ -48,6 +50,10 @@ returns-in_err-write_event-clause-err g c =
     let pairs = zip c.args.events.now c.args.answers.now in
     let n = length c.loop-event.yielded in
     rw p.1 (AppendsFront-within (g.K.Sink.taken c.args.sink.now) (g.K.Sink.taken c.loop-event.sink) (g.K.Sink.taken c.write_event.new.sink) (flat_map f pairs) (flat_map f (take n pairs)) (f (c.in-Some.event.now, c.in-Some.reply.now)) (flat_map f (drop (n + 1) pairs)) split c.loop-event.invariant.0 c.in_err-write_event.ensures.err)
+
+pub returns-in_err-write_event-clause-lines : goal.returns-in_err-write_event-clause-lines
+returns-in_err-write_event-clause-lines g c =
+    given-more (g.K.Sink.pieces c.args.sink.now) (g.K.Sink.pieces c.loop-event.sink) (g.K.Sink.pieces c.write_event.new.sink) c.loop-event.invariant.3 c.in_err-write_event.ensures.lines
 
 pub returns-clause-ok : goal.returns-clause-ok
 returns-clause-ok g c =

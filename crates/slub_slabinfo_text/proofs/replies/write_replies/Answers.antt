@@ -6,6 +6,7 @@ use Rattle.slub_edges.specs.Edges.{AppendsFront}
 use Rattle.slub_slabinfo_text.specs.Lines.{event_text}
 use Rattle.slub_slabinfo_text.specs.Made.{replies_of}
 use Rattle.slub_slabinfo_text.proofs.ItemTexts.{no_plain_replies, no_round_replies, replies_at_is, round_replies}
+use Rattle.slub_slabinfo_text.proofs.Given.{given-none}
 use Rattle.slub_slabinfo_text.proofs.replies.write_replies.Goals as goal
 
 pub returns-in-Round-Round-clause-ok : goal.returns-in-Round-Round-clause-ok
@@ -30,11 +31,11 @@ returns-in_default g c =
     let text = replies_at_is c.args.replies c.args.trace.now c.args.number c.index-as_slice-number.result c.args.done.now c.requires.within at in
     let none : replies_of c.args.replies c.args.trace.now c.index-as_slice-number.result c.args.done.now ≡ [] =
     rw c.in_default.is-0 (no_round_replies c.args.replies c.args.trace.now _ c.args.done.now c.in_default.not-Round-1) in
-    record { ok = rw (text ∙ none) (Appends-nil (g.K.Sink.taken c.args.sink.now)); err = tt; counts = le_refl _; still = refl; failed = tt; room = c.requires.room }
+    record { ok = rw (text ∙ none) (Appends-nil (g.K.Sink.taken c.args.sink.now)); err = tt; lines = given-none (g.K.Sink.pieces c.args.sink.now); counts = le_refl _; still = refl; failed = tt; room = c.requires.room }
 
 pub returns-in_default-2 : goal.returns-in_default-2
 returns-in_default-2 g c =
     let at : c.index-as_slice-number.result ≡ get_or c.args.trace.now.items c.args.number c.index-as_slice-number.result = rw (← c.as_slice.ensures) c.index-as_slice-number.is in
     let text = replies_at_is c.args.replies c.args.trace.now c.args.number c.index-as_slice-number.result c.args.done.now c.requires.within at in
     let none : replies_of c.args.replies c.args.trace.now c.index-as_slice-number.result c.args.done.now ≡ [] = no_plain_replies c.args.replies c.args.trace.now c.index-as_slice-number.result c.args.done.now c.in_default.not-Round-0 in
-    record { ok = rw (text ∙ none) (Appends-nil (g.K.Sink.taken c.args.sink.now)); err = tt; counts = le_refl _; still = refl; failed = tt; room = c.requires.room }
+    record { ok = rw (text ∙ none) (Appends-nil (g.K.Sink.taken c.args.sink.now)); err = tt; lines = given-none (g.K.Sink.pieces c.args.sink.now); counts = le_refl _; still = refl; failed = tt; room = c.requires.room }

@@ -16,7 +16,8 @@ use Rattle.slub_recorded.specs.declared.stop.Stop.{Stop}
 use Rattle.slub_recorded.specs.declared.stop.Stop.TheVariants.{BadInput, NoMemory}
 use Rattle.slub_recorded.specs.Converted.{IsConverted, IsFault}
 use Rattle.slub_recorded.specs.Run.{Call, Ends, IsRead, IsRunOf, IsUnfit, WritesOut, end_status, end_text}
-use Rattle.slub_recorded.specs.Stop.{IsConvertStop, IsReadStop, StopsFor, StopsWith, convert_text, fault_line, stop_line, stop_status}
+use Rattle.slub_recorded.specs.Stop.{IsConvertStop, IsReadStop, StopsFor, StopsWith, convert_text, stop_line, stop_status}
+use Rattle.slub_trace_reader.specs.Faults.{fault_line}
 use Rattle.slub_recorded.specs.Words.{IsRequest, tunes_asked}
 
 -- ---- what a fault stops for
@@ -39,7 +40,7 @@ convert_stop why stop memory stops = stops
 
 -- ---- a recording without a trace
 
-stopped : (c : Call) (recording : Recording) (options : Options) (why : ConvertFault) (stop : Stop) → IsRequest c.words options → IsRead c recording → c.new ≡ c.old → IsUnfit recording options why
+stopped : (c : Call) (recording : Recording) (options : Options) (why : ConvertFault) (stop : Stop) → IsRequest c.words options → IsRead c recording → c.new ≡ c.old → IsUnfit recording options (tunes_asked c.words) why
     → StopsWith (fault_line (convert_text why)) stop → Ends c (stop_status stop) (stop_line stop)
 stopped c recording options why stop asked read same unfit stops =
     let P : Stop → Type 0 = λ s. Ends c (stop_status s) (stop_line s) in
@@ -49,7 +50,7 @@ stopped c recording options why stop asked read same unfit stops =
     ]
 
 -- a fault that has its cause ends the run
-pub unfit_ends : (c : Call) (recording : Recording) (options : Options) (why : ConvertFault) (stop : Stop) → IsRequest c.words options → IsRead c recording → c.new ≡ c.old → IsFault recording options why → IsConvertStop why stop
+pub unfit_ends : (c : Call) (recording : Recording) (options : Options) (why : ConvertFault) (stop : Stop) → IsRequest c.words options → IsRead c recording → c.new ≡ c.old → IsFault recording options (tunes_asked c.words) why → IsConvertStop why stop
     → Ends c (stop_status stop) (stop_line stop)
 unfit_ends c recording options fault.NoMemory stop asked read same is stops =
     let P : Stop → Type 0 = λ s. Ends c (stop_status s) (stop_line s) in
@@ -61,7 +62,7 @@ unfit_ends c recording options (fault.TooLong bytes) stop asked read same is sto
 
 -- and so does a conversion
 pub conversion_ends : (c : Call) (r : Result Converted Stop) (recording : Recording) (options : Options) → IsRequest c.words options → IsRead c recording → c.new ≡ c.old
-    → IfOk r (λ x. IsConverted recording options (tunes_asked c.words) x.notes.items x.text.items) → IfErr r (StopsFor recording options) → Ends c (end_status r) (end_text r)
+    → IfOk r (λ x. IsConverted recording options (tunes_asked c.words) x.notes.items x.text.items) → IfErr r (StopsFor recording options (tunes_asked c.words)) → Ends c (end_status r) (end_text r)
 conversion_ends c (Ok x) recording options asked read same made stops =
     record { text_is = record { options = options; asked = asked; recording = recording; read = read; notes = x.notes.items; converted = made }; reads = same }
 conversion_ends c (Err stop) recording options asked read same made stops = unfit_ends c recording options stops.0 stop asked read same stops.1 stops.2

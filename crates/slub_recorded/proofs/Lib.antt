@@ -21,4 +21,6 @@ pub mod Grouping
 pub mod Packing
 pub mod Placing
 pub mod Rooms
+pub mod HowMany
+pub mod Only
 pub mod Shown

@@ -1,8 +1,9 @@
 -- Lemmas on the numbers of kept objects.
-use Rattle.std.proofs.Common.{◌≡◌, ℕ, ◌+◌, ◌<◌, ◌≤◌, List, [], ◌∷◌, ◌++◌, length, take, get_or, sym, ap, ◌∙◌, Option, None, Some, arith}
+use Rattle.std.proofs.Common.{◌≡◌, ℕ, zero, suc, ◌+◌, ◌<◌, ◌≤◌, List, [], ◌∷◌, ◌++◌, length, take, get_or, refl, sym, ap, ◌∙◌, Option, None, Some, arith}
 use Rattle.std.proofs.lemmas.List.{take_more}
 use Rattle.std.proofs.lemmas.List.Elements.{filter_map-append}
-use Rattle.std.specs.Prelude.{filter_map}
+use Rattle.std.proofs.lemmas.List.Sums.{length-filter}
+use Rattle.std.specs.Prelude.{count_by, filter, filter_map, is_some}
 use Rattle.slub_recorded.specs.declared.pairing.Move.{Move}
 use Rattle.slub_recorded.specs.declared.turns.Kept.{Kept}
 use Rattle.slub_recorded.specs.declared.turns.Turn.{Turn}
@@ -23,11 +24,21 @@ count_more [] place = let same : count_kept (place ∷ []) ≡ 0 + count_kept (p
 count_more (None ∷ places) place = count_more places place
 count_more (Some p ∷ places) place = let more = count_more places place in omega (arith, more)
 
--- no more are kept than there are
-pub count_few : (places : List (Option ℕ)) → count_kept places ≤ length places
-count_few [] = omega arith
-count_few (None ∷ places) = let few = count_few places in omega (arith, few)
-count_few (Some p ∷ places) = let few = count_few places in omega (arith, few)
+-- no more are kept among the first than among all
+pub count_front : (places : List (Option ℕ)) (n : ℕ) → count_kept (take n places) ≤ count_kept places
+count_front [] zero = omega arith
+count_front [] (suc n) = omega arith
+count_front (place ∷ places) zero = omega arith
+count_front (None ∷ places) (suc n) = count_front places n
+count_front (Some p ∷ places) (suc n) = let few = count_front places n in omega (arith, few)
+
+some_kept : (places : List (Option ℕ)) → length (filter is_some places) ≡ count_kept places
+some_kept [] = refl
+some_kept (None ∷ places) = some_kept places
+some_kept (Some p ∷ places) = let more = some_kept places in omega (arith, more)
+
+pub count_some : (places : List (Option ℕ)) → count_by is_some places ≡ count_kept places
+count_some places = sym (length-filter is_some places) ∙ some_kept places
 
 -- a loop over objects numbers them
 pub pushed : (places : List (Option ℕ)) (i n : ℕ) (old new : List (Option Kept)) (k : Option Kept) → i < length places → old ≡ numbered 0 (take i places)

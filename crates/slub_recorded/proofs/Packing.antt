@@ -4,7 +4,7 @@ use Rattle.std.specs.Prelude.{filter, Option, Some, None}
 use Rattle.std.proofs.lemmas.Bool.Decides.{nat_tests}
 use Rattle.std.proofs.lemmas.List.{map-append, append-nil}
 use Rattle.std.proofs.lemmas.List.Elements.{filter-append}
-use Rattle.slub_recorded.specs.Members.{Member, Need, ArePlaced, IsFirstRoom, IsPlaced, has_room, in_group, in_none, is_none, is_number, left_over, packed}
+use Rattle.slub_recorded.specs.Members.{Member, Need, ArePlaced, IsPlaced, has_room, in_group, in_none, is_none, is_number, left_over, packed}
 
 -- ---- what is beyond a group
 
@@ -60,7 +60,7 @@ kinds k before need (Some g) few placed =
 
 -- ---- one more
 
-filt : (p : Member → Bool) (m : Member) (ms : List Member) (b : Bool) → p m ≡ b → map (λ (x : Member). x.need) (filter p (m ∷ ms)) ≡ cond b (m.need ∷ map (λ (x : Member). x.need) (filter p ms)) (map (λ (x : Member). x.need) (filter p ms))
+pub filt : (p : Member → Bool) (m : Member) (ms : List Member) (b : Bool) → p m ≡ b → map (λ (x : Member). x.need) (filter p (m ∷ ms)) ≡ cond b (m.need ∷ map (λ (x : Member). x.need) (filter p ms)) (map (λ (x : Member). x.need) (filter p ms))
 filt p m ms true e = ap (λ (b : Bool). map (λ (x : Member). x.need) (cond b (m ∷ filter p ms) (filter p ms))) e
 filt p m ms false e = ap (λ (b : Bool). map (λ (x : Member). x.need) (cond b (m ∷ filter p ms) (filter p ms))) e
 

@@ -1,14 +1,13 @@
 -- The caches of a recording, one title and one move after another.
-use Rattle.std.proofs.Common.{◌≡◌, ℕ, zero, suc, ◌+◌, ◌-◌, ◌<◌, ◌≤◌, ◌≢◌, ◌==◌, Bool, true, false, ◌&&◌, ◌||◌, max, min, List, [], ◌∷◌, ◌++◌, length, map, take, get_or, set, cond, refl, sym, ap, subst, ◌∙◌, arith, slice_get, Option, None, Some}
-use Rattle.std.specs.Prelude.{count_by, fold, nat_lt, option_map, slice_index}
+use Rattle.std.proofs.Common.{◌≡◌, ℕ, zero, suc, ◌+◌, ◌-◌, ◌<◌, ◌≤◌, ◌≢◌, ◌==◌, Bool, true, false, ◌&&◌, ◌||◌, max, List, [], ◌∷◌, ◌++◌, length, map, take, get_or, set, cond, refl, sym, ap, subst, ◌∙◌, arith, slice_get, Option, None, Some}
+use Rattle.std.specs.Prelude.{count_by, fold, nat_lt}
 use Rattle.std.specs.Option.{option_map_or}
-use Rattle.std.specs.Cmp.{IsEquivalence}
 use Rattle.std.specs.List.{IsDistinct, list_any}
 use Rattle.std.specs.Str.{bytes_eq}
 use Rattle.std.proofs.lemmas.Bool.{false≢true}
 use Rattle.std.proofs.lemmas.Bool.Decides.{nat_tests}
 use Rattle.std.proofs.lemmas.Cmp.{nat_list_eq_equiv}
-use Rattle.std.proofs.lemmas.List.{map-append, length-map, length-set, length-append, get_or-map, get_or-set_same, get_or-set_other, same_lists, append-nil}
+use Rattle.std.proofs.lemmas.List.{length-map, length-set, get_or-map, get_or-set_same, get_or-set_other, same_lists}
 use Rattle.std.proofs.lemmas.List.Sums.{count_by-le-length, fold_push}
 use Rattle.std.proofs.lemmas.Option.{get_or_from_slice_get, none-some, same_Some, slice_get_within}
 use Rattle.std.proofs.lemmas.Map.Keys.{IsDistinct-push, apart_from_distinct}
@@ -17,7 +16,7 @@ use Rattle.slub_recorded.specs.declared.groups.Cache.{Cache}
 use Rattle.slub_recorded.specs.declared.naming.Title.{Title}
 use Rattle.slub_recorded.specs.declared.pairing.Born.{Born}
 use Rattle.slub_recorded.specs.declared.pairing.Move.{Move}
-use Rattle.slub_recorded.specs.Caches.{ArePlaces, allocates, cache_of, caches_of, counted, is_alloc, is_of, live_behind, most_live, names_of, object_of, slot_of}
+use Rattle.slub_recorded.specs.Caches.{allocates, cache_of, caches_of, counted, is_alloc, is_of, live_behind, most_live, names_of, object_of, slot_of}
 
 -- ---- how many live
 

@@ -15,15 +15,15 @@ use Rattle.slub_recorded.specs.declared.turns.Turn.{Turn}
 use Rattle.slub_recorded.specs.Caches.{caches_of}
 use Rattle.slub_recorded.specs.Comments.{IsNote}
 use Rattle.slub_recorded.specs.Groups.{AreApart}
-use Rattle.slub_recorded.specs.Lines.{IsTraceOf, trace_lines}
-use Rattle.slub_recorded.specs.Members.{AreGrouped, Member, in_group, in_none, row_for, unlettered_row}
+use Rattle.slub_recorded.specs.Lines.{IsRow, IsTraceOf, trace_lines}
+use Rattle.slub_recorded.specs.Members.{AreGrouped, Member, count_groups, in_group, in_none, row_for, unlettered_row}
 use Rattle.slub_recorded.specs.Naming.{titles_of}
 use Rattle.slub_recorded.specs.Pairing.{seen}
 use Rattle.slub_recorded.specs.Rounds.{AreHeld, count_workers, steps_of, turns_in}
 use Rattle.slub_recorded.specs.Text.{body_text}
-use Rattle.slub_recorded.specs.Told.{Tells, left_note, note_text}
+use Rattle.slub_recorded.specs.Told.{IsOfLeft, Tells, left_note, note_text}
 use Rattle.slub_recorded.specs.Tunes.{head_text}
-use Rattle.slub_recorded.specs.Turns.{AreNext, turns_of}
+use Rattle.slub_recorded.specs.Turns.{AreNext, count_kept, turns_of}
 
 -- the text of a trace, whose comments are comments
 pub record IsTraceText (notes : List Note) (cpus : ℕ) (rows : List Row) (tunes : List Tune)
@@ -55,30 +55,99 @@ abbrev pub cpus_asked : Recording → Options → ℕ
 cpus_asked recording options = unwrap_or options.cpus
     (max (unwrap_or recording.told_cpus 1) (min (recording.greatest_cpu + 1) 4294967295))
 
--- there is a cause for a fault, which it tells
-abbrev pub IsFault : Recording → Options → ConvertFault → Type 0
-IsFault recording options NoMemory = ⊤
-IsFault recording options (TooManyCpus cpus) =
-    (cpus ≡ cpus_asked recording options) × ((cpus ≡ 0) ⊎ (16 < cpus))
-IsFault recording options (NoSuchGroup group groups) =
-    (group ≡ options.group) × ((group ≡ 0) ⊎ (groups < group))
-IsFault recording options (TooManyObjects objects) = 1048576 < objects
-IsFault recording options (TooLong bytes) = 16777216 < bytes
-
 -- what a trace of these places does, without rounds
 abbrev pub turns_by : Recording → List (Option ℕ) → ℕ → List Turn
 turns_by recording places cpus = turns_of places cpus (seen recording.events).moves
 
--- the caches of a trace are those of the group that is asked for, in their order, and each cache of
--- the recording that is in no group is told
+-- the groups of a recording's caches: the one that is asked for is among them, and these are all
+-- caches of that, in their order
+pub record AreChosen (recording : Recording) (options : Options) (cpus : ℕ)
+    (members : List Member) (rows : List Row) : Type 0 where
+  pub grouped : AreGrouped cpus (caches recording) members
+  pub group : 1 ≤ options.group
+  pub few : options.group ≤ count_groups members
+  pub shown : map unlettered_row rows ≡ map row_for (in_group options.group members)
+
+-- the caches of a trace are those of the group that is asked for, and each cache of the recording
+-- that is in no group is told, and no other
 pub record AreShown (recording : Recording) (options : Options) (cpus : ℕ) (rows : List Row)
     (notes : List Note) : Type 0 where
   pub members : List Member
-  pub grouped : AreGrouped cpus (caches recording) members
-  pub shown : map unlettered_row rows ≡ map row_for (in_group options.group members)
-  pub group : 1 ≤ options.group
-  pub told_large : All (λ cache. Contains notes (left_note cache)) grouped.others
+  pub chosen : AreChosen recording options cpus members rows
+  pub told_large : All (λ cache. Contains notes (left_note cache)) chosen.grouped.others
   pub told_beyond : All (λ need. Contains notes (left_note need.cache)) (in_none members)
+  pub told_only : All
+      (IsOfLeft (chosen.grouped.others ++ map (λ need. need.cache) (in_none members))) notes
+
+-- ---- why there is no trace
+
+-- the CPUs and the caches that a trace has, and by object the place of its cache where that is kept
+pub record IsLaidOut (recording : Recording) (options : Options) (cpus : ℕ) (rows : List Row)
+    (places : List (Option ℕ)) : Type 0 where
+  pub cpus_are : cpus ≡ cpus_asked recording options
+  pub some_cpu : 1 ≤ cpus
+  pub few_cpus : cpus ≤ 16
+  pub members : List Member
+  pub chosen : AreChosen recording options cpus members rows
+  pub named : places ≡ map (place_of rows) (titles recording)
+
+-- the CPUs are some and few enough, but of the groups that the caches make, of which there are so
+-- many, none has the number that is asked for
+pub record IsNoGroup (recording : Recording) (options : Options) (group groups : ℕ)
+    : Type 0 where
+  pub some_cpu : 1 ≤ cpus_asked recording options
+  pub few_cpus : cpus_asked recording options ≤ 16
+  pub members : List Member
+  pub grouped : AreGrouped (cpus_asked recording options) (caches recording) members
+  pub groups_are : groups ≡ count_groups members
+  pub group_is : group ≡ options.group
+  pub none : (group ≡ 0) ⊎ (groups < group)
+
+-- there is that group, but so many objects are kept, more than a trace has
+pub record IsCrowded (recording : Recording) (options : Options) (objects : ℕ) : Type 0 where
+  pub cpus : ℕ
+  pub rows : List Row
+  pub places : List (Option ℕ)
+  pub laid : IsLaidOut recording options cpus rows places
+  pub objects_are : objects ≡ count_kept places
+  pub many : 1048576 < objects
+
+-- the objects are few enough, and this is the text of the trace, however long, with these notes
+pub record IsWritten (recording : Recording) (options : Options) (tunes : List Tune)
+    (notes : List Note) (text : List ℕ) : Type 0 where
+  pub cpus : ℕ
+  pub rows : List Row
+  pub places : List (Option ℕ)
+  pub laid : IsLaidOut recording options cpus rows places
+  pub few_objects : count_kept places ≤ 1048576
+  pub few_caches : length rows ≤ 32
+  pub lines : All IsRow rows
+  pub apart : AreApart rows
+  pub shown : AreShown recording options cpus rows notes
+  pub told : Tells notes (seen recording.events).fates
+  pub written : IsTraceText notes cpus rows tunes (count_workers options.workers cpus)
+      (steps_of options (turns_by recording places cpus)) text
+
+-- the text that the trace would have is so long, longer than a trace may be
+pub record IsLong (recording : Recording) (options : Options) (tunes : List Tune) (bytes : ℕ)
+    : Type 0 where
+  pub notes : List Note
+  pub text : List ℕ
+  pub written : IsWritten recording options tunes notes text
+  pub bytes_are : bytes ≡ length text
+  pub long : 16777216 < bytes
+
+-- there is a cause for a fault, which it tells, and none for those above it
+abbrev pub IsFault : Recording → Options → List Tune → ConvertFault → Type 0
+IsFault recording options tunes NoMemory = ⊤
+IsFault recording options tunes (TooManyCpus cpus) =
+    (cpus ≡ cpus_asked recording options) × ((cpus ≡ 0) ⊎ (16 < cpus))
+IsFault recording options tunes (NoSuchGroup group groups) =
+    IsNoGroup recording options group groups
+IsFault recording options tunes (TooManyObjects objects) = IsCrowded recording options objects
+IsFault recording options tunes (TooLong bytes) = IsLong recording options tunes bytes
+
+-- ---- a trace
 
 -- the bytes are a trace of the settings in which the allocations and frees of kept objects stand in
 -- recorded order, each on its CPU, and nothing else
@@ -97,6 +166,7 @@ pub record IsConverted (recording : Recording) (options : Options) (tunes : List
   pub some_cpu : 1 ≤ cpus
   pub few_cpus : cpus ≤ 16
   pub few_caches : length rows ≤ 32
+  pub few_objects : count_kept places ≤ 1048576
   -- they are those of the group that is asked for
   pub shown : AreShown recording options cpus rows notes
   -- at most two caches of a slot, of which the second has the letter R

@@ -1,5 +1,5 @@
 -- In which group each cache of a recording is.
-use Rattle.std.specs.Prelude.{◌≡◌, ℕ, ◌+◌, ◌*◌, ◌^◌, ◌<◌, ◌≤◌, ◌==◌, Bool, true, false, not, ◌&&◌, nat_lt, nat_le, List, [], ◌∷◌, ◌++◌, length, map, filter, count_by, sum_by, All, Contains, ◌⊎◌, IsPermutation, Option, None, Some, if◌then◌else◌, ⊤}
+use Rattle.std.specs.Prelude.{◌≡◌, ℕ, ◌+◌, ◌*◌, ◌^◌, ◌<◌, ◌≤◌, ◌==◌, Bool, true, false, ◌&&◌, nat_lt, nat_le, List, [], ◌∷◌, ◌++◌, length, map, max, filter, count_by, sum_by, All, Contains, ◌⊎◌, IsPermutation, Option, None, Some, unwrap_or, if◌then◌else◌, ⊤}
 use Rattle.std.specs.Cmp.Lexicographic.{slice_cmp}
 use Rattle.std.specs.Int.{div_ceil}
 use Rattle.std.specs.List.Sorted.{IsSorted}
@@ -78,6 +78,11 @@ is_none (Some group) = false
 abbrev pub in_none : List Member → List Need
 in_none members = map (λ m. m.need) (filter (λ m. is_none m.group) members)
 
+-- how many groups there are: the greatest number of one, and 1 where no cache is in any
+abbrev pub count_groups : List Member → ℕ
+count_groups [] = 1
+count_groups (member ∷ members) = max (unwrap_or member.group 1) (count_groups members)
+
 -- beside these a trace has room for one more: they are fewer than 32, of its slot fewer than two,
 -- and a machine has frames for all
 unfoldable pub has_room : List Need → Need → Bool
@@ -121,14 +126,14 @@ pub record AreGrouped (cpus : ℕ) (caches : List Cache) (members : List Member)
 abbrev pub need_of : Chosen → Need
 need_of one = record { cache = one.cache; frames = one.frames }
 
--- the caches of this group, and those that are in none; there are no groups behind the last
+-- the caches of this group, those that are in none, and how many groups there are
 pub record IsGrouped (cpus : ℕ) (caches : List Cache) (group : ℕ) (groups : Groups)
     : Type 0 where
   pub members : List Member
   pub grouped : AreGrouped cpus caches members
   pub chosen : map need_of groups.chosen.items ≡ in_group group members
   pub beyond : map need_of groups.beyond.items ≡ in_none members
-  pub last : (k : ℕ) → groups.groups < k → in_group k members ≡ []
+  pub count : groups.groups ≡ count_groups members
 
 -- a cache of this name is among these
 abbrev pub HasName : List ℕ → List Chosen → Type 0

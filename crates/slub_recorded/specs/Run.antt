@@ -16,8 +16,10 @@ use Rattle.slub_recorded.specs.declared.status.Status.{Status}
 use Rattle.slub_recorded.specs.declared.status.Status.TheVariants.{Fine, BadWords, BadInput, ReadFault, WriteFault, NoMemory}
 use Rattle.slub_recorded.specs.declared.stop.Stop.{Stop}
 use Rattle.slub_recorded.specs.declared.told.Note.{Note}
+use Rattle.slub_recorded.specs.declared.tunes.Tune.{Tune}
 use Rattle.slub_recorded.specs.Converted.{IsConverted, IsFault}
-use Rattle.slub_recorded.specs.Stop.{convert_text, fault_line, stop_line, stop_status}
+use Rattle.slub_recorded.specs.Stop.{convert_text, stop_line, stop_status}
+use Rattle.slub_trace_reader.specs.Faults.{fault_line}
 use Rattle.slub_recorded.specs.Words.{AreBadWords, IsRequest, tunes_asked}
 
 -- what a call of `run` had, and what it left of its source
@@ -58,9 +60,9 @@ IsUnread c read.TooLong = IfSome c.told IsTooLong
 IsUnread c why = Spells c.told (Err why) × IsAtEnd c.left
 
 -- a reason for which a recording has no trace: any that has its cause, but want of memory
-abbrev pub IsUnfit : Recording → Options → ConvertFault → Type 0
-IsUnfit recording options fault.NoMemory = ⊥
-IsUnfit recording options why = IsFault recording options why
+abbrev pub IsUnfit : Recording → Options → List Tune → ConvertFault → Type 0
+IsUnfit recording options tunes fault.NoMemory = ⊥
+IsUnfit recording options tunes why = IsFault recording options tunes why
 
 -- the bytes spell a recording that has no trace as the words ask for it, for this reason
 pub record IsUnfitFor (c : Call) (why : ConvertFault) : Type 0 where
@@ -68,7 +70,7 @@ pub record IsUnfitFor (c : Call) (why : ConvertFault) : Type 0 where
   pub asked : IsRequest c.words options
   pub recording : Recording
   pub read : IsRead c recording
-  pub unfit : IsUnfit recording options why
+  pub unfit : IsUnfit recording options (tunes_asked c.words) why
 
 -- the bytes spell no recording, or one that has no trace; and this is the line that says so
 abbrev pub IsBadInputLine : Call → List ℕ → Type 0

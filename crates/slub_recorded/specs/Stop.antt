@@ -1,5 +1,5 @@
 -- Why a run stops early.
-use Rattle.std.specs.Prelude.{◌≡◌, ◌⊎◌, ℕ, List, [], ◌∷◌, ◌++◌, codes}
+use Rattle.std.specs.Prelude.{◌≡◌, ◌⊎◌, ℕ, List, ◌++◌, codes}
 use Rattle.std.specs.Fmt.{decimal}
 use Rattle.std.specs.declared.alloc.Global.{Global}
 use Rattle.std.specs.declared.vec.Vec.{Vec}
@@ -14,11 +14,9 @@ use Rattle.slub_recorded.specs.declared.stop.Stop.{Stop}
 use Rattle.slub_recorded.specs.declared.stop.Stop.TheVariants.{BadWords, BadInput, ReadFault, NoMemory}
 use Rattle.slub_recorded.specs.declared.status.Status.{Status}
 use Rattle.slub_recorded.specs.declared.status.Status.TheVariants as ends
+use Rattle.slub_recorded.specs.declared.tunes.Tune.{Tune}
 use Rattle.slub_recorded.specs.Converted.{IsFault}
-
--- a line of the program's own
-abbrev pub fault_line : List ℕ → List ℕ
-fault_line why = codes "slub: " ++ why ++ 10 ∷ []
+use Rattle.slub_trace_reader.specs.Faults.{fault_line}
 
 -- why there is no trace, in words
 abbrev pub convert_text : ConvertFault → List ℕ
@@ -47,9 +45,9 @@ IsConvertStop fault.NoMemory stop = stop ≡ NoMemory
 IsConvertStop why stop = StopsWith (fault_line (convert_text why)) stop
 
 -- a fault that has its cause stops the run
-abbrev pub StopsFor : Recording → Options → Stop → Type 0
-StopsFor recording options stop =
-    (why : ConvertFault) × IsFault recording options why × IsConvertStop why stop
+abbrev pub StopsFor : Recording → Options → List Tune → Stop → Type 0
+StopsFor recording options tunes stop =
+    (why : ConvertFault) × IsFault recording options tunes why × IsConvertStop why stop
 
 -- the line of a stop
 abbrev pub stop_line : Stop → List ℕ

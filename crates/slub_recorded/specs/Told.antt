@@ -1,5 +1,5 @@
 -- What is told of a conversion, in comments.
-use Rattle.std.specs.Prelude.{◌≡◌, ℕ, ◌+◌, ◌==◌, List, [], ◌∷◌, ◌++◌, codes, count_by}
+use Rattle.std.specs.Prelude.{◌≡◌, ℕ, ◌+◌, ◌==◌, List, [], ◌∷◌, ◌++◌, codes, count_by, All, Contains, ⊤}
 use Rattle.std.specs.Fmt.{decimal}
 use Rattle.slub_recorded.specs.declared.groups.Cache.{Cache}
 use Rattle.slub_recorded.specs.declared.pairing.Fate.{Fate}
@@ -60,6 +60,23 @@ about_text LeftOutCache = codes "objects of a cache that fits in no group, "
 abbrev pub left_note : Cache → Note
 left_note cache = Of LeftOutCache cache.name cache.objects
 
+-- where this is told of a cache that fits in no group, one of these is meant
+abbrev pub IsMeant : List Cache → About → List ℕ → ℕ → Type 0
+IsMeant caches UnknownFrees name number = ⊤
+IsMeant caches Letter name number = ⊤
+IsMeant caches LeftOutCache name number =
+    (cache : Cache) × Contains caches cache × (cache.name ≡ name) × (cache.objects ≡ number)
+
+-- so it is of a note: no other cache is told as one that fits in no group
+abbrev pub IsOfLeft : List Cache → Note → Type 0
+IsOfLeft caches (Count word number) = ⊤
+IsOfLeft caches (Of about name number) = IsMeant caches about name number
+
+-- the note tells of no single cache
+abbrev pub IsCount : Note → Type 0
+IsCount (Count word number) = ⊤
+IsCount (Of about name number) = ⊥
+
 -- a comment without its line feed
 abbrev pub note_words : Note → List ℕ
 note_words (Count word number) = codes "# " ++ word_text word ++ codes ": " ++ decimal number
@@ -105,9 +122,9 @@ fate_notes fates =
 abbrev pub Tells : List Note → List Fate → Type 0
 Tells notes fates = (more : List Note) × (notes ≡ fate_notes fates ++ more)
 
--- these are told last
+-- these are told last, behind numbers that are of no single cache
 abbrev pub EndsIn : List Note → List Note → Type 0
-EndsIn notes listed = (front : List Note) × (notes ≡ front ++ listed)
+EndsIn notes listed = (front : List Note) × (notes ≡ front ++ listed) × All IsCount front
 
 -- the sum of what notes tell
 abbrev pub sum_told : List Note → ℕ

@@ -1,14 +1,16 @@
 //! A recording becomes a trace.
 
-ghost use Rattle.std.specs.Prelude.{◌≡◌, ◌<◌, ◌≤◌, length, map, position, All, IfErr, IfOk, IfSome, OnOk};
+ghost use Rattle.std.specs.Prelude.{◌≡◌, ◌<◌, ◌≤◌, List, length, map, position, All, IfErr, IfOk, IfSome, OnOk};
 ghost use Rattle.std.specs.Str.{bytes_eq};
-ghost use Rattle.slub_recorded.specs.Converted.{IsConverted, IsFault, IsTraceText, IsTune, cpus_asked, place_of};
+ghost use Rattle.slub_recorded.specs.Converted.{IsConverted, IsFault, IsLaidOut, IsTraceText, IsTune, IsWritten, caches as all_caches, cpus_asked, place_of};
 ghost use Rattle.slub_recorded.specs.Groups.{FitTrace, row_of};
 ghost use Rattle.slub_recorded.specs.Lines.{IsRow};
 ghost use Rattle.slub_recorded.specs.Members.{IsGrouped};
 ghost use Rattle.slub_recorded.specs.Turns.{count_kept, turns_of};
 ghost use Rattle.slub_recorded.specs.declared.convert.ConvertFault.TheVariants.{NoMemory as OutOfMemory};
 ghost use Rattle.slub_recorded.specs.declared.convert.Options.{Options as OptionsOf};
+ghost use Rattle.slub_recorded.specs.declared.text.Row.{Row as RowOf};
+ghost use Rattle.slub_recorded.specs.declared.tunes.Tune.{Tune as TuneOf};
 ghost use Rattle.slub_recording.specs.declared.recording.Recording.{Recording as RecordingOf};
 
 use crate::groups::{Cache, Chosen, Groups, caches_of, group};
@@ -83,7 +85,7 @@ fn cpus_of(recording: &Recording, options: &Options) -> Result<u32, ConvertFault
     ensures asked { IfOk result (λ cpus. cpus ≡ cpus_asked recording.now options.now) }
     ensures some { IfOk result (λ cpus. 1 ≤ cpus) }
     ensures few { IfOk result (λ cpus. cpus ≤ 16) }
-    ensures fault { IfErr result (IsFault recording.now options.now) }
+    ensures fault { (tunes : List TuneOf) → IfErr result (IsFault recording.now options.now tunes) }
 {
     let told = recording.told_cpus.unwrap_or(1);
     let seen = recording.greatest_cpu.saturating_add(1);
@@ -95,6 +97,7 @@ fn cpus_of(recording: &Recording, options: &Options) -> Result<u32, ConvertFault
 }
 
 /// The caches of the group that is asked for.
+#[tactic(auto, using(crate::proofs::Converts::no_group))]
 fn group_of(
     alloc: Global,
     caches: &[Cache],
@@ -106,7 +109,9 @@ fn group_of(
     ensures fits { IfOk result (λ g. FitTrace g.chosen.items) }
     ensures grouped { IfOk result (IsGrouped cpus caches.now options.now.group) }
     ensures group { OnOk result (1 ≤ options.now.group) }
-    ensures fault { (recording : RecordingOf) → IfErr result (IsFault recording options.now) }
+    ensures few { IfOk result (λ g. options.now.group ≤ g.groups) }
+    ensures fault { (recording : RecordingOf) (tunes : List TuneOf) → caches.now ≡ all_caches recording
+        → cpus ≡ cpus_asked recording options.now → IfErr result (IsFault recording options.now tunes) }
 {
     let groups = group(alloc, caches, cpus, options.group)?;
     if options.group == 0 || groups.groups < options.group {
@@ -195,6 +200,7 @@ fn text_of(
 }
 
 /// What the trace does, where its limits allow it.
+#[tactic(auto, using(crate::proofs::Converts::crowded))]
 fn kept_turns(
     alloc: Global,
     places: &[Option<u32>],
@@ -204,34 +210,27 @@ fn kept_turns(
     requires { 1 ≤ cpus }
     ensures turns { IfOk result (λ turns. turns.items ≡ turns_of places.now cpus moves.now) }
     ensures few { OnOk result (count_kept places.now ≤ 1048576) }
-    ensures fault { (recording : RecordingOf) (options : OptionsOf) → IfErr result (IsFault recording options) }
+    ensures fault { (recording : RecordingOf) (options : OptionsOf) (tunes : List TuneOf) (rows : List RowOf)
+        → IsLaidOut recording options cpus rows places.now → IfErr result (IsFault recording options tunes) }
 {
-    if places.len() >= 4294967296 {
-        return Err(ConvertFault::TooManyObjects {
-            objects: places.len(),
-        });
-    }
     let objects = count_kept(places);
-    if objects > OBJECTS_MAX {
-        return Err(ConvertFault::TooManyObjects {
-            objects: objects as usize,
-        });
+    if objects > OBJECTS_MAX as usize {
+        return Err(ConvertFault::TooManyObjects { objects });
     }
     let turns = turns_of(alloc, places, cpus, moves)?;
     Ok(turns)
 }
 
-/// Converts a recording: the trace of a group of its caches, with settings of them.
-pub fn convert(
+/// The trace of a group of caches, however long.
+fn written(
     alloc: Global,
     recording: &Recording,
     options: &Options,
     tunes: &[Tune],
 ) -> Result<Converted, ConvertFault>
-    requires { All IsTune tunes.now }
     ensures trace { IfOk result (λ c.
-        IsConverted recording.now options.now tunes.now c.notes.items c.text.items) }
-    ensures fault { IfErr result (IsFault recording.now options.now) }
+        IsWritten recording.now options.now tunes.now c.notes.items c.text.items) }
+    ensures fault { IfErr result (IsFault recording.now options.now tunes.now) }
 {
     let cpus = cpus_of(recording, options)?;
     let pairing = pair(alloc, recording.events.as_slice())?;
@@ -275,9 +274,26 @@ pub fn convert(
     let told = notes.as_slice();
     let workers = options.workers.count(cpus);
     let text = text_of(alloc, told, cpus, rows, tunes, workers, steps)?;
-    let bytes = text.as_slice().len();
+    Ok(Converted { text, notes })
+}
+
+/// Converts a recording: the trace of a group of its caches, with settings of them.
+#[tactic(auto, using(crate::proofs::Converts::converted, crate::proofs::Converts::too_long))]
+pub fn convert(
+    alloc: Global,
+    recording: &Recording,
+    options: &Options,
+    tunes: &[Tune],
+) -> Result<Converted, ConvertFault>
+    requires { All IsTune tunes.now }
+    ensures trace { IfOk result (λ c.
+        IsConverted recording.now options.now tunes.now c.notes.items c.text.items) }
+    ensures fault { IfErr result (IsFault recording.now options.now tunes.now) }
+{
+    let converted = written(alloc, recording, options, tunes)?;
+    let bytes = converted.text.as_slice().len();
     if bytes > INPUT_MAX {
         return Err(ConvertFault::TooLong { bytes });
     }
-    Ok(Converted { text, notes })
+    Ok(converted)
 }

@@ -1,6 +1,6 @@
 //! Which caches stand in a trace.
 
-ghost use Rattle.std.specs.Prelude.{◌≡◌, ℕ, ◌+◌, ◌<◌, ◌≤◌, ◌↔◌, ◌⊎◌, ◌++◌, [], ◌∷◌, List, ◌==◌, length, map, slice_get, count_by, All, Contains, IfOk, IfSome, MatchOption, OnOk, IsTrue, IsPermutation, if◌then◌else◌};
+ghost use Rattle.std.specs.Prelude.{◌≡◌, ◌+◌, ◌<◌, ◌≤◌, ◌↔◌, ◌++◌, [], ◌∷◌, List, ◌==◌, length, slice_get, count_by, IfOk, IfSome, MatchOption, OnOk, IsTrue, if◌then◌else◌};
 ghost use Rattle.std.specs.Option.{option_map_or};
 ghost use Rattle.std.specs.List.Sorted.{IsSortedByKey};
 ghost use Rattle.slub_recorded.specs.Caches.{ArePlaces, caches_of, counted, is_alloc, names_of, object_of};

@@ -49,17 +49,20 @@
 //! 256 groups that has room for it beside those before it: fewer than 32 caches, fewer than two of
 //! its slot, and 4095 page frames for all. The caches of the trace are those of the group that is
 //! asked for, all of them, in this order. Each cache that no group has room for, or that needs more
-//! page frames than there are, is told with how many objects it has (`AreShown`).
+//! page frames than there are, is told with how many objects it has, and no other is told so
+//! (`AreShown`).
 //!
 //! Of the caches of a trace at most two have the same slot, and of two the second has the letter R.
 //! Those of a group together need at most 4095 page frames, and parting a group off loses no cache
 //! and has none twice (`specs/Groups.antt`).
 //!
-//! A fault has its cause (`IsFault`): for `TooManyCpus` a number of CPUs of 0 or above 16, for
-//! `NoSuchGroup` one that isn't among the groups, for the other limits more than they allow.
+//! A fault has its cause, and tells its numbers (`IsFault`): `TooManyCpus` a number of CPUs that is 0
+//! or above 16; `NoSuchGroup` how many groups the recording's caches make on its CPUs, where the one
+//! that is asked for isn't among them; `TooManyObjects` how many objects are kept, more than 1048576;
+//! `TooLong` how long the text of the trace would be, more than 16777216 bytes. A fault comes only
+//! where none above it in this order has a cause, and a trace only where none has.
 //!
-//! No clause says that a fault comes wherever it has a cause, nor that all objects of a cache have the
-//! slot of the first.
+//! No clause says that all objects of a cache have the slot of the first.
 #![tactic(auto)]
 
 pub mod convert;

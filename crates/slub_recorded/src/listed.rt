@@ -1,9 +1,10 @@
 //! What is told of single caches.
 
-ghost use Rattle.std.specs.Prelude.{◌≡◌, ◌≤◌, ◌++◌, ◌∷◌, [], All, Contains, IfOk, OnOk};
+ghost use Rattle.std.specs.Prelude.{◌≡◌, ◌≤◌, ◌++◌, ◌∷◌, [], List, All, Contains, IfOk, OnOk};
+ghost use Rattle.slub_recorded.specs.declared.groups.Cache.{Cache as CacheOf};
 ghost use Rattle.slub_recorded.specs.declared.told.Note.TheVariants.{Of as ToldOf};
 ghost use Rattle.slub_recorded.specs.Members.{IsLeftOut};
-ghost use Rattle.slub_recorded.specs.Told.{left_note};
+ghost use Rattle.slub_recorded.specs.Told.{IsOfLeft, left_note};
 
 use crate::groups::{Cache, Chosen, is_left_out};
 use crate::pairing::Fate;
@@ -62,31 +63,53 @@ fn unknown_frees(
     Ok(counts)
 }
 
+/// Tells of a cache that there were such frees of it, where there were any.
+#[tactic(auto, using(crate::proofs::Only::none_more))]
+fn put_frees(notes: &mut Vec<Note>, name: &Name, count: u64) -> Result<(), NoMemory>
+    ensures { All (IsOfLeft []) notes.old.items → OnOk result (All (IsOfLeft []) notes.new.items) }
+{
+    if count != 0 {
+        put(notes, About::UnknownFrees, name, count)?;
+    }
+    Ok(())
+}
+
 /// Tells of each cache the frees of what the recording didn't allocate.
 fn put_unknown(
     alloc: Global,
     notes: &mut Vec<Note>,
     recording: &Recording,
     fates: &[Fate],
-) -> Result<(), NoMemory> {
+) -> Result<(), NoMemory>
+    ensures { All (IsOfLeft []) notes.old.items → OnOk result (All (IsOfLeft []) notes.new.items) }
+{
     let names = recording.names.as_slice();
     let counts = unknown_frees(alloc, names.len(), recording.events.as_slice(), fates)?;
     for (place, count) in counts.as_slice().iter().enumerate() {
         if let Some(name) = names.get(place) {
-            if *count != 0 {
-                put(notes, About::UnknownFrees, name, *count)?;
-            }
+            put_frees(notes, name, *count)?;
         }
     }
     Ok(())
 }
 
 /// Tells which caches have the letter R.
-fn put_letters(notes: &mut Vec<Note>, rows: &[Row]) -> Result<(), NoMemory> {
+fn put_letters(notes: &mut Vec<Note>, rows: &[Row]) -> Result<(), NoMemory>
+    ensures { All (IsOfLeft []) notes.old.items → OnOk result (All (IsOfLeft []) notes.new.items) }
+{
     for row in rows {
-        if row.reclaim {
-            put(notes, About::Letter, &row.name, u64::from(row.slot))?;
-        }
+        put_letter(notes, row)?;
+    }
+    Ok(())
+}
+
+/// Tells of a cache that it has the letter R, where it has it.
+#[tactic(auto, using(crate::proofs::Only::none_more))]
+fn put_letter(notes: &mut Vec<Note>, row: &Row) -> Result<(), NoMemory>
+    ensures { All (IsOfLeft []) notes.old.items → OnOk result (All (IsOfLeft []) notes.new.items) }
+{
+    if row.reclaim {
+        put(notes, About::Letter, &row.name, u64::from(row.slot))?;
     }
     Ok(())
 }
@@ -100,9 +123,12 @@ fn put_left_out(
 ) -> Result<(), NoMemory>
     requires some { 1 ≤ cpus }
     requires few { cpus ≤ 16 }
-    ensures { OnOk result (All
+    ensures told { OnOk result (All
         (λ cache. IsLeftOut cpus cache beyond.now → Contains notes.new.items (left_note cache))
         caches.now) }
+    ensures only { (left : List CacheOf)
+        → All (λ cache. IsLeftOut cpus cache beyond.now → Contains left cache) caches.now
+        → All (IsOfLeft []) notes.old.items → OnOk result (All (IsOfLeft left) notes.new.items) }
 {
     for cache in caches {
         if is_left_out(cache, cpus, beyond) {
@@ -124,9 +150,12 @@ pub(crate) fn list(
 ) -> Result<Vec<Note>, NoMemory>
     requires some { 1 ≤ cpus }
     requires few { cpus ≤ 16 }
-    ensures { IfOk result (λ notes. All
+    ensures told { IfOk result (λ notes. All
         (λ cache. IsLeftOut cpus cache beyond.now → Contains notes.items (left_note cache))
         caches.now) }
+    ensures only { (left : List CacheOf)
+        → All (λ cache. IsLeftOut cpus cache beyond.now → Contains left cache) caches.now
+        → IfOk result (λ notes. All (IsOfLeft left) notes.items) }
 {
     let mut notes = Vec::new(alloc);
     put_unknown(alloc, &mut notes, recording, fates)?;

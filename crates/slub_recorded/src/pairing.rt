@@ -1,7 +1,6 @@
 //! Which object each event allocates or frees.
 
-ghost use Rattle.std.specs.Prelude.{◌≡◌, ◌++◌, ◌∷◌, ◌==◌, length, option_to_list, IfOk, OnOk};
-ghost use Rattle.indexmap.specs.IndexMap.{insert_entry};
+ghost use Rattle.std.specs.Prelude.{◌≡◌, ◌++◌, ◌==◌, length, option_to_list, IfOk, OnOk};
 ghost use Rattle.slub_recorded.specs.Pairing.{after, birth, fate_of, freed_fate, frees, gives, held_at, left, said, seen};
 ghost use Rattle.slub_recorded.specs.Paired.{view};
 ghost use Rattle.slub_recorded.specs.Told.{fate_code};

@@ -2,7 +2,7 @@
 
 ghost use Rattle.std.specs.Prelude.{◌≡◌, [], ◌∷◌, ◌++◌, IfOk, OnOk};
 ghost use Rattle.slub_recorded.specs.declared.rounds.Step.TheVariants.{Does as Done};
-ghost use Rattle.slub_recorded.specs.Rounds.{count_workers, cpu_of, cut_at, cuts_of, doer, holders_behind, holders_in, is_due, is_own, left_behind, part_of, steps_by, steps_of, still_due, worker_of};
+ghost use Rattle.slub_recorded.specs.Rounds.{count_workers, cpu_of, cut_at, cuts_of, doer, holders_behind, holders_in, is_due, is_own, left_behind, part_of, steps_of, still_due, worker_of};
 
 use crate::convert::Options;
 use crate::turns::Turn;

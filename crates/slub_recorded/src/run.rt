@@ -1,6 +1,6 @@
 //! The top call.
 
-ghost use Rattle.std.specs.Prelude.{◌≡◌, ◌≤◌, map, string_bytes, IfErr, IfOk};
+ghost use Rattle.std.specs.Prelude.{◌≡◌, map, string_bytes, IfErr, IfOk};
 ghost use Rattle.slub_recorded.specs.Converted.{IsConverted};
 ghost use Rattle.slub_recorded.specs.Stop.{StopsFor};
 ghost use Rattle.slub_recorded.specs.Run.{Ends, IsRunOf, WritesOut, end_status, end_text};
@@ -27,7 +27,7 @@ fn converted(
 ) -> Result<Converted, Stop>
     ensures trace { IfOk result (λ c. IsConverted recording.now options.now
         (tunes_asked (map string_bytes words.now)) c.notes.items c.text.items) }
-    ensures stop { IfErr result (StopsFor recording.now options.now) }
+    ensures stop { IfErr result (StopsFor recording.now options.now (tunes_asked (map string_bytes words.now))) }
 {
     let tunes = match tunes(alloc, words) {
         Ok(tunes) => tunes,

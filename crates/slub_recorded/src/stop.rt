@@ -3,7 +3,8 @@
 ghost use Rattle.std.specs.Prelude.{◌≡◌, IfOk, MatchResult};
 ghost use Rattle.slub_recorded.specs.declared.stop.Stop.TheVariants.{BadInput as With, NoMemory as Want};
 ghost use Rattle.slub_recording.specs.Texts.{fault_text};
-ghost use Rattle.slub_recorded.specs.Stop.{IsConvertStop, IsReadStop, convert_text, fault_line, stop_line, stop_status};
+ghost use Rattle.slub_recorded.specs.Stop.{IsConvertStop, IsReadStop, convert_text, stop_line, stop_status};
+ghost use Rattle.slub_trace_reader.specs.Faults.{fault_line};
 
 use crate::convert::ConvertFault;
 use crate::status::Status;

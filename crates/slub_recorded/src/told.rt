@@ -3,7 +3,7 @@
 ghost use Rattle.std.specs.Prelude.{◌≡◌, ◌∷◌, ◌++◌, [], flat_map, All, IfOk, OnOk};
 ghost use Rattle.slub_recorded.specs.Comments.{IsNote};
 ghost use Rattle.slub_recorded.specs.declared.told.Note.TheVariants.{Count as Counted, Of as ToldOf};
-ghost use Rattle.slub_recorded.specs.Told.{about_text, count_fate, fate_notes, note_text, EndsIn, Tells, word_text};
+ghost use Rattle.slub_recorded.specs.Told.{about_text, count_fate, fate_notes, note_text, EndsIn, IsCount, Tells, word_text};
 
 use crate::naming::{Namer, Title};
 use crate::pairing::Fate;
@@ -191,8 +191,10 @@ fn count_namer(titles: &[Title], namer: Namer) -> u64 {
 }
 
 /// Tells a number.
+#[tactic(auto, using(crate::proofs::Only::count_more))]
 fn put(notes: &mut Vec<Note>, word: Word, number: u64) -> Result<(), NoMemory>
-    ensures { OnOk result (notes.new.items ≡ notes.old.items ++ Counted word number ∷ []) }
+    ensures is { OnOk result (notes.new.items ≡ notes.old.items ++ Counted word number ∷ []) }
+    ensures counts { All IsCount notes.old.items → OnOk result (All IsCount notes.new.items) }
 {
     notes.push(Note::Count { word, number })?;
     Ok(())
@@ -200,7 +202,8 @@ fn put(notes: &mut Vec<Note>, word: Word, number: u64) -> Result<(), NoMemory>
 
 /// Tells what became of events.
 fn put_fates(notes: &mut Vec<Note>, fates: &[Fate]) -> Result<(), NoMemory>
-    ensures { OnOk result (notes.new.items ≡ notes.old.items ++ fate_notes fates.now) }
+    ensures is { OnOk result (notes.new.items ≡ notes.old.items ++ fate_notes fates.now) }
+    ensures counts { All IsCount notes.old.items → OnOk result (All IsCount notes.new.items) }
 {
     put(notes, Word::Given, count_fate(fates, Fate::Given))?;
     put(notes, Word::Failed, count_fate(fates, Fate::Failed))?;
@@ -218,7 +221,9 @@ fn put_fates(notes: &mut Vec<Note>, fates: &[Fate]) -> Result<(), NoMemory>
 }
 
 /// Tells what gave names, and how much is kept.
-fn put_counts(notes: &mut Vec<Note>, titles: &[Title], counts: &Counts) -> Result<(), NoMemory> {
+fn put_counts(notes: &mut Vec<Note>, titles: &[Title], counts: &Counts) -> Result<(), NoMemory>
+    ensures { All IsCount notes.old.items → OnOk result (All IsCount notes.new.items) }
+{
     put(notes, Word::ByKmalloc, count_namer(titles, Namer::Kmalloc))?;
     put(notes, Word::ByFree, count_namer(titles, Namer::Free))?;
     put(notes, Word::BySite, count_namer(titles, Namer::Site))?;
@@ -252,7 +257,9 @@ fn kind_of(act: &KmemAct) -> KmemKind {
 }
 
 /// Tells how many events there are of each kind.
-fn put_kinds(notes: &mut Vec<Note>, events: &[KmemEvent]) -> Result<(), NoMemory> {
+fn put_kinds(notes: &mut Vec<Note>, events: &[KmemEvent]) -> Result<(), NoMemory>
+    ensures { All IsCount notes.old.items → OnOk result (All IsCount notes.new.items) }
+{
     put(
         notes,
         Word::CacheAllocs,
@@ -273,7 +280,9 @@ fn put_rest(
     recording: &Recording,
     fates: &[Fate],
     counts: &Counts,
-) -> Result<(), NoMemory> {
+) -> Result<(), NoMemory>
+    ensures { All IsCount notes.old.items → OnOk result (All IsCount notes.new.items) }
+{
     let frees = counts.moves.saturating_sub(counts.objects);
     let matched = count_fate(fates, Fate::Freed);
     put(notes, Word::Overwritten, recording.overwritten)?;

@@ -1,6 +1,6 @@
 //! What a trace does with the objects of its caches.
 
-ghost use Rattle.std.specs.Prelude.{◌≡◌, ◌+◌, ◌<◌, ◌≤◌, ◌^◌, [], ◌∷◌, ◌++◌, length, filter_map, IfOk, OnOk};
+ghost use Rattle.std.specs.Prelude.{◌≡◌, ◌+◌, ◌<◌, ◌≤◌, [], ◌∷◌, ◌++◌, filter_map, IfOk, OnOk};
 ghost use Rattle.slub_recorded.specs.Turns.{count_kept, kept_at, numbered, turn_of, turns_of};
 
 use crate::pairing::Move;
@@ -26,7 +26,7 @@ pub struct Kept {
 
 /// Numbers the objects whose caches have places in the trace.
 fn number(alloc: Global, places: &[Option<u32>]) -> Result<Vec<Option<Kept>>, NoMemory>
-    requires { length places.now < 2 ^ 32 }
+    requires { count_kept places.now ≤ 1048576 }
     ensures { IfOk result (λ kept. kept.items ≡ numbered 0 places.now) }
 {
     let mut kept = Vec::with_capacity(alloc, places.len())?;
@@ -52,15 +52,11 @@ fn next_kept(count: &mut u32, place: Option<u32>) -> Option<Kept>
 }
 
 /// How many objects are kept.
-pub fn count_kept(places: &[Option<u32>]) -> u32
-    requires { length places.now < 2 ^ 32 }
+#[tactic(auto, using(crate::proofs::Numbers::count_some))]
+pub fn count_kept(places: &[Option<u32>]) -> usize
     ensures { result ≡ count_kept places.now }
 {
-    let mut count: u32 = 0;
-    for place in places {
-        let _kept = next_kept(&mut count, *place);
-    }
-    count
+    places.iter().filter(|place| place.is_some()).count()
 }
 
 /// What the trace does of the moves of a recording.
@@ -70,7 +66,7 @@ pub fn turns_of(
     cpus: u32,
     moves: &[Move],
 ) -> Result<Vec<Turn>, NoMemory>
-    requires few { length places.now < 2 ^ 32 }
+    requires few { count_kept places.now ≤ 1048576 }
     requires some { 1 ≤ cpus }
     ensures { IfOk result (λ turns. turns.items ≡ turns_of places.now cpus moves.now) }
 {

@@ -1,6 +1,6 @@
 //! The words of the command line, read.
 
-ghost use Rattle.std.specs.Prelude.{◌≡◌, ℕ, ◌<◌, ◌≤◌, ◌∷◌, codes, length, map, MatchOption, Option, option_map, string_bytes};
+ghost use Rattle.std.specs.Prelude.{◌≡◌, ℕ, ◌<◌, ◌∷◌, length, map, MatchOption, Option, option_map, string_bytes};
 ghost use Rattle.slub_recorded.specs.declared.convert.Options.{Options as Asked};
 ghost use Rattle.slub_recorded.specs.declared.rounds.Workers.{Workers as WorkersOf};
 ghost use Rattle.slub_recorded.specs.Words.{AreBadWords, AreCpus, AreWorkers, AskFor, IsCount, IsNumber, IsRequest, are_options, is_name, may_stand, value_of};

@@ -1,5 +1,5 @@
 use Rattle.std.proofs.Common.{◌≡◌, take}
-use Rattle.slub_recorded.specs.Caches.{ArePlaces, caches_of, names_of}
+use Rattle.slub_recorded.specs.Caches.{caches_of}
 use Rattle.slub_recorded.proofs.groups.caches_of.Given as goal
 
 abbrev pub invariant-loop-step : goal.invariant-loop-step

@@ -1,13 +1,10 @@
-use Rattle.std.proofs.Common.{◌≡◌, ℕ, zero, suc, ◌<◌, ◌≤◌, List, [], ◌∷◌, length, map, get_or, set, slice_get, Option, Some, None, refl, ap, sym, subst, ◌∙◌, arith}
+use Rattle.std.proofs.Common.{◌≡◌, ℕ, zero, suc, ◌<◌, ◌≤◌, List, [], ◌∷◌, length, get_or, set, slice_get, Option, Some, None, refl, ap, sym, ◌∙◌, arith}
 use Rattle.std.specs.Prelude.{option_map, slice_index}
-use Rattle.std.specs.Option.{is_some}
 use Rattle.std.proofs.lemmas.List.{length-map, get_or-map}
-use Rattle.std.proofs.lemmas.Option.{none-some, get_or_from_slice_get, slice_get_past, slice_get_within, slice_get-get_or}
+use Rattle.std.proofs.lemmas.Option.{none-some, get_or_from_slice_get, slice_get_past, slice_get_within}
 use Rattle.slub_recorded.specs.declared.groups.Cache.{Cache}
 use Rattle.slub_recorded.specs.declared.naming.Title.{Title}
-use Rattle.slub_recorded.specs.declared.pairing.Born.{Born}
-use Rattle.slub_recorded.specs.declared.pairing.Move.{Move}
-use Rattle.slub_recorded.specs.Caches.{ArePlaces, cache_of, caches_of, counted, is_alloc, names_of, object_of}
+use Rattle.slub_recorded.specs.Caches.{ArePlaces, cache_of, counted, is_alloc, names_of, object_of}
 use Rattle.slub_recorded.proofs.Placing.{no_object, one_object}
 use Rattle.slub_recorded.proofs.groups.count.Goals as goal
 

@@ -1,0 +1,10 @@
+pub mod Parts
+pub mod Tallies
+pub mod PairedRounds
+pub mod Replayed
+pub mod RecordedThere
+pub mod RecordedFrees
+pub mod RecordedHolders
+pub mod RecordedRounds
+pub mod RecordedTraces
+pub mod RecordedReplays

@@ -1,9 +1,0 @@
-use Rattle.std.proofs.Common.{[], ◌∷◌, get_or, None, arith}
-use Rattle.slub_recorded.proofs.Numbers.{count_few, counted}
-use Rattle.slub_recorded.proofs.turns.count_kept.Goals as goal
-
-pub loop-place-preserved : goal.loop-place-preserved
-loop-place-preserved c = record {
-  count = counted c.args.places.now c.loop-place.place-index c.loop-place.count _ c.loop-place-test.true c.loop-place.invariant.count c.next_kept-kept.ensures.count;
-  few = omega (arith, count_few (get_or c.args.places.now c.loop-place.place-index None ∷ []), c.next_kept-kept.ensures.count, c.loop-place.invariant.few);
-}

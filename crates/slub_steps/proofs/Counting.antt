@@ -1,11 +1,9 @@
 -- What items give and free.
-use Rattle.std.proofs.Common.{◌≡◌, ℕ, ◌+◌, ◌^◌, ◌<◌, ◌≤◌, List, [], ◌∷◌, ◌++◌, All, flat_map, length, take, get_or, length-append, refl, ap, sym, subst, arith, Option, Some, None, MatchOption, slice_get}
+use Rattle.std.proofs.Common.{◌≡◌, ℕ, ◌+◌, ◌<◌, ◌≤◌, List, [], ◌∷◌, ◌++◌, All, flat_map, length, take, get_or, length-append, refl, sym, subst, arith, Option, Some, None, MatchOption, slice_get}
 use Rattle.std.proofs.lemmas.List.{take_more}
-use Rattle.std.proofs.lemmas.List.Folds.{length-flat_map-take}
 use Rattle.std.proofs.lemmas.List.Elements.{All-cons}
 use Rattle.std.proofs.lemmas.List.Sums.{sum_by-append, sum_by-cons}
 use Rattle.std.proofs.lemmas.Option.{get_or_from_slice_get, slice_get_within}
-use Rattle.slub_common.specs.Times.{times}
 use Rattle.slub_law_rounds.proofs.Times.{times_append}
 use Rattle.slub_lists.specs.State.{State}
 use Rattle.slub_lists.specs.Coherent.{IsCoherent}
@@ -15,11 +13,9 @@ use Rattle.slub_trace.specs.declared.trace.Item.{Item}
 use Rattle.slub_trace.specs.declared.trace.Item.TheVariants as item
 use Rattle.slub_trace.specs.declared.trace.Trace.{Trace}
 use Rattle.slub_trace.specs.Sound.{IsSound, IsSoundItem, objects_in, objects_of}
-use Rattle.slub_law_rounds.specs.Round.{IsRound}
 use Rattle.slub_slabinfo_text.specs.declared.journal.Done.{Done}
 use Rattle.slub_slabinfo_text.specs.declared.journal.Done.TheVariants as done
-use Rattle.slub_slabinfo_text.specs.declared.journal.RoundResult.{RoundResult}
-use Rattle.slub_slabinfo_text.specs.Lawful.{all_freed, all_given, coming, freed_of, given_of, opening_of}
+use Rattle.slub_slabinfo_text.specs.Lawful.{all_given, coming, freed_of, given_of, opening_of}
 use Rattle.slub_law_replay.specs.declared.way.Way.{Way}
 use Rattle.slub_law_replay.specs.Runs.{Does, DoesAt, IsReadyMachine, MachineState, RunsItems}
 use Rattle.slub_law_replay.proofs.Balanced.{live_board, round-balanced, round-few}

@@ -9,22 +9,19 @@ use Rattle.slub_trace.specs.declared.event.Round.{Round}
 use Rattle.slub_trace.specs.declared.trace.Item.{Item}
 use Rattle.slub_trace.specs.declared.trace.Item.TheVariants as item
 use Rattle.slub_trace.specs.declared.trace.Trace.{Trace}
-use Rattle.slub_lists.specs.State.{State}
 use Rattle.slub_slabinfo_text.specs.declared.journal.Done.{Done}
 use Rattle.slub_slabinfo_text.specs.Text.{text_at}
 use Rattle.slub_law_replay.specs.declared.way.Way.TheVariants.{Schedule}
-use Rattle.slub_law_replay.specs.Runs.{Does, DoesAt, IsReadyMachine, ItemSpendsTurns, MachineState, SpendsAt, machine_of}
+use Rattle.slub_law_replay.specs.Runs.{Does, ItemSpendsTurns, MachineState, machine_of}
 use Rattle.slub_asked.specs.declared.stop.Stop.{Stop}
 use Rattle.slub_asked.specs.declared.stop.Stop.TheVariants as stops
 use Rattle.slub_round_log.specs.Log.{FailsAt, SinkState, Takes}
 use Rattle.slub_steps.specs.declared.choices.RoundCounts.{RoundCounts}
-use Rattle.slub_steps.specs.declared.round.Place.{Place}
-use Rattle.slub_steps.specs.Counted.{AreCounted}
-use Rattle.slub_steps.specs.Inner.{AreBefore, AreDue, HasRun, MovesOn, WritesItem, WritesPlain, due_of}
+use Rattle.slub_steps.specs.Inner.{AreBefore, HasRun, MovesOn, WritesItem, WritesPlain}
 use Rattle.slub_steps.specs.Live.{Named, live_after, live_behind, live_past}
-use Rattle.slub_steps.specs.Rounds.{IsRoundTold, RoundDue, StopsRound, WritesRound, if_shown}
-use Rattle.slub_steps.specs.Written.{AreDone, HasDone, IsItemTold, IsToldAt, StopsAt, StopsIn, StopsItem, Wanted, due_at, is_round, is_shared, line_at, lines_before, shared_before, shows}
-use Rattle.slub_steps.proofs.Texts.{fails_after, takes_as, takes_both, takes_nothing}
+use Rattle.slub_steps.specs.Rounds.{StopsRound, WritesRound, if_shown}
+use Rattle.slub_steps.specs.Written.{AreDone, HasDone, IsItemOrNone, IsItemTold, IsToldAt, StopsAt, StopsIn, StopsItem, Wanted, due_at, is_round, is_shared, line_at, lines_before, shows}
+use Rattle.slub_steps.proofs.Texts.{takes_both, takes_nothing}
 
 -- ---- which rounds stand before an item
 
@@ -99,13 +96,13 @@ plain_told wanted trace number live m text answer after (item.Tune name setting)
 plain_told wanted trace number live m text answer after (item.Client client) plain does is = (does, is)
 
 -- why an item that is no round isn't done
-abbrev PlainStop : Trace → MachineState → SinkState → SinkState → Stop → Item → Type 0
-PlainStop trace m old new stops.NoMemory it = (text : List ℕ) × Takes old new text
-PlainStop trace m old new stops.WriteFault it = (text : List ℕ) × FailsAt old new text
-PlainStop trace m old new stops.TurnsSpent it = ItemSpendsTurns (Schedule 0) m trace it × Takes old new []
-PlainStop trace m old new _ it = ⊥
+abbrev PlainStop : Wanted → Trace → ℕ → List Named → MachineState → SinkState → SinkState → Stop → Item → Type 0
+PlainStop wanted trace number live m old new stops.NoMemory it = (text : List ℕ) × IsItemOrNone wanted trace number m live text it × Takes old new text
+PlainStop wanted trace number live m old new stops.WriteFault it = (text : List ℕ) × IsItemOrNone wanted trace number m live text it × FailsAt old new text
+PlainStop wanted trace number live m old new stops.TurnsSpent it = ItemSpendsTurns (Schedule 0) m trace it × Takes old new []
+PlainStop wanted trace number live m old new _ it = ⊥
 
-plain_stopped : (wanted : Wanted) (trace : Trace) (number : ℕ) (live : List Named) (m : MachineState) (old new : SinkState) (stop : Stop) (it : Item) → IsPlain it → PlainStop trace m old new stop it → StopsItem wanted trace number m live old new stop it
+plain_stopped : (wanted : Wanted) (trace : Trace) (number : ℕ) (live : List Named) (m : MachineState) (old new : SinkState) (stop : Stop) (it : Item) → IsPlain it → PlainStop wanted trace number live m old new stop it → StopsItem wanted trace number m live old new stop it
 plain_stopped wanted trace number live m old new stop (item.Round round) plain stopped = absurd (plain round refl)
 plain_stopped wanted trace number live m old new stops.NoMemory (item.Cache name spec) plain stopped = stopped
 plain_stopped wanted trace number live m old new stops.NoMemory (item.Shrink name) plain stopped = stopped
@@ -147,9 +144,12 @@ plain_item wanted trace number it live m old new (Ok done) here plain wrote =
 plain_item wanted trace number it live m old new (Err stop) here plain wrote =
     here_and (StopsItem wanted trace number m live old new stop) (slice_get trace.items number) it here (plain_stopped wanted trace number live m old new stop it plain (by stop wrote))
   where
-    by : (stop : Stop) → WritesPlain trace number m (is_none wanted.only) old new (Err stop) → PlainStop trace m old new stop it
-    by stops.NoMemory wrote = wrote
-    by stops.WriteFault wrote = wrote
+    by : (stop : Stop) → WritesPlain trace number m (is_none wanted.only) old new (Err stop) → PlainStop wanted trace number live m old new stop it
+    by stops.NoMemory wrote = ([], inl refl, wrote)
+    by stops.WriteFault wrote =
+        let text : List ℕ = if_shown (is_none wanted.only) (text_at true trace number wrote.0) in
+        let does : Does (Schedule 0) m trace it wrote.0 wrote.1 = at_place (λ it. Does (Schedule 0) m trace it wrote.0 wrote.1) (slice_get trace.items number) it here wrote.2 in
+        (text, inr (wrote.0, wrote.1, plain_told wanted trace number live m text wrote.0 wrote.1 it plain does refl), wrote.3)
     by stops.TurnsSpent wrote = (at_place (λ it. ItemSpendsTurns (Schedule 0) m trace it) (slice_get trace.items number) it here wrote.0, wrote.1)
     by (stops.BadPicks line) wrote = absurd wrote
     by stops.BadWords wrote = absurd wrote
@@ -158,14 +158,19 @@ plain_item wanted trace number it live m old new (Err stop) here plain wrote =
     by stops.ReadFault wrote = absurd wrote
 
 -- want of memory behind an item
-memory_stops : (wanted : Wanted) (trace : Trace) (number : ℕ) (live : List Named) (m : MachineState) (old new : SinkState) (it : Item) → (text : List ℕ) × Takes old new text → StopsItem wanted trace number m live old new stops.NoMemory it
-memory_stops wanted trace number live m old new (item.Round round) took = took
-memory_stops wanted trace number live m old new (item.Cache name spec) took = took
-memory_stops wanted trace number live m old new (item.Shrink name) took = took
-memory_stops wanted trace number live m old new (item.Destroy name) took = took
-memory_stops wanted trace number live m old new item.Slabinfo took = took
-memory_stops wanted trace number live m old new (item.Tune name setting) took = took
-memory_stops wanted trace number live m old new (item.Client client) took = took
+memory_stops : (wanted : Wanted) (trace : Trace) (number : ℕ) (live : List Named) (m : MachineState) (old new : SinkState) (text : List ℕ) (answer : Done) (after : MachineState) (it : Item) → IsItemTold wanted trace number m live text answer after it → Takes old new text
+    → StopsItem wanted trace number m live old new stops.NoMemory it
+memory_stops wanted trace number live m old new text answer after (item.Round round) told took = (told.0, inr (inr (answer, after, told.1)), subst (λ (t : List ℕ). Takes old new t) told.2 took)
+memory_stops wanted trace number live m old new text answer after (item.Cache name spec) told took = (text, inr (answer, after, told), took)
+memory_stops wanted trace number live m old new text answer after (item.Shrink name) told took = (text, inr (answer, after, told), took)
+memory_stops wanted trace number live m old new text answer after (item.Destroy name) told took = (text, inr (answer, after, told), took)
+memory_stops wanted trace number live m old new text answer after item.Slabinfo told took = (text, inr (answer, after, told), took)
+memory_stops wanted trace number live m old new text answer after (item.Tune name setting) told took = (text, inr (answer, after, told), took)
+memory_stops wanted trace number live m old new text answer after (item.Client client) told took = (text, inr (answer, after, told), took)
+
+-- what holds of the item at a place holds of this
+some_at : {A : Type 0} (P : A → Type 0) (o : Option A) (x : A) → o ≡ Some x → IsSomeAnd o P → P x
+some_at P o x is holds = subst (λ (o : Option _). IsSomeAnd o P) is holds
 
 -- an item that was done is kept, or memory is lacking for that
 pub moved : (wanted : Wanted) (trace : Trace) (number : ℕ) (it : Item) (m after : MachineState) (done : Done) (answers answers_after : List Done) (live live_new : List Named) (old new : SinkState) (r : Result MachineState Stop)
@@ -182,7 +187,8 @@ moved wanted trace number it m after done answers answers_after live live_new ol
 )
 moved wanted trace number it m after done answers answers_after live live_new old new (Err stop) here wrote same put names lacking =
     subst (λ (s : Stop). StopsAt wanted trace number m live old new s) (sym lacking)
-    (here_and (StopsItem wanted trace number m live old new stops.NoMemory) (slice_get trace.items number) it here (memory_stops wanted trace number live m old new it (wrote.0, wrote.2)))
+    (here_and (StopsItem wanted trace number m live old new stops.NoMemory) (slice_get trace.items number) it here
+    (memory_stops wanted trace number live m old new wrote.0 done after it (some_at (IsItemTold wanted trace number m live wrote.0 done after) (slice_get trace.items number) it here wrote.1) wrote.2))
 
 -- ---- several items
 

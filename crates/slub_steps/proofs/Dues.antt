@@ -1,16 +1,14 @@
 -- What a round of a sound trace has.
-use Rattle.std.proofs.Common.{◌≡◌, ℕ, ◌<◌, ◌≤◌, List, length, All, get_or, Some, slice_get, subst, arith}
-use Rattle.std.proofs.lemmas.Option.{get_or_from_slice_get, slice_get_within}
+use Rattle.std.proofs.Common.{ℕ, ◌<◌, ◌≤◌, length, All, get_or}
+use Rattle.std.proofs.lemmas.Option.{slice_get_within}
 use Rattle.slub_trace.specs.declared.event.Act.{Act}
 use Rattle.slub_trace.specs.declared.event.Act.TheVariants.{Alloc, Free, Write, Read, Poke, Trim, Flush}
-use Rattle.slub_trace.specs.declared.event.Event.{Event}
 use Rattle.slub_trace.specs.declared.event.Round.{Round}
-use Rattle.slub_trace.specs.declared.trace.Item.{Item}
 use Rattle.slub_trace.specs.declared.trace.Item.TheVariants as item
 use Rattle.slub_trace.specs.declared.trace.Trace.{Trace}
-use Rattle.slub_trace.specs.Sound.{IsSound, IsSoundAct, IsSoundRound}
+use Rattle.slub_trace.specs.Sound.{IsSoundAct, IsSoundRound}
 use Rattle.slub_slabinfo_text.specs.Texts.{IsNamed}
-use Rattle.slub_law_replay.specs.Runs.{IsReadyMachine, MachineState}
+use Rattle.slub_law_replay.specs.Runs.{MachineState}
 use Rattle.slub_law_replay.proofs.Ready.{item-sound}
 use Rattle.slub_items.specs.Watched.{IsDue}
 

@@ -1,6 +1,8 @@
 -- How a log ends.
-use Rattle.std.proofs.Common.{◌≡◌, ◌≤◌, ◌<◌, ◌+◌, ℕ, List, [], ◌++◌, append_assoc, append-nil, length, Option, Some, None, MatchOption, Result, Ok, Err, refl, ap, sym, subst, ◌∙◌, arith, slice_get, inl, inr}
+use Rattle.std.proofs.Common.{◌≡◌, ◌≤◌, ◌<◌, ℕ, zero, suc, List, [], ◌++◌, append-nil, length, get_or, Option, Some, None, MatchOption, Ok, Err, refl, ap, sym, subst, ◌∙◌, arith, slice_get, inl, inr}
 use Rattle.std.specs.Prelude.{IfSome, IsSomeAnd, ◌⊎◌, ⊤}
+use Rattle.std.proofs.lemmas.Bool.{cases_lt}
+use Rattle.std.proofs.lemmas.Option.{slice_get-get_or}
 use Rattle.slub_trace.specs.declared.trace.Item.{Item}
 use Rattle.slub_trace.specs.declared.trace.Item.TheVariants as item
 use Rattle.slub_trace.specs.declared.trace.Trace.{Trace}
@@ -12,12 +14,13 @@ use Rattle.slub_picks.specs.declared.status.Status.{Status}
 use Rattle.slub_asked.specs.declared.stop.Stop.{Stop}
 use Rattle.slub_asked.specs.declared.stop.Stop.TheVariants as stops
 use Rattle.slub_log_text.specs.Parts.{head_text}
-use Rattle.slub_round_log.specs.Log.{FailsAt, SinkState, Takes}
+use Rattle.slub_round_log.specs.Log.{SinkState, Takes}
 use Rattle.slub_steps.specs.declared.choices.RoundCounts.{RoundCounts}
-use Rattle.slub_steps.specs.Inner.{AreDue, FinishesLog, HasRun, IsGoodEnd, LacksEnd, RunsItems}
+use Rattle.slub_steps.specs.Inner.{FinishesLog, HasRun, LacksEnd}
 use Rattle.slub_steps.specs.Live.{Named, live_behind}
-use Rattle.slub_steps.specs.Written.{AreEnough, AreUsed, HasBegun, EndsBad, IsBadEnd, IsStatusOf, StopsAt, StopsIn, StopsItem, StopsLog, Wanted, WritesLog, lines_before, parts_in, shared_before}
-use Rattle.slub_steps.proofs.Texts.{fails_after, takes_as, takes_both}
+use Rattle.slub_steps.specs.Written.{AreDue, HasDone, IsBadEnd, IsStatusOf, StopsBehind, StopsIn, StopsItem, StopsLog, StopsTail, Wanted, WritesLog, due_at, line_at, lines_before, parts_in, shared_before, shows}
+use Rattle.slub_steps.proofs.Telling.{nothing_stops}
+use Rattle.slub_steps.proofs.Texts.{takes_as, takes_both, takes_nothing}
 
 -- ---- a log that is whole
 
@@ -52,24 +55,6 @@ log_done x wanted trace status answers m counts old begun mid new head ran finis
     )
 
 -- ---- one that ends early
-
-item_text : (wanted : Wanted) (trace : Trace) (number : ℕ) (m : MachineState) (live : List Named) (old new : SinkState) (it : Item) → StopsItem wanted trace number m live old new stops.NoMemory it → (text : List ℕ) × Takes old new text
-item_text wanted trace number m live old new (item.Round round) stopped = stopped
-item_text wanted trace number m live old new (item.Cache name spec) stopped = stopped
-item_text wanted trace number m live old new (item.Shrink name) stopped = stopped
-item_text wanted trace number m live old new (item.Destroy name) stopped = stopped
-item_text wanted trace number m live old new item.Slabinfo stopped = stopped
-item_text wanted trace number m live old new (item.Tune name setting) stopped = stopped
-item_text wanted trace number m live old new (item.Client client) stopped = stopped
-
-item_front : (wanted : Wanted) (trace : Trace) (number : ℕ) (m : MachineState) (live : List Named) (old new : SinkState) (it : Item) → StopsItem wanted trace number m live old new stops.WriteFault it → (text : List ℕ) × FailsAt old new text
-item_front wanted trace number m live old new (item.Round round) stopped = stopped
-item_front wanted trace number m live old new (item.Cache name spec) stopped = stopped
-item_front wanted trace number m live old new (item.Shrink name) stopped = stopped
-item_front wanted trace number m live old new (item.Destroy name) stopped = stopped
-item_front wanted trace number m live old new item.Slabinfo stopped = stopped
-item_front wanted trace number m live old new (item.Tune name setting) stopped = stopped
-item_front wanted trace number m live old new (item.Client client) stopped = stopped
 
 -- no item stops a run for what is said before the first one
 abbrev IsEarly : Stop → Type 0
@@ -146,16 +131,9 @@ behind_head wanted trace front old begun new stop head stopped = record {
 pub log_stopped : (wanted : Wanted) (trace : Trace) (old begun new : SinkState) (stop : Stop) → Takes old begun (head_text trace wanted.way) → StopsIn wanted trace [] begun new stop → WritesLog wanted trace old new (Err stop)
 log_stopped wanted trace old begun new stop head stopped = by stop (behind_head wanted trace (head_text trace wanted.way) old begun new stop head stopped)
   where
-    begins : {stop : Stop} (s : StopsIn wanted trace (head_text trace wanted.way) old new stop) (more : List ℕ) → HasBegun wanted trace ((head_text trace wanted.way ++ s.items) ++ more)
-    begins s more = record { answers = s.answers; machine = s.machine; items = s.items; done = s.done; more = more; text_is = refl }
-
     by : (stop : Stop) → StopsIn wanted trace (head_text trace wanted.way) old new stop → StopsLog wanted trace old new stop
-    by stops.NoMemory s =
-        let more = some_item (slice_get trace.items (length s.answers)) (StopsItem wanted trace (length s.answers) s.machine (live_behind trace 0 [] s.answers) s.mid new stops.NoMemory) s.stops (λ it h. item_text wanted trace (length s.answers) s.machine (live_behind trace 0 [] s.answers) s.mid new it h) in
-        inr ((head_text trace wanted.way ++ s.items) ++ more.0, begins s more.0, takes_both old s.mid new (head_text trace wanted.way ++ s.items) more.0 s.taken more.1)
-    by stops.WriteFault s =
-        let more = some_item (slice_get trace.items (length s.answers)) (StopsItem wanted trace (length s.answers) s.machine (live_behind trace 0 [] s.answers) s.mid new stops.WriteFault) s.stops (λ it h. item_front wanted trace (length s.answers) s.machine (live_behind trace 0 [] s.answers) s.mid new it h) in
-        inr ((head_text trace wanted.way ++ s.items) ++ more.0, begins s more.0, fails_after old s.mid new (head_text trace wanted.way ++ s.items) more.0 s.taken more.1)
+    by stops.NoMemory s = inr (inl s)
+    by stops.WriteFault s = inr (inl s)
     by stops.TurnsSpent s = s
     by (stops.BadPicks line) s = inl s
     by stops.BadWords s = some_item (slice_get trace.items (length s.answers)) (StopsItem wanted trace (length s.answers) s.machine (live_behind trace 0 [] s.answers) s.mid new stops.BadWords) s.stops (λ it h. never_early wanted trace (length s.answers) s.machine (live_behind trace 0 [] s.answers) s.mid new stops.BadWords it tt h)
@@ -184,12 +162,21 @@ pub log_unfinished : (A : Type 0) (wanted : Wanted) (trace : Trace) (answers : L
     → Takes old begun (head_text trace wanted.way) → HasRun wanted trace answers m counts begun mid → FinishesLog {A = A} wanted answers m.lists counts mid new (Err stop) → WritesLog wanted trace old new (Err stop)
 log_unfinished A wanted trace answers m counts old begun mid new stop head ran finished = by stop finished
   where
-    begins : (more : List ℕ) → HasBegun wanted trace (head_text trace wanted.way ++ ran.text ++ more)
-    begins more = record { answers = answers; machine = m; items = ran.text; done = ran.done; more = more; text_is = refl }
+    behind : (stop : Stop) → StopsTail wanted answers m.lists mid new stop → StopsBehind wanted trace (head_text trace wanted.way) old new stop
+    behind stop stopped = record {
+      answers = answers;
+      machine = m;
+      items = ran.text;
+      done = ran.done;
+      due = ran.due;
+      mid = mid;
+      taken = takes_both old begun mid (head_text trace wanted.way) ran.text head ran.taken;
+      stops = stopped;
+    }
 
     by : (stop : Stop) → FinishesLog {A = A} wanted answers m.lists counts mid new (Err stop) → StopsLog wanted trace old new stop
-    by stops.NoMemory f = inr (head_text trace wanted.way ++ ran.text ++ f.0, begins f.0, takes_both old mid new (head_text trace wanted.way ++ ran.text) f.0 (takes_both old begun mid (head_text trace wanted.way) ran.text head ran.taken) f.1)
-    by stops.WriteFault f = inr (head_text trace wanted.way ++ ran.text ++ f.0, begins f.0, fails_after old mid new (head_text trace wanted.way ++ ran.text) f.0 (takes_both old begun mid (head_text trace wanted.way) ran.text head ran.taken) f.1)
+    by stops.NoMemory f = inr (inr (behind stops.NoMemory f))
+    by stops.WriteFault f = inr (inr (behind stops.WriteFault f))
     by (stops.BadPicks line) f =
         let whole = bad_of wanted trace (length answers) counts f.3 ran.counts_are.lines ran.counts_are.several ran.due f.4 in
         inr (record {
@@ -211,17 +198,67 @@ log_unfinished A wanted trace answers m counts old begun mid new stop head ran f
     by stops.TooLong f = absurd f
     by stops.ReadFault f = absurd f
 
--- nothing is written, or the head alone
-pub begins_none : (wanted : Wanted) (trace : Trace) → HasBegun wanted trace (head_text trace wanted.way)
-begins_none wanted trace = record {
-  answers = [];
-  machine = machine_of trace;
-  items = [];
-  done = record { done = (refl, refl); asked = nothing wanted.only };
-  more = [];
-  text_is = sym (append-nil (head_text trace wanted.way ++ []) ∙ append-nil (head_text trace wanted.way));
-}
+-- ---- the head alone
+
+done_none : (wanted : Wanted) (trace : Trace) → HasDone wanted trace [] (machine_of trace) []
+done_none wanted trace = record { done = (refl, refl); asked = nothing wanted.only }
   where
     nothing : (o : Option ℕ) → IfSome o (λ only. (less : ℕ) → less < length (let dones : List Done = [] in dones) → lines_before trace less < only)
     nothing None = tt
     nothing (Some only) = λ less below. absurd (let never : ⊥ = omega (arith, below) in never)
+
+-- of an item nothing is written
+item_unwritten : (wanted : Wanted) (trace : Trace) (number : ℕ) (m : MachineState) (live : List Named) (s : SinkState) (it : Item) → StopsItem wanted trace number m live s s stops.NoMemory it
+item_unwritten wanted trace number m live s (item.Round round) = nothing_stops (due_at wanted trace number round live) (shows wanted (line_at trace number)) m s
+item_unwritten wanted trace number m live s (item.Cache name spec) = ([], inl refl, takes_nothing s)
+item_unwritten wanted trace number m live s (item.Shrink name) = ([], inl refl, takes_nothing s)
+item_unwritten wanted trace number m live s (item.Destroy name) = ([], inl refl, takes_nothing s)
+item_unwritten wanted trace number m live s item.Slabinfo = ([], inl refl, takes_nothing s)
+item_unwritten wanted trace number m live s (item.Tune name setting) = ([], inl refl, takes_nothing s)
+item_unwritten wanted trace number m live s (item.Client client) = ([], inl refl, takes_nothing s)
+
+-- none is due, or the first one is asked for
+abbrev FirstAsked : Wanted → Trace → Type 0
+FirstAsked wanted trace = (it : Item) × (slice_get trace.items 0 ≡ Some it) × IfSome wanted.only (λ only. lines_before trace 0 < only)
+
+first_due : (wanted : Wanted) (trace : Trace) → AreDue wanted trace 0 ⊎ FirstAsked wanted trace
+first_due wanted trace = elim (cases_lt 0 (length trace.items)) [
+  | inl some ↦ (let it : Item = get_or trace.items 0 item.Slabinfo in by it (slice_get-get_or trace.items 0 item.Slabinfo some) wanted.only refl)
+  | inr none ↦ inl (inl (omega (arith, none)))
+]
+  where
+    low : (only : ℕ) → only ≡ 0 → only ≤ lines_before trace 0
+    low only is = omega (arith, is)
+
+    by : (it : Item) → slice_get trace.items 0 ≡ Some it → (o : Option ℕ) → wanted.only ≡ o → AreDue wanted trace 0 ⊎ FirstAsked wanted trace
+    by it there None is = inr (it, there, subst (λ (o : Option ℕ). IfSome o (λ only. lines_before trace 0 < only)) (sym is) tt)
+    by it there (Some zero) is = inl (inr (subst (λ (o : Option ℕ). MatchOption o ⊥ (λ only. only ≤ lines_before trace 0)) (sym is) (low 0 refl)))
+    by it there (Some (suc n)) is = inr (it, there, subst (λ (o : Option ℕ). IfSome o (λ only. lines_before trace 0 < only)) (sym is) (let more : lines_before trace 0 < suc n = omega arith in more))
+
+-- before the first item memory is lacking
+pub head_alone : (wanted : Wanted) (trace : Trace) (old new : SinkState) → Takes old new (head_text trace wanted.way) → StopsLog wanted trace old new stops.NoMemory
+head_alone wanted trace old new took = inr (elim (first_due wanted trace) [
+  | inl due ↦ inr (record {
+    answers = [];
+    machine = machine_of trace;
+    items = [];
+    done = done_none wanted trace;
+    due = due;
+    mid = new;
+    taken = all;
+    stops = ([], inl refl, takes_nothing new);
+  })
+  | inr asked ↦ inl (record {
+    answers = [];
+    machine = machine_of trace;
+    items = [];
+    done = done_none wanted trace;
+    asked = asked.2;
+    mid = new;
+    taken = all;
+    stops = subst (λ (o : Option Item). IsSomeAnd o (StopsItem wanted trace 0 (machine_of trace) [] new new stops.NoMemory)) (sym asked.1) (item_unwritten wanted trace 0 (machine_of trace) [] new asked.0);
+  })
+])
+  where
+    all : Takes old new (head_text trace wanted.way ++ [])
+    all = takes_as old new (head_text trace wanted.way) (head_text trace wanted.way ++ []) (sym (append-nil (head_text trace wanted.way))) took

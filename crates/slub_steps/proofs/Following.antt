@@ -1,5 +1,5 @@
 -- Whose turns a log has let be made, and how each ended.
-use Rattle.std.proofs.Common.{◌≡◌, ◌≤◌, ℕ, Bool, true, false, List, [], ◌∷◌, ◌++◌, All, length, append_assoc, append-nil, refl, ap, sym, subst, ◌∙◌}
+use Rattle.std.proofs.Common.{◌≡◌, ◌≤◌, ℕ, Bool, false, List, [], ◌∷◌, ◌++◌, All, length, append_assoc, append-nil, refl, ap, sym, subst, ◌∙◌}
 use Rattle.std.proofs.lemmas.List.Elements.{All-cons, All-nil}
 use Rattle.std.specs.Prelude.{slice_index}
 use Rattle.std.specs.List.{fold}
@@ -21,7 +21,7 @@ use Rattle.slub_round_log.specs.Choices.{Chooses, Goes, IsOver, Refuses}
 use Rattle.slub_round_log.specs.Laws.{IsOneTurn}
 use Rattle.slub_round_log.specs.Log.{ended_by, waits_after}
 use Rattle.slub_steps.specs.Inner.{OpensAs}
-use Rattle.slub_steps.specs.Sayers.{Alone, AreAllSaid, AreAlong, AreFirst, AreSaid, Drawn, IsOfUnfinished, Listed, Misfits, Sayer, ended_of, over_after, turns_by}
+use Rattle.slub_steps.specs.Sayers.{Alone, AreAllSaid, AreFirst, AreSaid, Drawn, IsOfUnfinished, Listed, Misfits, Sayer, ended_of, over_after, turns_by}
 
 -- ---- how a turn ended
 

@@ -2,6 +2,7 @@ pub mod Counting
 pub mod Doing
 pub mod Dues
 pub mod Ends
+pub mod Falling
 pub mod Finishing
 pub mod Following
 pub mod Lives

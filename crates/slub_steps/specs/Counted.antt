@@ -2,7 +2,6 @@
 use Rattle.std.specs.Prelude.{◌≡◌, ℕ, ◌+◌, ◌^◌, ◌<◌, ◌≤◌, List, [], ◌∷◌, ◌++◌, length, take, sum_by, flat_map}
 use Rattle.slub_lists.specs.State.{State}
 use Rattle.slub_trace.specs.declared.event.Round.{Round}
-use Rattle.slub_trace.specs.declared.trace.Item.{Item}
 use Rattle.slub_trace.specs.declared.trace.Trace.{Trace}
 use Rattle.slub_trace.specs.Sound.{objects_in}
 use Rattle.slub_law_rounds.specs.Round.{IsRound}

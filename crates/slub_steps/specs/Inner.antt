@@ -1,9 +1,10 @@
 -- For contracts of the crate's own functions.
-use Rattle.std.specs.Prelude.{◌≡◌, ◌≤◌, ◌<◌, ◌⊎◌, ℕ, Bool, true, false, List, [], ◌∷◌, ◌++◌, length, Option, Some, None, MatchOption, Result, Ok, Err, slice_get}
+use Rattle.std.specs.Prelude.{◌≡◌, ◌≤◌, ◌<◌, ℕ, Bool, true, false, List, [], ◌∷◌, ◌++◌, length, Option, Some, None, MatchOption, Result, Ok, Err, slice_get}
 use Rattle.slub_trace.specs.declared.event.Round.{Round}
 use Rattle.slub_trace.specs.declared.trace.Trace.{Trace}
 use Rattle.slub_lists.specs.State.{State}
 use Rattle.slub_slabinfo_text.specs.declared.journal.Done.{Done}
+use Rattle.slub_slabinfo_text.specs.declared.journal.Done.TheVariants as answered
 use Rattle.slub_slabinfo_text.specs.declared.journal.RoundResult.{RoundResult}
 use Rattle.slub_slabinfo_text.specs.declared.journal.Total.{Total}
 use Rattle.slub_slabinfo_text.specs.Lawful.{IsTotal}
@@ -38,9 +39,9 @@ use Rattle.slub_steps.specs.declared.choices.RoundCounts.{RoundCounts}
 use Rattle.slub_steps.specs.declared.round.Place.{Place}
 use Rattle.slub_steps.specs.Counted.{IsOutcome}
 use Rattle.slub_steps.specs.Live.{Named, live_past}
-use Rattle.slub_steps.specs.Rounds.{IsClosing, IsOpening, RoundDue, Telling, if_shown}
+use Rattle.slub_steps.specs.Rounds.{IsClosing, RoundDue, Telling, if_shown}
 use Rattle.slub_steps.specs.Sayers.{Sayer, Alone, Drawn, Listed}
-use Rattle.slub_steps.specs.Written.{HasDone, IsTail, IsToldAt, StopsAt, StopsIn, Wanted, lines_before, parts_in, shared_before}
+use Rattle.slub_steps.specs.Written.{AreDue, HasDone, IsTail, IsToldAt, StopsAt, StopsIn, StopsTail, Wanted, lines_before, parts_in, shared_before}
 
 -- ---- a text
 
@@ -105,7 +106,9 @@ ClosesRound place trace round live m left result k old new (Ok done) =
     × Takes old new (if_shown place.is_shown (closing ++ text_at true trace place.number done.1))
 ClosesRound place trace round live m left result k old new (Err NoMemory) = Takes old new []
 ClosesRound place trace round live m left result k old new (Err WriteFault) =
-    (text : List ℕ) × FailsAt old new text
+    (closing : List ℕ) × ClosesBy place trace round live m left k closing
+    × FailsAt old new (if_shown place.is_shown
+    (closing ++ text_at true trace place.number (answered.Round result)))
 ClosesRound place trace round live m left result k old new (Err _) = ⊥
 
 -- what a fault of a log stops the run for
@@ -146,9 +149,10 @@ abbrev pub WritesPlain : Trace → ℕ → MachineState → Bool → SinkState �
 WritesPlain trace number m is_shown old new (Ok done) =
     DoesAt (Schedule 0) m trace number done.1 done.0
     × Takes old new (if_shown is_shown (text_at true trace number done.1))
-WritesPlain trace number m is_shown old new (Err NoMemory) = (text : List ℕ) × Takes old new text
+WritesPlain trace number m is_shown old new (Err NoMemory) = Takes old new []
 WritesPlain trace number m is_shown old new (Err WriteFault) =
-    (text : List ℕ) × FailsAt old new text
+    (answer : Done) × (after : MachineState) × DoesAt (Schedule 0) m trace number answer after
+    × FailsAt old new (if_shown is_shown (text_at true trace number answer))
 WritesPlain trace number m is_shown old new (Err TurnsSpent) =
     SpendsAt (Schedule 0) m trace number × Takes old new []
 WritesPlain trace number m is_shown old new (Err _) = ⊥
@@ -173,12 +177,6 @@ MovesOn wanted trace number m answers live old answers_after live_after new (Err
     StopsAt wanted trace number m live old new stop
 
 -- ---- all items
-
--- as many items are done as are asked for, or as there are
-abbrev pub AreDue : Wanted → Trace → ℕ → Type 0
-AreDue wanted trace number =
-    (number ≡ length trace.items)
-    ⊎ MatchOption wanted.only ⊥ (λ only. only ≤ lines_before trace number)
 
 pub record HasRun (wanted : Wanted) (trace : Trace) (answers : List Done) (m : MachineState)
     (counts : RoundCounts) (old new : SinkState) : Type 0 where
@@ -215,7 +213,8 @@ abbrev pub WritesTotal : {A : Type 0} → List Done → State → SinkState → 
 WritesTotal answers s old new (Ok _) =
     (total : Total) × IsTotal s answers total × Takes old new (total_text total)
 WritesTotal answers s old new (Err NoMemory) = Takes old new []
-WritesTotal answers s old new (Err WriteFault) = (text : List ℕ) × FailsAt old new text
+WritesTotal answers s old new (Err WriteFault) =
+    (total : Total) × IsTotal s answers total × FailsAt old new (total_text total)
 WritesTotal answers s old new (Err _) = ⊥
 
 -- what stands behind the items is written, and it is said what is lacking
@@ -223,9 +222,10 @@ abbrev pub FinishesLog : {A : Type 0} → Wanted → List Done → State → Rou
     → SinkState → Result A Stop → Type 0
 FinishesLog wanted answers s counts old new (Ok _) =
     (tail : List ℕ) × IsTail wanted answers s tail × Takes old new tail × IsGoodEnd wanted counts
-FinishesLog wanted answers s counts old new (Err NoMemory) = (text : List ℕ) × Takes old new text
+FinishesLog wanted answers s counts old new (Err NoMemory) =
+    StopsTail wanted answers s old new NoMemory
 FinishesLog wanted answers s counts old new (Err WriteFault) =
-    (text : List ℕ) × FailsAt old new text
+    StopsTail wanted answers s old new WriteFault
 FinishesLog wanted answers s counts old new (Err (BadPicks line)) =
     (tail : List ℕ) × IsTail wanted answers s tail × Takes old new tail
     × (bad : Bad) × LacksEnd wanted counts bad × (line.items ≡ bad_line bad)

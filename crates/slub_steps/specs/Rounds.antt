@@ -1,5 +1,5 @@
 -- A round in a log: its turns, and what is written of them.
-use Rattle.std.specs.Prelude.{◌≡◌, ◌+◌, ℕ, Bool, true, if◌then◌else◌, List, [], ◌∷◌, ◌++◌, map, Option, Result, Ok, Err}
+use Rattle.std.specs.Prelude.{◌≡◌, ◌⊎◌, ◌+◌, ℕ, Bool, true, if◌then◌else◌, List, [], ◌++◌, map, Option, Result, Ok, Err}
 use Rattle.std.specs.List.{fold, range_with_len}
 use Rattle.std.specs.Option.{option_map}
 use Rattle.slub_trace.specs.declared.event.Round.{Round}
@@ -19,7 +19,6 @@ use Rattle.slub_rounds.specs.Rounds.{DoesRoundBySteps, SpendsTurnsBySteps}
 use Rattle.slub_law_replay.specs.Runs.{KeepsReserves, MachineState}
 use Rattle.slub_law_replay.specs.Ways.{AreLeft, ids_before}
 use Rattle.slub_turn_text.specs.Labels.{RoundLabels, shares_of}
-use Rattle.slub_picks.specs.declared.faults.Bad.{Bad}
 use Rattle.slub_picks.specs.declared.faults.Bad.TheVariants.{InRound}
 use Rattle.slub_picks.specs.declared.made.Made.{Made}
 use Rattle.slub_picks.specs.declared.walk.Misfit.{Misfit}
@@ -35,7 +34,7 @@ use Rattle.slub_round_log.specs.Log.{FailsAt, SinkState, Takes, first_lines, mad
 use Rattle.slub_round_log.specs.Told.{Context, context_behind, first_context, turns_text}
 use Rattle.slub_steps.specs.Counted.{IsOutcome}
 use Rattle.slub_steps.specs.Live.{Named}
-use Rattle.slub_steps.specs.Sayers.{EndsSaid, MisfitsSaid, Sayer, SpendsSaid}
+use Rattle.slub_steps.specs.Sayers.{EndsSaid, GoesSaid, MisfitsSaid, Sayer, SpendsSaid}
 
 -- ---- what is given
 
@@ -144,7 +143,7 @@ pub record IsRoundTold (d : RoundDue) (m : MachineState) (text : List ℕ) (answ
   pub text_is : text
       ≡ opening ++ tells.text ++ closing ++ text_at true d.trace d.number answer
 
--- a round stops behind these turns, for the reason that `Ending` gives; its text so far is this
+-- a round has come to behind these turns, of which `Ending` tells; its text so far is this
 pub record IsRoundCut (Ending : Setup → System → List Pick → System → Type 0) (d : RoundDue)
     (m : MachineState) (tells : Telling) (text : List ℕ) : Type 0 where
   pub spends : SpendsTurnsBySteps (λ k first picks last. Ending k first picks last
@@ -167,18 +166,36 @@ pub record IsRoundUnfit (d : RoundDue) (m : MachineState) (text line : List ℕ)
       MisfitsSaid d.sayer d.round.workers misfit k first picks last) d m tells text
   pub line_is : line ≡ bad_line (InRound misfit d.line tells.context.turns)
 
+-- ---- where memory is lacking or a write fails
+
+-- the first turns of a round are made: its text so far is what stands before them, and their lines
+abbrev pub IsRoundBegun : RoundDue → MachineState → List ℕ → Type 0
+IsRoundBegun d m text = (tells : Telling)
+    × IsRoundCut (λ k first picks last. GoesSaid d.sayer d.round.workers k first picks last)
+    d m tells text
+
+-- how much of its text there may be: nothing, what stands before its turns, the lines of the first
+-- of them, too, or all of it
+abbrev pub IsRoundPart : RoundDue → MachineState → List ℕ → Type 0
+IsRoundPart d m text =
+    ((text ≡ []) ⊎ IsOpening d m text)
+    ⊎ (IsRoundBegun d m text
+    ⊎ ((answer : Done) × (after : MachineState) × IsRoundTold d m text answer after))
+
 -- ---- what a sink takes of it
 
 -- the text, where it is shown
 abbrev pub if_shown : Bool → List ℕ → List ℕ
 if_shown is_shown text = if is_shown then text else []
 
--- why a round wasn't done, and what was written of it; where memory is lacking or a write fails, it
--- is left open what was
+-- why a round wasn't done, and what was written of it; where a write fails, a front of this and not
+-- the whole
 abbrev pub StopsRound
     : RoundDue → Bool → MachineState → SinkState → SinkState → Stop → Type 0
-StopsRound d is_shown m old new NoMemory = (text : List ℕ) × Takes old new text
-StopsRound d is_shown m old new WriteFault = (text : List ℕ) × FailsAt old new text
+StopsRound d is_shown m old new NoMemory =
+    (text : List ℕ) × IsRoundPart d m text × Takes old new (if_shown is_shown text)
+StopsRound d is_shown m old new WriteFault =
+    (text : List ℕ) × IsRoundPart d m text × FailsAt old new (if_shown is_shown text)
 StopsRound d is_shown m old new TurnsSpent =
     (text : List ℕ) × IsRoundSpent d m text × Takes old new (if_shown is_shown text)
 StopsRound d is_shown m old new (BadPicks line) =

@@ -117,6 +117,13 @@ Misfits _ workers m first picks misfit = ⊥
 
 -- ---- how a round goes on and ends
 
+-- these turns are said and made
+pub record GoesSaid (sayer : Sayer) (workers : ℕ) (m : Setup) (first : System)
+    (picks : List Pick) (last : System) : Type 0 where
+  pub run : last ≡ run m first picks
+  pub within : length picks ≤ turns_of first
+  pub said : AreSaid sayer workers m first picks
+
 -- each worker is finished, and no turn is left to be said
 pub record EndsSaid (sayer : Sayer) (workers : ℕ) (m : Setup) (first : System)
     (picks : List Pick) (last : System) : Type 0 where

@@ -98,16 +98,22 @@ IsToldAt wanted trace number m live text answer after =
     IsSomeAnd (slice_get trace.items number)
     (IsItemTold wanted trace number m live text answer after)
 
--- why it wasn't, and what was written of it; where memory is lacking or a write fails, it is left
--- open what was
+-- nothing is written of an item, or all that is written where it is done
+abbrev pub IsItemOrNone : Wanted → Trace → ℕ → MachineState → List Named → List ℕ → Item → Type 0
+IsItemOrNone wanted trace number m live text item =
+    (text ≡ []) ⊎ ((answer : Done) × (after : MachineState)
+    × IsItemTold wanted trace number m live text answer after item)
+
+-- why it wasn't, and what was written of it; where a write fails, a front of this and not the whole
 abbrev pub StopsItem : Wanted → Trace → ℕ → MachineState → List Named → SinkState → SinkState
     → Stop → Item → Type 0
 StopsItem wanted trace number m live old new stop (item.Round round) =
     StopsRound (due_at wanted trace number round live) (shows wanted (line_at trace number))
     m old new stop
-StopsItem wanted trace number m live old new NoMemory item = (text : List ℕ) × Takes old new text
+StopsItem wanted trace number m live old new NoMemory item =
+    (text : List ℕ) × IsItemOrNone wanted trace number m live text item × Takes old new text
 StopsItem wanted trace number m live old new WriteFault item =
-    (text : List ℕ) × FailsAt old new text
+    (text : List ℕ) × IsItemOrNone wanted trace number m live text item × FailsAt old new text
 StopsItem wanted trace number m live old new TurnsSpent item =
     ItemSpendsTurns (Schedule 0) m trace item × Takes old new []
 StopsItem wanted trace number m live old new _ item = ⊥
@@ -137,6 +143,12 @@ pub record HasDone (wanted : Wanted) (trace : Trace) (answers : List Done) (m : 
   -- none was done that isn't asked for
   pub asked : IfSome wanted.only (λ only. (less : ℕ) → less < length answers
       → lines_before trace less < only)
+
+-- as many items are done as are asked for, or as there are
+abbrev pub AreDue : Wanted → Trace → ℕ → Type 0
+AreDue wanted trace number =
+    (number ≡ length trace.items)
+    ⊎ MatchOption wanted.only ⊥ (λ only. only ≤ lines_before trace number)
 
 -- and they are all that are asked for: the whole trace, or all up to the end of the round that is
 -- shown
@@ -231,23 +243,38 @@ pub record EndsBad (wanted : Wanted) (trace : Trace) (front : List ℕ) (old new
   pub is_bad : IsBadEnd wanted trace bad
   pub line_is : line ≡ bad_line bad
 
--- a text begins with the head of the log and what is written of the first items; what stands behind
--- them is left open
-pub record HasBegun (wanted : Wanted) (trace : Trace) (text : List ℕ) : Type 0 where
+-- of what stands behind the items nothing is written or all, and memory is lacking; or a write of it
+-- fails
+abbrev pub StopsTail : Wanted → List Done → State → SinkState → SinkState → Stop → Type 0
+StopsTail wanted answers s old new NoMemory = (tail : List ℕ)
+    × ((tail ≡ []) ⊎ IsTail wanted answers s tail) × Takes old new tail
+StopsTail wanted answers s old new WriteFault =
+    (tail : List ℕ) × IsTail wanted answers s tail × FailsAt old new tail
+StopsTail wanted answers s old new _ = ⊥
+
+-- behind a text and what is written of all items that are due, what stands behind them isn't done
+pub record StopsBehind (wanted : Wanted) (trace : Trace) (front : List ℕ) (old new : SinkState)
+    (stop : Stop) : Type 0 where
   pub answers : List Done
   pub machine : MachineState
   pub items : List ℕ
   pub done : HasDone wanted trace answers machine items
-  pub more : List ℕ
-  pub text_is : text ≡ head_text trace wanted.way ++ items ++ more
+  pub due : AreDue wanted trace (length answers)
+  pub mid : SinkState
+  pub taken : Takes old mid (front ++ items)
+  pub stops : StopsTail wanted answers machine.lists mid new stop
 
--- why a log ended early, and what was written of it; where memory is lacking or a write fails in an
--- item or behind all of them, it is left open what was written of that
+-- in an item or behind them all
+abbrev pub StopsLate : Wanted → Trace → List ℕ → SinkState → SinkState → Stop → Type 0
+StopsLate wanted trace front old new stop =
+    StopsIn wanted trace front old new stop ⊎ StopsBehind wanted trace front old new stop
+
+-- why a log ended early, and what was written of it
 abbrev pub StopsLog : Wanted → Trace → SinkState → SinkState → Stop → Type 0
 StopsLog wanted trace old new NoMemory =
-    Takes old new [] ⊎ ((text : List ℕ) × HasBegun wanted trace text × Takes old new text)
+    Takes old new [] ⊎ StopsLate wanted trace (head_text trace wanted.way) old new NoMemory
 StopsLog wanted trace old new WriteFault = FailsAt old new (head_text trace wanted.way)
-    ⊎ ((text : List ℕ) × HasBegun wanted trace text × FailsAt old new text)
+    ⊎ StopsLate wanted trace (head_text trace wanted.way) old new WriteFault
 StopsLog wanted trace old new TurnsSpent =
     StopsIn wanted trace (head_text trace wanted.way) old new TurnsSpent
 StopsLog wanted trace old new (BadPicks line) =

@@ -15,7 +15,7 @@
 //!
 //! `IsRunOf` (`specs/Run.antt`) says it of every call. The whole text of a log is `IsLog` (`specs/Written.antt`), that of a
 //! round `IsRoundTold` (`specs/Rounds.antt`); whose turns they are, and where picks don't fit, `EndsSaid` and `Misfits`
-//! (`specs/Sayers.antt`).
+//! (`specs/Sayers.antt`). Where memory is lacking or a write fails, what was written is as `StopsLog` says (`specs/Written.antt`).
 #![tactic(auto)]
 
 mod choices;

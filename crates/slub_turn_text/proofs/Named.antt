@@ -1,10 +1,10 @@
 -- Trims are of names of the trace.
-use Rattle.std.proofs.Common.{◌≡◌, ℕ, ◌≤◌, ◌<◌, List, [], ◌∷◌, length, slice_index_or, map, refl, sym, subst, arith, inl, inr}
+use Rattle.std.proofs.Common.{◌≡◌, ℕ, List, [], length, slice_index_or, sym, subst, arith, inl, inr}
 use Rattle.std.specs.Prelude.{All}
 use Rattle.std.specs.List.{range_with_len}
 use Rattle.std.proofs.lemmas.List.{get_or_past}
 use Rattle.std.proofs.lemmas.Bool.{cases_lt}
-use Rattle.std.proofs.lemmas.List.Elements.{All-filter, All-map, All-from_get_or}
+use Rattle.std.proofs.lemmas.List.Elements.{All-filter, All-map}
 use Rattle.std.proofs.lemmas.List.FromFn.{length-map-range_with_len}
 use Rattle.slub_trace.specs.declared.event.Event.{Event}
 use Rattle.slub_slabinfo_text.specs.Texts.{IsNamed}

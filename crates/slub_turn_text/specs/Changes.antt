@@ -5,7 +5,6 @@ use Rattle.slub_trace.specs.declared.reply.Reply.{Reply}
 use Rattle.slub_red_zone.specs.State.{CheckedState}
 use Rattle.slub_core.specs.declared.spot.Spot.{Spot}
 use Rattle.slub_core.specs.declared.spot.Spot.TheVariants.{InAlloc, InPutAway, InDiscard, InFree, InMoveSet, InTrim, InChecked}
-use Rattle.slub_core.specs.declared.spot.AllocSpot.{AllocSpot}
 use Rattle.slub_core.specs.declared.spot.AllocSpot.TheVariants.{PopNode, TakeRun}
 use Rattle.slub_core.specs.declared.spot.PutAwaySpot.TheVariants.{PutNode}
 use Rattle.slub_core.specs.declared.spot.DiscardSpot.TheVariants.{PutRun}

@@ -1,5 +1,5 @@
 -- What lines name: the caches of the machine, and the events of the round.
-use Rattle.std.specs.Prelude.{ℕ, ◌-◌, ◌==◌, Bool, is_some, if◌then◌else◌, List, [], ◌++◌, length, map, filter, slice_index_or, Option, None, unwrap_or, All}
+use Rattle.std.specs.Prelude.{ℕ, ◌-◌, ◌==◌, is_some, if◌then◌else◌, List, [], length, map, filter, slice_index_or, Option, None, unwrap_or, All}
 use Rattle.std.specs.List.{range_with_len}
 use Rattle.slub_trace.specs.declared.event.Event.{Event}
 use Rattle.slub_trace.specs.declared.event.Act.TheVariants.{Flush}

@@ -8,7 +8,7 @@ use Rattle.slub_core.specs.declared.step.Op.{Op}
 use Rattle.slub_core.specs.declared.step.Op.TheVariants.{Load, Store, Swap, Exchange}
 use Rattle.slub_core.specs.declared.step.Step.{Step}
 use Rattle.slub_core.specs.declared.step.Answer.{Answer}
-use Rattle.slub_core.specs.declared.step.Answer.TheVariants.{Word, Done, Won, Lost}
+use Rattle.slub_core.specs.declared.step.Answer.TheVariants.{Word, Won, Lost}
 use Rattle.slub_core.specs.declared.spot.Spot.{Spot}
 use Rattle.slub_core.specs.declared.spot.Spot.TheVariants.{InAlloc, WriteWord, ReadWord}
 use Rattle.slub_core.specs.declared.spot.AllocSpot.TheVariants.{Make}

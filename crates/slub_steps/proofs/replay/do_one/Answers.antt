@@ -1,8 +1,7 @@
 use Rattle.std.proofs.Common.{◌≡◌, ◌+◌, ◌-◌, ◌^◌, ℕ, Bool, min, get_or, ap, subst, ◌∙◌}
-use Rattle.std.specs.Prelude.{is_none}
 use Rattle.slub_round_log.specs.Log.{SinkState}
 use Rattle.slub_steps.specs.Inner.{OpensAs, WritesPlain, wanted_by}
-use Rattle.slub_steps.specs.Sayers.{Sayer, sayer_of}
+use Rattle.slub_steps.specs.Sayers.{sayer_of}
 use Rattle.slub_steps.specs.Written.{lines_before, shared_before}
 use Rattle.slub_steps.proofs.Doing.{plain_item, round_item}
 use Rattle.slub_law_replay.specs.declared.way.Way.TheVariants.{Schedule}

@@ -1,7 +1,4 @@
-use Rattle.std.proofs.Common.{ℕ, true}
-use Rattle.slub_slabinfo_text.specs.Text.{text_at}
-use Rattle.slub_round_log.specs.Log.{SinkState}
-use Rattle.slub_steps.specs.Rounds.{if_shown}
+use Rattle.std.proofs.Common.{ℕ}
 use Rattle.slub_steps.proofs.Ends.{plain_failed, plain_unended}
 use Rattle.slub_steps.proofs.replay.do_plain.Goals as goal
 
@@ -12,4 +9,4 @@ returns-in-Err-clause-written g c =
 pub returns-in_err-write_item-clause-written : goal.returns-in_err-write_item-clause-written
 returns-in_err-write_item-clause-written g c =
     plain_failed ℕ c.args.trace.now c.args.number c.args.machine c.args.is_shown (record { taken = g.K.Sink.taken c.args.sink.now; faults = g.K.Sink.faults c.args.sink.now }) (record { taken = g.K.Sink.taken c.write_item.new.sink; faults = g.K.Sink.faults c.write_item.new.sink })
-    (if_shown c.args.is_shown (text_at true c.args.trace.now c.args.number c.in-Ok.done.1)) c.in_err-write_item.field-0.0 c.from_residual.result c.in_err-write_item.ensures c.from_residual.ensures.1
+    c.in-Ok.done.1 c.in-Ok.done.0 c.in_err-write_item.field-0.0 c.from_residual.result c.in-Ok.ensures.done c.in_err-write_item.ensures c.from_residual.ensures.1

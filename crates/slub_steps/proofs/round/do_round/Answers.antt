@@ -1,12 +1,13 @@
-use Rattle.std.proofs.Common.{ℕ, ◌+◌, List, subst}
+use Rattle.std.proofs.Common.{ℕ, ◌+◌, List, Err, subst}
 use Rattle.slub_trace.specs.declared.trace.Trace.{Trace}
 use Rattle.slub_law_replay.specs.Runs.{IsReadyMachine}
 use Rattle.slub_items.specs.Watched.{IsDue}
 use Rattle.slub_steps.proofs.Putting.{closed-ready, from-ok}
 use Rattle.slub_steps.proofs.Ends.{closes_same}
 use Rattle.slub_round_log.specs.Log.{SinkState, Takes}
+use Rattle.slub_steps.specs.Inner.{WritesText, due_of}
 use Rattle.slub_steps.specs.Rounds.{if_shown}
-use Rattle.slub_steps.proofs.Telling.{closed_for, cut_for}
+use Rattle.slub_steps.proofs.Telling.{closed_for, cut_for, nothing_stops, opening_stops, text_stops}
 use Rattle.slub_steps.proofs.Dues.{due-named, due-within, due-workers}
 use Rattle.slub_steps.proofs.round.do_round.Goals as goal
 
@@ -29,6 +30,24 @@ pub returns-in-Ok-result-clause-ready : goal.returns-in-Ok-result-clause-ready
 returns-in-Ok-result-clause-ready g c =
     let ready = from-ok _ _ (λ done. (trace : Trace) (number : ℕ) → IsDue c.args.machine trace number c.args.round.now → IsReadyMachine done.0 trace (number + 1)) c.in-Ok-result.is c.watched_round-result.ensures.ready in
     closed-ready c.args.trace.now (c.args.place.number + 1) _ _ _ (ready c.args.trace.now c.args.place.number c.requires) (closes_same c.args.place c.args.trace.now c.args.round.now c.args.live.now c.in-Ok-result.machine c.in-Ok-result.left c.in-Ok-result.outcome c.watched_round-result.result.1.kept (record { taken = g.K.Sink.taken c.watched_round-result.result.1.sink; faults = g.K.Sink.faults c.watched_round-result.result.1.sink }) (record { taken = g.K.Sink.taken c.close_round.result.0; faults = g.K.Sink.faults c.close_round.result.0 }) c.close_round.result.1 c.close_round.ensures)
+
+pub returns-in-Err-clause-written : goal.returns-in-Err-clause-written
+returns-in-Err-clause-written g c = λ sayer opens.
+    nothing_stops (due_of c.args.place c.args.trace.now c.args.round.now sayer c.args.live.now) c.args.place.is_shown c.args.machine (record { taken = g.K.Sink.taken c.args.sink; faults = g.K.Sink.faults c.args.sink })
+
+pub returns-in-Err-show-clause-written : goal.returns-in-Err-show-clause-written
+returns-in-Err-show-clause-written g c = λ sayer opens.
+    let old : SinkState = (record { taken = g.K.Sink.taken c.args.sink; faults = g.K.Sink.faults c.args.sink }) in
+    let begun : SinkState = (record { taken = g.K.Sink.taken c.show.new.sink; faults = g.K.Sink.faults c.show.new.sink }) in
+    text_stops ℕ (due_of c.args.place c.args.trace.now c.args.round.now sayer c.args.live.now) c.args.place.is_shown c.args.machine old begun c.in-Ok.head.items c.in-Err-show.stop (c.in-Ok.ensures sayer)
+    (subst (λ (text : List ℕ). WritesText {A = ℕ} old begun (if_shown c.args.place.is_shown text) (Err c.in-Err-show.stop)) c.as_slice.ensures.value c.in-Err-show.ensures)
+
+pub returns-in-Err-kept-clause-written : goal.returns-in-Err-kept-clause-written
+returns-in-Err-kept-clause-written g c = λ sayer opens.
+    let old : SinkState = (record { taken = g.K.Sink.taken c.args.sink; faults = g.K.Sink.faults c.args.sink }) in
+    let begun : SinkState = (record { taken = g.K.Sink.taken c.show.new.sink; faults = g.K.Sink.faults c.show.new.sink }) in
+    opening_stops (due_of c.args.place c.args.trace.now c.args.round.now sayer c.args.live.now) c.args.place.is_shown c.args.machine old begun c.in-Ok.head.items (c.in-Ok.ensures sayer)
+    (subst (λ (text : List ℕ). Takes old begun (if_shown c.args.place.is_shown text)) c.as_slice.ensures.value c.in_default.ensures)
 
 pub returns-in-Ok-result-clause-written : goal.returns-in-Ok-result-clause-written
 returns-in-Ok-result-clause-written g c = λ sayer opens.

@@ -3,8 +3,8 @@ use Rattle.slub_log_text.specs.Parts.{head_text}
 use Rattle.slub_round_log.specs.Log.{SinkState, Takes}
 use Rattle.slub_steps.specs.Inner.{WritesText}
 use Rattle.slub_steps.specs.Run.{wanted_of}
-use Rattle.slub_steps.proofs.Ends.{head_alone, head_stops}
-use Rattle.slub_steps.proofs.Finishing.{log_done, log_stopped, log_unfinished}
+use Rattle.slub_steps.proofs.Ends.{head_stops}
+use Rattle.slub_steps.proofs.Finishing.{head_alone, log_done, log_stopped, log_unfinished}
 use Rattle.slub_steps.proofs.Texts.{takes_nothing}
 use Rattle.slub_steps.proofs.run.replay.Goals as goal
 

@@ -1,6 +1,5 @@
 use Rattle.std.proofs.Common.{sym, ◌∙◌, arith, inl, inr}
 use Rattle.slub_law_replay.proofs.Ready.{opened_machine_ready}
-use Rattle.slub_round_log.specs.Log.{SinkState}
 use Rattle.slub_steps.specs.Inner.{wanted_by}
 use Rattle.slub_steps.proofs.Doing.{come_first, come_more, come_stopped, come_to_end}
 use Rattle.slub_steps.proofs.Putting.{stands-few, stands-first}

@@ -1,4 +1,4 @@
-use Rattle.std.proofs.Common.{◌≤◌, arith}
+use Rattle.std.proofs.Common.{arith}
 use Rattle.slub_turn_text.proofs.Named.{shares-named, shares-length}
 use Rattle.slub_turn_text.proofs.labels.Labels.open.Goals as goal
 

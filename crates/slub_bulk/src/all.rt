@@ -13,7 +13,7 @@ ghost use Rattle.slub_rounds.specs.ClientLaws.{IsNumber};
 ghost use Rattle.slub_rounds.specs.ClientStopped.{IsStoppedWhere};
 
 use slub_common::no_memory::NoMemory;
-use slub_rounds::client::{Stopped, client_round};
+use slub_rounds::client::{LineStopped, client_round};
 use slub_rounds::heap::Heap;
 use slub_slabinfo_text::client::{CacheRefusal, ClientRound};
 use slub_trace::event::Act;
@@ -30,7 +30,7 @@ pub fn take_all(
     place: u32,
     numbers: &[u32],
     rounds: &mut Vec<ClientRound>,
-) -> Result<(Heap, Option<CacheRefusal>), Stopped>
+) -> Result<(Heap, Option<CacheRefusal>), LineStopped>
     requires asks { (trace : Trace) × IsOpenTo heap trace (length numbers.now) }
     requires cpu { cpu < heap.lists.cpus }
     requires place { place < length heap.lists.table.kept }
@@ -63,7 +63,7 @@ fn free_again(
     numbers: &[u32],
     first: ClientRound,
     rounds: &mut Vec<ClientRound>,
-) -> Result<Heap, Stopped>
+) -> Result<Heap, LineStopped>
     requires asks { (trace : Trace) × IsOpenTo heap trace 0 }
     requires cpu { cpu < heap.lists.cpus }
     requires known { All (IsNumber heap) numbers.now }
@@ -91,7 +91,7 @@ fn alloc_round(
     cpu: u32,
     place: u32,
     numbers: &[u32],
-) -> Result<(Heap, ClientRound), Stopped>
+) -> Result<(Heap, ClientRound), LineStopped>
     requires asks { (trace : Trace) × IsOpenTo heap trace (length numbers.now) }
     requires cpu { cpu < heap.lists.cpus }
     requires place { place < length heap.lists.table.kept }
@@ -113,7 +113,7 @@ pub(crate) fn free_round(
     heap: Heap,
     cpu: u32,
     numbers: &[u32],
-) -> Result<(Heap, ClientRound), Stopped>
+) -> Result<(Heap, ClientRound), LineStopped>
     requires asks { (trace : Trace) × IsOpenTo heap trace 0 }
     requires cpu { cpu < heap.lists.cpus }
     requires known { All (IsNumber heap) numbers.now }

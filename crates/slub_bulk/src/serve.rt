@@ -16,10 +16,10 @@ ghost use Rattle.slub_rounds.specs.ClientStopped.{IsStoppedWhere};
 ghost use Rattle.slub_bulk.specs.Places.{places_of};
 
 use crate::all::{free_round, take_all};
-use crate::order::{Place, free_order};
+use crate::order::{ObjectAt, free_order};
 use slub_common::no_memory::NoMemory;
 use slub_common::sequence::Sequence;
-use slub_rounds::client::{Stopped, at_once};
+use slub_rounds::client::{LineStopped, at_once};
 use slub_rounds::heap::Heap;
 use slub_slabinfo_text::client::{CacheRefusal, ClientAnswer, ClientDone};
 use slub_trace::reply::{Kind, Reply};
@@ -57,7 +57,7 @@ fn bulk(
     place: u32,
     first: u32,
     count: u32,
-) -> Result<(Heap, ClientDone), Stopped>
+) -> Result<(Heap, ClientDone), LineStopped>
     requires asks { (trace : Read) × IsOpenTo heap trace (length (range_with_len first count)) }
     requires cpu { cpu < heap.lists.cpus }
     requires place { place < length heap.lists.table.kept }
@@ -95,13 +95,13 @@ fn first_unheld(heap: &Heap, numbers: &[u32]) -> Option<u32>
 }
 
 /// Numbers, each with the first frame of the slab in which its object stands.
-fn places(alloc: Global, heap: &Heap, numbers: &[u32]) -> Result<Vec<Place>, NoMemory>
+fn places(alloc: Global, heap: &Heap, numbers: &[u32]) -> Result<Vec<ObjectAt>, NoMemory>
     requires { All (IsNumber heap.now) numbers.now }
     ensures { IfOk result (λ places. places_of places.items ≡ places_under heap.now.lists numbers.now) }
 {
     let mut places = Vec::with_capacity(alloc, numbers.len())?;
     for number in numbers {
-        places.push(Place {
+        places.push(ObjectAt {
             object: *number,
             frame: frame_under(heap, *number),
         })?;
@@ -150,7 +150,7 @@ fn bulk_free(
     cpu: u32,
     first: u32,
     count: u32,
-) -> Result<(Heap, ClientDone), Stopped>
+) -> Result<(Heap, ClientDone), LineStopped>
     requires asks { (trace : Read) × IsOpenTo heap trace 0 }
     requires cpu { cpu < heap.lists.cpus }
     requires first { 1 ≤ first }
@@ -175,7 +175,7 @@ fn free_all(
     heap: Heap,
     cpu: u32,
     numbers: &[u32],
-) -> Result<(Heap, ClientDone), Stopped>
+) -> Result<(Heap, ClientDone), LineStopped>
     requires asks { (trace : Read) × IsOpenTo heap trace 0 }
     requires cpu { cpu < heap.lists.cpus }
     requires known { All (IsNumber heap) numbers.now }
@@ -202,7 +202,7 @@ pub fn serve(
     heap: Heap,
     trace: &Trace,
     client: &Client,
-) -> Result<(Heap, ClientDone), Stopped>
+) -> Result<(Heap, ClientDone), LineStopped>
     requires servable { IsServable heap trace.now client.now }
     requires line { IsBulkLine client.now }
     ensures served { IfOk result (λ done. ServesBulkLines heap client.now done.1 done.0) }

@@ -28,7 +28,7 @@ use Rattle.slub_lists.specs.State.{State}
 use Rattle.slub_lists.specs.Coherent.{held_under}
 use Rattle.slub_core.specs.declared.call.Call.{Call}
 use Rattle.slub_core.specs.declared.local.Known.{Known}
-use Rattle.slub_core.specs.Accounted.{Fits, boarded}
+use Rattle.slub_core.specs.Accounted.{CallFits, boarded}
 use Rattle.slub_core.specs.Local.{Local}
 use Rattle.slub_core.specs.Opening.{IsNew, IsRoom}
 use Rattle.slub_core.specs.Replies.{asked_in}
@@ -133,9 +133,12 @@ module _ (s : State) (b : Beside) (trace : Trace) (opens : MayOpen s b) (cpus : 
   abbrev pub IsGood : ℕ → Event → Type 0
   IsGood workers event = IsSoundEvent trace workers event
 
+  some_cpu : 0 < s.cpus
+  some_cpu = let some = opens.coherent.shaped.cpus.0 in omega (arith, some)
+
   -- a call of an object whose number is among these
   call_fits : (workers : ℕ) (numbers : List ℕ) (event : Event) (a : Act) → event.act ≡ a → IsGood workers event
-      → ((o : ℕ) → object_named a ≡ Some o → list_any (eqb o) numbers ≡ true) → Fits (setup_of s b) (rooms numbers) (call_for s.table (rooms numbers) event.cpu a)
+      → ((o : ℕ) → object_named a ≡ Some o → list_any (eqb o) numbers ≡ true) → CallFits (setup_of s b) (rooms numbers) (call_for s.table (rooms numbers) event.cpu a)
   call_fits workers numbers event (act.Alloc place x) is good there =
       let sound = subst (IsSoundAct trace) is good.act in record {
         cpu = rw cpus good.cpu;
@@ -154,7 +157,7 @@ module _ (s : State) (b : Beside) (trace : Trace) (opens : MayOpen s b) (cpus : 
       }
   call_fits workers numbers event (act.Write at x value) is good there =
       let sound = subst (IsSoundAct trace) is good.act in record {
-        cpu = rw cpus good.cpu;
+        cpu = some_cpu;
         object = λ _. (sound.0, omega (arith, sound.1, objects));
         place = λ _. refl;
         inside = λ _. place_inside numbers x (there x refl);
@@ -162,7 +165,7 @@ module _ (s : State) (b : Beside) (trace : Trace) (opens : MayOpen s b) (cpus : 
       }
   call_fits workers numbers event (act.Read at x) is good there =
       let sound = subst (IsSoundAct trace) is good.act in record {
-        cpu = rw cpus good.cpu;
+        cpu = some_cpu;
         object = λ _. (sound.0, omega (arith, sound.1, objects));
         place = λ _. refl;
         inside = λ _. place_inside numbers x (there x refl);
@@ -170,14 +173,14 @@ module _ (s : State) (b : Beside) (trace : Trace) (opens : MayOpen s b) (cpus : 
       }
   call_fits workers numbers event (act.Poke x offset byte) is good there =
       let sound = subst (IsSoundAct trace) is good.act in record {
-        cpu = rw cpus good.cpu;
+        cpu = some_cpu;
         object = λ _. (sound.0, omega (arith, sound.1, objects));
         place = λ _. refl;
         inside = λ _. place_inside numbers x (there x refl);
         cache = tt;
       }
   call_fits workers numbers event (act.Trim place) is good there = record {
-    cpu = rw cpus good.cpu;
+    cpu = some_cpu;
     object = λ never. absurd (false≢true never);
     place = λ never. absurd (false≢true never);
     inside = λ never. absurd (false≢true never);
@@ -204,9 +207,9 @@ module _ (s : State) (b : Beside) (trace : Trace) (opens : MayOpen s b) (cpus : 
       last false = refl
 
   all_fit : (workers : ℕ) (numbers : List ℕ) (events : List Event) → All (IsGood workers) events
-      → ((o : ℕ) → list_any (eqb o) (named events) ≡ true → list_any (eqb o) numbers ≡ true) → All (Fits (setup_of s b) (rooms numbers)) (calls_for s.table (rooms numbers) events)
-  all_fit workers numbers [] good there = All-nil (Fits (setup_of s b) (rooms numbers))
-  all_fit workers numbers (event ∷ events) good there = All-cons (Fits (setup_of s b) (rooms numbers)) (call_for s.table (rooms numbers) event.cpu event.act) (calls_for s.table (rooms numbers) events)
+      → ((o : ℕ) → list_any (eqb o) (named events) ≡ true → list_any (eqb o) numbers ≡ true) → All (CallFits (setup_of s b) (rooms numbers)) (calls_for s.table (rooms numbers) events)
+  all_fit workers numbers [] good there = All-nil (CallFits (setup_of s b) (rooms numbers))
+  all_fit workers numbers (event ∷ events) good there = All-cons (CallFits (setup_of s b) (rooms numbers)) (call_for s.table (rooms numbers) event.cpu event.act) (calls_for s.table (rooms numbers) events)
       (call_fits workers numbers event event.act refl (All-head (IsGood workers) event events good) (λ o is. there o (first_named event.act o (named events) is)))
       (all_fit workers numbers events (All-tail (IsGood workers) event events good) (λ o is. there o (later_named (object_named event.act) o (named events) is)))
 
@@ -235,7 +238,7 @@ module _ (s : State) (b : Beside) (trace : Trace) (opens : MayOpen s b) (cpus : 
       let fine : All (IsGood round.workers) mine = All-filter (λ (event : Event). eqb event.worker worker) (IsGood round.workers) round.events good in
       let numbers = numbers_in mine in record {
         between = refl;
-        cpu = let some = opens.coherent.shaped.cpus.0 in omega (arith, some);
+        cpu = some_cpu;
         packed = record {
           cpu_word = (omega arith, omega arith, omega arith);
           slab_word = (omega arith, omega arith, omega arith, omega arith);

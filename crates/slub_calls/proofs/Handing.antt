@@ -3,7 +3,7 @@ use Rattle.std.proofs.Common.{◌≡◌, ℕ, suc, ◌+◌, ◌<◌, ◌≤◌, 
 use Rattle.std.specs.List.{cons_option, list_any, position_or_len, range_with_len}
 use Rattle.std.proofs.lemmas.Bool.{false≢true}
 use Rattle.std.proofs.lemmas.Bool.Decides.{nat_tests}
-use Rattle.std.proofs.lemmas.List.{ext_get_or, get_or-set_other, get_or-set_same, get_or_default, length-set, length-take-le, map_push}
+use Rattle.std.proofs.lemmas.List.{ext_get_or, get_or-set_other, get_or-set_same, get_or_default, length-set, length-take-le}
 use Rattle.std.proofs.lemmas.List.Folds.{position_or_len_push}
 use Rattle.std.proofs.lemmas.List.FromFn.{get_or-map-range_with_len, length-map-range_with_len}
 use Rattle.indexmap.specs.IndexSet.{insert_key}
@@ -12,12 +12,11 @@ use Rattle.slub_trace.specs.declared.event.Act.TheVariants as act
 use Rattle.slub_trace.specs.declared.event.Event.{Event}
 use Rattle.slub_cache_create.specs.Table.{Table}
 use Rattle.slub_core.specs.declared.call.Call.{Call}
-use Rattle.slub_core.specs.declared.local.Answered.{Answered}
 use Rattle.slub_core.specs.declared.local.Known.{Known}
 use Rattle.slub_core.specs.Accounted.{place_of}
 use Rattle.slub_core.specs.Local.{Local}
 use Rattle.slub_core.specs.Run.{idle}
-use Rattle.slub_calls.specs.Calls.{call_for, calls_for, events_by, numbers_in, object_named, rooms_for, worker_with}
+use Rattle.slub_calls.specs.Calls.{call_at, call_for, calls_for, events_by, numbers_in, object_named, rooms_for, worker_with}
 use Rattle.slub_calls.proofs.Numbers.{comes_all, rooms, same_number}
 use Rattle.slub_calls.proofs.Walks.{call_more, named, number_more, number_same, other_more, own_more, place_is}
 
@@ -85,9 +84,6 @@ numbers_more events event None is = number_same events event is
 
 -- ---- the calls after an event
 
-abbrev pub call_at : Table → ℕ → ℕ → Act → Call
-call_at table place cpu a = record (call_for table [] cpu a) { place = place }
-
 placed : (table : Table) (ks : List Known) (cpu : ℕ) (a : Act) → call_for table ks cpu a ≡ call_at table (named_at ks (object_named a)) cpu a
 placed table ks cpu (act.Alloc place o) = refl
 placed table ks cpu (act.Free o) = refl
@@ -142,9 +138,6 @@ numbers_back : (ks : List ℕ) → map (λ (k : Known). k.object) (rooms ks) ≡
 numbers_back [] = refl
 numbers_back (k ∷ ks) = ap (λ rest. k ∷ rest) (numbers_back ks)
 
-abbrev pub calls_in : List Answered → List Call
-calls_in answers = map (λ (a : Answered). a.call) answers
-
 abbrev pub with : ℕ → List Known → List Call → Local
 with worker known todo = record idle { worker = worker; known = known; todo = todo }
 
@@ -162,18 +155,15 @@ share_more table worker events event n w ks calls named_is is =
     same : ks ≡ numbers_in events
     same = sym (numbers_back ks) ∙ ap (λ (l : Local). map (λ (k : Known). k.object) l.known) is ∙ numbers_back (numbers_in events)
 
-pub pushed : (table : Table) (event : Event) (worker : ℕ) (events : List Event) (n : Option ℕ) (w w2 : ℕ) (ks ks2 : List ℕ) (answers answers2 : List Answered) (one : Answered) (place : ℕ)
-    → object_named event.act ≡ n → w2 ≡ w → ks2 ≡ inserted ks n → place ≡ inserted_at ks n → answers2 ≡ answers ++ one ∷ [] → one.call ≡ call_at table place event.cpu event.act
-    → with w (rooms ks) (calls_in answers) ≡ worker_with table worker events
-    → with w2 (rooms ks2) (calls_in answers2) ≡ worker_with table worker (events ++ event ∷ [])
-pushed table event worker events n w w2 ks ks2 answers answers2 one place named_is same_worker numbers_are place_is answers_are call_is is =
-    ap (λ w. with w (rooms ks2) (calls_in answers2)) same_worker
-    ∙ ap (λ ks. with w (rooms ks) (calls_in answers2)) numbers_are
-    ∙ ap (with w (rooms (inserted ks n))) (
-    ap calls_in answers_are ∙ map_push (λ (a : Answered). a.call) answers one
-    ∙ ap (λ call. calls_in answers ++ call ∷ []) (call_is ∙ ap (λ place. call_at table place event.cpu event.act) place_is)
-    )
-    ∙ share_more table worker events event n w ks (calls_in answers) named_is is
+pub pushed : (table : Table) (event : Event) (worker : ℕ) (events : List Event) (n : Option ℕ) (w w2 : ℕ) (ks ks2 : List ℕ) (calls calls2 : List Call) (one : Call) (place : ℕ)
+    → object_named event.act ≡ n → w2 ≡ w → ks2 ≡ inserted ks n → place ≡ inserted_at ks n → calls2 ≡ calls ++ one ∷ [] → one ≡ call_at table place event.cpu event.act
+    → with w (rooms ks) calls ≡ worker_with table worker events
+    → with w2 (rooms ks2) calls2 ≡ worker_with table worker (events ++ event ∷ [])
+pushed table event worker events n w w2 ks ks2 calls calls2 one place named_is same_worker numbers_are place_is calls_are call_is is =
+    ap (λ w. with w (rooms ks2) calls2) same_worker
+    ∙ ap (λ ks. with w (rooms ks) calls2) numbers_are
+    ∙ ap (with w (rooms (inserted ks n))) (calls_are ∙ ap (λ call. calls ++ call ∷ []) (call_is ∙ ap (λ place. call_at table place event.cpu event.act) place_is))
+    ∙ share_more table worker events event n w ks calls named_is is
 
 -- ---- the next event
 

@@ -9,6 +9,7 @@ use Rattle.slub_cache_create.specs.Table.{Table}
 use Rattle.slub_trace.specs.Sound.{AreReadable, IsReadable, is_written, written_after}
 use Rattle.slub_core.specs.declared.call.Call.{Call}
 use Rattle.slub_core.specs.declared.local.Known.{Known}
+use Rattle.slub_core.specs.Calls.{call_kind}
 use Rattle.slub_core.specs.Accounted.{MayCome, written}
 use Rattle.slub_core.specs.Accounted as core
 use Rattle.slub_calls.specs.Calls.{call_for, events_by}
@@ -73,7 +74,7 @@ module _ (table : Table) (rooms : List Known) (worker : ℕ) where
   -- ---- what is read
 
   may_come : (event : Event) (before : List Event) (a : Act) → event.worker ≡ worker → IsReadable before event a
-      → MayCome (calls before) (call_for table rooms event.cpu a) (call_for table rooms event.cpu a).kind
+      → MayCome (calls before) (call_for table rooms event.cpu a) (call_kind (call_for table rooms event.cpu a))
   may_come event before (act.Read at x) mine reads = wrote before x at (subst (λ w. is_written before w x at ≡ true) mine reads)
   may_come event before (act.Alloc place x) mine reads = tt
   may_come event before (act.Free x) mine reads = tt

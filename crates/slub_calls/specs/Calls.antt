@@ -9,9 +9,9 @@ use Rattle.slub_trace.specs.declared.event.Event.{Event}
 use Rattle.slub_trace.specs.declared.event.Round.{Round}
 use Rattle.slub_cache_create.specs.Table.{Table, name_at, number_of}
 use Rattle.slub_core.specs.declared.call.Call.{Call}
-use Rattle.slub_core.specs.declared.call.CallKind.TheVariants.{Alloc, Free, Write, Read, Poke, Trim, Flush}
+use Rattle.slub_core.specs.declared.call.Call.TheVariants as call
 use Rattle.slub_core.specs.declared.local.Known.{Known}
-use Rattle.slub_core.specs.Local.{Local, no_call, nobody}
+use Rattle.slub_core.specs.Local.{Local, nobody}
 use Rattle.slub_core.specs.Accounted.{place_of}
 use Rattle.slub_core.specs.Run.{idle}
 
@@ -51,50 +51,30 @@ rooms_for events = map room_for (numbers_in events)
 abbrev pub cache_named : Table → ℕ → Option ℕ
 cache_named table place = number_of table (name_at table place)
 
--- what an act of an event calls for, by a worker who has these rooms
+-- what an act of an event calls for, where its object, if it names one, has this place among those
+-- that its worker will know
+abbrev pub call_at : Table → ℕ → ℕ → Act → Call
+call_at table place cpu (act.Alloc name object) =
+    call.Alloc cpu (cache_named table name) object place
+call_at table place cpu (act.Free object) = call.Free cpu object place
+call_at table place cpu (act.Write word object value) = call.Write object place word value
+call_at table place cpu (act.Read word object) = call.Read object place word
+call_at table place cpu (act.Poke object offset byte) = call.Poke object place offset byte
+call_at table place cpu (act.Trim name) = call.Trim (cache_named table name)
+call_at table place cpu act.Flush = call.Flush cpu
+
+-- the same, by a worker who has these rooms
 abbrev pub call_for : Table → List Known → ℕ → Act → Call
-call_for table rooms cpu (act.Alloc place object) = record no_call {
-  kind = Alloc;
-  cpu = cpu;
-  cache = cache_named table place;
-  object = object;
-  place = place_of rooms object;
-}
-call_for table rooms cpu (act.Free object) = record no_call {
-  kind = Free;
-  cpu = cpu;
-  object = object;
-  place = place_of rooms object;
-}
-call_for table rooms cpu (act.Write word object value) = record no_call {
-  kind = Write;
-  cpu = cpu;
-  object = object;
-  place = place_of rooms object;
-  word = word;
-  value = value;
-}
-call_for table rooms cpu (act.Read word object) = record no_call {
-  kind = Read;
-  cpu = cpu;
-  object = object;
-  place = place_of rooms object;
-  word = word;
-}
-call_for table rooms cpu (act.Poke object offset byte) = record no_call {
-  kind = Poke;
-  cpu = cpu;
-  object = object;
-  place = place_of rooms object;
-  offset = offset;
-  byte = byte;
-}
-call_for table rooms cpu (act.Trim place) = record no_call {
-  kind = Trim;
-  cpu = cpu;
-  cache = cache_named table place;
-}
-call_for table rooms cpu act.Flush = record no_call { kind = Flush; cpu = cpu }
+call_for table rooms cpu (act.Alloc name object) =
+    call.Alloc cpu (cache_named table name) object (place_of rooms object)
+call_for table rooms cpu (act.Free object) = call.Free cpu object (place_of rooms object)
+call_for table rooms cpu (act.Write word object value) =
+    call.Write object (place_of rooms object) word value
+call_for table rooms cpu (act.Read word object) = call.Read object (place_of rooms object) word
+call_for table rooms cpu (act.Poke object offset byte) =
+    call.Poke object (place_of rooms object) offset byte
+call_for table rooms cpu (act.Trim name) = call.Trim (cache_named table name)
+call_for table rooms cpu act.Flush = call.Flush cpu
 
 abbrev pub calls_for : Table → List Known → List Event → List Call
 calls_for table rooms events = map (λ event. call_for table rooms event.cpu event.act) events

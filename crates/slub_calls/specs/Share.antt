@@ -10,5 +10,5 @@ abbrev pub gathered : Share → Local
 gathered share = record idle {
   worker = share.worker;
   known = map room_for share.numbers.keys;
-  todo = map (λ a. a.call) share.script.items;
+  todo = share.calls.items;
 }

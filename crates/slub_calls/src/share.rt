@@ -1,20 +1,19 @@
 //! What a worker is to do, event by event.
 
-ghost use Rattle.std.specs.Prelude.{◌≡◌, ℕ, List, [], ◌∷◌, ◌++◌, IfOk, OnOk, map};
+ghost use Rattle.std.specs.Prelude.{◌≡◌, ℕ, List, [], ◌∷◌, ◌++◌, IfOk, IsSome, None, OnOk, map};
 ghost use Rattle.slub_trace.specs.declared.event.Event.{Event};
 ghost use Rattle.slub_core.specs.Run.{idle};
-ghost use Rattle.slub_calls.specs.Calls.{IsNamedEvent, call_for, object_named, room_for, worker_with};
+ghost use Rattle.slub_calls.specs.Calls.{IsNamedEvent, call_at, object_named, room_for, worker_with};
 ghost use Rattle.slub_calls.specs.Share.{gathered};
 
 use crate::number_hasher::NumberHasher;
 use indexmap::IndexSet;
 use slub_cache_create::caches::Caches;
 use slub_common::no_memory::NoMemory;
-use slub_core::call::{Call, CallKind};
-use slub_core::local::{Answered, Known};
-use slub_core::worker_local::{Local, NO_CALL};
+use slub_core::call::Call;
+use slub_core::local::Known;
+use slub_core::worker_local::Local;
 use slub_trace::event::{Act, Event};
-use slub_trace::reply::Reply;
 use std::alloc::Global;
 use std::hash::BuildHasherDefault;
 
@@ -24,8 +23,8 @@ pub struct Share {
     worker: u8,
     /// The object numbers that its events name, each once, in the order in which they come.
     numbers: IndexSet<u32, BuildHasherDefault<NumberHasher>>,
-    /// The calls of its events, with room for their replies.
-    script: Vec<Answered>,
+    /// The calls of its events.
+    calls: Vec<Call>,
 }
 
 impl Share {
@@ -33,7 +32,7 @@ impl Share {
     pub fn open(alloc: Global, worker: u8, events: usize) -> Result<Share, NoMemory>
         ensures { IfOk result (λ share. gathered share ≡ record idle { worker = worker }) }
     {
-        let script = Vec::with_capacity(alloc, events)?;
+        let calls = Vec::with_capacity(alloc, events)?;
         // most objects are named twice and more: where they are given and where they are freed
         let numbers = IndexSet::with_capacity_and_hasher(
             alloc,
@@ -43,7 +42,7 @@ impl Share {
         Ok(Share {
             worker,
             numbers,
-            script,
+            calls,
         })
     }
 
@@ -52,15 +51,14 @@ impl Share {
         requires { IsNamedEvent table.now event.now }
         ensures { OnOk result ((worker : ℕ) (events : List Event) → gathered self.old ≡ worker_with table.now worker events → gathered self.new ≡ worker_with table.now worker (events ++ event.now ∷ [])) }
     {
-        let place = match object_named(&event.act) {
-            Some(object) => self.numbers.insert_full(object)?.0,
-            None => 0,
+        let call = match object_named(&event.act) {
+            Some(object) => {
+                let place = self.numbers.insert_full(object)?.0;
+                call_at(table, place, event)
+            }
+            None => call_without(table, event),
         };
-        let call = call_at(table, place, event);
-        self.script.push(Answered {
-            call,
-            reply: Reply::NotHeld,
-        })?;
+        self.calls.push(call)?;
         Ok(())
     }
 
@@ -69,7 +67,7 @@ impl Share {
         ensures { IfOk result (λ local. local ≡ gathered self) }
     {
         let rooms = rooms(alloc, &self.numbers)?;
-        Local::open(alloc, self.worker, rooms, self.script)
+        Local::open(alloc, self.worker, rooms, self.calls)
     }
 }
 
@@ -88,65 +86,64 @@ fn object_named(act: &Act) -> Option<u32>
     }
 }
 
-/// What an event calls for, where its object has this place.
+/// What an event calls for that names an object, which has this place.
 fn call_at(table: &Caches, place: usize, event: &Event) -> Call
-    requires { IsNamedEvent table.now event.now }
-    ensures { result ≡ record (call_for table.now [] event.now.cpu event.now.act) { place = place } }
+    requires named { IsNamedEvent table.now event.now }
+    requires object { IsSome (object_named event.now.act) }
+    ensures { result ≡ call_at table.now place event.now.cpu event.now.act }
 {
-    let call = Call {
-        cpu: event.cpu as u32,
-        place,
-        ..NO_CALL
-    };
+    let cpu = event.cpu as u32;
     match event.act {
-        Act::Alloc { cache, object } => Call {
-            kind: CallKind::Alloc,
+        Act::Alloc { cache, object } => Call::Alloc {
+            cpu,
             cache: table.at(cache),
             object,
-            ..call
+            place,
         },
-        Act::Free { object } => Call {
-            kind: CallKind::Free,
-            object,
-            ..call
-        },
+        Act::Free { object } => Call::Free { cpu, object, place },
         Act::Write {
             word,
             object,
             value,
-        } => Call {
-            kind: CallKind::Write,
+        } => Call::Write {
             object,
+            place,
             word: word as u32,
             value,
-            ..call
         },
-        Act::Read { word, object } => Call {
-            kind: CallKind::Read,
+        Act::Read { word, object } => Call::Read {
             object,
+            place,
             word: word as u32,
-            ..call
         },
         Act::Poke {
             object,
             offset,
             byte,
-        } => Call {
-            kind: CallKind::Poke,
+        } => Call::Poke {
             object,
+            place,
             offset,
             byte,
-            ..call
         },
-        Act::Trim { cache } => Call {
-            kind: CallKind::Trim,
+        Act::Trim { .. } | Act::Flush => unreachable!(),
+    }
+}
+
+/// What an event calls for that names no object.
+fn call_without(table: &Caches, event: &Event) -> Call
+    requires named { IsNamedEvent table.now event.now }
+    requires none { object_named event.now.act ≡ None }
+    ensures { (place : ℕ) → result ≡ call_at table.now place event.now.cpu event.now.act }
+{
+    match event.act {
+        Act::Trim { cache } => Call::Trim {
             cache: table.at(cache),
-            ..call
         },
-        Act::Flush => Call {
-            kind: CallKind::Flush,
-            ..call
+        Act::Flush => Call::Flush {
+            cpu: event.cpu as u32,
         },
+        _ => unreachable!(),
     }
 }
 

@@ -1,6 +1,6 @@
 -- `alloc_single_from_partial`, `free_debug_processing`: what a change under the lock of a checked
 -- cache finds there.
-use Rattle.std.specs.Prelude.{◌+◌, ◌*◌, ◌<◌, ◌≤◌, List}
+use Rattle.std.specs.Prelude.{◌≡◌, ◌+◌, ◌*◌, ◌<◌, ◌≤◌, List}
 use Rattle.slub_page_pool.specs.Block.{CanPut}
 use Rattle.slub_red_zone.specs.State.{CheckedState, Has, IsUsed}
 use Rattle.slub_object_layout.specs.Layout.{IsSized}
@@ -13,20 +13,25 @@ use Rattle.slub_core.specs.World.{pool_in}
 use Rattle.slub_core.specs.Local.{Local, run_of, call_of}
 use Rattle.slub_core.specs.Checked.{slot_of}
 use Rattle.slub_core.specs.declared.guarded.Guarded.{Guarded}
+use Rattle.slub_core.specs.Calls.{call_kind, call_word}
 use Rattle.slub_core.specs.Values.{values_of, HasPool}
 use Rattle.slub_checked_paths.specs.Slabs.{IsCheckedValue, slabs_at}
 
+-- the call is of this kind
+abbrev pub IsOfKind : Local → CallKind → Type 0
+IsOfKind l kind = call_kind (call_of l) ≡ kind
+
 -- the object is used, and the word lies in it
 abbrev pub MayUse : Local → CheckedState → Type 0
-MayUse l s = IsUsed s (slot_of l) × (8 * ((call_of l).word + 1) ≤ s.layout.object_size)
+MayUse l s = IsUsed s (slot_of l) × (8 * (call_word (call_of l) + 1) ≤ s.layout.object_size)
 
--- what a free, a write or a read is of is used
+-- what a free, a write or a read is of is used, and a write, a read and a poke are the call's
 abbrev pub MayDo : Local → CheckedState → CallKind → Type 0
 MayDo l s Alloc = Unit {0}
 MayDo l s Free = IsUsed s (slot_of l)
-MayDo l s Write = MayUse l s
-MayDo l s Read = MayUse l s
-MayDo l s Poke = Unit {0}
+MayDo l s Write = IsOfKind l Write × MayUse l s
+MayDo l s Read = IsOfKind l Read × MayUse l s
+MayDo l s Poke = IsOfKind l Poke
 MayDo l s Trim = Unit {0}
 MayDo l s Flush = Unit {0}
 

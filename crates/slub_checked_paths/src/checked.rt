@@ -14,7 +14,7 @@ ghost use Rattle.slub_checked_paths.specs.Turns.{given_turn, freed_turn, way_of_
 ghost use Rattle.slub_checked_paths.specs.Fits.{CheckedFits};
 
 use crate::slabs;
-use slub_core::call::CallKind;
+use slub_core::call::{Call, CallKind};
 use slub_core::guarded::Guarded;
 use slub_core::local::FrameRun;
 use slub_core::setup::Setup;
@@ -175,14 +175,10 @@ fn do_write(setup: &Setup, values: &mut [Guarded], local: &mut Local) -> Option<
     ensures change { (means : Means) → changed values.new local.new result ≡ core.do_checked (setup_of setup.now means) (values_of values.old) local.old CallKind.Write (slabs_at (values_of values.old (node_lock local.old.cache))) }
     ensures rooms { rooms_of values.new ≡ rooms_of values.old }
 {
-    let call = local.call();
-    slabs::set_word_in(
-        values,
-        local.cache(),
-        slabs::slot_of(local),
-        call.word,
-        call.value,
-    );
+    let Call::Write { word, value, .. } = local.call() else {
+        unreachable!()
+    };
+    slabs::set_word_in(values, local.cache(), slabs::slot_of(local), word, value);
     local.at(Spot::InChecked(CheckedSpot::GiveChecked, CallKind::Write));
     Some(Reply::Wrote)
 }
@@ -193,10 +189,13 @@ fn do_read(setup: &Setup, values: &mut [Guarded], local: &mut Local) -> Option<R
     ensures change { (means : Means) → changed values.new local.new result ≡ core.do_checked (setup_of setup.now means) (values_of values.old) local.old CallKind.Read (slabs_at (values_of values.old (node_lock local.old.cache))) }
     ensures rooms { rooms_of values.new ≡ rooms_of values.old }
 {
+    let Call::Read { word, .. } = local.call() else {
+        unreachable!()
+    };
     let lock = usize::from(local.cache()) + 1;
-    let word = slabs::word(&values[lock], slabs::slot_of(local), local.call().word);
+    let value = slabs::word(&values[lock], slabs::slot_of(local), word);
     local.at(Spot::InChecked(CheckedSpot::GiveChecked, CallKind::Read));
-    Some(Reply::Value(word))
+    Some(Reply::Value(value))
 }
 
 /// A byte is written in a slot.

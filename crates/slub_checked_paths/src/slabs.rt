@@ -10,9 +10,11 @@ ghost use Rattle.slub_core.specs.Setup.{node_lock};
 ghost use Rattle.slub_core.specs.World.{Checked, update};
 ghost use Rattle.slub_core.specs.Checked as core;
 ghost use Rattle.slub_core.specs.Values.{value_in, values_of, room_in, rooms_of};
+ghost use Rattle.slub_checked_paths.specs.Fits.{IsOfKind};
 ghost use Rattle.slub_checked_paths.specs.Slabs.{IsCheckedValue, slabs_at, spare_run, less_spare};
 
 use slub_common::no_memory::NoMemory;
+use slub_core::call::{Call, CallKind};
 use slub_core::guarded::Guarded;
 use slub_core::local::FrameRun;
 use slub_core::worker_local::Local;
@@ -110,16 +112,17 @@ pub fn word(guarded: &Guarded, slot: Slot, word: u32) -> u64
 
 /// Writes a byte of the slot of the call's object, where it lies there and the slab is there still.
 fn poke(guarded: &mut Guarded, local: &Local) -> Reply
-    requires { IsCheckedValue (value_in guarded.old) }
+    requires call { IsOfKind local.now CallKind.Poke }
+    requires checked { IsCheckedValue (value_in guarded.old) }
     ensures reply { result ≡ core.poked_reply local.now (slabs_at (value_in guarded.old)) }
     ensures after { value_in guarded.new ≡ Checked (core.poked local.now (slabs_at (value_in guarded.old))) }
     ensures room { room_in guarded.new ≡ room_in guarded.old }
 {
     match guarded {
-        Guarded::Checked(slabs) => {
-            let call = local.call();
-            poke_slot(slabs, slot_of(local), call.offset, call.byte)
-        }
+        Guarded::Checked(slabs) => match local.call() {
+            Call::Poke { offset, byte, .. } => poke_slot(slabs, slot_of(local), offset, byte),
+            _ => unreachable!(),
+        },
         _ => unreachable!(),
     }
 }
@@ -219,7 +222,8 @@ pub fn set_word_in(values: &mut [Guarded], cache: u8, slot: Slot, word: u32, val
 
 /// Writes a byte of the slot of the call's object, where it lies there and the slab is there still.
 pub fn poke_in(values: &mut [Guarded], cache: u8, local: &Local) -> Reply
-    requires { IsCheckedValue (values_of values.old (node_lock cache)) }
+    requires call { IsOfKind local.now CallKind.Poke }
+    requires checked { IsCheckedValue (values_of values.old (node_lock cache)) }
     ensures reply { result ≡ core.poked_reply local.now (slabs_at (values_of values.old (node_lock cache))) }
     ensures after { values_of values.new ≡ update (values_of values.old) (node_lock cache) (Checked (core.poked local.now (slabs_at (values_of values.old (node_lock cache))))) }
     ensures rooms { rooms_of values.new ≡ rooms_of values.old }

@@ -147,15 +147,15 @@ done_status trace journal =
     (cond (is_refused trace journal) Refused Fine)
 
 -- the number with which the program ends
-abbrev pub number_of : Status → ℕ
-number_of Fine = 0
-number_of Refused = 1
-number_of BadWords = 2
-number_of BadTrace = 3
-number_of ReadFault = 4
-number_of WriteFault = 5
-number_of NoMemory = 6
-number_of TurnsSpent = 7
+abbrev pub status_number : Status → ℕ
+status_number Fine = 0
+status_number Refused = 1
+status_number BadWords = 2
+status_number BadTrace = 3
+status_number ReadFault = 4
+status_number WriteFault = 5
+status_number NoMemory = 6
+status_number TurnsSpent = 7
 
 -- ---- the call
 

@@ -37,11 +37,11 @@ pub enum Status {
 }
 
 impl Status {
-    ghost use Rattle.slub_cli.specs.Run.{number_of};
+    ghost use Rattle.slub_cli.specs.Run.{status_number};
 
     /// The number with which the program ends, 0 to 7.
     pub fn number(self) -> u8
-        ensures { result ≡ number_of self }
+        ensures { result ≡ status_number self }
     {
         match self {
             Status::Fine => 0,

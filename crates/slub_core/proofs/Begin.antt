@@ -15,6 +15,7 @@ use Rattle.slub_core.specs.declared.spot.FreeSpot.TheVariants.{TakeBoard, LoadOw
 use Rattle.slub_core.specs.declared.spot.Sweep.TheVariants.{Trimming, Flushing}
 use Rattle.slub_core.specs.declared.spot.OfflineSpot.TheVariants.{LoadCurrent}
 use Rattle.slub_core.specs.declared.spot.CheckedSpot.TheVariants.{LockChecked}
+use Rattle.slub_core.specs.Calls.{call_kind, call_cpu, call_cache, call_place, call_word}
 use Rattle.slub_core.specs.Setup.{Setup, IsPlain, IsChecked}
 use Rattle.slub_core.specs.World.{World}
 use Rattle.slub_core.specs.Local.{Local, Worker, nobody, call_of}
@@ -39,7 +40,7 @@ module _ (fast : Bool) where
 
   -- the object of the call
   abbrev named : Local → Call → Known
-  named l call = get_or l.known call.place nobody
+  named l call = get_or l.known (call_place call) nobody
 
   -- ---- what it relies on, by its first spot
 
@@ -59,11 +60,11 @@ module _ (fast : Bool) where
       → (get_or x.local.known place nobody).held ≡ true → (get_or x.local.known place nobody).cache ≡ cache → IsAtWork w x → IsAtWork w (record x { local = begins x.local (InFree LoadOwn) cache cpu place })
   free-work w x cache cpu place is below plain inside number held owner ok = grind arith
 
-  write-work : (w : World) (x : Worker) (cache cpu place : ℕ) → x.local.spot ≡ Between → is_outside (w.setup.layout cache) (call_of x.local) ≡ false → cpu < w.setup.cpus → IsPlain w.setup cache → place < length x.local.known → (get_or x.local.known place nobody).object < w.setup.objects
+  write-work : (w : World) (x : Worker) (cache cpu place : ℕ) → x.local.spot ≡ Between → is_outside (w.setup.layout cache) (call_word (call_of x.local)) ≡ false → cpu < w.setup.cpus → IsPlain w.setup cache → place < length x.local.known → (get_or x.local.known place nobody).object < w.setup.objects
       → (get_or x.local.known place nobody).held ≡ true → (get_or x.local.known place nobody).cache ≡ cache → IsAtWork w x → IsAtWork w (record x { local = begins x.local WriteWord cache cpu place })
   write-work w x cache cpu place is within below plain inside number held owner ok = grind arith
 
-  read-work : (w : World) (x : Worker) (cache cpu place : ℕ) → x.local.spot ≡ Between → is_outside (w.setup.layout cache) (call_of x.local) ≡ false → cpu < w.setup.cpus → IsPlain w.setup cache → place < length x.local.known → (get_or x.local.known place nobody).object < w.setup.objects
+  read-work : (w : World) (x : Worker) (cache cpu place : ℕ) → x.local.spot ≡ Between → is_outside (w.setup.layout cache) (call_word (call_of x.local)) ≡ false → cpu < w.setup.cpus → IsPlain w.setup cache → place < length x.local.known → (get_or x.local.known place nobody).object < w.setup.objects
       → (get_or x.local.known place nobody).held ≡ true → (get_or x.local.known place nobody).cache ≡ cache → IsAtWork w x → IsAtWork w (record x { local = begins x.local ReadWord cache cpu place })
   read-work w x cache cpu place is within below plain inside number held owner ok = grind arith
 
@@ -71,11 +72,11 @@ module _ (fast : Bool) where
       → (get_or x.local.known place nobody).held ≡ true → (get_or x.local.known place nobody).cache ≡ cache → IsAtWork w x → IsAtWork w (record x { local = begins x.local (InChecked LockChecked Free) cache cpu place })
   free_checked-work w x cache cpu place is below checked inside number held owner ok = grind arith
 
-  write_checked-work : (w : World) (x : Worker) (cache cpu place : ℕ) → x.local.spot ≡ Between → is_outside (w.setup.layout cache) (call_of x.local) ≡ false → cpu < w.setup.cpus → IsChecked w.setup cache → place < length x.local.known → (get_or x.local.known place nobody).object < w.setup.objects
+  write_checked-work : (w : World) (x : Worker) (cache cpu place : ℕ) → x.local.spot ≡ Between → is_outside (w.setup.layout cache) (call_word (call_of x.local)) ≡ false → cpu < w.setup.cpus → IsChecked w.setup cache → place < length x.local.known → (get_or x.local.known place nobody).object < w.setup.objects
       → (get_or x.local.known place nobody).held ≡ true → (get_or x.local.known place nobody).cache ≡ cache → IsAtWork w x → IsAtWork w (record x { local = begins x.local (InChecked LockChecked Write) cache cpu place })
   write_checked-work w x cache cpu place is within below checked inside number held owner ok = grind arith
 
-  read_checked-work : (w : World) (x : Worker) (cache cpu place : ℕ) → x.local.spot ≡ Between → is_outside (w.setup.layout cache) (call_of x.local) ≡ false → cpu < w.setup.cpus → IsChecked w.setup cache → place < length x.local.known → (get_or x.local.known place nobody).object < w.setup.objects
+  read_checked-work : (w : World) (x : Worker) (cache cpu place : ℕ) → x.local.spot ≡ Between → is_outside (w.setup.layout cache) (call_word (call_of x.local)) ≡ false → cpu < w.setup.cpus → IsChecked w.setup cache → place < length x.local.known → (get_or x.local.known place nobody).object < w.setup.objects
       → (get_or x.local.known place nobody).held ≡ true → (get_or x.local.known place nobody).cache ≡ cache → IsAtWork w x → IsAtWork w (record x { local = begins x.local (InChecked LockChecked Read) cache cpu place })
   read_checked-work w x cache cpu place is within below checked inside number held owner ok = grind arith
 
@@ -130,29 +131,29 @@ module _ (fast : Bool) where
 
   -- the number that its place has
   number-named : (w : World) (x : Worker) (others : List Worker) (call : Call) → Stands w (x ∷ others) → MayBegin w.setup x.local call → (named x.local call).object < w.setup.objects
-  number-named w x others call s may = number-at w.setup x.local.known call.place (let n = (at_work w x others s).spot.number in omega arith) may.numbers
+  number-named w x others call s may = number-at w.setup x.local.known (call_place call) (let n = (at_work w x others s).spot.number in omega arith) may.numbers
 
   -- by the kind of the call
   abbrev begun_by : Setup → Local → Call → CallKind → Local
   begun_by m l call kind =
-      let cache = cache_for m (named l call) call.cache kind in
-      begins l (first_spot kind (m.checks cache) (named l call).held) cache (first_cpu kind call.cpu) call.place
+      let cache = cache_for m (named l call) (call_cache call) kind in
+      begins l (first_spot kind (m.checks cache) (named l call).held) cache (first_cpu kind (call_cpu call)) (call_place call)
 
-  begins_by : (w : World) (x : Worker) (others : List Worker) (call : Call) (kind : CallKind) → call.kind ≡ kind → call_of x.local ≡ call → x.local.spot ≡ Between → Stands w (x ∷ others) → MayBegin w.setup x.local call
+  begins_by : (w : World) (x : Worker) (others : List Worker) (call : Call) (kind : CallKind) → call_kind call ≡ kind → call_of x.local ≡ call → x.local.spot ≡ Between → Stands w (x ∷ others) → MayBegin w.setup x.local call
       → told_at_once w.setup (named x.local call) call kind ≡ None → ComesTo w others (begun_by w.setup x.local call kind)
-  begins_by w x others call Alloc e first is s may none = by_name call.cache refl none
+  begins_by w x others call Alloc e first is s may none = by_name (call_cache call) refl none
     where
-      by_name : (name : Option ℕ) → call.cache ≡ name → told_of_alloc name ≡ None → ComesTo w others (let cache = cache_for w.setup (named x.local call) name Alloc in begins x.local (first_spot Alloc (w.setup.checks cache) (named x.local call).held) cache call.cpu call.place)
+      by_name : (name : Option ℕ) → call_cache call ≡ name → told_of_alloc name ≡ None → ComesTo w others (let cache = cache_for w.setup (named x.local call) name Alloc in begins x.local (first_spot Alloc (w.setup.checks cache) (named x.local call).held) cache (call_cpu call) (call_place call))
       by_name None n none = absurd (none-some _ (sym none))
       by_name (Some k) n none =
           let lives : w.setup.lives k ≡ true = rw n at may.cache in
           let below = s.fresh.setup.live k lives in
           let number = number-named w x others call s may in
           elim (cases_Bool (w.setup.checks k)) [
-            | inl c ↦ rw c (goes-on w x others (InChecked LockChecked Alloc) k call.cpu call.place is s (λ f. refl) (λ n. refl)
-                (alloc_checked-work w x k call.cpu call.place is may.cpu (below, lives, c) (may.place (rw e refl)) number (may.new e) (at_work w x others s)))
-            | inr c ↦ rw c (goes-on w x others (InAlloc LoadCpu) k call.cpu call.place is s (λ f. refl) (λ n. refl)
-                (alloc-work w x k call.cpu call.place is may.cpu (below, lives, c) (may.place (rw e refl)) number (may.new e) (at_work w x others s)))
+            | inl c ↦ rw c (goes-on w x others (InChecked LockChecked Alloc) k (call_cpu call) (call_place call) is s (λ f. refl) (λ n. refl)
+                (alloc_checked-work w x k (call_cpu call) (call_place call) is may.cpu (below, lives, c) (may.place (rw e refl)) number (may.new e) (at_work w x others s)))
+            | inr c ↦ rw c (goes-on w x others (InAlloc LoadCpu) k (call_cpu call) (call_place call) is s (λ f. refl) (λ n. refl)
+                (alloc-work w x k (call_cpu call) (call_place call) is may.cpu (below, lives, c) (may.place (rw e refl)) number (may.new e) (at_work w x others s)))
           ]
   begins_by w x others call Free e first is s may none =
       let k = (named x.local call).cache in
@@ -160,14 +161,14 @@ module _ (fast : Bool) where
       let some = let a = may.known (rw e refl) in let b = may.object (rw e refl) in subst (λ o. 1 ≤ o) (sym a) b.0 in
       let ok = at_work w x others s in
       elim (cases_Bool (named x.local call).held) [
-        | inr h ↦ rw h (goes-on w x others (InFree TakeBoard) k call.cpu call.place is s (λ f. refl) (λ n. refl) (board-work w x k call.cpu call.place is may.cpu (may.place (rw e refl)) some number h ok))
+        | inr h ↦ rw h (goes-on w x others (InFree TakeBoard) k (call_cpu call) (call_place call) is s (λ f. refl) (λ n. refl) (board-work w x k (call_cpu call) (call_place call) is may.cpu (may.place (rw e refl)) some number h ok))
         | inl h ↦
-            let live = held-cache w x others call.place s (may.place (rw e refl)) h in
+            let live = held-cache w x others (call_place call) s (may.place (rw e refl)) h in
             elim (cases_Bool (w.setup.checks k)) [
-              | inl c ↦ rw (h, c) (goes-on w x others (InChecked LockChecked Free) k call.cpu call.place is s (λ f. refl) (λ n. refl)
-                  (free_checked-work w x k call.cpu call.place is may.cpu (checked-of w.setup k live c) (may.place (rw e refl)) number h refl ok))
-              | inr c ↦ rw (h, c) (goes-on w x others (InFree LoadOwn) k call.cpu call.place is s (λ f. refl) (λ n. refl)
-                  (free-work w x k call.cpu call.place is may.cpu (plain-of w.setup k live c) (may.place (rw e refl)) number h refl ok))
+              | inl c ↦ rw (h, c) (goes-on w x others (InChecked LockChecked Free) k (call_cpu call) (call_place call) is s (λ f. refl) (λ n. refl)
+                  (free_checked-work w x k (call_cpu call) (call_place call) is may.cpu (checked-of w.setup k live c) (may.place (rw e refl)) number h refl ok))
+              | inr c ↦ rw (h, c) (goes-on w x others (InFree LoadOwn) k (call_cpu call) (call_place call) is s (λ f. refl) (λ n. refl)
+                  (free-work w x k (call_cpu call) (call_place call) is may.cpu (plain-of w.setup k live c) (may.place (rw e refl)) number h refl ok))
             ]
       ]
   begins_by w x others call Write e first is s may none =
@@ -177,13 +178,13 @@ module _ (fast : Bool) where
       elim (cases_Bool (named x.local call).held) [
         | inr h ↦ absurd (none-some _ (sym (rw h at none)))
         | inl h ↦
-            let live = held-cache w x others call.place s (may.place (rw e refl)) h in
-            let within = not_outside (is_outside (w.setup.layout k) call) (rw h at none) in
+            let live = held-cache w x others (call_place call) s (may.place (rw e refl)) h in
+            let within = not_outside (is_outside (w.setup.layout k) (call_word call)) (rw h at none) in
             elim (cases_Bool (w.setup.checks k)) [
-              | inl c ↦ rw c (goes-on w x others (InChecked LockChecked Write) k call.cpu call.place is s (λ f. refl) (λ n. refl)
-                  (write_checked-work w x k call.cpu call.place is (rw first within) may.cpu (checked-of w.setup k live c) (may.place (rw e refl)) number h refl ok))
-              | inr c ↦ rw c (goes-on w x others WriteWord k call.cpu call.place is s (λ f. refl) (λ n. refl)
-                  (write-work w x k call.cpu call.place is (rw first within) may.cpu (plain-of w.setup k live c) (may.place (rw e refl)) number h refl ok))
+              | inl c ↦ rw c (goes-on w x others (InChecked LockChecked Write) k (call_cpu call) (call_place call) is s (λ f. refl) (λ n. refl)
+                  (write_checked-work w x k (call_cpu call) (call_place call) is (rw first within) may.cpu (checked-of w.setup k live c) (may.place (rw e refl)) number h refl ok))
+              | inr c ↦ rw c (goes-on w x others WriteWord k (call_cpu call) (call_place call) is s (λ f. refl) (λ n. refl)
+                  (write-work w x k (call_cpu call) (call_place call) is (rw first within) may.cpu (plain-of w.setup k live c) (may.place (rw e refl)) number h refl ok))
             ]
       ]
   begins_by w x others call Read e first is s may none =
@@ -193,13 +194,13 @@ module _ (fast : Bool) where
       elim (cases_Bool (named x.local call).held) [
         | inr h ↦ absurd (none-some _ (sym (rw h at none)))
         | inl h ↦
-            let live = held-cache w x others call.place s (may.place (rw e refl)) h in
-            let within = not_outside (is_outside (w.setup.layout k) call) (rw h at none) in
+            let live = held-cache w x others (call_place call) s (may.place (rw e refl)) h in
+            let within = not_outside (is_outside (w.setup.layout k) (call_word call)) (rw h at none) in
             elim (cases_Bool (w.setup.checks k)) [
-              | inl c ↦ rw c (goes-on w x others (InChecked LockChecked Read) k call.cpu call.place is s (λ f. refl) (λ n. refl)
-                  (read_checked-work w x k call.cpu call.place is (rw first within) may.cpu (checked-of w.setup k live c) (may.place (rw e refl)) number h refl ok))
-              | inr c ↦ rw c (goes-on w x others ReadWord k call.cpu call.place is s (λ f. refl) (λ n. refl)
-                  (read-work w x k call.cpu call.place is (rw first within) may.cpu (plain-of w.setup k live c) (may.place (rw e refl)) number h refl ok))
+              | inl c ↦ rw c (goes-on w x others (InChecked LockChecked Read) k (call_cpu call) (call_place call) is s (λ f. refl) (λ n. refl)
+                  (read_checked-work w x k (call_cpu call) (call_place call) is (rw first within) may.cpu (checked-of w.setup k live c) (may.place (rw e refl)) number h refl ok))
+              | inr c ↦ rw c (goes-on w x others ReadWord k (call_cpu call) (call_place call) is s (λ f. refl) (λ n. refl)
+                  (read-work w x k (call_cpu call) (call_place call) is (rw first within) may.cpu (plain-of w.setup k live c) (may.place (rw e refl)) number h refl ok))
             ]
       ]
   begins_by w x others call Poke e first is s may none =
@@ -211,16 +212,16 @@ module _ (fast : Bool) where
         | inl z ↦ absurd (false≢true (sym c.0 ∙ eq-eqb (named x.local call).frame 0 z))
         | inr d ↦ omega (arith, d)
       ] in
-      goes-on w x others (InChecked LockChecked Poke) k call.cpu call.place is s (λ f. refl) (λ n. refl)
-      (poke-work w x k call.cpu call.place is may.cpu (s.fresh.setup.live k lives, lives, c.1) (may.place (rw e refl)) number refl real (at_work w x others s))
+      goes-on w x others (InChecked LockChecked Poke) k (call_cpu call) (call_place call) is s (λ f. refl) (λ n. refl)
+      (poke-work w x k (call_cpu call) (call_place call) is may.cpu (s.fresh.setup.live k lives, lives, c.1) (may.place (rw e refl)) number refl real (at_work w x others s))
     where
       by_checks : (zero checks : Bool) → (if zero then Some reply.NotHeld else if not checks then Some reply.NotChecked else None) ≡ None → (zero ≡ false) × (checks ≡ true)
       by_checks true checks e = absurd (none-some _ (sym e))
       by_checks false true e = (refl, refl)
       by_checks false false e = absurd (none-some _ (sym e))
-  begins_by w x others call Trim e first is s may none = by_name call.cache refl none
+  begins_by w x others call Trim e first is s may none = by_name (call_cache call) refl none
     where
-      by_name : (name : Option ℕ) → call.cache ≡ name → told_of_trim w.setup name ≡ None → ComesTo w others (let cache = cache_for w.setup (named x.local call) name Trim in begins x.local (first_spot Trim (w.setup.checks cache) (named x.local call).held) cache 0 call.place)
+      by_name : (name : Option ℕ) → call_cache call ≡ name → told_of_trim w.setup name ≡ None → ComesTo w others (let cache = cache_for w.setup (named x.local call) name Trim in begins x.local (first_spot Trim (w.setup.checks cache) (named x.local call).held) cache 0 (call_place call))
       by_name None n none = absurd (none-some _ (sym none))
       by_name (Some k) n none =
           let lives : w.setup.lives k ≡ true = rw n at may.cache in
@@ -229,7 +230,7 @@ module _ (fast : Bool) where
           let number = number-named w x others call s may in
           elim (cases_Bool (w.setup.checks k)) [
             | inl c ↦ absurd (none-some _ (sym (rw c at none)))
-            | inr c ↦ goes-on w x others (InOffline LoadCurrent Trimming) k 0 call.place is s (λ f. refl) (λ n. refl) (trim-work w x k 0 call.place is (omega arith) (below, lives, c) number (at_work w x others s))
+            | inr c ↦ goes-on w x others (InOffline LoadCurrent Trimming) k 0 (call_place call) is s (λ f. refl) (λ n. refl) (trim-work w x k 0 (call_place call) is (omega arith) (below, lives, c) number (at_work w x others s))
           ]
   begins_by w x others call Flush e first is s may none =
       let plain = w.setup.plain in
@@ -238,8 +239,8 @@ module _ (fast : Bool) where
         | inl z ↦ absurd (none-some _ (sym (rw (eq-eqb (length plain) 0 z) at none)))
         | inr d ↦
             let some : 1 ≤ length plain = omega arith in
-            goes-on w x others (InOffline LoadCurrent Flushing) (slice_index plain 0) call.cpu call.place is s (λ f. refl) (λ n. refl)
-            (flush-work w x (slice_index plain 0) call.cpu call.place is may.cpu (s.fresh.setup.plain 0 0 some) some refl number (at_work w x others s))
+            goes-on w x others (InOffline LoadCurrent Flushing) (slice_index plain 0) (call_cpu call) (call_place call) is s (λ f. refl) (λ n. refl)
+            (flush-work w x (slice_index plain 0) (call_cpu call) (call_place call) is may.cpu (s.fresh.setup.plain 0 0 some) some refl number (at_work w x others s))
       ]
 
   pub begin : (w : World) (x : Worker) (others : List Worker) → Stands w (x ∷ others) → (x.local.spot ≡ Between → MayBeginFirst w.setup x.local x.local.todo) → (x.local.spot ≡ Between → TakesStep w.setup x.local x.local.todo)
@@ -248,7 +249,7 @@ module _ (fast : Bool) where
     where
       by_todo : (calls : List Call) → x.local.todo ≡ calls → x.local.spot ≡ Between → MayBeginFirst w.setup x.local calls → TakesStep w.setup x.local calls → ComesTo w others (begun_with w.setup fast x.local calls)
       by_todo [] e is may rested = (x, refl, s)
-      by_todo (call ∷ calls) e is may rested = begins_by w x others call call.kind refl (rw e refl) is s may rested
+      by_todo (call ∷ calls) e is may rested = begins_by w x others call (call_kind call) refl (rw e refl) is s may rested
 
       by_spot : (spot : Spot) → x.local.spot ≡ spot → ComesTo w others (begun_at w.setup fast x.local spot)
       by_spot Between is = by_todo x.local.todo refl is (may is) (rested is)

@@ -8,6 +8,7 @@ use Rattle.slub_core.specs.declared.call.Call.{Call}
 use Rattle.slub_core.specs.declared.call.CallKind.{CallKind}
 use Rattle.slub_core.specs.declared.spot.Spot.{Spot}
 use Rattle.slub_core.specs.declared.spot.Spot.TheVariants.{Between}
+use Rattle.slub_core.specs.Calls.{call_kind, call_place}
 use Rattle.slub_core.specs.Setup.{Setup}
 use Rattle.slub_core.specs.World.{World}
 use Rattle.slub_core.specs.Local.{Local, Worker, nobody, answered, noted}
@@ -64,7 +65,7 @@ or-script l more (Some reply) d = d reply
 rested-script : (m : Setup) (calls : List Call) (l : Local) → l.todo ≡ calls → script (rested_with m calls l) ≡ script l
 rested-script m [] l e = refl
 rested-script m (call ∷ calls) l e =
-    or-script l (λ reply. rested_with m calls (answered l reply)) (told_at_once m (get_or l.known call.place nobody) call call.kind)
+    or-script l (λ reply. rested_with m calls (answered l reply)) (told_at_once m (get_or l.known (call_place call) nobody) call (call_kind call))
     (λ reply. rested-script m calls (answered l reply) (rw e refl) ∙ answered-script l reply (rw e (omega arith)))
 
 pub rested_at-script : (m : Setup) (l : Local) (spot : Spot) → script (rested_at m l spot) ≡ script l

@@ -21,6 +21,7 @@ use Rattle.slub_core.specs.declared.call.CallKind.TheVariants.{Alloc, Free, Writ
 use Rattle.slub_core.specs.declared.local.Known.{Known}
 use Rattle.slub_core.specs.declared.spot.Spot.TheVariants.{InChecked}
 use Rattle.slub_core.specs.declared.spot.CheckedSpot.TheVariants.{DoChecked, LockRun, GiveChecked}
+use Rattle.slub_core.specs.Calls.{call_word, call_value, call_offset, call_byte}
 use Rattle.slub_core.specs.Setup.{node_lock}
 use Rattle.slub_core.specs.World.{World, LockValue, Checked, set_value, cache_at, size_in}
 use Rattle.slub_core.specs.Local.{Worker, nobody, here, call_of, at, loses, stays}
@@ -112,18 +113,18 @@ do_write w x others old is s was of =
     let used = held-object w x others old s (rw is refl) (rw is refl) was in
     let some = used-some old slot of.sound used in
     let size : old.layout.object_size ≡ (w.setup.layout x.local.cache).object_size = ap (λ (l : Layout). l.object_size) of.layout in
-    let fits : 8 * ((call_of x.local).word + 1) ≤ (w.setup.layout x.local.cache).object_size = leb-true (8 * ((call_of x.local).word + 1)) (w.setup.layout x.local.cache).object_size (not-false _ (ok.spot.inside (rw is refl))) in
-    let inside = word-inside old slot of.sound used (call_of x.local).word (omega arith) in
-    let bytes = take (word_place old.layout slot.index (call_of x.local).word) (slab_of old slot.frame).bytes ++ to_le_bytes w64 (call_of x.local).value ++ drop (word_place old.layout slot.index (call_of x.local).word + 8) (slab_of old slot.frame).bytes in
-    let long : length bytes ≡ length (slab_of old slot.frame).bytes = length-with_word (slab_of old slot.frame).bytes (to_le_bytes w64 (call_of x.local).value) (word_place old.layout slot.index (call_of x.local).word) refl inside in
-    writes w x others Write old (with_word old slot (call_of x.local).word (call_of x.local).value) is s was of (written-sound old slot.frame of.sound some bytes long) (written-objects old slot.frame of.sound some bytes)
+    let fits : 8 * (call_word (call_of x.local) + 1) ≤ (w.setup.layout x.local.cache).object_size = leb-true (8 * (call_word (call_of x.local) + 1)) (w.setup.layout x.local.cache).object_size (not-false _ (ok.spot.inside (rw is refl))) in
+    let inside = word-inside old slot of.sound used (call_word (call_of x.local)) (omega arith) in
+    let bytes = take (word_place old.layout slot.index (call_word (call_of x.local))) (slab_of old slot.frame).bytes ++ to_le_bytes w64 (call_value (call_of x.local)) ++ drop (word_place old.layout slot.index (call_word (call_of x.local)) + 8) (slab_of old slot.frame).bytes in
+    let long : length bytes ≡ length (slab_of old slot.frame).bytes = length-with_word (slab_of old slot.frame).bytes (to_le_bytes w64 (call_value (call_of x.local))) (word_place old.layout slot.index (call_word (call_of x.local))) refl inside in
+    writes w x others Write old (with_word old slot (call_word (call_of x.local)) (call_value (call_of x.local))) is s was of (written-sound old slot.frame of.sound some bytes long) (written-objects old slot.frame of.sound some bytes)
 
 pub do_poke : (w : World) (x : Worker) (others : List Worker) (old : CheckedState) → x.local.spot ≡ InChecked DoChecked Poke → Stands w (x ∷ others) → w.value (node_lock x.local.cache) ≡ Checked old → IsCheckedOf w.setup x.local.cache old
     → Makes w others (do_checked w.setup w.value x.local Poke old)
-do_poke w x others old is s was of = writes w x others Poke old (poked x.local old) is s was of (good (is_offset old.layout (call_of x.local).offset) (nat_lt (here x.local).index (objects_in (slab_of old (here x.local).frame))) refl).0 (good (is_offset old.layout (call_of x.local).offset) (nat_lt (here x.local).index (objects_in (slab_of old (here x.local).frame))) refl).1
+do_poke w x others old is s was of = writes w x others Poke old (poked x.local old) is s was of (good (is_offset old.layout (call_offset (call_of x.local))) (nat_lt (here x.local).index (objects_in (slab_of old (here x.local).frame))) refl).0 (good (is_offset old.layout (call_offset (call_of x.local))) (nat_lt (here x.local).index (objects_in (slab_of old (here x.local).frame))) refl).1
   where
     good : (a b : Bool) → nat_lt (here x.local).index (objects_in (slab_of old (here x.local).frame)) ≡ b
-        → IsSound (if a && b then with_byte old (slot_of x.local) (call_of x.local).offset (call_of x.local).byte else old) × KeepsObjects old (if a && b then with_byte old (slot_of x.local) (call_of x.local).offset (call_of x.local).byte else old)
+        → IsSound (if a && b then with_byte old (slot_of x.local) (call_offset (call_of x.local)) (call_byte (call_of x.local)) else old) × KeepsObjects old (if a && b then with_byte old (slot_of x.local) (call_offset (call_of x.local)) (call_byte (call_of x.local)) else old)
     good true true e =
         let l = ltb-true (here x.local).index (objects_in (slab_of old (here x.local).frame)) e in
         (written-sound old (here x.local).frame of.sound (omega arith) _ (length-set (slab_of old (here x.local).frame).bytes _ _), written-objects old (here x.local).frame of.sound (omega arith) _)

@@ -6,6 +6,7 @@ use Rattle.slub_words.proofs.Pointers.{come_back}
 use Rattle.slub_core.specs.declared.step.Answer.TheVariants.{Done}
 use Rattle.slub_core.specs.declared.spot.Spot.TheVariants.{Between, InFree, WriteWord}
 use Rattle.slub_core.specs.declared.spot.FreeSpot.TheVariants.{LinkOwn, Push, LinkSlab, FreeSlab, LinkLocked, FreeLocked}
+use Rattle.slub_core.specs.Calls.{call_word, call_value}
 use Rattle.slub_words.specs.Words.{steps_from_one}
 use Rattle.slub_core.specs.Setup.{pointer_at, word_at, hardened}
 use Rattle.slub_core.specs.World.{World, set_memory, pointer, exists_at, object_at}
@@ -98,24 +99,24 @@ write-work : (w : World) (x : Worker) (p v : ℕ) → x.local.spot ≡ WriteWord
 write-work w x p v is none ok = grind arith
 
 pub at_WriteWord : (w : World) (x : Worker) (others : List Worker) → x.local.spot ≡ WriteWord → Stands w (x ∷ others)
-    → ComesTo (set_memory w (word_at w.setup (here x.local).cache (here x.local).frame (here x.local).index (call_of x.local).word) (call_of x.local).value) others (advance_at w.setup w.value x.local WriteWord Done).local
+    → ComesTo (set_memory w (word_at w.setup (here x.local).cache (here x.local).frame (here x.local).index (call_word (call_of x.local))) (call_value (call_of x.local))) others (advance_at w.setup w.value x.local WriteWord Done).local
 at_WriteWord w x others is s =
     let ok = All-head (IsAtWork w) x others s.fresh.workers in
     let k = here x.local in
-    let p = word_at w.setup k.cache k.frame k.index (call_of x.local).word in
+    let p = word_at w.setup k.cache k.frame k.index (call_word (call_of x.local)) in
     let mine = ok.spot.uses (rw is refl) in
     let o = held-object w x others s (rw is refl) mine in
     let all = All-head (λ o. owned k.frame k.index o ≤ object_at w k.frame k.index) x others (owned-object w s.chains (x ∷ others) k.frame k.index s.placed) in
     let there : 1 ≤ exists_at w k.frame k.index = (let e = o.0.exists in let h = o.1 in omega arith) in
     let cache : k.cache ≡ (w.slab k.frame).cache = mine.2 ∙ o.0.cache in
     let plain = s.listed.shaped.plain k.frame o.0.live in
-    let inside : 8 * ((call_of x.local).word + 1) ≤ (w.setup.layout (w.slab k.frame).cache).object_size
-    = subst (λ c. 8 * ((call_of x.local).word + 1) ≤ (w.setup.layout c).object_size) o.0.cache (leb-true (8 * ((call_of x.local).word + 1)) (w.setup.layout x.local.cache).object_size (not-false _ (ok.spot.inside (rw is refl)))) in
+    let inside : 8 * (call_word (call_of x.local) + 1) ≤ (w.setup.layout (w.slab k.frame).cache).object_size
+    = subst (λ c. 8 * (call_word (call_of x.local) + 1) ≤ (w.setup.layout c).object_size) o.0.cache (leb-true (8 * (call_word (call_of x.local) + 1)) (w.setup.layout x.local.cache).object_size (not-false _ (ok.spot.inside (rw is refl)))) in
     let word : IsWordOf (w.setup.layout (w.slab k.frame).cache) k.frame k.index p
-    = subst (λ c. IsWordOf (w.setup.layout (w.slab k.frame).cache) k.frame k.index (word_at w.setup c k.frame k.index (call_of x.local).word)) (sym cache) (word-word w.setup (w.slab k.frame).cache k.frame k.index (call_of x.local).word s.fresh.setup plain.1 inside) in (
+    = subst (λ c. IsWordOf (w.setup.layout (w.slab k.frame).cache) k.frame k.index (word_at w.setup c k.frame k.index (call_word (call_of x.local)))) (sym cache) (word-word w.setup (w.slab k.frame).cache k.frame k.index (call_word (call_of x.local)) s.fresh.setup plain.1 inside) in (
       record x { local = at x.local Between },
       refl,
-      memory_step w x _ others k.frame k.index p (call_of x.local).value s (apart-object w x others k.frame k.index p s there word) (inl o.1) (λ g j. refl)
+      memory_step w x _ others k.frame k.index p (call_value (call_of x.local)) s (apart-object w x others k.frame k.index p s there word) (inl o.1) (λ g j. refl)
           (record { home = λ f. refl; marked = λ f. rw is refl; covered = λ g. refl; takes = λ k. rw is refl })
-          (write-work w x p (call_of x.local).value is (ok.spot.no_run (rw is refl)) ok),
+          (write-work w x p (call_value (call_of x.local)) is (ok.spot.no_run (rw is refl)) ok),
     )

@@ -13,6 +13,7 @@ use Rattle.slub_core.specs.declared.spot.PutAwaySpot.TheVariants.{WalkChain, Lin
 use Rattle.slub_core.specs.declared.spot.FreeSpot.TheVariants.{LinkOwn, LinkSlab, LinkLocked}
 use Rattle.slub_core.specs.declared.step.Answer.TheVariants.{Word, Done}
 use Rattle.slub_core.specs.declared.step.Place.TheVariants.{MemoryOf}
+use Rattle.slub_core.specs.Calls.{call_word, call_value}
 use Rattle.slub_core.specs.Setup.{pointer_at, word_at, hardened}
 use Rattle.slub_core.specs.World.{World, pointer, exists_at, object_at, in_chain, Leads, world_from, world_of}
 use Rattle.slub_core.specs.Local.{Worker, here, hand_of, run_of, run_in, call_of}
@@ -64,7 +65,7 @@ freed-inside w x others s is =
     subst (λ c. pointer_at w.setup c k.frame k.index < 512 * w.setup.frames) (sym cache)
     (word-inside w (x ∷ others) k.frame k.index (pointer_at w.setup (w.slab k.frame).cache k.frame k.index) s (held-there w x others s o.1 o.0.exists) (pointer-word w.setup (w.slab k.frame).cache k.frame k.index s.fresh.setup live))
 
-pub used-inside : (w : World) (x : Worker) (others : List Worker) → Stands w (x ∷ others) → in_plain x.local.spot ≡ true → uses x.local.spot ≡ true → uses_word x.local.spot ≡ true → word_at w.setup (here x.local).cache (here x.local).frame (here x.local).index (call_of x.local).word < 512 * w.setup.frames
+pub used-inside : (w : World) (x : Worker) (others : List Worker) → Stands w (x ∷ others) → in_plain x.local.spot ≡ true → uses x.local.spot ≡ true → uses_word x.local.spot ≡ true → word_at w.setup (here x.local).cache (here x.local).frame (here x.local).index (call_word (call_of x.local)) < 512 * w.setup.frames
 used-inside w x others s plain used is =
     let k = here x.local in
     let ok = at_work w x others s in
@@ -72,10 +73,10 @@ used-inside w x others s plain used is =
     let o = held-object w x others s plain mine in
     let cache : k.cache ≡ (w.slab k.frame).cache = mine.2 ∙ o.0.cache in
     let live = (s.listed.shaped.plain k.frame o.0.live).1 in
-    let inside : 8 * ((call_of x.local).word + 1) ≤ (w.setup.layout (w.slab k.frame).cache).object_size
-    = subst (λ c. 8 * ((call_of x.local).word + 1) ≤ (w.setup.layout c).object_size) o.0.cache (leb-true (8 * ((call_of x.local).word + 1)) (w.setup.layout x.local.cache).object_size (not-false _ (ok.spot.inside is))) in
-    subst (λ c. word_at w.setup c k.frame k.index (call_of x.local).word < 512 * w.setup.frames) (sym cache)
-    (word-inside w (x ∷ others) k.frame k.index (word_at w.setup (w.slab k.frame).cache k.frame k.index (call_of x.local).word) s (held-there w x others s o.1 o.0.exists) (word-word w.setup (w.slab k.frame).cache k.frame k.index (call_of x.local).word s.fresh.setup live inside))
+    let inside : 8 * (call_word (call_of x.local) + 1) ≤ (w.setup.layout (w.slab k.frame).cache).object_size
+    = subst (λ c. 8 * (call_word (call_of x.local) + 1) ≤ (w.setup.layout c).object_size) o.0.cache (leb-true (8 * (call_word (call_of x.local) + 1)) (w.setup.layout x.local.cache).object_size (not-false _ (ok.spot.inside is))) in
+    subst (λ c. word_at w.setup c k.frame k.index (call_word (call_of x.local)) < 512 * w.setup.frames) (sym cache)
+    (word-inside w (x ∷ others) k.frame k.index (word_at w.setup (w.slab k.frame).cache k.frame k.index (call_word (call_of x.local))) s (held-there w x others s o.1 o.0.exists) (word-word w.setup (w.slab k.frame).cache k.frame k.index (call_word (call_of x.local)) s.fresh.setup live inside))
 
 -- of an object in a chain in hand
 chain-inside : (w : World) (x : Worker) (others : List Worker) (h : Hand) (hs : List Hand) (xs : List ℕ) (xss : List (List ℕ)) (j : ℕ) → Stands w (x ∷ others) → in_plain x.local.spot ≡ true → (w.slab h.frame).cache ≡ x.local.cache
@@ -220,7 +221,7 @@ unfolding world_of world_from
 leads_WriteWord opening m value words x others t is s ac =
     let w = world_of m value words in
     let k = here x.local in
-    memory_store m value words (word_at m k.cache k.frame k.index (call_of x.local).word) (call_of x.local).value (λ v a. Reaches opening v others (advance_at m value x.local WriteWord a)) t
+    memory_store m value words (word_at m k.cache k.frame k.index (call_word (call_of x.local))) (call_value (call_of x.local)) (λ v a. Reaches opening v others (advance_at m value x.local WriteWord a)) t
     (used-inside w x others s (rw is refl) (rw is refl) (rw is refl))
     (at_WriteWord w x others is s, (record x { local = told (advance_at m value x.local WriteWord Done) }, refl, told_WriteWord opening w value x others is s ac))
 

@@ -9,6 +9,7 @@ use Rattle.slub_core.specs.declared.spot.Sweep.{Sweep}
 use Rattle.slub_core.specs.declared.spot.OfflineSpot.TheVariants.{LoadCurrent}
 use Rattle.slub_core.specs.declared.step.Answer.TheVariants.{Word, Done}
 use Rattle.slub_core.specs.declared.step.Place.TheVariants.{CpuOf, SlabOf, MemoryOf}
+use Rattle.slub_core.specs.Calls.{call_word}
 use Rattle.slub_core.specs.Setup.{pointer_at, word_at}
 use Rattle.slub_core.specs.Words.{no_slab_word, cpu_base, slab_base, number_of, board_base}
 use Rattle.slub_core.specs.World.{set_board, world_from, world_of, set_slab}
@@ -87,7 +88,7 @@ leads_ReadWord opening m value words x others t is s ac =
       (
         record x { local = told (advance_at m value x.local ReadWord (Word (get_or words (number_of m place) 0))) },
         refl,
-        told_ReadWord opening w value x others (get_or words (number_of m place) 0) is (memory-read m value words (word_at m (here x.local).cache (here x.local).frame (here x.local).index (call_of x.local).word) (used-inside w x others s (rw is refl) (rw is refl) (rw is refl))) s ac,
+        told_ReadWord opening w value x others (get_or words (number_of m place) 0) is (memory-read m value words (word_at m (here x.local).cache (here x.local).frame (here x.local).index (call_word (call_of x.local))) (used-inside w x others s (rw is refl) (rw is refl) (rw is refl))) s ac,
       ),
     )
 

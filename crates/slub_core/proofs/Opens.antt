@@ -17,7 +17,7 @@ use Rattle.slub_core.specs.Listed.{home_of, marked_of, covered_by, takes}
 use Rattle.slub_core.specs.Fresh.{IsAtWork}
 use Rattle.slub_core.specs.Coherent.{Stands}
 use Rattle.slub_core.specs.Replies.{given_in, asked_in, dry_in, Public}
-use Rattle.slub_core.specs.Accounted.{boarded, had, public, place_of, known_of, IsTold, IsWritten, IsAccounted}
+use Rattle.slub_core.specs.Accounted.{boarded, had, public, place_of, known_of, IsTold, HasWritten, IsAccounted}
 use Rattle.slub_core.specs.Steps.{rested}
 use Rattle.slub_core.specs.Run.{System}
 use Rattle.slub_core.specs.Opening.{IsRoom, IsNew, IsOpening, opened}
@@ -109,7 +109,7 @@ told-new m before p l some new =
       numbers = All-weaker (IsRoom m) (λ (k : Known). k.object < m.objects) (λ k r. r.0) l.known new.known;
     }
 
-written-new : (w : World) (before : ℕ → Option BoardWord) (l : Local) → 1 ≤ w.setup.objects → IsNew w.setup l → IsWritten w before l
+written-new : (w : World) (before : ℕ → Option BoardWord) (l : Local) → 1 ≤ w.setup.objects → IsNew w.setup l → HasWritten w before l
 written-new w before l some new =
     let free : (o : ℕ) → (known_of l.known o).held ≡ true → ⊥ = λ o has. false≢true (sym (room-at w.setup l.known (place_of l.known o) some new.known).2 ∙ has) in
     record {
@@ -162,7 +162,7 @@ account-new w ls some new within once few dry =
       few = (let a = same-sum w (λ l. length l.done + length l.todo) (λ l. length l.todo) ls (λ l n. rw n.done (omega arith)) new in omega arith, dry);
       dry = λ order. let d = none-sum w (λ l. dry_in w.setup order l.done) ls (λ l n. rw n.done refl) new in omega arith;
       told = all-bare (λ (x : Worker). IsTold w.setup w.board (public w (map bare ls)) x.local) w ls (λ l n. told-new w.setup w.board (public w (map bare ls)) l some n) new;
-      written = all-bare (λ (x : Worker). IsWritten w w.board x.local) w ls (λ l n. written-new w w.board l some n) new;
+      written = all-bare (λ (x : Worker). HasWritten w w.board x.local) w ls (λ l n. written-new w w.board l some n) new;
     }
 
 -- the board of a table has words for the numbers that there are

@@ -4,6 +4,7 @@ use Rattle.slub_trace.specs.declared.reply.Reply.{Reply}
 use Rattle.slub_core.specs.declared.call.Call.{Call}
 use Rattle.slub_core.specs.declared.spot.Spot.{Spot}
 use Rattle.slub_core.specs.declared.spot.Spot.TheVariants.{Between}
+use Rattle.slub_core.specs.Calls.{call_kind, call_place}
 use Rattle.slub_core.specs.Setup.{Setup}
 use Rattle.slub_core.specs.World.{World}
 use Rattle.slub_core.specs.Local.{Local, Worker, nobody, answered}
@@ -27,7 +28,7 @@ or-comes opening w others l more None c d = c
 or-comes opening w others l more (Some reply) c d = d reply refl
 
 -- such a reply
-reply-comes : (opening w : World) (others : List Worker) (call : Call) (calls : List Call) (l : Local) (r : Reply) → l.spot ≡ Between → l.todo ≡ call ∷ calls → told_at_once w.setup (get_or l.known call.place nobody) call call.kind ≡ Some r → Comes opening w others l
+reply-comes : (opening w : World) (others : List Worker) (call : Call) (calls : List Call) (l : Local) (r : Reply) → l.spot ≡ Between → l.todo ≡ call ∷ calls → told_at_once w.setup (get_or l.known (call_place call) nobody) call (call_kind call) ≡ Some r → Comes opening w others l
     → Comes opening w others (answered l r)
 reply-comes opening w others call calls l r is todo at_once_told come = by_worker (joined opening w others l come)
   where
@@ -38,14 +39,14 @@ reply-comes opening w others call calls l r is todo at_once_told come = by_worke
         record z { local = answered z.local r },
         ap (λ l. answered l r) e,
         told_at_rest opening w z others call calls r (ap (λ (l : Local). l.spot) e ∙ is) (ap (λ (l : Local). l.todo) e ∙ todo) s
-            (subst (λ l. told_at_once w.setup (get_or l.known call.place nobody) call call.kind ≡ Some r) (sym e) at_once_told) ac,
+            (subst (λ l. told_at_once w.setup (get_or l.known (call_place call) nobody) call (call_kind call) ≡ Some r) (sym e) at_once_told) ac,
       ),
     )
 
 rests : (opening w : World) (others : List Worker) (calls : List Call) (l : Local) → l.spot ≡ Between → l.todo ≡ calls → Comes opening w others l → Comes opening w others (rested_with w.setup calls l)
 rests opening w others [] l is todo c = c
 rests opening w others (call ∷ calls) l is todo c =
-    or-comes opening w others l (λ reply. rested_with w.setup calls (answered l reply)) (told_at_once w.setup (get_or l.known call.place nobody) call call.kind) c
+    or-comes opening w others l (λ reply. rested_with w.setup calls (answered l reply)) (told_at_once w.setup (get_or l.known (call_place call) nobody) call (call_kind call)) c
     (λ reply given. rests opening w others calls (answered l reply) is (rw todo refl) (reply-comes opening w others call calls l reply is todo given c))
 
 pub rests-at : (opening w : World) (others : List Worker) (l : Local) (spot : Spot) → l.spot ≡ spot → Comes opening w others l → Comes opening w others (rested_at w.setup l spot)
@@ -60,7 +61,7 @@ or-takes m l more (Some reply) c d = d reply
 takes_step : (m : Setup) (calls : List Call) (l : Local) → l.todo ≡ calls → TakesStep m (rested_with m calls l) (rested_with m calls l).todo
 takes_step m [] l e = rw e tt
 takes_step m (call ∷ calls) l e =
-    or-takes m l (λ reply. rested_with m calls (answered l reply)) (told_at_once m (get_or l.known call.place nobody) call call.kind)
+    or-takes m l (λ reply. rested_with m calls (answered l reply)) (told_at_once m (get_or l.known (call_place call) nobody) call (call_kind call))
     (λ none. rw e none) (λ reply. takes_step m calls (answered l reply) (rw e refl))
 
 pub is_rested : (m : Setup) (l : Local) (spot : Spot) → l.spot ≡ spot → IsRested m (rested_at m l spot)

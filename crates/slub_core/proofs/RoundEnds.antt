@@ -14,7 +14,7 @@ use Rattle.slub_core.specs.Run.{run, IsFinished}
 use Rattle.slub_core.specs.Replies.{given_in, freed_in, dry_in, holding, Later, Caused}
 use Rattle.slub_core.specs.Accounted.{had, public, known_of, IsTold, IsAccounted}
 use Rattle.slub_core.specs.Opening.{IsNew, opened}
-use Rattle.slub_core.specs.Round.{in_order, freed_over, held_over, outcome, IsRound}
+use Rattle.slub_core.specs.Round.{in_order, freed_over, held_over, outcome, IsRoundOnWords}
 use Rattle.slub_core.specs.Law.{RoundsEnd}
 use Rattle.slub_core.proofs.TaleStep.{caused-later}
 use Rattle.slub_core.proofs.CallsStay.{script, rested_at-script}
@@ -77,7 +77,7 @@ all-local P [] all = λ k d below. absurd (omega arith)
 all-local P (x ∷ xs) all = All-cons (λ (x : Worker). P x.local) x xs (All-head P x.local (map (λ (x : Worker). x.local) xs) all) (all-local P xs (All-tail P x.local (map (λ (x : Worker). x.local) xs) all))
 
 round-of : (m : Setup) (opening w : World) (calls : List (List Call)) (xs : List Worker) → opening.setup ≡ m → map (λ (ds : List Answered). in_order ds []) (dones_of xs) ≡ calls → All (λ (x : Worker). IsFinished x.local) xs → IsAccounted opening w xs
-    → IsRound m opening w calls (dones_of xs)
+    → IsRoundOnWords m opening w calls (dones_of xs)
 round-of m opening w calls xs setup replies ends ac =
     let same : w.setup ≡ m = ac.setup ∙ setup in
     let told = subst (λ m. All (λ (x : Worker). IsTold m opening.board (public w xs) x.local) xs) same ac.told in
@@ -114,6 +114,6 @@ rounds_end m s picks new ends =
     let calls = finished-scripts end.locals ends ∙ r.1 ∙ new-scripts m s.locals new.new in
     let dones : dones_of is.workers ≡ map (λ (l : Local). l.done) end.locals = sym (dones-same is.workers) ∙ ap (map (λ (l : Local). l.done)) is.locals in
     let w = world_of m end.value end.words in
-    subst (IsRound m opening w (map (λ (l : Local). l.todo) s.locals)) dones
+    subst (IsRoundOnWords m opening w (map (λ (l : Local). l.todo) s.locals)) dones
     (round-of m opening w (map (λ (l : Local). l.todo) s.locals) is.workers refl (ap (map (λ (ds : List Answered). in_order ds [])) dones ∙ calls)
     (all-local IsFinished is.workers (subst (All IsFinished) (sym is.locals) ends)) is.coherent.accounted)

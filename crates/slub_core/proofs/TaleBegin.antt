@@ -10,13 +10,14 @@ use Rattle.slub_core.specs.declared.call.CallKind.TheVariants.{Alloc, Free, Writ
 use Rattle.slub_core.specs.declared.local.Known.{Known}
 use Rattle.slub_core.specs.declared.spot.Spot.{Spot}
 use Rattle.slub_core.specs.declared.spot.Spot.TheVariants.{Between}
+use Rattle.slub_core.specs.Calls.{call_kind, call_cpu, call_cache, call_object, call_place}
 use Rattle.slub_core.specs.Setup.{Setup}
 use Rattle.slub_core.specs.World.{World}
 use Rattle.slub_core.specs.Local.{Local, Worker, nobody, no_call, here, call_of}
 use Rattle.slub_core.specs.Steps.{told_of_alloc, told_of_trim, told_at_once, cache_for, first_spot, first_cpu, begun_call, begun_with, begun_at, begun}
 use Rattle.slub_core.specs.Spots.{doing, is_freeing}
 use Rattle.slub_core.specs.Replies.{names_object, given_in, freed_in, asked_in, dry_in, Later}
-use Rattle.slub_core.specs.Accounted.{had, public, place_of, known_of, Fits, NamesCache, IsTold, IsWritten, IsAccounted}
+use Rattle.slub_core.specs.Accounted.{had, public, place_of, known_of, CallFits, NamesCache, IsTold, HasWritten, IsAccounted}
 use Rattle.slub_core.specs.Law.{TakesStep}
 use Rattle.slub_core.proofs.MayBegin.{MayBegin, MayBeginFirst, may_begin}
 use Rattle.slub_core.proofs.Among.{sum_by-middle, All-middle, All-back}
@@ -74,13 +75,13 @@ named-trim m None none = absurd (none-some _ (sym none))
 named-trim m (Some k) none = refl
 
 -- the cache of the call is the one that it names
-names-first : (m : Setup) (known : Known) (n : Local) (call : Call) (kind : CallKind) → call_of n ≡ call → n.cache ≡ cache_for m known call.cache kind → n.cpu ≡ first_cpu kind call.cpu → told_at_once m known call kind ≡ None → NamesCache n kind
-names-first m known n call Alloc is cache cpu none = (ap (λ (c : Call). c.cache) is ∙ named-alloc call.cache none ∙ ap Some (sym cache), ap (λ (c : Call). c.cpu) is ∙ sym cpu)
+names-first : (m : Setup) (known : Known) (n : Local) (call : Call) (kind : CallKind) → call_of n ≡ call → n.cache ≡ cache_for m known (call_cache call) kind → n.cpu ≡ first_cpu kind (call_cpu call) → told_at_once m known call kind ≡ None → NamesCache n kind
+names-first m known n call Alloc is cache cpu none = (ap (λ (c : Call). call_cache c) is ∙ named-alloc (call_cache call) none ∙ ap Some (sym cache), ap (λ (c : Call). call_cpu c) is ∙ sym cpu)
 names-first m known n call Free is cache cpu none = tt
 names-first m known n call Write is cache cpu none = tt
 names-first m known n call Read is cache cpu none = tt
 names-first m known n call Poke is cache cpu none = tt
-names-first m known n call Trim is cache cpu none = ap (λ (c : Call). c.cache) is ∙ named-trim m call.cache none ∙ ap Some (sym cache)
+names-first m known n call Trim is cache cpu none = ap (λ (c : Call). call_cache c) is ∙ named-trim m (call_cache call) none ∙ ap Some (sym cache)
 names-first m known n call Flush is cache cpu none = tt
 
 kind-same : {a b : CallKind} → Some a ≡ Some b → a ≡ b
@@ -88,32 +89,32 @@ kind-same e = cc
 
 -- a call that takes a step begins
 pub told_begun : (opening w : World) (fast : Bool) (x : Worker) (others : List Worker) (call : Call) (calls : List Call) → x.local.spot ≡ Between → x.local.todo ≡ call ∷ calls → MayBegin w.setup x.local call
-    → told_at_once w.setup (get_or x.local.known call.place nobody) call call.kind ≡ None → IsAccounted opening w (x ∷ others) → IsAccounted opening w (record x { local = begun_call w.setup fast x.local call } ∷ others)
+    → told_at_once w.setup (get_or x.local.known (call_place call) nobody) call (call_kind call) ≡ None → IsAccounted opening w (x ∷ others) → IsAccounted opening w (record x { local = begun_call w.setup fast x.local call } ∷ others)
 told_begun opening w fast x others call calls is todo may none ac =
     let l = x.local in
     let m = w.setup in
     let n = begun_call m fast l call in
-    let known = get_or l.known call.place nobody in
+    let known = get_or l.known (call_place call) nobody in
     let tale = told-of opening w x others ac in
     let mine : call_of n ≡ call = ap (λ cs. get_or cs 0 no_call) todo in
-    let fits = All-head (Fits m l.known) call calls (subst (All (Fits m l.known)) todo tale.fits) in
-    let object : names_object call.kind ≡ true → (here n).object ≡ call.object = may.known in
-    let knew : names_object call.kind ≡ true → known_of l.known (here n).object ≡ here n = λ names. ap (λ q. get_or l.known q nobody) (ap (place_of l.known) (object names) ∙ sym (fits.place names)) in
+    let fits = All-head (CallFits m l.known) call calls (subst (All (CallFits m l.known)) todo tale.fits) in
+    let object : names_object (call_kind call) ≡ true → (here n).object ≡ call_object call = may.known in
+    let knew : names_object (call_kind call) ≡ true → known_of l.known (here n).object ≡ here n = λ names. ap (λ q. get_or l.known q nobody) (ap (place_of l.known) (object names) ∙ sym (fits.place names)) in
     told_like opening w w x (record x { local = n }) others ac (unseen-same w) (record {
       known = refl;
       done = refl;
       todo = refl;
       freeing = λ f. absurd (false≢true (rw is at f));
       frees = λ f. absurd (false≢true (rw is at f));
-      source = λ f. inl (sym (tale.holds (here n).object (λ g. absurd (false≢true (rw is at g)))) ∙ ap (λ (k : Known). k.held) (knew (first-names call.kind _ known.held f)) ∙ first-freeing call.kind _ known.held f);
-      call = λ kind e. let same : call.kind ≡ kind = kind-same (sym (first-doing call.kind _ known.held) ∙ e) in (
+      source = λ f. inl (sym (tale.holds (here n).object (λ g. absurd (false≢true (rw is at g)))) ∙ ap (λ (k : Known). k.held) (knew (first-names (call_kind call) _ known.held f)) ∙ first-freeing (call_kind call) _ known.held f);
+      call = λ kind e. let same : call_kind call ≡ kind = kind-same (sym (first-doing (call_kind call) _ known.held) ∙ e) in (
         record {
           some = rw todo (omega arith);
-          same_kind = ap (λ (c : Call). c.kind) mine ∙ same;
-          object = λ names. ap (λ (c : Call). c.object) mine ∙ sym (object (ap names_object same ∙ names));
-          place = ap (λ (c : Call). c.place) (sym mine);
+          same_kind = ap (λ (c : Call). call_kind c) mine ∙ same;
+          object = λ names. ap (λ (c : Call). call_object c) mine ∙ sym (object (ap names_object same ∙ names));
+          place = ap (λ (c : Call). call_place c) (sym mine);
         },
-        subst (NamesCache n) same (names-first m known n call call.kind mine refl refl none),
+        subst (NamesCache n) same (names-first m known n call (call_kind call) mine refl refl none),
       );
     })
 
@@ -149,7 +150,7 @@ same_sums opening w xs ys sums all ac =
       dry = λ order. let a = sums (λ (x : Worker). dry_in w.setup order x.local.done) in let was = ac.dry order in omega arith;
       told = all (λ (o : Worker). IsTold w.setup opening.board (public w ys) o.local)
           (All-weaker (λ (o : Worker). IsTold w.setup opening.board (public w xs) o.local) (λ (o : Worker). IsTold w.setup opening.board (public w ys) o.local) (λ o. told-later w.setup opening.board _ _ o.local later) xs ac.told);
-      written = all (λ (o : Worker). IsWritten w opening.board o.local) ac.written;
+      written = all (λ (o : Worker). HasWritten w opening.board o.local) ac.written;
     }
 
 pub accounted_to_front : (opening w : World) (front back : List Worker) (x : Worker) → IsAccounted opening w (front ++ x ∷ back) → IsAccounted opening w (x ∷ (front ++ back))

@@ -6,6 +6,7 @@ use Rattle.slub_object_layout.specs.Layout.{address_of}
 use Rattle.slub_trace.specs.declared.reply.Reply.TheVariants as reply
 use Rattle.slub_core.specs.declared.call.CallKind.TheVariants.{Alloc, Write, Read}
 use Rattle.slub_core.specs.declared.local.Known.{Known}
+use Rattle.slub_core.specs.Calls.{call_word}
 use Rattle.slub_core.specs.World.{World, cache_at, object_at, idle_in, on_board}
 use Rattle.slub_core.specs.Local.{Worker, here, call_of}
 use Rattle.slub_core.specs.Steps.{is_outside}
@@ -40,7 +41,7 @@ told_no_memory opening w v x z others ac same at idle checked after =
 
 -- a word of an object that the worker holds is read
 pub told_read_checked : (opening w v : World) (x z : Worker) (others : List Worker) (y : ℕ) → IsAccounted opening w (x ∷ others) → Unseen w v → doing x.local.spot ≡ Some Read → is_freeing x.local.spot ≡ false → (here x.local).held ≡ true
-    → w.setup.checks (here x.local).cache ≡ true → is_outside (w.setup.layout (here x.local).cache) (call_of x.local) ≡ false → AnswersKept x.local z.local (reply.Value y) → IsAccounted opening v (z ∷ others)
+    → w.setup.checks (here x.local).cache ≡ true → is_outside (w.setup.layout (here x.local).cache) (call_word (call_of x.local)) ≡ false → AnswersKept x.local z.local (reply.Value y) → IsAccounted opening v (z ∷ others)
 told_read_checked opening w v x z others y ac same at idle mine checked inside after =
     let l = x.local in
     let tale = told-of opening w x others ac in
@@ -57,7 +58,7 @@ told_read_checked opening w v x z others y ac same at idle mine checked inside a
 
 -- a word of it is written
 pub told_write_checked : (opening w v : World) (x z : Worker) (others : List Worker) → IsAccounted opening w (x ∷ others) → Unseen w v → doing x.local.spot ≡ Some Write → is_freeing x.local.spot ≡ false → (here x.local).held ≡ true
-    → w.setup.checks (here x.local).cache ≡ true → 8 * ((call_of x.local).word + 1) ≤ (w.setup.layout (here x.local).cache).object_size → AnswersKept x.local z.local reply.Wrote → IsAccounted opening v (z ∷ others)
+    → w.setup.checks (here x.local).cache ≡ true → 8 * (call_word (call_of x.local) + 1) ≤ (w.setup.layout (here x.local).cache).object_size → AnswersKept x.local z.local reply.Wrote → IsAccounted opening v (z ∷ others)
 told_write_checked opening w v x z others ac same at idle mine checked inside after =
     let l = x.local in
     let tale = told-of opening w x others ac in
@@ -67,14 +68,14 @@ told_write_checked opening w v x z others ac same at idle mine checked inside af
     let had : (known_of l.known (here l).object).held ≡ true = ap (λ (j : Known). j.held) knew ∙ mine in
     let holds : holding l.done (here l).object ≡ true = sym (tale.holds (here l).object (λ f. absurd (false≢true (sym idle ∙ f)))) ∙ had in
     let of : cache_by opening.board l.done (here l).object ≡ Some (here l).cache = tale.cache (here l).object had ∙ ap (λ (j : Known). Some j.cache) knew in
-    let within : is_outside (w.setup.layout (here l).cache) (call_of l) ≡ false = rw (le-leb (8 * ((call_of l).word + 1)) (w.setup.layout (here l).cache).object_size inside) refl in
+    let within : is_outside (w.setup.layout (here l).cache) (call_word (call_of l)) ≡ false = rw (le-leb (8 * (call_word (call_of l) + 1)) (w.setup.layout (here l).cache).object_size inside) refl in
     let sp = spoken w v l reply.Wrote same refl in
     told_kept opening w v x z others Write reply.Wrote ac (spoken-on w v l reply.Wrote sp) (spoken-counts w v l reply.Wrote sp) call refl idle refl after (call.same_kind, rw (call.object refl) holds, ((here l).cache, rw (call.object refl) of, within))
     (written-spoken opening w v x z others Write (here l) reply.Wrote ac sp call refl refl (answers-here l z.local reply.Wrote after)
     (λ a y h wrote. (
-      elim (cases_eq (call_of l).word a) [
+      elim (cases_eq (call_word (call_of l)) a) [
         | inl e ↦ subst (λ a. 8 * (a + 1) ≤ (w.setup.layout (here l).cache).object_size) e inside
-        | inr d ↦ subst (λ (j : Known). 8 * (a + 1) ≤ (w.setup.layout j.cache).object_size) knew (wr.inside (here l).object a y had (rw (ne_eqb (call_of l).word a d) at wrote))
+        | inr d ↦ subst (λ (j : Known). 8 * (a + 1) ≤ (w.setup.layout j.cache).object_size) knew (wr.inside (here l).object a y had (rw (ne_eqb (call_word (call_of l)) a d) at wrote))
       ],
       λ plain. absurd (false≢true (sym plain ∙ checked)),
     )))

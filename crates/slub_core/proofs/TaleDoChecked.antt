@@ -23,6 +23,7 @@ use Rattle.slub_core.specs.declared.call.CallKind.{CallKind}
 use Rattle.slub_core.specs.declared.call.CallKind.TheVariants.{Alloc, Free, Write, Read, Poke, Trim, Flush}
 use Rattle.slub_core.specs.declared.spot.Spot.TheVariants.{InChecked}
 use Rattle.slub_core.specs.declared.spot.CheckedSpot.TheVariants.{DoChecked, LockRun, GiveChecked}
+use Rattle.slub_core.specs.Calls.{call_word, call_offset}
 use Rattle.slub_core.specs.Setup.{node_lock}
 use Rattle.slub_core.specs.World.{World, Checked, cache_at, object_at, objects_at, size_in, idle_in, one_if}
 use Rattle.slub_core.specs.Local.{Local, Worker, Change, nobody, here, call_of, address_in, at, gets, loses, answered}
@@ -72,7 +73,7 @@ tells_read : TellsOf Read
 tells_read opening w x others old is s ac was of =
     let ok = at-work w x others s in
     let keep = ok.spot.keeps (rw is refl) in
-    let y = word_of old (slot_of x.local) (call_of x.local).word in
+    let y = word_of old (slot_of x.local) (call_word (call_of x.local)) in
     let z : Worker = record x { local = answered (at x.local (InChecked GiveChecked Read)) (reply.Value y) } in (
       z,
       refl,
@@ -83,8 +84,8 @@ tells_read opening w x others old is s ac was of =
 -- ---- a poke
 
 -- whether the offset lies in the slot is the same by the cache's layout and by its slabs'
-offset-same : (w : World) (x : Worker) (old : CheckedState) → IsCheckedOf w.setup x.local.cache old → is_offset old.layout (call_of x.local).offset ≡ is_offset (w.setup.layout x.local.cache) (call_of x.local).offset
-offset-same w x old of = ap (λ (l : Layout). is_offset l (call_of x.local).offset) of.layout
+offset-same : (w : World) (x : Worker) (old : CheckedState) → IsCheckedOf w.setup x.local.cache old → is_offset old.layout (call_offset (call_of x.local)) ≡ is_offset (w.setup.layout x.local.cache) (call_offset (call_of x.local))
+offset-same w x old of = ap (λ (l : Layout). is_offset l (call_offset (call_of x.local))) of.layout
 
 -- where there is no such object the worker holds none
 gone-free : (w : World) (x : Worker) (others : List Worker) (old : CheckedState) → x.local.spot ≡ InChecked DoChecked Poke → Stands w (x ∷ others) → w.value (node_lock x.local.cache) ≡ Checked old → IsCheckedOf w.setup x.local.cache old
@@ -101,7 +102,7 @@ gone-free w x others old is s was of none =
 
 tells_poke : TellsOf Poke
 tells_poke opening w x others old is s ac was of =
-    by_place (is_offset old.layout (call_of x.local).offset) (nat_lt (here x.local).index (objects_in (slab_of old (here x.local).frame))) refl refl
+    by_place (is_offset old.layout (call_offset (call_of x.local))) (nat_lt (here x.local).index (objects_in (slab_of old (here x.local).frame))) refl refl
   where
     poked_as : Bool → Bool → Change
     poked_as inside there = record {
@@ -110,7 +111,7 @@ tells_poke opening w x others old is s ac was of =
       reply = Some (if inside then (if there then reply.Poked else reply.NotHeld) else reply.OutOfSlot);
     }
 
-    by_place : (inside there : Bool) → is_offset old.layout (call_of x.local).offset ≡ inside → nat_lt (here x.local).index (objects_in (slab_of old (here x.local).frame)) ≡ there → Tells opening w others (poked_as inside there)
+    by_place : (inside there : Bool) → is_offset old.layout (call_offset (call_of x.local)) ≡ inside → nat_lt (here x.local).index (objects_in (slab_of old (here x.local).frame)) ≡ there → Tells opening w others (poked_as inside there)
     by_place true true e there =
         let ok = at-work w x others s in
         let k = ok.spot.pokes (rw is refl) in
@@ -118,7 +119,7 @@ tells_poke opening w x others old is s ac was of =
           z,
           refl,
           told_poked opening w _ x z others ac (unseen-guarded w x.local.cache (Checked (poked x.local old))) (rw is refl) (rw is refl) k.2 (rw k.1 (ok.spot.checked (rw is refl)).2)
-              (ap (λ k. is_offset (w.setup.layout k) (call_of x.local).offset) k.1 ∙ sym (offset-same w x old of) ∙ e)
+              (ap (λ k. is_offset (w.setup.layout k) (call_offset (call_of x.local))) k.1 ∙ sym (offset-same w x old of) ∙ e)
               (record { known = refl; done = refl; todo = refl; freeing = refl; call = refl }),
         )
     by_place true false e there =
@@ -135,7 +136,7 @@ tells_poke opening w x others old is s ac was of =
           z,
           refl,
           told_out_of_slot opening w _ x z others ac (unseen-guarded w x.local.cache (Checked (poked x.local old))) (rw is refl) (rw is refl) k.2 (rw k.1 (ok.spot.checked (rw is refl)).2)
-              (ap (λ k. is_offset (w.setup.layout k) (call_of x.local).offset) k.1 ∙ sym (offset-same w x old of) ∙ e)
+              (ap (λ k. is_offset (w.setup.layout k) (call_offset (call_of x.local))) k.1 ∙ sym (offset-same w x old of) ∙ e)
               (record { known = refl; done = refl; todo = refl; freeing = refl; call = refl }),
         )
 

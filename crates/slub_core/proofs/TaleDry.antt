@@ -6,6 +6,7 @@ use Rattle.std.proofs.lemmas.List.Sums.{sum_by-cons}
 use Rattle.slub_trace.specs.declared.reply.Reply.TheVariants as reply
 use Rattle.slub_core.specs.declared.call.CallKind.TheVariants.{Alloc}
 use Rattle.slub_core.specs.declared.local.Answered.{Answered}
+use Rattle.slub_core.specs.Calls.{call_cache}
 use Rattle.slub_core.specs.Setup.{Setup, pool_lock}
 use Rattle.slub_core.specs.World.{World, Pool, pool_in, pool_of, one_if}
 use Rattle.slub_core.specs.Local.{Worker, call_of}
@@ -32,7 +33,7 @@ dry-most : (m : Setup) (order : ℕ) (ds : List Answered) → dry_in m order ds 
 dry-most m order [] = omega arith
 dry-most m order (d ∷ ds) =
     let r = dry-most m order ds in
-    let b : one_if (is_dry d.reply && eqb (least_order m d.call.cache) order) ≤ 1 = cond_both (is_dry d.reply && eqb (least_order m d.call.cache) order) 1 0 (λ n. n ≤ 1) (λ e. omega arith) (λ e. omega arith) in
+    let b : one_if (is_dry d.reply && eqb (least_order m (call_cache d.call)) order) ≤ 1 = cond_both (is_dry d.reply && eqb (least_order m (call_cache d.call)) order) 1 0 (λ n. n ≤ 1) (λ e. omega arith) (λ e. omega arith) in
     omega arith
 
 dry-sum : (m : Setup) (order : ℕ) (xs : List Worker) → sum_by (λ (x : Worker). dry_in m order x.local.done) xs ≤ sum_by (λ (x : Worker). length x.local.done + length x.local.todo) xs
@@ -61,7 +62,7 @@ told_dry opening w x z others ac at idle inside after =
     let order = (w.setup.layout l.cache).min_order in
     let v : World = record w { value = pool_with w.value (noted_dry (pool_of w) order) } in
     let call = (told-of opening w x others ac).call Alloc at in
-    let least : least_order w.setup (call_of l).cache ≡ order = ap (least_order w.setup) call.1.0 in
+    let least : least_order w.setup (call_cache (call_of l)) ≡ order = ap (least_order w.setup) call.1.0 in
     let pool : pool_of v ≡ noted_dry (pool_of w) order = ap pool_in (update_same w.value pool_lock (Pool (noted_dry (pool_of w) order))) in
     told_same opening w v x z others Alloc reply.NoFrames ac (record {
       setup = refl;
@@ -72,10 +73,10 @@ told_dry opening w x z others ac at idle inside after =
         | inl e ↦
             let s = index-same (pool_of w).dry order (min (slice_index (pool_of w).dry order + 1) (2 ^ 64 - 1)) inside in
             let c = counter-small opening w (x ∷ others) order ac in
-            subst (λ o. slice_index (noted_dry (pool_of w) order).dry o ≡ slice_index (pool_of w).dry o + one_if (true && eqb (least_order w.setup (call_of l).cache) o)) e
-            (let u : one_if (true && eqb (least_order w.setup (call_of l).cache) order) ≡ 1 = rw (least, eq-eqb order order refl) refl in omega arith)
+            subst (λ o. slice_index (noted_dry (pool_of w) order).dry o ≡ slice_index (pool_of w).dry o + one_if (true && eqb (least_order w.setup (call_cache (call_of l))) o)) e
+            (let u : one_if (true && eqb (least_order w.setup (call_cache (call_of l))) order) ≡ 1 = rw (least, eq-eqb order order refl) refl in omega arith)
         | inr d ↦
             let s = index-other (pool_of w).dry order o (min (slice_index (pool_of w).dry order + 1) (2 ^ 64 - 1)) d in
-            let u : one_if (true && eqb (least_order w.setup (call_of l).cache) o) ≡ 0 = rw (least, ne_eqb order o d) refl in omega arith
+            let u : one_if (true && eqb (least_order w.setup (call_cache (call_of l))) o) ≡ 0 = rw (least, ne_eqb order o d) refl in omega arith
       ];
     }) call.0 idle refl refl after (call.0.same_kind, (l.cache, call.1.0))

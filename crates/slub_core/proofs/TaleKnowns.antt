@@ -6,11 +6,12 @@ use Rattle.std.proofs.lemmas.List.{get_or-set_same, get_or-set_other, length-set
 use Rattle.std.proofs.lemmas.List.Elements.{All-weaker}
 use Rattle.slub_core.specs.declared.call.Call.{Call}
 use Rattle.slub_core.specs.declared.local.Known.{Known}
+use Rattle.slub_core.specs.Calls.{call_kind, call_object}
 use Rattle.slub_core.specs.Setup.{Setup}
 use Rattle.slub_core.specs.Local.{nobody, no_call}
 use Rattle.slub_core.specs.Replies.{asked_in, is_alloc}
 use Rattle.slub_core.specs.World.{one_if}
-use Rattle.slub_core.specs.Accounted.{place_of, known_of, AreDistinct, Fits}
+use Rattle.slub_core.specs.Accounted.{place_of, known_of, AreDistinct, CallFits}
 
 -- a change that keeps the number keeps all places
 pub place_of-set : (ks : List Known) (p : ℕ) (k : Known) (o : ℕ) → k.object ≡ (get_or ks p nobody).object → place_of (set ks p k) o ≡ place_of ks o
@@ -47,9 +48,9 @@ held-inside ks o is = elim (cases_lt (place_of ks o) (length ks)) [
   | inr g ↦ absurd (false≢true (sym (past-end ks (place_of ks o) g) ∙ is))
 ]
 
-pub fits-set : (m : Setup) (ks : List Known) (p : ℕ) (k : Known) (cs : List Call) → k.object ≡ (get_or ks p nobody).object → All (Fits m ks) cs → All (Fits m (set ks p k)) cs
+pub fits-set : (m : Setup) (ks : List Known) (p : ℕ) (k : Known) (cs : List Call) → k.object ≡ (get_or ks p nobody).object → All (CallFits m ks) cs → All (CallFits m (set ks p k)) cs
 fits-set m ks p k cs same all =
-    All-weaker (Fits m ks) (Fits m (set ks p k)) (λ c f. record { cpu = f.cpu; object = f.object; place = λ n. rw (place_of-set ks p k c.object same) (f.place n); inside = λ n. rw (length-set ks p k) (f.inside n); cache = f.cache }) cs all
+    All-weaker (CallFits m ks) (CallFits m (set ks p k)) (λ c f. record { cpu = f.cpu; object = f.object; place = λ n. rw (place_of-set ks p k (call_object c) same) (f.place n); inside = λ n. rw (length-set ks p k) (f.inside n); cache = f.cache }) cs all
 
 pub distinct-set : (ks : List Known) (p : ℕ) (k : Known) → k.object ≡ (get_or ks p nobody).object → AreDistinct ks → AreDistinct (set ks p k)
 distinct-set [] p k same d = d
@@ -57,7 +58,7 @@ distinct-set (j ∷ ks) zero k same d = rw same d
 distinct-set (j ∷ ks) (suc p) k same d = (place_of-set ks p k j.object same ∙ d.0 ∙ sym (length-set ks p k), distinct-set ks p k same d.1)
 
 -- the first call is no longer asked
-pub asked-drop : (o : ℕ) (cs : List Call) → 1 ≤ length cs → asked_in o cs ≡ one_if (is_alloc (get_or cs 0 no_call).kind && eqb (get_or cs 0 no_call).object o) + asked_in o (drop 1 cs)
+pub asked-drop : (o : ℕ) (cs : List Call) → 1 ≤ length cs → asked_in o cs ≡ one_if (is_alloc (call_kind (get_or cs 0 no_call)) && eqb (call_object (get_or cs 0 no_call)) o) + asked_in o (drop 1 cs)
 asked-drop o [] some = absurd (omega arith)
 asked-drop o (c ∷ cs) some = refl
 

@@ -4,6 +4,7 @@ use Rattle.std.proofs.lemmas.Bool.{false≢true}
 use Rattle.slub_trace.specs.declared.reply.Reply.TheVariants as reply
 use Rattle.slub_core.specs.declared.call.CallKind.TheVariants.{Free, Poke}
 use Rattle.slub_core.specs.declared.local.Known.{Known}
+use Rattle.slub_core.specs.Calls.{call_offset}
 use Rattle.slub_core.specs.World.{World}
 use Rattle.slub_core.specs.Local.{Worker, here, call_of}
 use Rattle.slub_core.specs.Spots.{doing, is_freeing}
@@ -31,7 +32,7 @@ poke-knows opening w x others ac doing idle real =
 
 -- the byte is written
 pub told_poked : (opening w v : World) (x z : Worker) (others : List Worker) → IsAccounted opening w (x ∷ others) → Unseen w v → doing x.local.spot ≡ Some Poke → is_freeing x.local.spot ≡ false → 1 ≤ (here x.local).frame
-    → w.setup.checks (here x.local).cache ≡ true → is_offset (w.setup.layout (here x.local).cache) (call_of x.local).offset ≡ true → AnswersKept x.local z.local reply.Poked → IsAccounted opening v (z ∷ others)
+    → w.setup.checks (here x.local).cache ≡ true → is_offset (w.setup.layout (here x.local).cache) (call_offset (call_of x.local)) ≡ true → AnswersKept x.local z.local reply.Poked → IsAccounted opening v (z ∷ others)
 told_poked opening w v x z others ac same at idle real checked inside after =
     let l = x.local in
     let call = ((told-of opening w x others ac).call Poke at).0 in
@@ -41,7 +42,7 @@ told_poked opening w v x z others ac same at idle real checked inside after =
 
 -- it lies outside of the slot
 pub told_out_of_slot : (opening w v : World) (x z : Worker) (others : List Worker) → IsAccounted opening w (x ∷ others) → Unseen w v → doing x.local.spot ≡ Some Poke → is_freeing x.local.spot ≡ false → 1 ≤ (here x.local).frame
-    → w.setup.checks (here x.local).cache ≡ true → is_offset (w.setup.layout (here x.local).cache) (call_of x.local).offset ≡ false → AnswersKept x.local z.local reply.OutOfSlot → IsAccounted opening v (z ∷ others)
+    → w.setup.checks (here x.local).cache ≡ true → is_offset (w.setup.layout (here x.local).cache) (call_offset (call_of x.local)) ≡ false → AnswersKept x.local z.local reply.OutOfSlot → IsAccounted opening v (z ∷ others)
 told_out_of_slot opening w v x z others ac same at idle real checked outside after =
     let l = x.local in
     let call = ((told-of opening w x others ac).call Poke at).0 in

@@ -9,7 +9,7 @@ use Rattle.slub_core.specs.World.{World, pool_of, content}
 use Rattle.slub_core.specs.Local.{Local, Worker, here, address_in}
 use Rattle.slub_core.specs.Spots.{doing, frees, is_freeing}
 use Rattle.slub_core.specs.Replies.{holding, address_on, Public}
-use Rattle.slub_core.specs.Accounted.{boarded, public, IsDoing, NamesCache, IsTold, IsWritten, IsAccounted}
+use Rattle.slub_core.specs.Accounted.{boarded, public, IsDoing, NamesCache, IsTold, HasWritten, IsAccounted}
 use Rattle.slub_core.proofs.TaleStep.{Onward, Moved, told-later, told_step}
 
 -- a state with the same board, memory and counts of lacking runs, and no transaction id less
@@ -52,7 +52,7 @@ told-like m before p l n like ok = record {
 pub content-same : (w v : World) → v.setup ≡ w.setup → ((p : ℕ) → v.memory p ≡ w.memory p) → (cache frame index a : ℕ) → content v cache frame index a ≡ content w cache frame index a
 content-same w v setup memory cache frame index a = rw setup (memory _)
 
-pub written-same : (w v : World) (before : ℕ → Option BoardWord) (l : Local) → v.setup ≡ w.setup → ((p : ℕ) → v.memory p ≡ w.memory p) → IsWritten w before l → IsWritten v before l
+pub written-same : (w v : World) (before : ℕ → Option BoardWord) (l : Local) → v.setup ≡ w.setup → ((p : ℕ) → v.memory p ≡ w.memory p) → HasWritten w before l → HasWritten v before l
 written-same w v before l setup memory ok = record {
   stands = λ o a x not is plain wrote. content-same w v setup memory _ _ _ a ∙ ok.stands o a x not is (rw setup at plain) wrote;
   inside = λ o a x is wrote. rw setup (ok.inside o a x is wrote);
@@ -61,11 +61,11 @@ written-same w v before l setup memory ok = record {
 }
 
 pub others-written : (w v : World) (before : ℕ → Option BoardWord) (x : Worker) (others : List Worker) → v.setup ≡ w.setup → ((p : ℕ) → v.memory p ≡ w.memory p)
-    → All (λ (o : Worker). IsWritten w before o.local) (x ∷ others) → All (λ (o : Worker). IsWritten v before o.local) others
+    → All (λ (o : Worker). HasWritten w before o.local) (x ∷ others) → All (λ (o : Worker). HasWritten v before o.local) others
 others-written w v before x others setup memory all =
-    All-weaker (λ (o : Worker). IsWritten w before o.local) (λ (o : Worker). IsWritten v before o.local) (λ o. written-same w v before o.local setup memory) others (All-tail (λ (o : Worker). IsWritten w before o.local) x others all)
+    All-weaker (λ (o : Worker). HasWritten w before o.local) (λ (o : Worker). HasWritten v before o.local) (λ o. written-same w v before o.local setup memory) others (All-tail (λ (o : Worker). HasWritten w before o.local) x others all)
 
-pub written-like : (m : Setup) (w : World) (before : ℕ → Option BoardWord) (l n : Local) → Like m before l n → IsWritten w before l → IsWritten w before n
+pub written-like : (m : Setup) (w : World) (before : ℕ → Option BoardWord) (l n : Local) → Like m before l n → HasWritten w before l → HasWritten w before n
 written-like m w before l n like ok = record {
   stands = λ o a v not. rw (like.known, like.done) (ok.stands o a v (λ f e. let g = like.frees f in not g.0 (e ∙ sym (object-same l n like.known g.1))));
   inside = λ o a v. rw (like.known, like.done) (ok.inside o a v);
@@ -89,10 +89,10 @@ onward w v same = record { setup = same.setup; tids = same.tids; less = λ o. in
 pub told_like : (opening w v : World) (x z : Worker) (others : List Worker) → IsAccounted opening w (x ∷ others) → Unseen w v → Like w.setup opening.board x.local z.local → IsAccounted opening v (z ∷ others)
 told_like opening w v x z others ac same like =
     let told = All-head (λ (o : Worker). IsTold w.setup opening.board (public w (x ∷ others)) o.local) x others ac.told in
-    let written = All-head (λ (o : Worker). IsWritten w opening.board o.local) x others ac.written in
+    let written = All-head (λ (o : Worker). HasWritten w opening.board o.local) x others ac.written in
     told_step opening w v x z others ac (onward w v same) (moved-like w.setup opening.board w v x.local z.local same like)
     (λ p later. told-like w.setup opening.board p x.local z.local like (told-later w.setup opening.board _ p x.local later told))
-    (All-cons (λ (o : Worker). IsWritten v opening.board o.local) z others
+    (All-cons (λ (o : Worker). HasWritten v opening.board o.local) z others
     (written-like w.setup v opening.board x.local z.local like (written-same w v opening.board x.local same.setup same.memory written))
     (others-written w v opening.board x others same.setup same.memory ac.written))
 

@@ -16,12 +16,13 @@ use Rattle.slub_core.specs.declared.local.Known.{Known}
 use Rattle.slub_core.specs.declared.local.Answered.{Answered}
 use Rattle.slub_core.specs.declared.spot.Spot.{Spot}
 use Rattle.slub_core.specs.declared.spot.Spot.TheVariants.{Between, InAlloc, InPutAway, InDiscard, InPutOnList, InFree, InMoveSet, InOffline, InTrim, WriteWord, ReadWord, InChecked}
+use Rattle.slub_core.specs.Calls.{call_kind, call_cache, call_object, call_place}
 use Rattle.slub_core.specs.Setup.{Setup}
 use Rattle.slub_core.specs.World.{World, pool_of, content, one_if}
 use Rattle.slub_core.specs.Local.{Local, Worker, nobody, no_call, here, call_of, address_in}
 use Rattle.slub_core.specs.Spots.{doing, frees, is_freeing}
 use Rattle.slub_core.specs.Replies.{names_object, is_given, is_freed, is_dry, least_order, holds_after, holding, knows_after, knows, address_after, address_by, cache_after, cache_by, wrote_after, last_wrote, Public, Cause}
-use Rattle.slub_core.specs.Accounted.{boarded, public, place_of, known_of, Fits, IsDoing, IsTold, IsWritten, IsAccounted}
+use Rattle.slub_core.specs.Accounted.{boarded, public, place_of, known_of, CallFits, IsDoing, IsTold, HasWritten, IsAccounted}
 use Rattle.slub_core.proofs.TaleKnowns.{asked-drop, length-drop}
 use Rattle.slub_core.proofs.TaleStep.{Onward, Moved, caused-later, told-later, told_step}
 use Rattle.slub_core.proofs.TaleQuiet.{Unseen, content-same, others-written}
@@ -90,9 +91,9 @@ wrote-kept (reply.Flushed n) c a x is unwrote = refl
 pub place-inside : (m : Setup) (before : ℕ → Option BoardWord) (p : Public) (l : Local) (kind : CallKind) → IsDoing l kind → names_object kind ≡ true → IsTold m before p l → l.place < length l.known
 place-inside m before p l kind doing names ok = rw doing.place (fits-first m l.known l.todo doing.some (ap names_object doing.same_kind ∙ names) ok.fits)
   where
-    fits-first : (m : Setup) (ks : List Known) (cs : List Call) → 1 ≤ length cs → names_object (get_or cs 0 no_call).kind ≡ true → All (Fits m ks) cs → (get_or cs 0 no_call).place < length ks
+    fits-first : (m : Setup) (ks : List Known) (cs : List Call) → 1 ≤ length cs → names_object (call_kind (get_or cs 0 no_call)) ≡ true → All (CallFits m ks) cs → call_place (get_or cs 0 no_call) < length ks
     fits-first m ks [] some names all = absurd (omega arith)
-    fits-first m ks (c ∷ cs) some names all = (All-head (Fits m ks) c cs all).inside names
+    fits-first m ks (c ∷ cs) some names all = (All-head (CallFits m ks) c cs all).inside names
 
 -- what is freed of an unchecked cache is freed
 pub freeing-frees : (spot : Spot) → is_freeing spot ≡ false → frees spot ≡ false
@@ -123,15 +124,15 @@ answers-here l n r after = record { known = after.known ∙ sym (set-get_or l.kn
 pub told-of : (opening w : World) (x : Worker) (others : List Worker) → IsAccounted opening w (x ∷ others) → IsTold w.setup opening.board (public w (x ∷ others)) x.local
 told-of opening w x others ac = All-head (λ (o : Worker). IsTold w.setup opening.board (public w (x ∷ others)) o.local) x others ac.told
 
-pub written-of : (opening w : World) (x : Worker) (others : List Worker) → IsAccounted opening w (x ∷ others) → IsWritten w opening.board x.local
-written-of opening w x others ac = All-head (λ (o : Worker). IsWritten w opening.board o.local) x others ac.written
+pub written-of : (opening w : World) (x : Worker) (others : List Worker) → IsAccounted opening w (x ∷ others) → HasWritten w opening.board x.local
+written-of opening w x others ac = All-head (λ (o : Worker). HasWritten w opening.board o.local) x others ac.written
 
 pub known-here : (l : Local) → l.place ≡ place_of l.known (here l).object → known_of l.known (here l).object ≡ here l
 known-here l place = ap (λ q. get_or l.known q nobody) (sym place)
 
 -- what such a reply owes to a call of an object, whatever is so of the words
 pub told_kept : (opening w v : World) (x z : Worker) (others : List Worker) (kind : CallKind) (r : Reply) → IsAccounted opening w (x ∷ others) → Onward w v → Counts w v x.local r → IsDoing x.local kind → names_object kind ≡ true → is_freeing x.local.spot ≡ false → is_kept r ≡ true
-    → AnswersKept x.local z.local r → Cause w.setup opening.board (public w (x ∷ others)) x.local.done (call_of x.local) r → All (λ (o : Worker). IsWritten v opening.board o.local) (z ∷ others) → IsAccounted opening v (z ∷ others)
+    → AnswersKept x.local z.local r → Cause w.setup opening.board (public w (x ∷ others)) x.local.done (call_of x.local) r → All (λ (o : Worker). HasWritten v opening.board o.local) (z ∷ others) → IsAccounted opening v (z ∷ others)
 told_kept opening w v x z others kind r ac on counts doing names idle is after cause written =
     let l = x.local in
     let m = w.setup in
@@ -166,7 +167,7 @@ pub record Spoken (w v : World) (l : Local) (r : Reply) : Type 0 where
   pub tids : (n : ℕ) → (w.cpu n).tid ≤ (v.cpu n).tid
   pub board : (o : ℕ) → v.board o ≡ w.board o
   pub memory : (p : ℕ) → v.memory p ≡ w.memory p
-  pub dry : (order : ℕ) → slice_index (pool_of v).dry order ≡ slice_index (pool_of w).dry order + one_if (is_dry r && eqb (least_order w.setup (call_of l).cache) order)
+  pub dry : (order : ℕ) → slice_index (pool_of v).dry order ≡ slice_index (pool_of w).dry order + one_if (is_dry r && eqb (least_order w.setup (call_cache (call_of l))) order)
 
 pub spoken : (w v : World) (l : Local) (r : Reply) → Unseen w v → is_dry r ≡ false → Spoken w v l r
 spoken w v l r same undry = record { setup = same.setup; tids = same.tids; board = same.board; memory = same.memory; dry = λ order. let e = same.dry order in rw undry (omega arith) }
@@ -181,12 +182,12 @@ spoken-counts w v l r sp = record { board = sp.board; dry = sp.dry }
 pub written-spoken : (opening w v : World) (x z : Worker) (others : List Worker) (kind : CallKind) (k : Known) (r : Reply) → IsAccounted opening w (x ∷ others) → Spoken w v x.local r → IsDoing x.local kind → names_object kind ≡ true → k.object ≡ (here x.local).object → Answers x.local z.local k r
     → ((a y : ℕ) → k.held ≡ true → wrote_after (call_of x.local) r a (last_wrote x.local.done (here x.local).object a) ≡ Some y
     → (8 * (a + 1) ≤ (w.setup.layout k.cache).object_size) × (w.setup.checks k.cache ≡ false → content v k.cache k.frame k.index a ≡ y))
-    → All (λ (o : Worker). IsWritten v opening.board o.local) (z ∷ others)
+    → All (λ (o : Worker). HasWritten v opening.board o.local) (z ∷ others)
 written-spoken opening w v x z others kind k r ac sp doing names same after mine =
     let l = x.local in
     let p = public w (x ∷ others) in
     let ok = told-of opening w x others ac in
-    All-cons (λ (o : Worker). IsWritten v opening.board o.local) z others
+    All-cons (λ (o : Worker). HasWritten v opening.board o.local) z others
     (written-answer w v opening.board l z.local kind k r (written-of opening w x others ac) sp.setup (place-inside w.setup opening.board p l kind doing names ok) same doing names (place-here w.setup opening.board p l kind doing names ok) after
     (asked-new opening w x others ac doing.some) (λ o a away h plain within. content-same w v sp.setup sp.memory _ _ _ a) mine)
     (others-written w v opening.board x others sp.setup sp.memory ac.written)
@@ -200,10 +201,10 @@ told-same : (m : Setup) (before : ℕ → Option BoardWord) (p : Public) (l n : 
 told-same m before p l n r is idle after cause ok =
     let k = kept r is in
     let d : Answered = record { call = call_of l; reply = r } in
-    let holds : (o : ℕ) → holding (d ∷ l.done) o ≡ holding l.done o = λ o. cond-same (eqb (call_of l).object o) _ (holding l.done o) (k.holds (holding l.done o)) in
-    let knew : (o : ℕ) → knows (d ∷ l.done) o ≡ knows l.done o = λ o. cond-same (eqb (call_of l).object o) _ (knows l.done o) (k.knows (knows l.done o)) in
-    let address : (o : ℕ) → address_by m before (d ∷ l.done) o ≡ address_by m before l.done o = λ o. cond-same (eqb (call_of l).object o) _ (address_by m before l.done o) (k.address (address_by m before l.done o)) in
-    let cache : (o : ℕ) → cache_by before (d ∷ l.done) o ≡ cache_by before l.done o = λ o. cond-same (eqb (call_of l).object o) _ (cache_by before l.done o) (k.cache (call_of l) (cache_by before l.done o)) in
+    let holds : (o : ℕ) → holding (d ∷ l.done) o ≡ holding l.done o = λ o. cond-same (eqb (call_object (call_of l)) o) _ (holding l.done o) (k.holds (holding l.done o)) in
+    let knew : (o : ℕ) → knows (d ∷ l.done) o ≡ knows l.done o = λ o. cond-same (eqb (call_object (call_of l)) o) _ (knows l.done o) (k.knows (knows l.done o)) in
+    let address : (o : ℕ) → address_by m before (d ∷ l.done) o ≡ address_by m before l.done o = λ o. cond-same (eqb (call_object (call_of l)) o) _ (address_by m before l.done o) (k.address (address_by m before l.done o)) in
+    let cache : (o : ℕ) → cache_by before (d ∷ l.done) o ≡ cache_by before l.done o = λ o. cond-same (eqb (call_object (call_of l)) o) _ (cache_by before l.done o) (k.cache (call_of l) (cache_by before l.done o)) in
     record {
       caused = rw after.done (cause, ok.caused);
       holds = λ o _. rw (after.known, after.done) (ok.holds o (λ f. absurd (false≢true (sym idle ∙ f))) ∙ sym (holds o));
@@ -213,7 +214,7 @@ told-same m before p l n r is idle after cause ok =
       tells = λ o. rw (after.known, after.done) (λ h. let t = ok.tells o (sym (knew o) ∙ h) in (address o ∙ t.0, cache o ∙ t.1, t.2));
       unknown = λ o. rw (after.known, after.done) (λ h. elim (ok.unknown o h) [ inl a ↦ inl (knew o ∙ a) | inr b ↦ inr b ]);
       call = λ b e. absurd (none-some b (sym after.call ∙ e));
-      fits = rw (after.known, after.todo) (All-drop (Fits m l.known) 1 l.todo ok.fits);
+      fits = rw (after.known, after.todo) (All-drop (CallFits m l.known) 1 l.todo ok.fits);
       distinct = rw after.known ok.distinct;
       numbers = rw after.known ok.numbers;
     }
@@ -222,8 +223,8 @@ told-same m before p l n r is idle after cause ok =
 moved-same : (w v : World) (l n : Local) (r : Reply) → is_kept r ≡ true → 1 ≤ length l.todo → AnswersKept l n r → Counts w v l r → Moved w v l n
 moved-same w v l n r is some after counts =
     let k = kept r is in
-    let f : (o : ℕ) → one_if (is_freed r && eqb (call_of l).object o) ≡ 0 = λ o. rw k.freed refl in
-    let g : (o : ℕ) → one_if (is_given r && eqb (call_of l).object o) ≡ 0 = λ o. rw k.given refl in
+    let f : (o : ℕ) → one_if (is_freed r && eqb (call_object (call_of l)) o) ≡ 0 = λ o. rw k.freed refl in
+    let g : (o : ℕ) → one_if (is_given r && eqb (call_object (call_of l)) o) ≡ 0 = λ o. rw k.given refl in
     record {
       count = λ o. let b = ap boarded (counts.board o) in let freed = f o in let given = g o in rw (after.known, after.done) (omega arith);
       asks = λ o. let s = asked-drop o l.todo some in let given = g o in rw (after.done, after.todo) (omega arith);
@@ -240,9 +241,9 @@ told_same opening w v x z others kind r ac sp doing idle is unwrote after cause 
     let ok = told-of opening w x others ac in
     told_step opening w v x z others ac (spoken-on w v l r sp) (moved-same w v l z.local r is doing.some after (spoken-counts w v l r sp))
     (λ p later. told-same w.setup opening.board p l z.local r is idle after (caused-later w.setup opening.board _ p ((record { call = call_of l; reply = r }) ∷ l.done) later (cause, ok.caused)).0 (told-later w.setup opening.board _ p l later ok))
-    (All-cons (λ (o : Worker). IsWritten v opening.board o.local) z others
+    (All-cons (λ (o : Worker). HasWritten v opening.board o.local) z others
     (written-told w v opening.board l z.local r (written-of opening w x others ac) sp.setup sp.memory (freeing-frees l.spot idle) doing.some after.known after.done after.todo
-    (λ o a. cond-same (eqb (call_of l).object o) _ (last_wrote l.done o a) (wrote-kept r (call_of l) a (last_wrote l.done o a) is unwrote)) (asked-new opening w x others ac doing.some))
+    (λ o a. cond-same (eqb (call_object (call_of l)) o) _ (last_wrote l.done o a) (wrote-kept r (call_of l) a (last_wrote l.done o a) is unwrote)) (asked-new opening w x others ac doing.some))
     (others-written w v opening.board x others sp.setup sp.memory ac.written))
 
 -- an object is freed

@@ -8,17 +8,18 @@ use Rattle.slub_trace.specs.declared.reply.Reply.{Reply}
 use Rattle.slub_trace.specs.declared.reply.Reply.TheVariants as reply
 use Rattle.slub_core.specs.declared.call.Call.{Call}
 use Rattle.slub_core.specs.declared.local.Answered.{Answered}
+use Rattle.slub_core.specs.Calls.{call_cpu, call_object}
 use Rattle.slub_core.specs.Setup.{Setup}
 use Rattle.slub_core.specs.World.{World, pool_of}
 use Rattle.slub_core.specs.Local.{Local, Worker}
 use Rattle.slub_core.specs.Replies.{given_in, freed_in, asked_in, dry_in, Public, Later, Cause, Caused}
-use Rattle.slub_core.specs.Accounted.{boarded, had, public, IsTold, IsWritten, IsAccounted}
+use Rattle.slub_core.specs.Accounted.{boarded, had, public, IsTold, HasWritten, IsAccounted}
 
 -- a cause stays
 cause-later : (m : Setup) (before : ℕ → Option BoardWord) (p q : Public) (ds : List Answered) (c : Call) (r : Reply) → Later p q → Cause m before p ds c r → Cause m before q ds c r
 cause-later m before p q ds c (reply.Given a) later h = (h.0, h.1, h.2, λ o at. let f = later.freed o in let g = h.3 o at in omega arith)
-cause-later m before p q ds c (reply.IdsSpent t) later h = (h.0, h.1, (h.2.0, h.2.1, h.2.2, let f = later.tid (16 * h.2.0 + c.cpu) in let g = h.2.3 in omega arith))
-cause-later m before p q ds c reply.NotHeld later h = (h.0, h.1, h.2, λ f. let b = later.boarded c.object in let z = h.3 f in omega arith)
+cause-later m before p q ds c (reply.IdsSpent t) later h = (h.0, h.1, (h.2.0, h.2.1, h.2.2, let f = later.tid (16 * h.2.0 + call_cpu c) in let g = h.2.3 in omega arith))
+cause-later m before p q ds c reply.NotHeld later h = (h.0, h.1, h.2, λ f. let b = later.boarded (call_object c) in let z = h.3 f in omega arith)
 cause-later m before p q ds c reply.NoFrames later h = h
 cause-later m before p q ds c reply.NoSuchCache later h = h
 cause-later m before p q ds c reply.NoMemory later h = h
@@ -74,7 +75,7 @@ boarded-less a b (inr e) = rw e (omega arith)
 -- What a step owes: it moves no more than it answers for, and the worker's own records agree with its replies and with the words.
 pub told_step : (opening w v : World) (x z : Worker) (others : List Worker) → IsAccounted opening w (x ∷ others) → Onward w v → Moved w v x.local z.local
     → ((p : Public) → Later (public w (x ∷ others)) p → IsTold w.setup opening.board p z.local)
-    → All (λ (x : Worker). IsWritten v opening.board x.local) (z ∷ others)
+    → All (λ (x : Worker). HasWritten v opening.board x.local) (z ∷ others)
     → IsAccounted opening v (z ∷ others)
 told_step opening w v x z others ac on moved told written =
     let later : Later (public w (x ∷ others)) (public v (z ∷ others)) = record {

@@ -12,12 +12,13 @@ use Rattle.slub_core.specs.declared.call.CallKind.{CallKind}
 use Rattle.slub_core.specs.declared.call.CallKind.TheVariants.{Free}
 use Rattle.slub_core.specs.declared.local.Known.{Known}
 use Rattle.slub_core.specs.declared.local.Answered.{Answered}
+use Rattle.slub_core.specs.Calls.{call_object}
 use Rattle.slub_core.specs.Setup.{Setup}
 use Rattle.slub_core.specs.World.{World, set_board, update, one_if}
 use Rattle.slub_core.specs.Local.{Local, Worker, nobody, here, address_in}
 use Rattle.slub_core.specs.Spots.{doing, is_freeing}
 use Rattle.slub_core.specs.Replies.{is_given, given_in, cache_after, cache_by, address_by, address_on, holding, holds_after, last_wrote, wrote_after, Public, Cause, Caused}
-use Rattle.slub_core.specs.Accounted.{boarded, public, known_of, NamesCache, IsWritten, IsAccounted}
+use Rattle.slub_core.specs.Accounted.{boarded, public, known_of, NamesCache, HasWritten, IsAccounted}
 use Rattle.slub_core.proofs.Update.{update_at, update_other}
 use Rattle.slub_core.proofs.TaleKnowns.{known_of-here, known_of-other, fits-set, distinct-set}
 use Rattle.slub_core.proofs.TaleStep.{told-later, told_step}
@@ -29,12 +30,12 @@ use Rattle.slub_core.proofs.TaleGiven.{address-ungiven, ungiven}
 -- a worker that doesn't hold an object has no written words of it
 pub wrote-holding : (m : Setup) (before : ℕ → Option BoardWord) (p : Public) (ds : List Answered) (o a y : ℕ) → Caused m before p ds → last_wrote ds o a ≡ Some y → holding ds o ≡ true
 wrote-holding m before p [] o a y caused w = absurd (none-some y w)
-wrote-holding m before p (d ∷ ds) o a y caused w = let rest = wrote-holding m before p ds o a y caused.1 in elim (cases_eq d.call.object o) [
-  | inl e ↦ (let w' : wrote_after d.call d.reply a (last_wrote ds o a) ≡ Some y = rw (eq-eqb d.call.object o e) at w in rw (eq-eqb d.call.object o e) (by_reply rest d.call d.reply e caused.0 w'))
-  | inr n ↦ (let w' : last_wrote ds o a ≡ Some y = rw (ne_eqb d.call.object o n) at w in rw (ne_eqb d.call.object o n) (rest w'))
+wrote-holding m before p (d ∷ ds) o a y caused w = let rest = wrote-holding m before p ds o a y caused.1 in elim (cases_eq (call_object d.call) o) [
+  | inl e ↦ (let w' : wrote_after d.call d.reply a (last_wrote ds o a) ≡ Some y = rw (eq-eqb (call_object d.call) o e) at w in rw (eq-eqb (call_object d.call) o e) (by_reply rest d.call d.reply e caused.0 w'))
+  | inr n ↦ (let w' : last_wrote ds o a ≡ Some y = rw (ne_eqb (call_object d.call) o n) at w in rw (ne_eqb (call_object d.call) o n) (rest w'))
 ]
   where
-    by_reply : (last_wrote ds o a ≡ Some y → holding ds o ≡ true) → (c : Call) (r : Reply) → c.object ≡ o → Cause m before p ds c r → wrote_after c r a (last_wrote ds o a) ≡ Some y → holds_after r (holding ds o) ≡ true
+    by_reply : (last_wrote ds o a ≡ Some y → holding ds o ≡ true) → (c : Call) (r : Reply) → call_object c ≡ o → Cause m before p ds c r → wrote_after c r a (last_wrote ds o a) ≡ Some y → holds_after r (holding ds o) ≡ true
     by_reply rest c (reply.Given b) is h w = refl
     by_reply rest c (reply.Freed b) is h w = absurd (none-some y w)
     by_reply rest c (reply.Corrupt d) is h w = refl
@@ -58,9 +59,9 @@ cache-ungiven : (before : ℕ → Option BoardWord) (ds : List Answered) (o : �
 cache-ungiven before [] o k none is = is
 cache-ungiven before (d ∷ ds) o k none is =
     let rest = cache-ungiven before ds o k (omega arith) is in
-    elim (cases_eq d.call.object o) [
-      | inl e ↦ rw (eq-eqb d.call.object o e) (by_reply d.call d.reply (let z : one_if (is_given d.reply && eqb d.call.object o) ≡ 0 = omega arith in rw (eq-eqb d.call.object o e) at z) ∙ rest)
-      | inr n ↦ rw (ne_eqb d.call.object o n) rest
+    elim (cases_eq (call_object d.call) o) [
+      | inl e ↦ rw (eq-eqb (call_object d.call) o e) (by_reply d.call d.reply (let z : one_if (is_given d.reply && eqb (call_object d.call) o) ≡ 0 = omega arith in rw (eq-eqb (call_object d.call) o e) at z) ∙ rest)
+      | inr n ↦ rw (ne_eqb (call_object d.call) o n) rest
     ]
   where
     by_reply : (c : Call) (r : Reply) {x : Option ℕ} → one_if (is_given r && true) ≡ 0 → cache_after c r x ≡ x
@@ -156,7 +157,7 @@ told_take opening w x z others b ac at idle free there real takes =
       distinct = rw takes.known (distinct-set l.known l.place k refl ok.distinct);
       numbers = rw takes.known (All-set (λ (k : Known). k.object < m.objects) l.known l.place k (ok.numbers l.place nobody below) ok.numbers);
     })
-    (All-cons (λ (o : Worker). IsWritten v opening.board o.local) z others (record {
+    (All-cons (λ (o : Worker). HasWritten v opening.board o.local) z others (record {
       stands = λ o a y _. rw (takes.known, takes.done) (elim (cases_eq o n) [
         | inl e ↦ λ h q wrote. absurd (false≢true (sym unheld ∙ ap (holding l.done) (sym e) ∙ wrote-holding m opening.board p l.done o a y ok.caused wrote))
         | inr d ↦ rw (other o d) (λ h q wrote. wr.stands o a y (λ f. absurd (false≢true (sym (freeing-frees l.spot idle) ∙ f))) h q wrote)

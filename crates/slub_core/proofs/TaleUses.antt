@@ -15,6 +15,7 @@ use Rattle.slub_core.specs.declared.local.FrameRun.{FrameRun}
 use Rattle.slub_core.specs.declared.local.Answered.{Answered}
 use Rattle.slub_core.specs.declared.spot.Spot.TheVariants.{WriteWord, ReadWord}
 use Rattle.slub_core.specs.declared.step.Answer.TheVariants.{Word, Done}
+use Rattle.slub_core.specs.Calls.{call_kind, call_object, call_word, call_value}
 use Rattle.slub_core.specs.Setup.{Setup, pointer_at, word_at}
 use Rattle.slub_core.specs.World.{World, LockValue, content, set_memory, exists_at, object_at, covers}
 use Rattle.slub_core.specs.Local.{Worker, nobody, no_call, here, call_of}
@@ -25,7 +26,7 @@ use Rattle.slub_core.specs.Listed.{covered_by}
 use Rattle.slub_core.specs.Fresh.{IsAtWork}
 use Rattle.slub_core.specs.Coherent.{Stands}
 use Rattle.slub_core.specs.Replies.{holds_after, holding, cache_after, cache_by, wrote_after, last_wrote, Public, Cause, Caused}
-use Rattle.slub_core.specs.Accounted.{public, known_of, calls_of, written, written_by, MayCome, AreReadable, IsWritten, IsAccounted}
+use Rattle.slub_core.specs.Accounted.{public, known_of, calls_of, written, written_by, MayCome, AreReadable, HasWritten, IsAccounted}
 use Rattle.slub_core.proofs.Counts.{roles-cons}
 use Rattle.slub_core.proofs.Update.{update_same, update_other, term_le_sum}
 use Rattle.slub_core.proofs.Exists.{IsPlainObject, plain-object, owned-object, object_at-le, exists_at-within}
@@ -123,8 +124,8 @@ told_run opening w x z others run i v ac s mine below quiet =
 
 -- ---- writes
 
-pub word-inside : (layout : Layout) (c : Call) → is_outside layout c ≡ false → 8 * (c.word + 1) ≤ layout.object_size
-word-inside layout c is = elim (cases_Bool (nat_le (8 * (c.word + 1)) layout.object_size)) [
+pub word-inside : (layout : Layout) (c : Call) → is_outside layout (call_word c) ≡ false → 8 * (call_word c + 1) ≤ layout.object_size
+word-inside layout c is = elim (cases_Bool (nat_le (8 * (call_word c + 1)) layout.object_size)) [
   | inl e ↦ leb-true _ _ e
   | inr e ↦ absurd (false≢true (sym is ∙ rw e refl))
 ]
@@ -133,14 +134,14 @@ word-other : (m : Setup) (cache frame index a b : ℕ) → (a ≡ b → ⊥) →
 word-other m cache frame index a b d e = d (omega (arith, e))
 
 pub told_WriteWord : (opening w : World) (value : ℕ → LockValue) (x : Worker) (others : List Worker) → x.local.spot ≡ WriteWord → Stands w (x ∷ others) → IsAccounted opening w (x ∷ others)
-    → IsAccounted opening (set_memory w (word_at w.setup (here x.local).cache (here x.local).frame (here x.local).index (call_of x.local).word) (call_of x.local).value) (record x { local = told (advance_at w.setup value x.local WriteWord Done) } ∷ others)
+    → IsAccounted opening (set_memory w (word_at w.setup (here x.local).cache (here x.local).frame (here x.local).index (call_word (call_of x.local))) (call_value (call_of x.local))) (record x { local = told (advance_at w.setup value x.local WriteWord Done) } ∷ others)
 told_WriteWord opening w value x others is s ac =
     let l = x.local in
     let k = here l in
     let c = call_of l in
     let m = w.setup in
-    let p = word_at m k.cache k.frame k.index c.word in
-    let v = set_memory w p c.value in
+    let p = word_at m k.cache k.frame k.index (call_word c) in
+    let v = set_memory w p (call_value c) in
     let z : Worker = record x { local = told (advance_at w.setup value x.local WriteWord Done) } in
     let ok = at-work w x others s in
     let tale = told-of opening w x others ac in
@@ -149,9 +150,9 @@ told_WriteWord opening w value x others is s ac =
     let room = ok.spot.uses (rw is refl) in
     let plain : m.checks k.cache ≡ false = rw room.2 (ok.spot.plain (rw is refl)).2 in
     let live : m.lives k.cache ≡ true = rw room.2 (ok.spot.plain (rw is refl)).1 in
-    let inside : 8 * (c.word + 1) ≤ (m.layout k.cache).object_size = word-inside (m.layout k.cache) c (rw room.2 (ok.spot.inside (rw is refl))) in
+    let inside : 8 * (call_word c + 1) ≤ (m.layout k.cache).object_size = word-inside (m.layout k.cache) c (rw room.2 (ok.spot.inside (rw is refl))) in
     let obj = here-plain w x others s room.0 room.1 plain in
-    let word : IsWordOf (m.layout (w.slab k.frame).cache) k.frame k.index p = subst (λ c. IsWordOf (m.layout c) k.frame k.index p) obj.0.cache (word-word m k.cache k.frame k.index c.word s.fresh.setup live inside) in
+    let word : IsWordOf (m.layout (w.slab k.frame).cache) k.frame k.index p = subst (λ c. IsWordOf (m.layout c) k.frame k.index p) obj.0.cache (word-word m k.cache k.frame k.index (call_word c) s.fresh.setup live inside) in
     let place = place-here m opening.board (public w (x ∷ others)) l Write call refl tale in
     let knew = known-here l place in
     let had : (known_of l.known k.object).held ≡ true = ap (λ (j : Known). j.held) knew ∙ room.1 in
@@ -160,25 +161,25 @@ told_WriteWord opening w value x others is s ac =
     let after : AnswersKept l z.local reply.Wrote = record { known = refl; done = refl; todo = refl; freeing = refl; call = refl } in
     let mine : (o a : ℕ) → (o ≡ k.object → ⊥) → (known_of l.known o).held ≡ true → m.checks (known_of l.known o).cache ≡ false → 8 * (a + 1) ≤ (m.layout (known_of l.known o).cache).object_size
     → content v (known_of l.known o).cache (known_of l.known o).frame (known_of l.known o).index a ≡ content w (known_of l.known o).cache (known_of l.known o).frame (known_of l.known o).index a
-    = λ o a d h q b. update_other w.memory p c.value _ (mine-spares w x others p s room.0 room.1 obj.1 word o a d h q b) in
+    = λ o a d h q b. update_other w.memory p (call_value c) _ (mine-spares w x others p s room.0 room.1 obj.1 word o a d h q b) in
     told_kept opening w v x z others Write reply.Wrote ac (record { setup = refl; tids = λ n. omega arith; less = λ o. inr refl }) (record { board = λ o. refl; dry = λ order. omega arith }) call refl (rw is refl) refl after (call.same_kind, rw (call.object refl) holds, (k.cache, rw (call.object refl) of, rw room.2 (ok.spot.inside (rw is refl))))
-    (All-cons (λ (o : Worker). IsWritten v opening.board o.local) z others
+    (All-cons (λ (o : Worker). HasWritten v opening.board o.local) z others
     (written-answer w v opening.board l z.local Write k reply.Wrote wr refl room.0 refl call refl place (answers-here l z.local reply.Wrote after) (asked-new opening w x others ac call.some) mine
-    (λ a y h wrote. elim (cases_eq c.word a) [
+    (λ a y h wrote. elim (cases_eq (call_word c) a) [
       | inl e ↦
-          let y' : Some c.value ≡ Some y = rw (eq-eqb c.word a e) at wrote in (
+          let y' : Some (call_value c) ≡ Some y = rw (eq-eqb (call_word c) a e) at wrote in (
             subst (λ a. 8 * (a + 1) ≤ (m.layout k.cache).object_size) e inside,
-            λ _. ap (λ a. content v k.cache k.frame k.index a) (sym e) ∙ update_same w.memory p c.value ∙ some-same y',
+            λ _. ap (λ a. content v k.cache k.frame k.index a) (sym e) ∙ update_same w.memory p (call_value c) ∙ some-same y',
           )
       | inr d ↦
-          let y' : last_wrote l.done k.object a ≡ Some y = rw (ne_eqb c.word a d) at wrote in
+          let y' : last_wrote l.done k.object a ≡ Some y = rw (ne_eqb (call_word c) a d) at wrote in
           let h' : (known_of l.known k.object).held ≡ true = ap (λ (j : Known). j.held) knew ∙ h in (
             subst (λ (j : Known). 8 * (a + 1) ≤ (m.layout j.cache).object_size) knew (wr.inside k.object a y h' y'),
-            λ q. update_other w.memory p c.value _ (word-other m k.cache k.frame k.index a c.word (λ e. d (sym e)))
+            λ q. update_other w.memory p (call_value c) _ (word-other m k.cache k.frame k.index a (call_word c) (λ e. d (sym e)))
                 ∙ subst (λ (j : Known). m.checks j.cache ≡ false → content w j.cache j.frame j.index a ≡ y) knew (λ q. wr.stands k.object a y (λ f. absurd (false≢true (rw is at f))) h' q y') q,
           )
     ]))
-    (all-written w opening.board p c.value others (others-spare w x others k.frame k.index p s obj.2 obj.1 word) (All-tail (λ (o : Worker). IsWritten w opening.board o.local) x others ac.written)))
+    (all-written w opening.board p (call_value c) others (others-spare w x others k.frame k.index p s obj.2 obj.1 word) (All-tail (λ (o : Worker). HasWritten w opening.board o.local) x others ac.written)))
   where
     some-same : {a b : ℕ} → Some a ≡ Some b → a ≡ b
     some-same e = cc
@@ -189,31 +190,31 @@ told_WriteWord opening w value x others is s ac =
 pub wrote_some : (m : Setup) (before : ℕ → Option BoardWord) (p : Public) (ds : List Answered) (o a k : ℕ) → Caused m before p ds → cache_by before ds o ≡ Some k → m.checks k ≡ false → 8 * (a + 1) ≤ (m.layout k).object_size
     → written (calls_of ds) o a ≡ true → holding ds o ≡ true → (y : ℕ) × (last_wrote ds o a ≡ Some y)
 wrote_some m before p [] o a k caused of plain inside w h = absurd (false≢true w)
-wrote_some m before p (d ∷ ds) o a k caused of plain inside w h = let rest : cache_by before ds o ≡ Some k → written (calls_of ds) o a ≡ true → holding ds o ≡ true → (y : ℕ) × (last_wrote ds o a ≡ Some y) = λ of w h. wrote_some m before p ds o a k caused.1 of plain inside w h in elim (cases_eq d.call.object o) [
+wrote_some m before p (d ∷ ds) o a k caused of plain inside w h = let rest : cache_by before ds o ≡ Some k → written (calls_of ds) o a ≡ true → holding ds o ≡ true → (y : ℕ) × (last_wrote ds o a ≡ Some y) = λ of w h. wrote_some m before p ds o a k caused.1 of plain inside w h in elim (cases_eq (call_object d.call) o) [
   | inl e ↦
-      let of' : cache_after d.call d.reply (cache_by before ds o) ≡ Some k = rw (eq-eqb d.call.object o e) at of in
-      let w' : written_by d.call d.call.kind a (written (calls_of ds) o a) ≡ true = rw (eq-eqb d.call.object o e) at w in
-      let h' : holds_after d.reply (holding ds o) ≡ true = rw (eq-eqb d.call.object o e) at h in
+      let of' : cache_after d.call d.reply (cache_by before ds o) ≡ Some k = rw (eq-eqb (call_object d.call) o e) at of in
+      let w' : written_by d.call (call_kind d.call) a (written (calls_of ds) o a) ≡ true = rw (eq-eqb (call_object d.call) o e) at w in
+      let h' : holds_after d.reply (holding ds o) ≡ true = rw (eq-eqb (call_object d.call) o e) at h in
       let g = by_reply rest d.call d.reply e caused.0 of' w' h' in
-      (g.0, rw (eq-eqb d.call.object o e) g.1)
+      (g.0, rw (eq-eqb (call_object d.call) o e) g.1)
   | inr n ↦
-      let of' : cache_by before ds o ≡ Some k = rw (ne_eqb d.call.object o n) at of in
-      let w' : written (calls_of ds) o a ≡ true = rw (ne_eqb d.call.object o n) at w in
-      let h' : holding ds o ≡ true = rw (ne_eqb d.call.object o n) at h in
+      let of' : cache_by before ds o ≡ Some k = rw (ne_eqb (call_object d.call) o n) at of in
+      let w' : written (calls_of ds) o a ≡ true = rw (ne_eqb (call_object d.call) o n) at w in
+      let h' : holding ds o ≡ true = rw (ne_eqb (call_object d.call) o n) at h in
       let g = rest of' w' h' in
-      (g.0, rw (ne_eqb d.call.object o n) g.1)
+      (g.0, rw (ne_eqb (call_object d.call) o n) g.1)
 ]
   where
     some-same : {a b : ℕ} → Some a ≡ Some b → a ≡ b
     some-same e = cc
 
-    of_kind : (c : Call) (kind : CallKind) → c.kind ≡ kind → written_by c c.kind a (written (calls_of ds) o a) ≡ true → written_by c kind a (written (calls_of ds) o a) ≡ true
+    of_kind : (c : Call) (kind : CallKind) → call_kind c ≡ kind → written_by c (call_kind c) a (written (calls_of ds) o a) ≡ true → written_by c kind a (written (calls_of ds) o a) ≡ true
     of_kind c kind e w = subst (λ b. written_by c b a (written (calls_of ds) o a) ≡ true) e w
 
     Rest : Type 0
     Rest = cache_by before ds o ≡ Some k → written (calls_of ds) o a ≡ true → holding ds o ≡ true → (y : ℕ) × (last_wrote ds o a ≡ Some y)
 
-    by_reply : Rest → (c : Call) (r : Reply) → c.object ≡ o → Cause m before p ds c r → cache_after c r (cache_by before ds o) ≡ Some k → written_by c c.kind a (written (calls_of ds) o a) ≡ true → holds_after r (holding ds o) ≡ true
+    by_reply : Rest → (c : Call) (r : Reply) → call_object c ≡ o → Cause m before p ds c r → cache_after c r (cache_by before ds o) ≡ Some k → written_by c (call_kind c) a (written (calls_of ds) o a) ≡ true → holds_after r (holding ds o) ≡ true
         → (y : ℕ) × (wrote_after c r a (last_wrote ds o a) ≡ Some y)
     by_reply rest c (reply.Given b) is q of w h = absurd (false≢true (of_kind c Alloc q.0 w))
     by_reply rest c reply.NoFrames is q of w h = absurd (false≢true (of_kind c Alloc q.0 w))
@@ -226,19 +227,19 @@ wrote_some m before p (d ∷ ds) o a k caused of plain inside w h = let rest : c
         absurd (let e : k ≡ q.2.0 = some-same (sym of ∙ ap (cache_by before ds) (sym is) ∙ q.2.1) in false≢true (sym plain ∙ ap m.checks e ∙ q.2.2))
     by_reply rest c reply.Wrote is q of w h =
         let w' : written_by c Write a (written (calls_of ds) o a) ≡ true = of_kind c Write q.0 w in
-        elim (cases_Bool (eqb c.word a)) [
-          | inl t ↦ (c.value, rw t refl)
+        elim (cases_Bool (eqb (call_word c) a)) [
+          | inl t ↦ (call_value c, rw t refl)
           | inr f ↦ let g = rest of (rw f at w') h in (g.0, rw f g.1)
         ]
     by_reply rest c (reply.Value v) is q of w h = rest of (of_kind c Read q.0 w) h
     by_reply rest c reply.OutOfObject is q of w h = elim q.0 [
       | inl e ↦
           let w' : written_by c Write a (written (calls_of ds) o a) ≡ true = of_kind c Write e w in
-          elim (cases_Bool (eqb c.word a)) [
+          elim (cases_Bool (eqb (call_word c) a)) [
             | inl t ↦ absurd (
                 let same : k ≡ q.2.0 = some-same (sym of ∙ ap (cache_by before ds) (sym is) ∙ q.2.1) in
-                let b : 8 * (c.word + 1) ≤ (m.layout q.2.0).object_size = subst (λ k. 8 * (c.word + 1) ≤ (m.layout k).object_size) same (subst (λ a. 8 * (a + 1) ≤ (m.layout k).object_size) (sym (eqb-true _ _ t)) inside) in
-                false≢true ((let z : is_outside (m.layout q.2.0) c ≡ false = rw (le-leb (8 * (c.word + 1)) (m.layout q.2.0).object_size b) refl in sym z) ∙ q.2.2))
+                let b : 8 * (call_word c + 1) ≤ (m.layout q.2.0).object_size = subst (λ k. 8 * (call_word c + 1) ≤ (m.layout k).object_size) same (subst (λ a. 8 * (a + 1) ≤ (m.layout k).object_size) (sym (eqb-true _ _ t)) inside) in
+                false≢true ((let z : is_outside (m.layout q.2.0) (call_word c) ≡ false = rw (le-leb (8 * (call_word c + 1)) (m.layout q.2.0).object_size b) refl in sym z) ∙ q.2.2))
             | inr f ↦ rest of (rw f at w') h
           ]
       | inr e ↦ rest of (of_kind c Read e w) h
@@ -251,7 +252,7 @@ wrote_some m before p (d ∷ ds) o a k caused of plain inside w h = let rest : c
     by_reply rest c (reply.Flushed n) is q of w h = rest of (of_kind c Flush q w) h
 
 -- a read finds what the worker wrote last
-pub told_ReadWord : (opening w : World) (value : ℕ → LockValue) (x : Worker) (others : List Worker) (word : ℕ) → x.local.spot ≡ ReadWord → w.memory (word_at w.setup (here x.local).cache (here x.local).frame (here x.local).index (call_of x.local).word) ≡ word
+pub told_ReadWord : (opening w : World) (value : ℕ → LockValue) (x : Worker) (others : List Worker) (word : ℕ) → x.local.spot ≡ ReadWord → w.memory (word_at w.setup (here x.local).cache (here x.local).frame (here x.local).index (call_word (call_of x.local))) ≡ word
     → Stands w (x ∷ others) → IsAccounted opening w (x ∷ others) → IsAccounted opening w (record x { local = told (advance_at w.setup value x.local ReadWord (Word word)) } ∷ others)
 told_ReadWord opening w value x others word is found s ac =
     let l = x.local in
@@ -265,19 +266,19 @@ told_ReadWord opening w value x others word is found s ac =
     let call = (tale.call Read (rw is refl)).0 in
     let room = ok.spot.uses (rw is refl) in
     let plain : m.checks k.cache ≡ false = rw room.2 (ok.spot.plain (rw is refl)).2 in
-    let inside : 8 * (c.word + 1) ≤ (m.layout k.cache).object_size = word-inside (m.layout k.cache) c (rw room.2 (ok.spot.inside (rw is refl))) in
+    let inside : 8 * (call_word c + 1) ≤ (m.layout k.cache).object_size = word-inside (m.layout k.cache) c (rw room.2 (ok.spot.inside (rw is refl))) in
     let knew = known-here l (place-here m opening.board p l Read call refl tale) in
     let had : (known_of l.known k.object).held ≡ true = ap (λ (j : Known). j.held) knew ∙ room.1 in
     let holds : holding l.done k.object ≡ true = sym (tale.holds k.object (λ f. absurd (false≢true (rw is at f)))) ∙ had in
     let of : cache_by opening.board l.done k.object ≡ Some k.cache = tale.cache k.object had ∙ ap (λ (j : Known). Some j.cache) knew in
-    let asked : written (calls_of l.done) k.object c.word ≡ true = subst (λ o. written (calls_of l.done) o c.word ≡ true) (call.object refl) (first-read (calls_of l.done) l.todo call.some call.same_kind wr.reads) in
-    let wrote = wrote_some m opening.board p l.done k.object c.word k.cache tale.caused of plain inside asked holds in
-    let stands : content w k.cache k.frame k.index c.word ≡ wrote.0
-    = subst (λ (j : Known). m.checks j.cache ≡ false → content w j.cache j.frame j.index c.word ≡ wrote.0) knew (λ q. wr.stands k.object c.word wrote.0 (λ f. absurd (false≢true (rw is at f))) had q wrote.1) plain in
+    let asked : written (calls_of l.done) k.object (call_word c) ≡ true = subst (λ o. written (calls_of l.done) o (call_word c) ≡ true) (call.object refl) (first-read (calls_of l.done) l.todo call.some call.same_kind wr.reads) in
+    let wrote = wrote_some m opening.board p l.done k.object (call_word c) k.cache tale.caused of plain inside asked holds in
+    let stands : content w k.cache k.frame k.index (call_word c) ≡ wrote.0
+    = subst (λ (j : Known). m.checks j.cache ≡ false → content w j.cache j.frame j.index (call_word c) ≡ wrote.0) knew (λ q. wr.stands k.object (call_word c) wrote.0 (λ f. absurd (false≢true (rw is at f))) had q wrote.1) plain in
     told_same opening w w x _ others Read (reply.Value word) ac (spoken w w l (reply.Value word) (unseen-same w) refl) call (rw is refl) refl refl
     (record { known = refl; done = refl; todo = refl; freeing = refl; call = refl })
     (call.same_kind, rw (call.object refl) holds, (k.cache, rw (call.object refl) of, rw room.2 (ok.spot.inside (rw is refl))), λ _. rw (call.object refl) (wrote.1 ∙ ap Some (sym stands ∙ found)))
   where
-    first-read : (past cs : List Call) → 1 ≤ length cs → (get_or cs 0 no_call).kind ≡ Read → AreReadable past cs → written past (get_or cs 0 no_call).object (get_or cs 0 no_call).word ≡ true
+    first-read : (past cs : List Call) → 1 ≤ length cs → call_kind (get_or cs 0 no_call) ≡ Read → AreReadable past cs → written past (call_object (get_or cs 0 no_call)) (call_word (get_or cs 0 no_call)) ≡ true
     first-read past [] some kind ok = absurd (omega arith)
     first-read past (c ∷ cs) some kind ok = subst (λ k. MayCome past c k) kind ok.0

@@ -9,6 +9,7 @@ use Rattle.slub_trace.specs.declared.reply.Reply.{Reply}
 use Rattle.slub_core.specs.declared.call.Call.{Call}
 use Rattle.slub_core.specs.declared.call.CallKind.{CallKind}
 use Rattle.slub_core.specs.declared.local.Known.{Known}
+use Rattle.slub_core.specs.Calls.{call_kind, call_object}
 use Rattle.slub_core.specs.Setup.{Setup, word_at}
 use Rattle.slub_core.specs.World.{World, content, set_memory, exists_at, object_at, one_if}
 use Rattle.slub_core.specs.Local.{Local, Worker, nobody, no_call, here, call_of}
@@ -16,7 +17,7 @@ use Rattle.slub_core.specs.Spots.{frees}
 use Rattle.slub_core.specs.Placed.{held_as, owned}
 use Rattle.slub_core.specs.Coherent.{Stands}
 use Rattle.slub_core.specs.Replies.{is_alloc, names_object, last_wrote, wrote_after, asked_in}
-use Rattle.slub_core.specs.Accounted.{boarded, place_of, known_of, calls_of, AreReadable, IsDoing, IsWritten, IsAccounted}
+use Rattle.slub_core.specs.Accounted.{boarded, place_of, known_of, calls_of, AreReadable, IsDoing, HasWritten, IsAccounted}
 use Rattle.slub_core.proofs.Exists.{IsPlainObject, plain-object, owned-object, object_at-le, alone}
 use Rattle.slub_core.proofs.ValueStep.{known-owned}
 use Rattle.slub_core.proofs.Slots.{IsWordOf, word-word}
@@ -37,61 +38,61 @@ none-boarded None z = refl
 none-boarded (Some b) z = absurd (omega arith)
 
 -- a number that is to be given was not on the board before
-pub asked-new : (opening w : World) (x : Worker) (others : List Worker) → IsAccounted opening w (x ∷ others) → 1 ≤ length x.local.todo → is_alloc (call_of x.local).kind ≡ true → opening.board (call_of x.local).object ≡ None
+pub asked-new : (opening w : World) (x : Worker) (others : List Worker) → IsAccounted opening w (x ∷ others) → 1 ≤ length x.local.todo → is_alloc (call_kind (call_of x.local)) ≡ true → opening.board (call_object (call_of x.local)) ≡ None
 asked-new opening w x others ac some is =
-    let o = (call_of x.local).object in
+    let o = call_object (call_of x.local) in
     let a = asked-drop o x.local.todo some in
-    let b : one_if (is_alloc (call_of x.local).kind && eqb (call_of x.local).object o) ≡ 1 = rw (is, eq-eqb o o refl) refl in
+    let b : one_if (is_alloc (call_kind (call_of x.local)) && eqb (call_object (call_of x.local)) o) ≡ 1 = rw (is, eq-eqb o o refl) refl in
     let c = ac.once o in
     let s = sum_by-cons (λ (x : Worker). asked_in o x.local.todo) x others in
     none-boarded (opening.board o) (omega arith)
 
 -- the words of the object of the call are those that it wrote, and each other word that it wrote stays
-pub written-answer : (w v : World) (before : ℕ → Option BoardWord) (l n : Local) (kind : CallKind) (k : Known) (r : Reply) → IsWritten w before l → v.setup ≡ w.setup → l.place < length l.known → k.object ≡ (here l).object
-    → IsDoing l kind → names_object kind ≡ true → l.place ≡ place_of l.known (here l).object → Answers l n k r → (is_alloc (call_of l).kind ≡ true → before (call_of l).object ≡ None)
+pub written-answer : (w v : World) (before : ℕ → Option BoardWord) (l n : Local) (kind : CallKind) (k : Known) (r : Reply) → HasWritten w before l → v.setup ≡ w.setup → l.place < length l.known → k.object ≡ (here l).object
+    → IsDoing l kind → names_object kind ≡ true → l.place ≡ place_of l.known (here l).object → Answers l n k r → (is_alloc (call_kind (call_of l)) ≡ true → before (call_object (call_of l)) ≡ None)
     → ((o a : ℕ) → (o ≡ (here l).object → ⊥) → (known_of l.known o).held ≡ true → w.setup.checks (known_of l.known o).cache ≡ false → 8 * (a + 1) ≤ (w.setup.layout (known_of l.known o).cache).object_size
     → content v (known_of l.known o).cache (known_of l.known o).frame (known_of l.known o).index a ≡ content w (known_of l.known o).cache (known_of l.known o).frame (known_of l.known o).index a)
     → ((a y : ℕ) → k.held ≡ true → wrote_after (call_of l) r a (last_wrote l.done (here l).object a) ≡ Some y
     → (8 * (a + 1) ≤ (w.setup.layout k.cache).object_size) × (w.setup.checks k.cache ≡ false → content v k.cache k.frame k.index a ≡ y))
-    → IsWritten v before n
+    → HasWritten v before n
 written-answer w v before l n kind k r ok setup below same doing names place after fresh far mine =
     let knew : known_of (set l.known l.place k) (here l).object ≡ k = known_of-here l.known l.place k (here l).object below same place in
-    let other : (o : ℕ) → ((call_of l).object ≡ o → ⊥) → known_of (set l.known l.place k) o ≡ known_of l.known o = λ o d. known_of-other l.known l.place k o below same (λ z. d ((doing.object names) ∙ sym z)) in
+    let other : (o : ℕ) → (call_object (call_of l) ≡ o → ⊥) → known_of (set l.known l.place k) o ≡ known_of l.known o = λ o d. known_of-other l.known l.place k o below same (λ z. d ((doing.object names) ∙ sym z)) in
     record {
-      stands = λ o a y _. rw (after.known, after.done) (elim (cases_eq (call_of l).object o) [
-        | inl e ↦ let o' : o ≡ (here l).object = sym e ∙ (doing.object names) in rw (eq-eqb (call_of l).object o e, o', knew) (λ h p wr. (mine a y h wr).1 (ap (λ (m : Setup). m.checks k.cache) (sym setup) ∙ p))
-        | inr d ↦ rw (ne_eqb (call_of l).object o d, other o d) (λ h p wr.
+      stands = λ o a y _. rw (after.known, after.done) (elim (cases_eq (call_object (call_of l)) o) [
+        | inl e ↦ let o' : o ≡ (here l).object = sym e ∙ (doing.object names) in rw (eq-eqb (call_object (call_of l)) o e, o', knew) (λ h p wr. (mine a y h wr).1 (ap (λ (m : Setup). m.checks k.cache) (sym setup) ∙ p))
+        | inr d ↦ rw (ne_eqb (call_object (call_of l)) o d, other o d) (λ h p wr.
             let p' : w.setup.checks (known_of l.known o).cache ≡ false = ap (λ (m : Setup). m.checks (known_of l.known o).cache) (sym setup) ∙ p in
             far o a (λ z. d ((doing.object names) ∙ sym z)) h p' (ok.inside o a y h wr) ∙ ok.stands o a y (λ _ z. d ((doing.object names) ∙ sym z)) h p' wr)
       ]);
-      inside = λ o a y. rw (after.known, after.done) (elim (cases_eq (call_of l).object o) [
-        | inl e ↦ let o' : o ≡ (here l).object = sym e ∙ (doing.object names) in rw (eq-eqb (call_of l).object o e, o', knew) (λ h wr. rw setup (mine a y h wr).0)
-        | inr d ↦ rw (ne_eqb (call_of l).object o d, other o d) (λ h wr. rw setup (ok.inside o a y h wr))
+      inside = λ o a y. rw (after.known, after.done) (elim (cases_eq (call_object (call_of l)) o) [
+        | inl e ↦ let o' : o ≡ (here l).object = sym e ∙ (doing.object names) in rw (eq-eqb (call_object (call_of l)) o e, o', knew) (λ h wr. rw setup (mine a y h wr).0)
+        | inr d ↦ rw (ne_eqb (call_object (call_of l)) o d, other o d) (λ h wr. rw setup (ok.inside o a y h wr))
       ]);
       reads = rw (after.done, after.todo) (readable-drop (calls_of l.done) l.todo doing.some ok.reads);
-      new = λ o. rw after.done (elim (cases_eq (call_of l).object o) [
-        | inl e ↦ elim (cases_Bool (is_alloc (call_of l).kind)) [
+      new = λ o. rw after.done (elim (cases_eq (call_object (call_of l)) o) [
+        | inl e ↦ elim (cases_Bool (is_alloc (call_kind (call_of l)))) [
           | inl t ↦ λ _. ap before (sym e) ∙ fresh t
-          | inr f ↦ rw (eq-eqb (call_of l).object o e, f) (ok.new o)
+          | inr f ↦ rw (eq-eqb (call_object (call_of l)) o e, f) (ok.new o)
         ]
-        | inr d ↦ rw (ne_eqb (call_of l).object o d) (ok.new o)
+        | inr d ↦ rw (ne_eqb (call_object (call_of l)) o d) (ok.new o)
       ]);
     }
 
 -- a reply after which the worker has what it had: so are the words
-pub written-told : (w v : World) (before : ℕ → Option BoardWord) (l n : Local) (r : Reply) → IsWritten w before l → v.setup ≡ w.setup → ((p : ℕ) → v.memory p ≡ w.memory p) → frees l.spot ≡ false → 1 ≤ length l.todo
+pub written-told : (w v : World) (before : ℕ → Option BoardWord) (l n : Local) (r : Reply) → HasWritten w before l → v.setup ≡ w.setup → ((p : ℕ) → v.memory p ≡ w.memory p) → frees l.spot ≡ false → 1 ≤ length l.todo
     → n.known ≡ l.known → n.done ≡ (record { call = call_of l; reply = r }) ∷ l.done → n.todo ≡ drop 1 l.todo → ((o a : ℕ) → last_wrote (record { call = call_of l; reply = r } ∷ l.done) o a ≡ last_wrote l.done o a)
-    → (is_alloc (call_of l).kind ≡ true → before (call_of l).object ≡ None) → IsWritten v before n
+    → (is_alloc (call_kind (call_of l)) ≡ true → before (call_object (call_of l)) ≡ None) → HasWritten v before n
 written-told w v before l n r ok setup memory idle some known done todo wrote fresh = record {
   stands = λ o a y _. rw (known, done) (λ h p wr. content-same w v setup memory _ _ _ a ∙ ok.stands o a y (λ f. absurd (false≢true (sym idle ∙ f))) h (ap (λ (m : Setup). m.checks (known_of l.known o).cache) (sym setup) ∙ p) (sym (wrote o a) ∙ wr));
   inside = λ o a y. rw (known, done) (λ h wr. rw setup (ok.inside o a y h (sym (wrote o a) ∙ wr)));
   reads = rw (done, todo) (readable-drop (calls_of l.done) l.todo some ok.reads);
-  new = λ o. rw done (elim (cases_eq (call_of l).object o) [
-    | inl e ↦ elim (cases_Bool (is_alloc (call_of l).kind)) [
+  new = λ o. rw done (elim (cases_eq (call_object (call_of l)) o) [
+    | inl e ↦ elim (cases_Bool (is_alloc (call_kind (call_of l)))) [
       | inl t ↦ λ _. ap before (sym e) ∙ fresh t
-      | inr f ↦ rw (eq-eqb (call_of l).object o e, f) (ok.new o)
+      | inr f ↦ rw (eq-eqb (call_object (call_of l)) o e, f) (ok.new o)
     ]
-    | inr d ↦ rw (ne_eqb (call_of l).object o d) (ok.new o)
+    | inr d ↦ rw (ne_eqb (call_object (call_of l)) o d) (ok.new o)
   ]);
 }
 
@@ -132,7 +133,7 @@ Spares w l p = (o a : ℕ) → (frees l.spot ≡ true → o ≡ (here l).object 
     → 8 * (a + 1) ≤ (w.setup.layout (known_of l.known o).cache).object_size → word_at w.setup (known_of l.known o).cache (known_of l.known o).frame (known_of l.known o).index a ≢ p
 
 -- what it wrote stays where such a word is stored
-pub written-spared : (w : World) (before : ℕ → Option BoardWord) (l : Local) (p v : ℕ) → Spares w l p → IsWritten w before l → IsWritten (set_memory w p v) before l
+pub written-spared : (w : World) (before : ℕ → Option BoardWord) (l : Local) (p v : ℕ) → Spares w l p → HasWritten w before l → HasWritten (set_memory w p v) before l
 written-spared w before l p v spares ok = record {
   stands = λ o a y not is plain wrote. update_other w.memory p v _ (spares o a not is plain (ok.inside o a y is wrote)) ∙ ok.stands o a y not is plain wrote;
   inside = ok.inside;
@@ -176,7 +177,7 @@ mine-spares w x others p s inside mine some at_p o a other is plain within =
     let one = object_at-le w f i in
     absurd (omega arith))
 
-pub all-written : (w : World) (before : ℕ → Option BoardWord) (p v : ℕ) (xs : List Worker) → All (λ (o : Worker). Spares w o.local p) xs → All (λ (o : Worker). IsWritten w before o.local) xs → All (λ (o : Worker). IsWritten (set_memory w p v) before o.local) xs
+pub all-written : (w : World) (before : ℕ → Option BoardWord) (p v : ℕ) (xs : List Worker) → All (λ (o : Worker). Spares w o.local p) xs → All (λ (o : Worker). HasWritten w before o.local) xs → All (λ (o : Worker). HasWritten (set_memory w p v) before o.local) xs
 all-written w before p v xs spare all k d below = written-spared w before (get_or xs k d).local p v (spare k d below) (all k d below)
 
 -- a word of memory is stored in which no worker wrote, in an object that it holds
@@ -191,7 +192,7 @@ told_stored opening w x others p v ac mine theirs = record {
   few = ac.few;
   dry = ac.dry;
   told = ac.told;
-  written = All-cons (λ (o : Worker). IsWritten (set_memory w p v) opening.board o.local) x others
-      (written-spared w opening.board x.local p v mine (All-head (λ (o : Worker). IsWritten w opening.board o.local) x others ac.written))
-      (all-written w opening.board p v others theirs (All-tail (λ (o : Worker). IsWritten w opening.board o.local) x others ac.written));
+  written = All-cons (λ (o : Worker). HasWritten (set_memory w p v) opening.board o.local) x others
+      (written-spared w opening.board x.local p v mine (All-head (λ (o : Worker). HasWritten w opening.board o.local) x others ac.written))
+      (all-written w opening.board p v others theirs (All-tail (λ (o : Worker). HasWritten w opening.board o.local) x others ac.written));
 }

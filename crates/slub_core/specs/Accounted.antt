@@ -6,6 +6,7 @@ use Rattle.slub_core.specs.declared.call.CallKind.{CallKind}
 use Rattle.slub_core.specs.declared.call.CallKind.TheVariants.{Alloc, Write, Read, Trim}
 use Rattle.slub_core.specs.declared.local.Known.{Known}
 use Rattle.slub_core.specs.declared.local.Answered.{Answered}
+use Rattle.slub_core.specs.Calls.{call_kind, call_cpu, call_cache, call_object, call_place, call_word}
 use Rattle.slub_core.specs.Setup.{Setup}
 use Rattle.slub_core.specs.World.{World, content, pool_of, one_if}
 use Rattle.slub_core.specs.Local.{Local, Worker, nobody, here, call_of, address_in}
@@ -27,13 +28,14 @@ abbrev pub AreDistinct : List Known → Type 0
 AreDistinct [] = Unit {0}
 AreDistinct (k ∷ ks) = (place_of ks k.object ≡ length ks) × AreDistinct ks
 
--- a call fits the machine, and where it is of an object it names its place
-pub record Fits (m : Setup) (known : List Known) (c : Call) : Type 0 where
-  pub cpu : c.cpu < m.cpus
-  pub object : names_object c.kind ≡ true → (1 ≤ c.object) × (c.object < m.objects)
-  pub place : names_object c.kind ≡ true → c.place ≡ place_of known c.object
-  pub inside : names_object c.kind ≡ true → c.place < length known
-  pub cache : IfSome c.cache (λ k. m.lives k ≡ true)
+-- a call fits the machine, and where it is of an object it names its place. One that asks for no
+-- CPU has CPU 0, with which it begins (`first_cpu`)
+pub record CallFits (m : Setup) (known : List Known) (c : Call) : Type 0 where
+  pub cpu : call_cpu c < m.cpus
+  pub object : names_object (call_kind c) ≡ true → (1 ≤ call_object c) × (call_object c < m.objects)
+  pub place : names_object (call_kind c) ≡ true → call_place c ≡ place_of known (call_object c)
+  pub inside : names_object (call_kind c) ≡ true → call_place c < length known
+  pub cache : IfSome (call_cache c) (λ k. m.lives k ≡ true)
 
 -- ---- reads and writes that are asked for
 
@@ -41,28 +43,28 @@ pub record Fits (m : Setup) (known : List Known) (c : Call) : Type 0 where
 abbrev pub was_asked : List Call → ℕ → Bool
 was_asked [] o = false
 was_asked (c ∷ cs) o =
-    cond (c.object == o) (cond (is_alloc c.kind) true (was_asked cs o)) (was_asked cs o)
+    cond (call_object c == o) (cond (is_alloc (call_kind c)) true (was_asked cs o)) (was_asked cs o)
 
 -- whether a write of the word stands among these calls, the last one first, and after an allocation
 -- of the object where one stands there
 abbrev pub written_by : Call → CallKind → ℕ → Bool → Bool
 written_by c Alloc a was = false
-written_by c Write a was = cond (c.word == a) true was
+written_by c Write a was = cond (call_word c == a) true was
 written_by c kind a was = was
 
 abbrev pub written : List Call → ℕ → ℕ → Bool
 written [] o a = false
 written (c ∷ cs) o a =
-    cond (c.object == o) (written_by c c.kind a (written cs o a)) (written cs o a)
+    cond (call_object c == o) (written_by c (call_kind c) a (written cs o a)) (written cs o a)
 
 -- a read is asked for only after a write of the same word
 abbrev pub MayCome : List Call → Call → CallKind → Type 0
-MayCome past c Read = written past c.object c.word ≡ true
+MayCome past c Read = written past (call_object c) (call_word c) ≡ true
 MayCome past c kind = Unit {0}
 
 abbrev pub AreReadable : List Call → List Call → Type 0
 AreReadable past [] = Unit {0}
-AreReadable past (c ∷ cs) = MayCome past c c.kind × AreReadable (c ∷ past) cs
+AreReadable past (c ∷ cs) = MayCome past c (call_kind c) × AreReadable (c ∷ past) cs
 
 abbrev pub calls_of : List Answered → List Call
 calls_of ds = map (λ (d : Answered). d.call) ds
@@ -72,14 +74,14 @@ calls_of ds = map (λ (d : Answered). d.call) ds
 -- it is in its first call that has no reply
 pub record IsDoing (l : Local) (kind : CallKind) : Type 0 where
   pub some : 1 ≤ length l.todo
-  pub same_kind : (call_of l).kind ≡ kind
-  pub object : names_object kind ≡ true → (call_of l).object ≡ (here l).object
-  pub place : l.place ≡ (call_of l).place
+  pub same_kind : call_kind (call_of l) ≡ kind
+  pub object : names_object kind ≡ true → call_object (call_of l) ≡ (here l).object
+  pub place : l.place ≡ call_place (call_of l)
 
 -- the cache of its call is the one that the call names
 abbrev pub NamesCache : Local → CallKind → Type 0
-NamesCache l Alloc = ((call_of l).cache ≡ Some l.cache) × ((call_of l).cpu ≡ l.cpu)
-NamesCache l Trim = (call_of l).cache ≡ Some l.cache
+NamesCache l Alloc = (call_cache (call_of l) ≡ Some l.cache) × (call_cpu (call_of l) ≡ l.cpu)
+NamesCache l Trim = call_cache (call_of l) ≡ Some l.cache
 NamesCache l kind = Unit {0}
 
 -- its records and its replies agree
@@ -104,13 +106,13 @@ pub record IsTold (m : Setup) (before : ℕ → Option BoardWord) (p : Public) (
       ⊎ ((known_of l.known o).held ≡ true)
   -- its calls
   pub call : (kind : CallKind) → doing l.spot ≡ Some kind → IsDoing l kind × NamesCache l kind
-  pub fits : All (Fits m l.known) l.todo
+  pub fits : All (CallFits m l.known) l.todo
   pub distinct : AreDistinct l.known
   pub numbers : All (λ (k : Known). k.object < m.objects) l.known
 
 -- what it wrote in the objects that it holds stands there; but in the one that it frees a free
 -- pointer may stand
-pub record IsWritten (w : World) (before : ℕ → Option BoardWord) (l : Local) : Type 0 where
+pub record HasWritten (w : World) (before : ℕ → Option BoardWord) (l : Local) : Type 0 where
   pub stands : (o a v : ℕ) → (frees l.spot ≡ true → o ≡ (here l).object → ⊥)
       → (known_of l.known o).held ≡ true → w.setup.checks (known_of l.known o).cache ≡ false
       → last_wrote l.done o a ≡ Some v
@@ -161,4 +163,4 @@ pub record IsAccounted (opening w : World) (xs : List Worker) : Type 0 where
       + sum_by (λ (x : Worker). dry_in w.setup order x.local.done) xs
   -- each worker's records, and what it wrote
   pub told : All (λ (x : Worker). IsTold w.setup opening.board (public w xs) x.local) xs
-  pub written : All (λ (x : Worker). IsWritten w opening.board x.local) xs
+  pub written : All (λ (x : Worker). HasWritten w opening.board x.local) xs

@@ -22,6 +22,7 @@ use Rattle.slub_core.specs.declared.spot.Spot.{Spot}
 use Rattle.slub_core.specs.declared.spot.Spot.TheVariants.{Between, InChecked}
 use Rattle.slub_core.specs.declared.spot.CheckedSpot.{CheckedSpot}
 use Rattle.slub_core.specs.declared.spot.CheckedSpot.TheVariants.{LockChecked, DoChecked, LockRun, MoveRun, AddSlab, GiveRun, GiveChecked}
+use Rattle.slub_core.specs.Calls.{call_word, call_value, call_offset, call_byte}
 use Rattle.slub_core.specs.Setup.{Setup, node_lock, pool_lock}
 use Rattle.slub_core.specs.World.{LockValue, Nothing, Node, Checked, Pool, update, pool_in}
 use Rattle.slub_core.specs.Local.{Local, Turn, Change, here, run_of, call_of, address_in, at, gets, loses, goes, stays}
@@ -134,16 +135,16 @@ is_offset layout offset =
 -- there no more, it is written
 abbrev pub poked_reply : Local → CheckedState → Reply
 poked_reply l s =
-    if is_offset s.layout (call_of l).offset
+    if is_offset s.layout (call_offset (call_of l))
     then (if nat_lt (here l).index (objects_in (slab_of s (here l).frame)) then Poked
     else NotHeld) else OutOfSlot
 
 -- the slabs with that byte (profile)
 abbrev pub poked : Local → CheckedState → CheckedState
 poked l s =
-    if is_offset s.layout (call_of l).offset
+    if is_offset s.layout (call_offset (call_of l))
     && nat_lt (here l).index (objects_in (slab_of s (here l).frame))
-    then with_byte s (slot_of l) (call_of l).offset (call_of l).byte else s
+    then with_byte s (slot_of l) (call_offset (call_of l)) (call_byte (call_of l)) else s
 
 -- ---- a new slab (`alloc_single_from_new_slab`)
 
@@ -203,7 +204,7 @@ do_checked m value l Free s = took_back m value l s (damage_of_used s (slot_of l
 do_checked m value l Write s =
     record {
       value = with_slabs value l
-          (with_word s (slot_of l) (call_of l).word (call_of l).value);
+          (with_word s (slot_of l) (call_word (call_of l)) (call_value (call_of l)));
       local =
           at l (InChecked GiveChecked Write);
       reply = Some Wrote;
@@ -212,7 +213,7 @@ do_checked m value l Read s =
     record {
       value = value;
       local = at l (InChecked GiveChecked Read);
-      reply = Some (Value (word_of s (slot_of l) (call_of l).word));
+      reply = Some (Value (word_of s (slot_of l) (call_word (call_of l))));
     }
 do_checked m value l Poke s =
     record {

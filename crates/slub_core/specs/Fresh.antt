@@ -20,6 +20,7 @@ use Rattle.slub_core.specs.Listed.{takes}
 use Rattle.slub_object_layout.specs.Layout.{IsSized}
 use Rattle.slub_core.specs.Spots.{Role, Taken, Ready, Loaded, Leaving, Untied, Popped, Kept, Loose, roles, is_linked, is_walking, is_walked, is_emptied, least_string, may_string, ends_string, has_run, stored_in, links_new, notes_cpu, is_fresh, takes_head, detaches, detaches_empty, installs, notes_next, pushes, notes_some, notes_none, notes_away, links_last, frees_open, frees_locked, has_freed_last, notes_kept, notes_scanned, notes_list, walks_string, links_string, pushes_string, scans, scans_next, links_cpu, links_slab, frees, uses, uses_word, keeps, pokes, takes_board, awaits, in_checked, in_plain, doing}
 use Rattle.slub_core.specs.declared.call.CallKind.TheVariants.{Flush}
+use Rattle.slub_core.specs.Calls.{call_word}
 
 -- ---- what it has noted, by itself
 
@@ -123,7 +124,7 @@ pub record IsAtSpot (m : Setup) (x : Worker) : Type 0 where
       × ((here x.local).held ≡ true) × ((here x.local).cache ≡ x.local.cache)
   -- the word that is written or read lies in the object
   pub inside : uses_word x.local.spot ≡ true
-      → is_outside (m.layout x.local.cache) (call_of x.local) ≡ false
+      → is_outside (m.layout x.local.cache) (call_word (call_of x.local)) ≡ false
   pub uses : uses x.local.spot ≡ true → (x.local.place < length x.local.known)
       × ((here x.local).held ≡ true) × ((here x.local).cache ≡ x.local.cache)
   pub keeps : keeps x.local.spot ≡ true → (x.local.place < length x.local.known)

@@ -3,6 +3,7 @@ use Rattle.std.specs.Prelude.{◌≡◌, List, [], ◌∷◌, length, map, slice
 use Rattle.slub_core.specs.declared.call.Call.{Call}
 use Rattle.slub_core.specs.declared.local.Answered.{Answered}
 use Rattle.slub_core.specs.declared.spot.Spot.TheVariants.{Between}
+use Rattle.slub_core.specs.Calls.{call_kind, call_place}
 use Rattle.slub_core.specs.Setup.{Setup}
 use Rattle.slub_core.specs.Words.{word_count}
 use Rattle.slub_core.specs.World.{World, Chains, world_of}
@@ -11,7 +12,7 @@ use Rattle.slub_core.specs.Steps.{told_at_once}
 use Rattle.slub_core.specs.Run.{System, Pick, turn, run, IsFinished}
 use Rattle.slub_core.specs.Coherent.{IsCoherent}
 use Rattle.slub_core.specs.Opening.{IsOpening, opened}
-use Rattle.slub_core.specs.Round.{IsRound}
+use Rattle.slub_core.specs.Round.{IsRoundOnWords}
 
 -- ---- machines that are coherent
 
@@ -19,7 +20,7 @@ use Rattle.slub_core.specs.Round.{IsRound}
 abbrev pub TakesStep : Setup → Local → List Call → Type 0
 TakesStep m l [] = Unit {0}
 TakesStep m l (call ∷ calls) =
-    told_at_once m (slice_index_or l.known call.place nobody) call call.kind ≡ None
+    told_at_once m (slice_index_or l.known (call_place call) nobody) call (call_kind call) ≡ None
 
 abbrev pub IsRested : Setup → Local → Type 0
 IsRested m l = l.spot ≡ Between → TakesStep m l l.todo
@@ -73,5 +74,5 @@ abbrev pub RoundsEnd : Type 0
 RoundsEnd =
     (m : Setup) (s : System) (picks : List Pick) → IsOpening m s
     → let end = run m (opened m s) picks in All IsFinished end.locals
-    → IsRound m (world_of m s.value s.words) (world_of m end.value end.words) (calls_to_come s)
+    → IsRoundOnWords m (world_of m s.value s.words) (world_of m end.value end.words) (calls_to_come s)
     (replies_of end)

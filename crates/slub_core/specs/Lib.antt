@@ -1,3 +1,4 @@
+pub mod Calls
 pub mod Setup
 pub mod Words
 pub mod World

@@ -1,12 +1,12 @@
 -- A worker: where it stands, what it has noted, what it knows and what it has in hand.
-use Rattle.std.specs.Prelude.{ℕ, Bool, false, List, [], ◌∷◌, slice_index_or, slice_set, drop, Option, Some, None, pos, true}
+use Rattle.std.specs.Prelude.{ℕ, Bool, false, List, [], ◌∷◌, slice_index_or, slice_set, drop, Option, Some, None, true}
 use Rattle.slub_words.specs.declared.cpu.CpuWord.{CpuWord}
 use Rattle.slub_words.specs.declared.slab.SlabWord.{SlabWord}
 use Rattle.slub_cpu_partial.specs.declared.words.ListWord.{ListWord}
 use Rattle.slub_object_layout.specs.Layout.{address_of}
 use Rattle.slub_trace.specs.declared.reply.Reply.{Reply}
 use Rattle.slub_core.specs.declared.call.Call.{Call}
-use Rattle.slub_core.specs.declared.call.CallKind.TheVariants.{Flush}
+use Rattle.slub_core.specs.declared.call.Call.TheVariants.{Flush}
 use Rattle.slub_core.specs.declared.local.Known.{Known}
 use Rattle.slub_core.specs.declared.local.Hand.{Hand}
 use Rattle.slub_core.specs.declared.local.PartialString.{PartialString}
@@ -73,17 +73,7 @@ abbrev pub no_run : FrameRun
 no_run = record { frame = 0; order = 0; objects = 0 }
 
 abbrev pub no_call : Call
-no_call = record {
-  kind = Flush;
-  cpu = 0;
-  cache = None;
-  object = 0;
-  place = 0;
-  word = 0;
-  value = 0;
-  offset = pos 0;
-  byte = 0;
-}
+no_call = Flush 0
 
 -- ---- what is read of a worker
 

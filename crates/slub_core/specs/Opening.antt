@@ -10,7 +10,7 @@ use Rattle.slub_core.specs.Steps.{rested}
 use Rattle.slub_core.specs.Run.{System}
 use Rattle.slub_core.specs.Replies.{asked_in}
 use Rattle.slub_core.specs.Fresh.{IsPacked}
-use Rattle.slub_core.specs.Accounted.{Fits, AreDistinct, AreReadable, boarded}
+use Rattle.slub_core.specs.Accounted.{CallFits, AreDistinct, AreReadable, boarded}
 use Rattle.slub_core.specs.Coherent.{IsAtRest}
 
 -- room for what a worker will know of an object
@@ -30,7 +30,7 @@ pub record IsNew (m : Setup) (l : Local) : Type 0 where
   pub known : All (IsRoom m) l.known
   pub distinct : AreDistinct l.known
   -- its calls fit the machine, and a word is read only after it was written
-  pub fits : All (Fits m l.known) l.todo
+  pub fits : All (CallFits m l.known) l.todo
   pub readable : AreReadable [] l.todo
 
 -- a machine at rest, and such workers

@@ -11,6 +11,7 @@ use Rattle.slub_core.specs.declared.call.Call.{Call}
 use Rattle.slub_core.specs.declared.call.CallKind.{CallKind}
 use Rattle.slub_core.specs.declared.call.CallKind.TheVariants.{Alloc, Free, Write, Read, Poke, Trim, Flush}
 use Rattle.slub_core.specs.declared.local.Answered.{Answered}
+use Rattle.slub_core.specs.Calls.{call_kind, call_cpu, call_cache, call_object, call_word, call_value, call_offset}
 use Rattle.slub_core.specs.Setup.{Setup}
 use Rattle.slub_core.specs.Checked.{is_offset}
 use Rattle.slub_core.specs.Steps.{is_outside}
@@ -51,7 +52,8 @@ holds_after _ b = b
 
 abbrev pub holding : List Answered → ℕ → Bool
 holding [] o = false
-holding (d ∷ ds) o = cond (d.call.object == o) (holds_after d.reply (holding ds o)) (holding ds o)
+holding (d ∷ ds) o =
+    cond (call_object d.call == o) (holds_after d.reply (holding ds o)) (holding ds o)
 
 -- whether it knows where the object stands
 abbrev pub knows_after : Reply → Bool → Bool
@@ -62,7 +64,7 @@ knows_after _ b = b
 
 abbrev pub knows : List Answered → ℕ → Bool
 knows [] o = false
-knows (d ∷ ds) o = cond (d.call.object == o) (knows_after d.reply (knows ds o)) (knows ds o)
+knows (d ∷ ds) o = cond (call_object d.call == o) (knows_after d.reply (knows ds o)) (knows ds o)
 
 -- the address of an object of the board
 abbrev pub address_on : Setup → Option BoardWord → Option ℕ
@@ -76,47 +78,48 @@ address_after _ x = x
 abbrev pub address_by : Setup → (ℕ → Option BoardWord) → List Answered → ℕ → Option ℕ
 address_by m before [] o = address_on m (before o)
 address_by m before (d ∷ ds) o =
-    cond (d.call.object == o) (address_after d.reply (address_by m before ds o))
+    cond (call_object d.call == o) (address_after d.reply (address_by m before ds o))
     (address_by m before ds o)
 
 -- its cache
 abbrev pub cache_after : Call → Reply → Option ℕ → Option ℕ
-cache_after call (reply.Given address) x = call.cache
+cache_after call (reply.Given address) x = call_cache call
 cache_after call _ x = x
 
 abbrev pub cache_by : (ℕ → Option BoardWord) → List Answered → ℕ → Option ℕ
 cache_by before [] o = option_map (λ (b : BoardWord). b.cache) (before o)
 cache_by before (d ∷ ds) o =
-    cond (d.call.object == o) (cache_after d.call d.reply (cache_by before ds o))
+    cond (call_object d.call == o) (cache_after d.call d.reply (cache_by before ds o))
     (cache_by before ds o)
 
 -- what the worker wrote last in a word of the object, since it came to hold it
 abbrev pub wrote_after : Call → Reply → ℕ → Option ℕ → Option ℕ
 wrote_after call (reply.Given address) a x = None
 wrote_after call (reply.Freed address) a x = None
-wrote_after call reply.Wrote a x = cond (call.word == a) (Some call.value) x
+wrote_after call reply.Wrote a x = cond (call_word call == a) (Some (call_value call)) x
 wrote_after call _ a x = x
 
 abbrev pub last_wrote : List Answered → ℕ → ℕ → Option ℕ
 last_wrote [] o a = None
 last_wrote (d ∷ ds) o a =
-    cond (d.call.object == o) (wrote_after d.call d.reply a (last_wrote ds o a)) (last_wrote ds o a)
+    cond (call_object d.call == o) (wrote_after d.call d.reply a (last_wrote ds o a))
+    (last_wrote ds o a)
 
 -- ---- counts
 
 -- how often the object was given, and how often it was freed
 abbrev pub given_in : ℕ → List Answered → ℕ
 given_in o [] = 0
-given_in o (d ∷ ds) = one_if (is_given d.reply && (d.call.object == o)) + given_in o ds
+given_in o (d ∷ ds) = one_if (is_given d.reply && (call_object d.call == o)) + given_in o ds
 
 abbrev pub freed_in : ℕ → List Answered → ℕ
 freed_in o [] = 0
-freed_in o (d ∷ ds) = one_if (is_freed d.reply && (d.call.object == o)) + freed_in o ds
+freed_in o (d ∷ ds) = one_if (is_freed d.reply && (call_object d.call == o)) + freed_in o ds
 
 -- how often these calls are to allocate the object
 abbrev pub asked_in : ℕ → List Call → ℕ
 asked_in o [] = 0
-asked_in o (c ∷ cs) = one_if (is_alloc c.kind && (c.object == o)) + asked_in o cs
+asked_in o (c ∷ cs) = one_if (is_alloc (call_kind c) && (call_object c == o)) + asked_in o cs
 
 -- the least order of the slabs of an allocation's cache
 abbrev pub least_order : Setup → Option ℕ → ℕ
@@ -127,7 +130,7 @@ least_order m (Some cache) = (m.layout cache).min_order
 abbrev pub dry_in : Setup → ℕ → List Answered → ℕ
 dry_in m order [] = 0
 dry_in m order (d ∷ ds) =
-    one_if (is_dry d.reply && (least_order m d.call.cache == order)) + dry_in m order ds
+    one_if (is_dry d.reply && (least_order m (call_cache d.call) == order)) + dry_in m order ds
 
 -- ---- causes
 
@@ -155,55 +158,62 @@ IsOfChecked m cache = (k : ℕ) × (cache ≡ Some k) × (m.checks k ≡ true)
 
 -- the word of a write or a read lies in the object, which is of this cache
 abbrev pub IsWithin : Setup → Option ℕ → Call → Type 0
-IsWithin m cache c = (k : ℕ) × (cache ≡ Some k) × (is_outside (m.layout k) c ≡ false)
+IsWithin m cache c = (k : ℕ) × (cache ≡ Some k) × (is_outside (m.layout k) (call_word c) ≡ false)
 
 -- the call of a worker that was answered `ds` had cause for this reply
 abbrev pub Cause : Setup → (ℕ → Option BoardWord) → Public → List Answered → Call → Reply → Type 0
 -- an object is given that the worker holds under no number, and that stood under no number on the
 -- board but one that was freed since
 Cause m before p ds c (reply.Given a) =
-    (c.kind ≡ Alloc) × ((k : ℕ) × (c.cache ≡ Some k))
+    (call_kind c ≡ Alloc) × ((k : ℕ) × (call_cache c ≡ Some k))
     × ((o : ℕ) → address_by m before ds o ≡ Some a → holding ds o ≡ false)
     × ((o : ℕ) → address_on m (before o) ≡ Some a → 1 ≤ p.freed o)
-Cause m before p ds c reply.NoFrames = (c.kind ≡ Alloc) × ((k : ℕ) × (c.cache ≡ Some k))
-Cause m before p ds c reply.NoSuchCache = ((c.kind ≡ Alloc) ⊎ (c.kind ≡ Trim)) × (c.cache ≡ None)
-Cause m before p ds c reply.NoMemory = (c.kind ≡ Alloc) × IsOfChecked m c.cache
+Cause m before p ds c reply.NoFrames = (call_kind c ≡ Alloc) × ((k : ℕ) × (call_cache c ≡ Some k))
+Cause m before p ds c reply.NoSuchCache =
+    ((call_kind c ≡ Alloc) ⊎ (call_kind c ≡ Trim)) × (call_cache c ≡ None)
+Cause m before p ds c reply.NoMemory = (call_kind c ≡ Alloc) × IsOfChecked m (call_cache c)
 -- the CPU word of an unchecked cache had that transaction id, and has it or a later one since
-Cause m before p ds c (reply.IdsSpent t) = (c.kind ≡ Alloc) × IsSpent t m.step
-    × ((k : ℕ) × (c.cache ≡ Some k) × (m.checks k ≡ false) × (t ≤ p.tid (16 * k + c.cpu)))
+Cause m before p ds c (reply.IdsSpent t) = (call_kind c ≡ Alloc) × IsSpent t m.step
+    × ((k : ℕ) × (call_cache c ≡ Some k) × (m.checks k ≡ false) × (t ≤ p.tid (16 * k + call_cpu c)))
 -- what is freed was the worker's or on the board, and stood at this address
 Cause m before p ds c (reply.Freed a) =
-    (c.kind ≡ Free) × (address_by m before ds c.object ≡ Some a)
-    × ((holding ds c.object ≡ true) ⊎ (address_on m (before c.object) ≡ Some a))
+    (call_kind c ≡ Free) × (address_by m before ds (call_object c) ≡ Some a)
+    × ((holding ds (call_object c) ≡ true) ⊎ (address_on m (before (call_object c)) ≡ Some a))
 -- the call is of an object, but not to allocate it; the worker doesn't hold it, and where it is to
 -- be freed it isn't on the board
 Cause m before p ds c reply.NotHeld =
-    (names_object c.kind ≡ true) × (is_alloc c.kind ≡ false) × (holding ds c.object ≡ false)
-    × (c.kind ≡ Free → p.boarded c.object ≡ 0)
+    (names_object (call_kind c) ≡ true) × (is_alloc (call_kind c) ≡ false)
+    × (holding ds (call_object c) ≡ false) × (call_kind c ≡ Free → p.boarded (call_object c) ≡ 0)
 Cause m before p ds c (reply.Corrupt d) =
-    (c.kind ≡ Free) × (d.found ≢ d.wanted) × IsOfChecked m (cache_by before ds c.object)
-    × ((holding ds c.object ≡ true) ⊎ ((a : ℕ) × (address_on m (before c.object) ≡ Some a)))
-Cause m before p ds c reply.Wrote = (c.kind ≡ Write) × (holding ds c.object ≡ true)
-    × IsWithin m (cache_by before ds c.object) c
+    (call_kind c ≡ Free) × (d.found ≢ d.wanted) × IsOfChecked m (cache_by before ds (call_object c))
+    × ((holding ds (call_object c) ≡ true)
+    ⊎ ((a : ℕ) × (address_on m (before (call_object c)) ≡ Some a)))
+Cause m before p ds c reply.Wrote = (call_kind c ≡ Write) × (holding ds (call_object c) ≡ true)
+    × IsWithin m (cache_by before ds (call_object c)) c
 -- of an unchecked object the value is what the worker wrote last
 Cause m before p ds c (reply.Value v) =
-    (c.kind ≡ Read) × (holding ds c.object ≡ true) × IsWithin m (cache_by before ds c.object) c
-    × (IsOfPlain m (cache_by before ds c.object) → last_wrote ds c.object c.word ≡ Some v)
+    (call_kind c ≡ Read) × (holding ds (call_object c) ≡ true)
+    × IsWithin m (cache_by before ds (call_object c)) c
+    × (IsOfPlain m (cache_by before ds (call_object c))
+    → last_wrote ds (call_object c) (call_word c) ≡ Some v)
 Cause m before p ds c reply.OutOfObject =
-    ((c.kind ≡ Write) ⊎ (c.kind ≡ Read)) × (holding ds c.object ≡ true)
-    × ((k : ℕ) × (cache_by before ds c.object ≡ Some k) × (is_outside (m.layout k) c ≡ true))
+    ((call_kind c ≡ Write) ⊎ (call_kind c ≡ Read)) × (holding ds (call_object c) ≡ true)
+    × ((k : ℕ) × (cache_by before ds (call_object c) ≡ Some k)
+    × (is_outside (m.layout k) (call_word c) ≡ true))
 -- the byte that is poked lies in the slot of the checked object, or outside of it
 Cause m before p ds c reply.Poked =
-    (c.kind ≡ Poke) × (knows ds c.object ≡ true) × ((k : ℕ) × (cache_by before ds c.object ≡ Some k)
-    × (m.checks k ≡ true) × (is_offset (m.layout k) c.offset ≡ true))
+    (call_kind c ≡ Poke) × (knows ds (call_object c) ≡ true)
+    × ((k : ℕ) × (cache_by before ds (call_object c) ≡ Some k) × (m.checks k ≡ true)
+    × (is_offset (m.layout k) (call_offset c) ≡ true))
 Cause m before p ds c reply.OutOfSlot =
-    (c.kind ≡ Poke) × (knows ds c.object ≡ true) × ((k : ℕ) × (cache_by before ds c.object ≡ Some k)
-    × (m.checks k ≡ true) × (is_offset (m.layout k) c.offset ≡ false))
-Cause m before p ds c reply.NotChecked = (c.kind ≡ Poke) × (knows ds c.object ≡ true)
-    × IsOfPlain m (cache_by before ds c.object)
-Cause m before p ds c (reply.Trimmed n) = (c.kind ≡ Trim) × IsOfPlain m c.cache
-Cause m before p ds c reply.Checked = (c.kind ≡ Trim) × IsOfChecked m c.cache
-Cause m before p ds c (reply.Flushed n) = c.kind ≡ Flush
+    (call_kind c ≡ Poke) × (knows ds (call_object c) ≡ true)
+    × ((k : ℕ) × (cache_by before ds (call_object c) ≡ Some k) × (m.checks k ≡ true)
+    × (is_offset (m.layout k) (call_offset c) ≡ false))
+Cause m before p ds c reply.NotChecked = (call_kind c ≡ Poke) × (knows ds (call_object c) ≡ true)
+    × IsOfPlain m (cache_by before ds (call_object c))
+Cause m before p ds c (reply.Trimmed n) = (call_kind c ≡ Trim) × IsOfPlain m (call_cache c)
+Cause m before p ds c reply.Checked = (call_kind c ≡ Trim) × IsOfChecked m (call_cache c)
+Cause m before p ds c (reply.Flushed n) = call_kind c ≡ Flush
 
 -- each reply had its cause
 abbrev pub Caused : Setup → (ℕ → Option BoardWord) → Public → List Answered → Type 0

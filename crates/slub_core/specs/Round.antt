@@ -32,7 +32,7 @@ outcome after dones = record {
 }
 
 -- the round leads from one state to another, by these calls and replies of its workers
-pub record IsRound (m : Setup) (before after : World) (calls : List (List Call))
+pub record IsRoundOnWords (m : Setup) (before after : World) (calls : List (List Call))
     (dones : List (List Answered)) : Type 0 where
   -- each call has its reply, and each reply its cause
   pub replies : map (λ (ds : List Answered). in_order ds []) dones ≡ calls

@@ -18,6 +18,7 @@ use Rattle.slub_core.specs.declared.spot.FreeSpot.TheVariants.{TakeBoard, LoadOw
 use Rattle.slub_core.specs.declared.spot.Sweep.TheVariants.{Trimming, Flushing}
 use Rattle.slub_core.specs.declared.spot.OfflineSpot.TheVariants.{LoadCurrent}
 use Rattle.slub_core.specs.declared.spot.CheckedSpot.TheVariants.{LockChecked}
+use Rattle.slub_core.specs.Calls.{call_kind, call_cpu, call_cache, call_place, call_word, call_value}
 use Rattle.slub_core.specs.Setup.{Setup}
 use Rattle.slub_core.specs.World.{LockValue}
 use Rattle.slub_core.specs.Local.{Local, Turn, Change, nobody, call_of, at, answered, noted, goes, tells, stays}
@@ -44,8 +45,8 @@ step_at m value l (InFree s) = free_step m l s
 step_at m value l (InMoveSet s move) = move_set_step l s
 step_at m value l (InOffline s sweep) = offline_step m l s
 step_at m value l (InTrim s) = trim_step value l s
-step_at m value l WriteWord = store_word m l (call_of l).word (call_of l).value
-step_at m value l ReadWord = load_word m l (call_of l).word
+step_at m value l WriteWord = store_word m l (call_word (call_of l)) (call_value (call_of l))
+step_at m value l ReadWord = load_word m l (call_word (call_of l))
 step_at m value l (InChecked s kind) = checked_step l s
 
 -- the step of a worker, by its spot (profile)
@@ -83,13 +84,13 @@ at_once m refused value l s = stays value l
 -- ---- between two calls
 
 -- a word of an object lies outside of it (profile)
-abbrev pub is_outside : Layout → Call → Bool
-is_outside layout call = not (nat_le (8 * (call.word + 1)) layout.object_size)
+abbrev pub is_outside : Layout → ℕ → Bool
+is_outside layout word = not (nat_le (8 * (word + 1)) layout.object_size)
 
 -- replies to writes and reads that take no step (profile)
-abbrev pub told_of_use : Setup → Known → Call → Option Reply
-told_of_use m known call =
-    if not known.held then Some NotHeld else if is_outside (m.layout known.cache) call
+abbrev pub told_of_use : Setup → Known → ℕ → Option Reply
+told_of_use m known word =
+    if not known.held then Some NotHeld else if is_outside (m.layout known.cache) word
     then Some OutOfObject else None
 
 -- and to pokes (profile)
@@ -109,12 +110,12 @@ told_of_trim m (Some cache) = if m.checks cache then Some reply.Checked else Non
 
 -- the reply of a call that takes no step (profile)
 abbrev pub told_at_once : Setup → Known → Call → CallKind → Option Reply
-told_at_once m known call Alloc = told_of_alloc call.cache
+told_at_once m known call Alloc = told_of_alloc (call_cache call)
 told_at_once m known call Free = None
-told_at_once m known call Write = told_of_use m known call
-told_at_once m known call Read = told_of_use m known call
+told_at_once m known call Write = told_of_use m known (call_word call)
+told_at_once m known call Read = told_of_use m known (call_word call)
 told_at_once m known call Poke = told_of_poke m known
-told_at_once m known call Trim = told_of_trim m call.cache
+told_at_once m known call Trim = told_of_trim m (call_cache call)
 told_at_once m known call Flush = if length m.plain == 0 then Some (Flushed 0) else None
 
 -- the first call that takes a step is reached by the replies before it (profile)
@@ -127,7 +128,7 @@ abbrev pub rested_with : Setup → List Call → Local → Local
 rested_with m [] l = l
 rested_with m (call ∷ calls) l =
     or_step l (λ reply. rested_with m calls (answered l reply))
-    (told_at_once m (slice_index_or l.known call.place nobody) call call.kind)
+    (told_at_once m (slice_index_or l.known (call_place call) nobody) call (call_kind call))
 
 -- the same, of a worker that is between two calls (profile)
 abbrev pub rested_at : Setup → Local → Spot → Local
@@ -168,7 +169,8 @@ first_spot Poke checked held = InChecked LockChecked Poke
 first_spot Trim checked held = InOffline LoadCurrent Trimming
 first_spot Flush checked held = InOffline LoadCurrent Flushing
 
--- a trim begins with CPU 0 (`flush_all_cpus_locked`)
+-- a trim begins with CPU 0 (`flush_all_cpus_locked`), and so does a call that asks for no CPU: a
+-- write, a read and a poke (profile)
 abbrev pub first_cpu : CallKind → ℕ → ℕ
 first_cpu Trim cpu = 0
 first_cpu kind cpu = cpu
@@ -176,13 +178,13 @@ first_cpu kind cpu = cpu
 -- a worker at the first spot of a call, with its cache, CPU and object (profile)
 abbrev pub begun_call : Setup → Bool → Local → Call → Local
 begun_call m fast l call =
-    let known = slice_index_or l.known call.place nobody in
-    let cache = cache_for m known call.cache call.kind in
+    let known = slice_index_or l.known (call_place call) nobody in
+    let cache = cache_for m known (call_cache call) (call_kind call) in
     record l {
-      spot = first_spot call.kind (m.checks cache) known.held;
+      spot = first_spot (call_kind call) (m.checks cache) known.held;
       cache = cache;
-      cpu = first_cpu call.kind call.cpu;
-      place = call.place;
+      cpu = first_cpu (call_kind call) (call_cpu call);
+      place = call_place call;
       fast = fast;
       turn = 0;
       count = 0;

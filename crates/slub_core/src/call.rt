@@ -1,5 +1,8 @@
 //! What a worker is to do: the calls of its events.
 
+ghost use Rattle.std.specs.Prelude.{◌≡◌};
+ghost use Rattle.slub_core.specs.Calls.{call_kind};
+
 /// What a call asks of the allocator.
 #[derive(Clone, Copy, Debug, PartialEq, Eq)]
 pub enum CallKind {
@@ -19,21 +22,66 @@ pub enum CallKind {
     Flush,
 }
 
-/// One call. What its kind doesn't ask for is 0.
+/// One call, with what its kind asks for.
+///
+/// A `place` is where the object stands among those that the worker knows.
 #[derive(Clone, Copy, Debug, PartialEq, Eq)]
-pub struct Call {
-    pub kind: CallKind,
-    pub cpu: u32,
-    /// Of an allocation and a trim: the live cache; None where the name that was asked for isn't live.
-    pub cache: Option<u8>,
-    pub object: u32,
-    /// Where the object stands among those that the worker knows.
-    pub place: usize,
-    /// Of a write and a read: the word of the object, from 0 on.
-    pub word: u32,
-    /// Of a write: the value.
-    pub value: u64,
-    /// Of a poke: the byte's place, counted from the object's address.
-    pub offset: i32,
-    pub byte: u8,
+pub enum Call {
+    Alloc {
+        cpu: u32,
+        /// The live cache; None where the name that was asked for isn't live.
+        cache: Option<u8>,
+        object: u32,
+        place: usize,
+    },
+    Free {
+        cpu: u32,
+        object: u32,
+        place: usize,
+    },
+    Write {
+        object: u32,
+        place: usize,
+        /// The word of the object, from 0 on.
+        word: u32,
+        value: u64,
+    },
+    Read {
+        object: u32,
+        place: usize,
+        /// The word of the object, from 0 on.
+        word: u32,
+    },
+    Poke {
+        object: u32,
+        place: usize,
+        /// The byte's place, counted from the object's address.
+        offset: i32,
+        byte: u8,
+    },
+    Trim {
+        /// The live cache; None where the name that was asked for isn't live.
+        cache: Option<u8>,
+    },
+    Flush {
+        cpu: u32,
+    },
+}
+
+impl Call {
+    /// What it asks of the allocator.
+    #[inline(always)]
+    pub fn kind(self) -> CallKind
+        ensures { result ≡ call_kind self }
+    {
+        match self {
+            Call::Alloc { .. } => CallKind::Alloc,
+            Call::Free { .. } => CallKind::Free,
+            Call::Write { .. } => CallKind::Write,
+            Call::Read { .. } => CallKind::Read,
+            Call::Poke { .. } => CallKind::Poke,
+            Call::Trim { .. } => CallKind::Trim,
+            Call::Flush { .. } => CallKind::Flush,
+        }
+    }
 }

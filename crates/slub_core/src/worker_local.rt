@@ -1,10 +1,10 @@
 //! A worker: where it stands, what it has noted, what it knows and what it has in hand.
 
-ghost use Rattle.std.specs.Prelude.{◌≡◌, ◌+◌, ◌<◌, ◌≤◌, ◌++◌, ◌∷◌, [], nat_lt, reverse, length, slice_index_or, IfOk, IfSome, map};
+ghost use Rattle.std.specs.Prelude.{◌≡◌, ◌+◌, ◌<◌, ◌≤◌, ◌++◌, ◌∷◌, [], nat_lt, reverse, length, slice_index_or, IfOk, IfSome};
 ghost use Rattle.slub_core.specs.Local as local;
 ghost use Rattle.slub_core.specs.Run.{idle};
 
-use crate::call::{Call, CallKind};
+use crate::call::Call;
 use crate::hands::Hands;
 use crate::local::{Answered, FrameRun, Hand, Known, PartialString};
 use crate::spot::Spot;
@@ -41,18 +41,8 @@ const NO_RUN: FrameRun = FrameRun {
     objects: 0,
 };
 
-/// No call: what a call has that its kind doesn't ask for.
-pub const NO_CALL: Call = Call {
-    kind: CallKind::Flush,
-    cpu: 0,
-    cache: None,
-    object: 0,
-    place: 0,
-    word: 0,
-    value: 0,
-    offset: 0,
-    byte: 0,
-};
+/// What stands for a call where a worker has none.
+const NO_CALL: Call = Call::Flush { cpu: 0 };
 
 /// A worker of a round.
 #[derive(Debug, Drop)]
@@ -85,10 +75,10 @@ pub struct Local {
     count: u32,
     /// Of a trim: how many free objects each slab has that it has come by.
     scanned: Vec<u16>,
-    /// Its calls, each with its reply or with room for it.
-    script: Vec<Answered>,
-    /// How many calls have a reply.
-    answered: usize,
+    /// Its calls, in their order.
+    calls: Vec<Call>,
+    /// Those that have a reply, with it, and room for the others.
+    answers: Vec<Answered>,
 }
 
 impl Model for Local {
@@ -118,24 +108,25 @@ impl Model for Local {
       turn = l.turn;
       count = l.count;
       scanned = l.scanned.items;
-      todo = todo_of l.script.items l.answered;
-      done = done_of l.script.items l.answered;
+      todo = todo_of l.calls.items l.answers.items;
+      done = done_of l.answers.items;
     } };
 
-    ghost invariant = { λ l. (l.answered ≤ length l.script.items) × (4096 ≤ vec_capacity l.scanned) };
+    ghost invariant = { λ l. (length l.calls.items ≤ vec_capacity l.answers) × (4096 ≤ vec_capacity l.scanned) };
 }
 
 impl Local {
-    /// A worker between two calls, before the first one of its script, whose replies are room as yet.
+    /// A worker between two calls, before the first one of these.
     pub fn open(
         alloc: Global,
         worker: u8,
         known: Vec<Known>,
-        script: Vec<Answered>,
+        calls: Vec<Call>,
     ) -> Result<Local, NoMemory>
-        ensures { IfOk result (λ l. l ≡ record idle { worker = worker; known = known.items; todo = map (λ a. a.call) script.items }) }
+        ensures { IfOk result (λ l. l ≡ record idle { worker = worker; known = known.items; todo = calls.items }) }
     {
         let scanned = Vec::with_capacity(alloc, 4096)?;
+        let answers = Vec::with_capacity(alloc, calls.len())?;
         Ok(Local {
             worker,
             spot: Spot::Between,
@@ -166,8 +157,8 @@ impl Local {
             turn: 0,
             count: 0,
             scanned,
-            script,
-            answered: 0,
+            calls,
+            answers,
         })
     }
 
@@ -344,8 +335,8 @@ impl Local {
     pub fn call(&self) -> Call
         ensures { result ≡ local.call_of self.now }
     {
-        match self.script.get(self.answered) {
-            Some(next) => next.call,
+        match self.calls.get(self.answers.len()) {
+            Some(call) => *call,
             None => NO_CALL,
         }
     }
@@ -355,7 +346,7 @@ impl Local {
     pub fn has_call(&self) -> bool
         ensures { result ≡ nat_lt 0 (length self.now.todo) }
     {
-        self.answered < self.script.len()
+        self.answers.len() < self.calls.len()
     }
 
     /// Its calls that have a reply, the first one first.
@@ -363,7 +354,7 @@ impl Local {
     pub fn answers(&self) -> &[Answered]
         ensures { reverse result.now ≡ self.now.done }
     {
-        &self.script[..self.answered]
+        self.answers.as_slice()
     }
 }
 
@@ -537,9 +528,8 @@ impl Local {
         requires { 0 < length self.old.todo }
         ensures { self.new ≡ local.answered self.old reply }
     {
-        let at = self.answered;
-        self.script[at].reply = reply;
-        self.answered = at + 1;
+        let call = self.call();
+        self.answers.push_reserved(Answered { call, reply });
     }
 
     /// The call that it is in has this reply, if it is one.

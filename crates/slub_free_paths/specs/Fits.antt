@@ -1,6 +1,6 @@
 -- `do_slab_free`, `__slab_free`, `deactivate_slab` and their kin: where the numbers of a step fit
 -- into their words, and what a change under a lock finds there.
-use Rattle.std.specs.Prelude.{ℕ, ◌≡◌, ◌+◌, ◌<◌, ◌^◌, List, length}
+use Rattle.std.specs.Prelude.{◌≤◌, ℕ, ◌≡◌, ◌+◌, ◌<◌, ◌^◌, List, length}
 use Rattle.slub_common.specs.Times.{times}
 use Rattle.slub_page_pool.specs.Block.{CanPut}
 use Rattle.slub_core.specs.declared.spot.FreeSpot.{FreeSpot}
@@ -17,11 +17,13 @@ use Rattle.slub_core.specs.declared.spot.MoveSetSpot.{MoveSetSpot}
 use Rattle.slub_core.specs.declared.spot.MoveSetSpot.TheVariants.{ChooseFront, FollowSet, PutTail}
 use Rattle.slub_core.specs.Setup.{pool_lock}
 use Rattle.slub_core.specs.World.{pool_in}
-use Rattle.slub_core.specs.Local.{Local, here, hand_of, string_of, run_of}
+use Rattle.slub_core.specs.Local.{Local, here, hand_of, string_of, run_of, call_of}
 use Rattle.slub_core.specs.Alloc.{node_of}
 use Rattle.slub_core.specs.PutOnList.{puts}
 use Rattle.slub_core.specs.Discard.{counts_for}
 use Rattle.slub_core.specs.declared.guarded.Guarded.{Guarded}
+use Rattle.slub_core.specs.declared.call.CallKind.{CallKind}
+use Rattle.slub_core.specs.Calls.{call_kind, call_word}
 use Rattle.slub_core.specs.Values.{values_of, HasRoomAt, HasPool}
 use Rattle.slub_core.specs.Ways.{HasTid}
 
@@ -54,6 +56,10 @@ abbrev pub MoveSetFits : Local → MoveSetSpot → Type 0
 MoveSetFits l ChooseFront = length l.hands < 2
 MoveSetFits l FollowSet = length l.hands < 2
 MoveSetFits l _ = Unit {0}
+
+-- the call is of this kind, and its word is one of the words that a slab can have
+abbrev pub UseFits : Local → CallKind → Type 0
+UseFits l kind = (call_kind (call_of l) ≡ kind) × (call_word (call_of l) ≤ 4095)
 
 -- the run in hand can come back to the pool, which stands behind its lock
 abbrev pub PutsRun : List Guarded → Local → DiscardSpot → Type 0

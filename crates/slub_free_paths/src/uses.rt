@@ -1,14 +1,15 @@
 //! Profile, with no function of `mm/slub.c`: writing and reading a word of an object of an
 //! unchecked cache.
 
-ghost use Rattle.std.specs.Prelude.{◌≡◌, ℕ, ◌≤◌};
+ghost use Rattle.std.specs.Prelude.{◌≡◌, ℕ};
 ghost use Rattle.slub_core.specs.Setup.{Means};
 ghost use Rattle.slub_core.specs.World.{LockValue};
 ghost use Rattle.slub_core.specs.Steps as core;
-ghost use Rattle.slub_core.specs.Local.{call_of};
 ghost use Rattle.slub_core.specs.Facts.{setup_of};
 ghost use Rattle.slub_core.specs.Ways.{turned};
+ghost use Rattle.slub_free_paths.specs.Fits.{UseFits};
 
+use slub_core::call::{Call, CallKind};
 use slub_core::ops;
 use slub_core::setup::Setup;
 use slub_core::spot::Spot;
@@ -19,20 +20,25 @@ use slub_trace::reply::Reply;
 /// The step of a write.
 #[inline(always)]
 pub fn write_step(setup: &Setup, local: &Local) -> Step
-    requires { (call_of local.now).word ≤ 4095 }
+    requires { UseFits local.now CallKind.Write }
     ensures { (means : Means) → (value : ℕ → LockValue) → result ≡ core.step_at (setup_of setup.now means) value local.now Spot.WriteWord }
 {
-    let call = local.call();
-    ops::store_word(setup, local, call.word, call.value)
+    match local.call() {
+        Call::Write { word, value, .. } => ops::store_word(setup, local, word, value),
+        _ => unreachable!(),
+    }
 }
 
 /// The step of a read.
 #[inline(always)]
 pub fn read_step(setup: &Setup, local: &Local) -> Step
-    requires { (call_of local.now).word ≤ 4095 }
+    requires { UseFits local.now CallKind.Read }
     ensures { (means : Means) → (value : ℕ → LockValue) → result ≡ core.step_at (setup_of setup.now means) value local.now Spot.ReadWord }
 {
-    ops::load_word(setup, local, local.call().word)
+    match local.call() {
+        Call::Read { word, .. } => ops::load_word(setup, local, word),
+        _ => unreachable!(),
+    }
 }
 
 /// Where the answer to a write's step leads, and the reply that the call has by it.

@@ -38,7 +38,7 @@ use Rattle.slub_rounds.specs.BulkLines.{ServesBulk, TakesAll, bulk_answer}
 use Rattle.slub_rounds.specs.ByText.{DoesByText, IdsLast}
 use Rattle.slub_rounds.specs.ClientLaws.{IsNumber}
 use Rattle.slub_rounds.specs.Heap.{HeapState}
-use Rattle.slub_rounds.specs.Reserves.{AreReserves, AreSoundReserves, Gets, Lends, Makes, Pops, PutsBack, Reserve, ServesMempool, ServesMget, ServesMput, TakesOne, TellsFree, fresh_reserve, has_number, is_of_cache, kept_in, no_reserve, place_of, reserve_at, times_in}
+use Rattle.slub_rounds.specs.Reserves.{AreReserves, AreSoundReserves, Gets, Lends, Makes, Pops, PutsBack, Reserve, ServesMempool, ServesMget, ServesMput, TakesOne, TellsFree, fresh_reserve, has_number, is_of_cache, kept_in, no_reserve, place_of_reserve, reserve_at, times_in}
 use Rattle.slub_rounds.proofs.Allowed.{allocations-may, frees-may}
 use Rattle.slub_rounds.proofs.TextLawful.{text-lawful}
 use Rattle.slub_bulk.specs.Taking.{MayTake}
@@ -113,7 +113,7 @@ module _ (h : HeapState) (trace : Trace) (outcome : ClientDone) (after : HeapSta
 
   mempool-leaves : (reserves : List Reserve) (fresh : Reserve) (left : List Reserve) → MayTake h trace 0 fresh.cache fresh.numbers → ServesMempool h reserves fresh outcome after left → LeavesMempool h fresh.cache fresh.numbers outcome after outcome.answer
   mempool-leaves reserves fresh left may served =
-      match_either (place_of reserves fresh.name) _ _ Goal served
+      match_either (place_of_reserve reserves fresh.name) _ _ Goal served
       (λ none answered. match_bool (nat_le 8 (length reserves)) _ _ Goal answered
       (λ full told. subst Leaves (sym told.0.1) (same-board h after told.0.2))
       (λ room filled. by filled.0 filled.1 filled.2))
@@ -168,7 +168,7 @@ module _ (h : HeapState) (trace : Trace) (outcome : ClientDone) (after : HeapSta
 
     mget-leaves : (pool : List ℕ) (left : List Reserve) → ServesMget h reserves cpu pool object outcome after left → Leaves outcome.answer
     mget-leaves pool left served =
-        match_either (place_of reserves pool) _ _ (Leaves outcome.answer) served
+        match_either (place_of_reserve reserves pool) _ _ (Leaves outcome.answer) served
         (λ none told. subst Leaves (sym told.0.1) (same-board h after told.0.2))
         (λ at found asks. gets at (place-within reserves pool at found) asks.0 left asks.1 asks.2)
 
@@ -199,7 +199,7 @@ module _ (h : HeapState) (trace : Trace) (outcome : ClientDone) (after : HeapSta
 
     mput-leaves : (pool : List ℕ) (left : List Reserve) → ServesMput h reserves cpu pool object outcome after left → Left outcome.answer
     mput-leaves pool left served =
-        match_either (place_of reserves pool) _ _ (Left outcome.answer) served
+        match_either (place_of_reserve reserves pool) _ _ (Left outcome.answer) served
         (λ none told. subst Left (sym told.0.1) (same-board h after told.0.2))
         (λ at is some. match_either (held_under h.lists object) _ _ (Left outcome.answer) some
         (λ none told. subst Left (sym told.0.1) (same-board h after told.0.2))

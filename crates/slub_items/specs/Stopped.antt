@@ -6,11 +6,11 @@ use Rattle.slub_trace.specs.declared.trace.Item.{Item}
 use Rattle.slub_trace.specs.declared.trace.Item.TheVariants as item
 use Rattle.slub_trace.specs.declared.trace.Trace.{Trace}
 use Rattle.slub_slabinfo_text.specs.Lawful.{TakesMemoryAt}
-use Rattle.slub_rounds.specs.declared.scheduled.Stopped.{Stopped as StepsStopped}
-use Rattle.slub_rounds.specs.declared.scheduled.Stopped.TheVariants as steps_stopped
+use Rattle.slub_rounds.specs.declared.scheduled.StepsStopped.{StepsStopped}
+use Rattle.slub_rounds.specs.declared.scheduled.StepsStopped.TheVariants as steps_stopped
 use Rattle.slub_rounds.specs.Heap.{HeapState}
-use Rattle.slub_rounds.specs.declared.heap.Stopped.{Stopped as RoundStopped}
-use Rattle.slub_rounds.specs.declared.heap.Stopped.TheVariants as round_stopped
+use Rattle.slub_rounds.specs.declared.heap.RoundStopped.{RoundStopped}
+use Rattle.slub_rounds.specs.declared.heap.RoundStopped.TheVariants as round_stopped
 use Rattle.slub_law_replay.specs.declared.way.Way.{Way}
 use Rattle.slub_law_replay.specs.Runs.{MachineState, SpendsAt}
 use Rattle.slub_law_replay.specs.Ways.{SpendsTurnsBy}

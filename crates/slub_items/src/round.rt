@@ -18,8 +18,8 @@ use slub_law_replay::way::Way;
 use slub_list_machine::lists::Lists;
 use slub_open_close::ids::Ids;
 use slub_rounds::ended::Ended;
-use slub_rounds::heap::{Heap, Stopped};
-use slub_rounds::scheduled::{Stopped as StepsStopped, scheduled};
+use slub_rounds::heap::{Heap, RoundStopped};
+use slub_rounds::scheduled::{StepsStopped, scheduled};
 use slub_rounds::threaded::threaded;
 use slub_slabinfo_text::journal::RoundResult;
 use slub_trace::event::Round;
@@ -41,7 +41,7 @@ pub fn by_way<R: Threads + Wait + Sync, G: Gate + Sync>(
     round: &Round,
     rounds: u64,
     way: Way,
-) -> Result<(Heap, RoundResult), Stopped>
+) -> Result<(Heap, RoundResult), RoundStopped>
     requires sound { IsSoundHeap heap }
     requires rest { IsAtRest heap.lists }
     requires objects { length heap.lists.board ≤ 1048577 }
@@ -72,7 +72,7 @@ fn of_several<R: Threads + Wait + Sync, G: Gate + Sync>(
     round: &Round,
     rounds: u64,
     way: Way,
-) -> Result<(Heap, RoundResult), Stopped>
+) -> Result<(Heap, RoundResult), RoundStopped>
     requires sound { IsSoundHeap heap }
     requires rest { IsAtRest heap.lists }
     requires objects { length heap.lists.board ≤ 1048577 }
@@ -104,7 +104,7 @@ fn beside<R: Threads + Wait + Sync, G: Gate + Sync>(
     round: &Round,
     rounds: u64,
     way: Way,
-) -> Result<(Heap, RoundResult), Stopped>
+) -> Result<(Heap, RoundResult), RoundStopped>
     requires coherent { IsCoherent lists }
     requires rest { IsAtRest lists }
     requires objects { length lists.board ≤ 1048577 }
@@ -127,11 +127,11 @@ fn beside<R: Threads + Wait + Sync, G: Gate + Sync>(
             },
             ended.result,
         )),
-        Err(StepsStopped::NoMemory(lists)) => Err(Stopped::NoMemory(Heap {
+        Err(StepsStopped::NoMemory(lists)) => Err(RoundStopped::NoMemory(Heap {
             lists,
             ids: Some(ids),
         })),
-        Err(StepsStopped::TurnsSpent) => Err(Stopped::TurnsSpent),
+        Err(StepsStopped::TurnsSpent) => Err(RoundStopped::TurnsSpent),
     }
 }
 
@@ -205,7 +205,7 @@ fn anew<R: Threads + Wait + Sync, G: Gate + Sync>(
     round: &Round,
     rounds: u64,
     way: Way,
-) -> Result<(Heap, RoundResult), Stopped>
+) -> Result<(Heap, RoundResult), RoundStopped>
     requires coherent { IsCoherent lists }
     requires rest { IsAtRest lists }
     requires objects { length lists.board ≤ 1048577 }
@@ -221,7 +221,7 @@ fn anew<R: Threads + Wait + Sync, G: Gate + Sync>(
 {
     let first = match Ids::first(alloc, 0, lists.cpus()) {
         Ok(first) => first,
-        Err(NoMemory) => return Err(Stopped::NoMemory(Heap { lists, ids: None })),
+        Err(NoMemory) => return Err(RoundStopped::NoMemory(Heap { lists, ids: None })),
     };
     match by_steps(rt, gate, alloc, lists, &first, round, rounds, way) {
         Ok(ended) => Ok((
@@ -231,7 +231,10 @@ fn anew<R: Threads + Wait + Sync, G: Gate + Sync>(
             },
             ended.result,
         )),
-        Err(StepsStopped::NoMemory(lists)) => Err(Stopped::NoMemory(Heap { lists, ids: None })),
-        Err(StepsStopped::TurnsSpent) => Err(Stopped::TurnsSpent),
+        Err(StepsStopped::NoMemory(lists)) => Err(RoundStopped::NoMemory(Heap {
+            lists,
+            ids: None,
+        })),
+        Err(StepsStopped::TurnsSpent) => Err(RoundStopped::TurnsSpent),
     }
 }

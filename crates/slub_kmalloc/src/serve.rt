@@ -19,7 +19,7 @@ use slub_common::no_memory::NoMemory;
 use slub_common::sequence::Sequence;
 use slub_list_machine::lists::Lists;
 use slub_object_layout::name::Name;
-use slub_rounds::client::{Stopped, at_once, client_round, told};
+use slub_rounds::client::{LineStopped, at_once, client_round, told};
 use slub_rounds::create::create;
 use slub_rounds::heap::Heap;
 use slub_slabinfo_text::client::{CacheRefusal, ClientAnswer, ClientDone, ClientRound};
@@ -60,7 +60,7 @@ fn take_of_class(
     class: u32,
     object: u32,
     rounds: &mut Vec<ClientRound>,
-) -> Result<(Heap, Result<u32, CacheRefusal>), Stopped>
+) -> Result<(Heap, Result<u32, CacheRefusal>), LineStopped>
     requires asks { IsOpenTo heap trace.now 1 }
     requires few { length trace.now.names < 2 ^ 32 }
     requires cpu { cpu < trace.now.cpus }
@@ -101,7 +101,7 @@ fn kget(
     cpu: u32,
     size: u32,
     object: u32,
-) -> Result<(Heap, ClientDone), Stopped>
+) -> Result<(Heap, ClientDone), LineStopped>
     requires asks { IsOpenTo heap trace.now 1 }
     requires few { length trace.now.names < 2 ^ 32 }
     requires cpu { cpu < trace.now.cpus }
@@ -201,7 +201,7 @@ fn krealloc(
     heap: Heap,
     trace: &Trace,
     asked: Wish,
-) -> Result<(Heap, ClientDone), Stopped>
+) -> Result<(Heap, ClientDone), LineStopped>
     requires asks { IsOpenTo heap trace.now 1 }
     requires few { length trace.now.names < 2 ^ 32 }
     requires cpu { asked.cpu < trace.now.cpus }
@@ -228,7 +228,7 @@ fn krealloc_of(
     trace: &Trace,
     asked: Wish,
     cache: u8,
-) -> Result<(Heap, ClientDone), Stopped>
+) -> Result<(Heap, ClientDone), LineStopped>
     requires asks { IsOpenTo heap trace.now 1 }
     requires live { IsSome (cache_of heap.lists cache) }
     requires few { length trace.now.names < 2 ^ 32 }
@@ -262,7 +262,7 @@ fn move_to(
     trace: &Trace,
     asked: Wish,
     class: u32,
-) -> Result<(Heap, ClientDone), Stopped>
+) -> Result<(Heap, ClientDone), LineStopped>
     requires asks { IsOpenTo heap trace.now 1 }
     requires few { length trace.now.names < 2 ^ 32 }
     requires cpu { asked.cpu < trace.now.cpus }
@@ -307,7 +307,7 @@ fn free_other(
     asked: Wish,
     address: u32,
     rounds: Vec<ClientRound>,
-) -> Result<(Heap, ClientDone), Stopped>
+) -> Result<(Heap, ClientDone), LineStopped>
     requires asks { IsOpenTo heap trace.now 0 }
     requires cpu { asked.cpu < trace.now.cpus }
     requires object { IsSoundObject trace.now asked.object }
@@ -337,7 +337,7 @@ pub fn serve(
     heap: Heap,
     trace: &Trace,
     client: &Client,
-) -> Result<(Heap, ClientDone), Stopped>
+) -> Result<(Heap, ClientDone), LineStopped>
     requires servable { IsServable heap trace.now client.now }
     requires line { IsKmallocLine client.now }
     ensures served { IfOk result (λ done. ServesClasses heap trace.now client.now done.1 done.0) }

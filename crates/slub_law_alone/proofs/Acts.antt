@@ -25,6 +25,7 @@ use Rattle.slub_lists.specs.Freeing.{Frees}
 use Rattle.slub_lists.specs.Named.{AllocatesFrom, AllocatesNamed}
 use Rattle.slub_lists.specs.Places.{layout_at}
 use Rattle.slub_lists.specs.Words.{Reads, Writes, held_by, is_word, is_worker, own, word_at}
+use Rattle.slub_core.specs.Calls.{call_cpu, call_place, call_word}
 use Rattle.slub_core.specs.Run.{System}
 use Rattle.slub_core.specs.Setup.{Setup, cpu_number}
 use Rattle.slub_core.specs.Steps.{told_of_alloc, told_of_use}
@@ -108,7 +109,7 @@ module _ (s0 : State) (b0 : Beside) (round : Round) (opening : World) (line work
   lives-first cache lives = ap (λ (m : Setup). m.lives cache) (sym is.setup) ∙ lives
 
   -- its CPU is one of the machine's
-  cpu-below : IsNext system worker (call_of s0.table round event) → (call_of s0.table round event).cpu ≡ cpu → (cpu < s0.cpus) × (cpu < 16)
+  cpu-below : IsNext system worker (call_of s0.table round event) → call_cpu (call_of s0.table round event) ≡ cpu → (cpu < s0.cpus) × (cpu < 16)
   cpu-below next same =
       let begin = starts opening t d system worker (call_of s0.table round event) is.rest next in
       let cpus = ap (λ (m : Setup). m.cpus) is.setup in
@@ -218,8 +219,8 @@ module _ (alloc : AllAllocationsAreThoseOfLists) (s0 : State) (b0 : Beside) (rou
         (grows-by (changes_of s0.table past) (changes_of s0.table (makes ∷ past)) (changes_of_alloc t cache cpu taken.given) word b0 d (λ n. let more = more-grown s0 b0 round opening makes events past told s t d system is below n in omega (arith, more))
         (let most = few-given t cache cpu taken.given in let more = more-grown s0 b0 round opening makes events past told s t d system is below word in let two = twice s0 b0 round opening line worker cpu place object events past told s t d system is below cache live in omega (arith, most, more, two)) is.grown)
         exact-alloc
-        (cond (is_given got.reply) (set (worker_at system worker).known (call_of s0.table round makes).place (known_under got.after object)) (worker_at system worker).known) got.known
-        (λ last others rooms known. alloc-known round.workers makes events s (over s.memory got.after) system last worker below is.known others (call_of s0.table round makes).place object
+        (cond (is_given got.reply) (set (worker_at system worker).known (call_place (call_of s0.table round makes)) (known_under got.after object)) (worker_at system worker).known) got.known
+        (λ last others rooms known. alloc-known round.workers makes events s (over s.memory got.after) system last worker below is.known others (call_place (call_of s0.table round makes)) object
         ((starts opening t d system worker (call_of s0.table round makes) is.rest next).may.place refl) (own-place s0 b0 round opening makes events past told s t d system is below object) rooms refl
         (alloc-noted s place cpu worker object got.reply (over s.memory got.after) moved.0) moved.1.others (is_given got.reply) known)
 
@@ -310,11 +311,11 @@ module _ (free : AllFreesAreThoseOfLists) (s0 : State) (b0 : Beside) (round : Ro
 
   -- what it knows then, in the lists of the text
   known-free : known_after (setup_of t d) system worker (1 + let-go.turns)
-      ≡ cond (may_free s worker object) (set (worker_at system worker).known (call_of s0.table round frees).place (record (known_under s object) { held = is_some (held_under gone.after object) })) (worker_at system worker).known
+      ≡ cond (may_free s worker object) (set (worker_at system worker).known (call_place (call_of s0.table round frees)) (record (known_under s object) { held = is_some (held_under gone.after object) })) (worker_at system worker).known
   known-free =
       gone.known
-      ∙ ap (λ (t : State). cond (may_free t (worker_at system worker).worker object) (set (worker_at system worker).known (call_of s0.table round frees).place (record (known_under t object) { held = is_some (held_under gone.after object) })) (worker_at system worker).known) is.same.lists
-      ∙ ap (λ n. cond (may_free s n object) (set (worker_at system worker).known (call_of s0.table round frees).place (record (known_under s object) { held = is_some (held_under gone.after object) })) (worker_at system worker).known) (number s0 b0 round opening line worker cpu (act.Free object) events past told s t d system is below)
+      ∙ ap (λ (t : State). cond (may_free t (worker_at system worker).worker object) (set (worker_at system worker).known (call_place (call_of s0.table round frees)) (record (known_under t object) { held = is_some (held_under gone.after object) })) (worker_at system worker).known) is.same.lists
+      ∙ ap (λ n. cond (may_free s n object) (set (worker_at system worker).known (call_place (call_of s0.table round frees)) (record (known_under s object) { held = is_some (held_under gone.after object) })) (worker_at system worker).known) (number s0 b0 round opening line worker cpu (act.Free object) events past told s t d system is below)
 
   pub free_steps : Stepped s0 b0 round opening frees events past told s d system
   free_steps = by_turns s0 b0 round opening frees events past told s t d system is below refl (1 + let-go.turns) gone.reply gone.after (grown d word-free changes-free) gone.replies
@@ -323,8 +324,8 @@ module _ (free : AllFreesAreThoseOfLists) (s0 : State) (b0 : Beside) (round : Ro
       (freed.1.table ∙ table-same s0 b0 round opening frees events past told s t d system is below)
       (grows-by (changes_of s0.table past) (changes_of s0.table (frees ∷ past)) changes-free word-free b0 d (λ n. let more = more-grown s0 b0 round opening frees events past told s t d system is below n in omega (arith, more)) freed-few is.grown)
       exact-free
-      (cond (may_free s worker object) (set (worker_at system worker).known (call_of s0.table round frees).place (record (known_under s object) { held = is_some (held_under gone.after object) })) (worker_at system worker).known) known-free
-      (λ last others rooms known. free-known round.workers frees events s (over s.memory gone.after) system last worker below is.known others (call_of s0.table round frees).place object
+      (cond (may_free s worker object) (set (worker_at system worker).known (call_place (call_of s0.table round frees)) (record (known_under s object) { held = is_some (held_under gone.after object) })) (worker_at system worker).known) known-free
+      (λ last others rooms known. free-known round.workers frees events s (over s.memory gone.after) system last worker below is.known others (call_place (call_of s0.table round frees)) object
       ((starts opening t d system worker (call_of s0.table round frees) is.rest its-next).may.place refl) (own-place s0 b0 round opening frees events past told s t d system is below object) rooms
       (consistent-of s (same-coherent past s t is.same is.rest.lists)) known (free-noted s cpu worker object gone.reply (over s.memory gone.after) freed.0))
 
@@ -341,7 +342,7 @@ module _ (s0 : State) (b0 : Beside) (round : Round) (opening : World) (line work
   same-grown : (n : ℕ) → changes_of s0.table past n ≤ changes_of s0.table (reads ∷ past) n
   same-grown n = let more = more-grown s0 b0 round opening reads events past told s t d system is below n in omega (arith, more)
 
-  loaded : told_of_use (m s0 b0 round opening) (known s0 b0 round opening reads events past told s t d system is below object) (call_of s0.table round reads) ≡ None → Stepped s0 b0 round opening reads events past told s d system
+  loaded : told_of_use (m s0 b0 round opening) (known s0 b0 round opening reads events past told s t d system is below object) (call_word (call_of s0.table round reads)) ≡ None → Stepped s0 b0 round opening reads events past told s d system
   loaded none =
       let r = all_read opening t d system worker (call_of s0.table round reads) is.rest (comes-next s0 b0 round opening reads events past told s t d system is below none) refl in
       let answer = reads-over s s.memory t.memory worker object word r.reply
@@ -354,7 +355,7 @@ module _ (s0 : State) (b0 : Beside) (round : Round) (opening : World) (line work
   pub read_steps : Stepped s0 b0 round opening reads events past told s d system
   read_steps = by (use_of s0 b0 round opening reads events past told s t d system is below object (call_of s0.table round reads))
     where
-      by : IsUse s worker object word (told_of_use (m s0 b0 round opening) (known s0 b0 round opening reads events past told s t d system is below object) (call_of s0.table round reads)) → Stepped s0 b0 round opening reads events past told s d system
+      by : IsUse s worker object word (told_of_use (m s0 b0 round opening) (known s0 b0 round opening reads events past told s t d system is below object) (call_word (call_of s0.table round reads))) → Stepped s0 b0 round opening reads events past told s d system
       by (unheld has none) = at_once s0 b0 round opening reads events past told s t d system is below NotHeld has (reads-unheld s worker object word none, refl) refl same-past refl
       by (outside held has its lives out) = at_once s0 b0 round opening reads events past told s t d system is below OutOfObject has (reads-outside s worker object word held its lives out, refl) refl same-past refl
       by (steps none) = loaded none
@@ -457,7 +458,7 @@ module _ (s0 : State) (b0 : Beside) (round : Round) (opening : World) (line work
   same-changes : (n : ℕ) → changes_of s0.table past n ≤ changes_of s0.table (writes ∷ past) n
   same-changes n = let more = more-grown s0 b0 round opening writes events past told s t d system is below n in omega (arith, more)
 
-  stored : told_of_use (m s0 b0 round opening) (known s0 b0 round opening writes events past told s t d system is below object) (call_of s0.table round writes) ≡ None → Stepped s0 b0 round opening writes events past told s d system
+  stored : told_of_use (m s0 b0 round opening) (known s0 b0 round opening writes events past told s t d system is below object) (call_word (call_of s0.table round writes)) ≡ None → Stepped s0 b0 round opening writes events past told s d system
   stored none =
       let turns = turns_of_use t (known_at (worker_at system worker) (call_of s0.table round writes)).cache in
       let r = all_written opening t d system worker (call_of s0.table round writes) is.rest (comes-next s0 b0 round opening writes events past told s t d system is below none) refl in
@@ -472,7 +473,7 @@ module _ (s0 : State) (b0 : Beside) (round : Round) (opening : World) (line work
   pub write_steps : Stepped s0 b0 round opening writes events past told s d system
   write_steps = by (use_of s0 b0 round opening writes events past told s t d system is below object (call_of s0.table round writes))
     where
-      by : IsUse s worker object word (told_of_use (m s0 b0 round opening) (known s0 b0 round opening writes events past told s t d system is below object) (call_of s0.table round writes)) → Stepped s0 b0 round opening writes events past told s d system
+      by : IsUse s worker object word (told_of_use (m s0 b0 round opening) (known s0 b0 round opening writes events past told s t d system is below object) (call_word (call_of s0.table round writes))) → Stepped s0 b0 round opening writes events past told s d system
       by (unheld has none) = at_once s0 b0 round opening writes events past told s t d system is below NotHeld has (writes-unheld s worker object word value none) refl
           (kept is.same (λ held its plain. absurd (let both = sym none ∙ its in cc both))) refl
       by (outside held has its lives out) = at_once s0 b0 round opening writes events past told s t d system is below OutOfObject has (writes-outside s worker object word held its lives out value) refl

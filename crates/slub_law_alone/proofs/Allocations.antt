@@ -1,5 +1,5 @@
 -- An allocation has one outcome where memory is wanting both times or neither time.
-use Rattle.std.proofs.Common.{◌≡◌, ℕ, ◌⊎◌, inl, inr, true, false, List, ◌∷◌, get_or, drop, Option, Some, None, Result, Ok, Err, refl, sym, ◌∙◌, ap, MatchOption, MatchResult}
+use Rattle.std.proofs.Common.{◌≡◌, ℕ, ◌⊎◌, inl, inr, false, List, ◌∷◌, get_or, drop, Option, Some, None, Result, Ok, Err, refl, sym, ◌∙◌, ap, MatchOption, MatchResult}
 use Rattle.std.specs.Prelude.{IfSome}
 use Rattle.std.proofs.lemmas.Bool.{false≢true}
 use Rattle.slub_page_pool.specs.FreeFrames.{FreeFrames}

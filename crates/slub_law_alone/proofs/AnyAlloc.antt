@@ -14,6 +14,7 @@ use Rattle.slub_lists.specs.State.{State}
 use Rattle.slub_lists.specs.Alloc.{checked_of, lists_of, node_of, own_free, retired, batch_of, FindsRun}
 use Rattle.slub_lists.specs.Places.{layout_at}
 use Rattle.slub_core.specs.declared.call.Call.{Call}
+use Rattle.slub_core.specs.Calls.{call_cpu}
 use Rattle.slub_core.specs.Setup.{Means, cpu_number, pool_after}
 use Rattle.slub_core.specs.World.{World, one_if}
 use Rattle.slub_core.specs.Run.{System}
@@ -69,7 +70,7 @@ pub record Gave (opening : World) (s : State) (b : Beside) (system : System) (x 
   pub gives : is_given allocates.reply ≡ given
   pub lacks : given ≡ false → allocates.reply ≡ NoFrames
 
-pub gave_some : (opening : World) (s : State) (b : Beside) (system : System) (x : ℕ) (call : Call) (place k turns all : ℕ) (d : Beside) (given : Bool) → all ≡ 1 + turns → d ≡ grown b (cpu_number k call.cpu) (changes_of_alloc s k call.cpu given) → Gave opening s b system x call place all d given
+pub gave_some : (opening : World) (s : State) (b : Beside) (system : System) (x : ℕ) (call : Call) (place k turns all : ℕ) (d : Beside) (given : Bool) → all ≡ 1 + turns → d ≡ grown b (cpu_number k (call_cpu call)) (changes_of_alloc s k (call_cpu call) given) → Gave opening s b system x call place all d given
     → AllocatesSome opening s b system x call place k
 gave_some opening s b system x call place k turns all d given sum same gave =
     let z = subst (λ d. Gave opening s b system x call place (1 + turns) d given) same (subst (λ all. Gave opening s b system x call place all d given) sum gave) in
@@ -102,10 +103,10 @@ just_given false = refl
 
 module _ (opening : World) (s : State) (b : Beside) (system : System) (x : ℕ) (call : Call) (place k : ℕ) (rest : IsAtRest opening s b system) (next : IsNext system x call) (is : IsAlloc s call place k) where
   abbrev n : ℕ
-  n = cpu_number k call.cpu
+  n = cpu_number k (call_cpu call)
 
   abbrev lists : CpuLists
-  lists = lists_of s k call.cpu
+  lists = lists_of s k (call_cpu call)
 
   begin : IsStart opening s b system x call
   begin = starts opening s b system x call rest next
@@ -117,22 +118,22 @@ module _ (opening : World) (s : State) (b : Beside) (system : System) (x : ℕ) 
   inside = begin.setup.live k lives
 
   -- by so many turns and one
-  some_turns : (turns all changes : ℕ) (given : Bool) → all ≡ 1 + turns → changes ≡ changes_of_alloc s k call.cpu given → Gave opening s b system x call place all (grown b n changes) given → AllocatesSome opening s b system x call place k
+  some_turns : (turns all changes : ℕ) (given : Bool) → all ≡ 1 + turns → changes ≡ changes_of_alloc s k (call_cpu call) given → Gave opening s b system x call place all (grown b n changes) given → AllocatesSome opening s b system x call place k
   some_turns turns all changes given sum same gave = gave_some opening s b system x call place k turns all (grown b n changes) given sum (ap (grown b n) same) gave
 
   module _ (ids : HasIds b n 1) (current : lists.current ≡ None) where
     empty : lists.free ≡ []
     empty =
-        let here = cpu_here s k call.cpu begin.may.cpu begin.few in
+        let here = cpu_here s k (call_cpu call) begin.may.cpu begin.few in
         sym (ap (λ (x : CpuLists). x.free) here) ∙ cpu-bare s n begin.consistent (ap (λ (x : CpuLists). x.current) here ∙ current)
 
-    bare : (given : Bool) → one_if given ≡ changes_of_alloc s k call.cpu given
-    bare given = sym (changes_are s k call.cpu given is.unchecked [] empty None current ∙ just_given given)
+    bare : (given : Bool) → one_if given ≡ changes_of_alloc s k (call_cpu call) given
+    bare given = sym (changes_are s k (call_cpu call) given is.unchecked [] empty None current ∙ just_given given)
 
     one : (turns all : ℕ) → all ≡ 1 + turns → (z : AllocatesAlone opening s b system x call place all (grown b n 1)) → is_given z.reply ≡ true → AllocatesSome opening s b system x call place k
     one turns all sum z gives = some_turns turns all 1 true sum (bare true) (gave_one opening s b system x call place all (grown b n 1) z gives)
 
-    from_pool : HasNoSlab s k call.cpu → AllocatesSome opening s b system x call place k
+    from_pool : HasNoSlab s k (call_cpu call) → AllocatesSome opening s b system x call place k
     from_pool none = by (finds b.means s.pool (layout_at s k) rest.lists.shaped.pool (omega (arith, bounds.0)) (omega (arith, bounds.0, bounds.1)))
       where
         bounds : ((layout_at s k).order ≤ 3) × ((layout_at s k).min_order ≤ (layout_at s k).order)
@@ -160,23 +161,23 @@ module _ (opening : World) (s : State) (b : Beside) (system : System) (x : ℕ) 
 
 -- ---- any CPU
 
-module _ (opening : World) (s : State) (b : Beside) (system : System) (x : ℕ) (call : Call) (place k : ℕ) (rest : IsAtRest opening s b system) (next : IsNext system x call) (is : IsAlloc s call place k) (ids : HasIds b (cpu_number k call.cpu) (1 + changes_before_giving s k call.cpu)) where
+module _ (opening : World) (s : State) (b : Beside) (system : System) (x : ℕ) (call : Call) (place k : ℕ) (rest : IsAtRest opening s b system) (next : IsNext system x call) (is : IsAlloc s call place k) (ids : HasIds b (cpu_number k (call_cpu call)) (1 + changes_before_giving s k (call_cpu call))) where
   abbrev word : ℕ
-  word = cpu_number k call.cpu
+  word = cpu_number k (call_cpu call)
 
   abbrev has : CpuLists
-  has = lists_of s k call.cpu
+  has = lists_of s k (call_cpu call)
 
   -- what the ids are enough for
   enough : (free : List ℕ) (current : Option ℕ) → has.free ≡ free → has.current ≡ current → HasIds b word (1 + one_if (eqb (length free) 0 && is_some current))
-  enough free current first there = subst (λ n. HasIds b word (1 + n)) (before_are s k call.cpu free first current there) ids
+  enough free current first there = subst (λ n. HasIds b word (1 + n)) (before_are s k (call_cpu call) free first current there) ids
 
-  by_turns : (turns all changes : ℕ) → all ≡ 1 + turns → changes ≡ changes_of_alloc s k call.cpu true → (z : AllocatesAlone opening s b system x call place all (grown b word changes)) → is_given z.reply ≡ true → AllocatesSome opening s b system x call place k
+  by_turns : (turns all changes : ℕ) → all ≡ 1 + turns → changes ≡ changes_of_alloc s k (call_cpu call) true → (z : AllocatesAlone opening s b system x call place all (grown b word changes)) → is_given z.reply ≡ true → AllocatesSome opening s b system x call place k
   by_turns turns all changes sum same z gives = gave_some opening s b system x call place k turns all (grown b word changes) true sum (ap (grown b word) same) (gave_one opening s b system x call place all (grown b word changes) z gives)
 
   module _ (f : ℕ) (off : TakesOff opening s b system x call place k f) (current : has.current ≡ Some f) (empty : has.free ≡ []) where
     abbrev t : State
-    t = retired s k call.cpu f
+    t = retired s k (call_cpu call) f
 
     abbrev b1 : Beside
     b1 = grown b word 1
@@ -199,18 +200,18 @@ module _ (opening : World) (s : State) (b : Beside) (system : System) (x : ℕ) 
     after_off : AllocatesSome opening s b system x call place k
     after_off =
         let z : AllocatesSome opening t b1 off.taken x call place k = bare_allocated opening t b1 off.taken x call place k off.rest off.next off.alloc off.ids (ap (λ (x : CpuLists). x.current) off.lists) in
-        let changes = changes_of_alloc t k call.cpu z.given in
-        let here : changes ≡ one_if z.given = changes_are t k call.cpu z.given off.alloc.unchecked [] (ap (λ (x : CpuLists). x.free) off.lists) None (ap (λ (x : CpuLists). x.current) off.lists) ∙ just_given z.given in
+        let changes = changes_of_alloc t k (call_cpu call) z.given in
+        let here : changes ≡ one_if z.given = changes_are t k (call_cpu call) z.given off.alloc.unchecked [] (ap (λ (x : CpuLists). x.free) off.lists) None (ap (λ (x : CpuLists). x.current) off.lists) ∙ just_given z.given in
         let goes = off.goes_on z.turns (grown b1 word changes) z.allocates in
         gave_some opening s b system x call place k (3 + z.turns) (4 + z.turns) (grown b1 word changes) z.given (omega arith)
-        (ap (grown b1 word) here ∙ once_more (one_if z.given) (few z.given) ∙ ap (grown b word) (sym (changes_are s k call.cpu z.given is.unchecked [] empty (Some f) current)))
+        (ap (grown b1 word) here ∙ once_more (one_if z.given) (few z.given) ∙ ap (grown b word) (sym (changes_are s k (call_cpu call) z.given is.unchecked [] empty (Some f) current)))
         (record { allocates = goes.0; gives = ap is_given goes.1 ∙ z.gives; lacks = λ e. goes.1 ∙ z.lacks e })
 
   from_current : (f : ℕ) (free : List ℕ) → own_free s f ≡ free → has.current ≡ Some f → has.free ≡ [] → AllocatesSome opening s b system x call place k
   from_current f [] none current empty = after_off f (taken_off opening s b system x call place k f rest next is (enough [] (Some f) empty current) empty current none) current empty
   from_current f (i ∷ free) filled current empty =
       let some : 0 < length (own_free s f) = (let e = ap (length {A = ℕ}) filled in omega (arith, e)) in
-      by_turns 6 7 2 refl (sym (changes_are s k call.cpu true is.unchecked [] empty (Some f) current)) (own.takes opening s b system x call place k f rest next is (enough [] (Some f) empty current) empty current some) (own.takes_gives opening s b system x call place k f rest next is (enough [] (Some f) empty current) empty current some)
+      by_turns 6 7 2 refl (sym (changes_are s k (call_cpu call) true is.unchecked [] empty (Some f) current)) (own.takes opening s b system x call place k f rest next is (enough [] (Some f) empty current) empty current some) (own.takes_gives opening s b system x call place k f rest next is (enough [] (Some f) empty current) empty current some)
 
   from_slabs : (o : Option ℕ) → has.current ≡ o → has.free ≡ [] → AllocatesSome opening s b system x call place k
   from_slabs None current empty = bare_allocated opening s b system x call place k rest next is (enough [] None empty current) current
@@ -222,7 +223,7 @@ module _ (opening : World) (s : State) (b : Beside) (system : System) (x : ℕ) 
       let some : 0 < length has.free = (let e = ap (length {A = ℕ}) first in omega (arith, e)) in
       let filled : eqb (length (i ∷ free)) 0 ≡ false = ne_eqb (length (i ∷ free)) 0 (λ e. absurd (omega (arith, e))) in
       let once : HasIds b word 1 = subst (λ z. HasIds b word (1 + one_if (z && is_some has.current))) filled (enough (i ∷ free) has.current first refl) in
-      by_turns 2 3 1 refl (sym (changes_are s k call.cpu true is.unchecked (i ∷ free) first has.current refl ∙ ap (λ z. one_if (z && is_some has.current) + 1) filled)) (fast.pops opening s b system x call place k rest next is once some) (fast.pops_gives opening s b system x call place k rest next is once some)
+      by_turns 2 3 1 refl (sym (changes_are s k (call_cpu call) true is.unchecked (i ∷ free) first has.current refl ∙ ap (λ z. one_if (z && is_some has.current) + 1) filled)) (fast.pops opening s b system x call place k rest next is once some) (fast.pops_gives opening s b system x call place k rest next is once some)
 
   whole : AllocatesSome opening s b system x call place k
   whole = from_free has.free refl

@@ -12,6 +12,7 @@ use Rattle.slub_lists.specs.Coherent.{held_under}
 use Rattle.slub_lists.specs.Free.{is_current, is_freeable}
 use Rattle.slub_core.specs.declared.call.Call.{Call}
 use Rattle.slub_core.specs.declared.call.CallKind.TheVariants.{Free, Write, Read}
+use Rattle.slub_core.specs.Calls.{call_kind, call_cpu, call_object}
 use Rattle.slub_core.specs.Setup.{cpu_number}
 use Rattle.slub_core.specs.Local.{Local}
 use Rattle.slub_core.specs.Replies.{names_object}
@@ -38,7 +39,7 @@ use Rattle.slub_calls.specs.Changes.{grown, changes_before_giving, changes_of_fr
 
 -- ---- allocations
 
-module _ (opening : World) (s : State) (b : Beside) (system : System) (x : ℕ) (call : Call) (place k : ℕ) (rest : IsAtRest opening s b system) (next : IsNext system x call) (is : IsAllocOf s call place k) (ids : HasIdsFor s b k call.cpu (1 + changes_before_giving s k call.cpu)) where
+module _ (opening : World) (s : State) (b : Beside) (system : System) (x : ℕ) (call : Call) (place k : ℕ) (rest : IsAtRest opening s b system) (next : IsNext system x call) (is : IsAllocOf s call place k) (ids : HasIdsFor s b k (call_cpu call) (1 + changes_before_giving s k (call_cpu call))) where
   by_cache : (slabs : Option CheckedState) → checked_of s k ≡ slabs → AllocatesSome opening s b system x call place k
   by_cache None plain = any_allocated opening s b system x call place k rest next (record { kind = is.kind; named = is.named; asks = is.asks; unchecked = plain }) (ids plain)
   by_cache (Some slabs) checked = checked_allocated opening s b system x call place k slabs rest next (record { kind = is.kind; named = is.named; asks = is.asks; checked = checked })
@@ -48,11 +49,11 @@ all_allocated opening s b system x call place k rest next is ids = by_cache open
 
 -- ---- frees
 
-module _ (opening : World) (s : State) (b : Beside) (system : System) (x : ℕ) (call : Call) (rest : IsAtRest opening s b system) (next : IsNext system x call) (own : HasOwnNumber system x) (is : call.kind ≡ Free) where
+module _ (opening : World) (s : State) (b : Beside) (system : System) (x : ℕ) (call : Call) (rest : IsAtRest opening s b system) (next : IsNext system x call) (own : HasOwnNumber system x) (is : call_kind call ≡ Free) where
   abbrev l : Local
   l = worker_at system x
 
-  module _ (held : Held) (there : held_under s call.object ≡ Some held) (slabs : CheckedState) (checked : checked_of s held.cache ≡ Some slabs) where
+  module _ (held : Held) (there : held_under s (call_object call) ≡ Some held) (slabs : CheckedState) (checked : checked_of s held.cache ≡ Some slabs) where
     of_its_own : held.worker ≡ Some l.worker → FreesLocked opening s b system x call
     of_its_own mine =
         let names = ap names_object is in
@@ -75,24 +76,24 @@ module _ (opening : World) (s : State) (b : Beside) (system : System) (x : ℕ) 
     locked : FreesSome opening s b system x call
     locked =
         let z : FreesLocked opening s b system x call = by_holder held.worker refl in
-        let n = word_of_free s call.cpu call.object in
+        let n = word_of_free s (call_cpu call) (call_object call) in
         record { turns = z.turns; frees = subst (FreesAlone opening s b system x call (1 + z.turns)) (sym (grown_none b n) ∙ ap (grown b n) (sym none)) z.frees }
       where
-        none : changes_of_free s call.cpu l.worker call.object ≡ 0
-        none = ap (λ o. option_map_or (changes_of_held s call.cpu l.worker) o 0) there
-            ∙ ap (λ o. cond {A = ℕ} (is_some o) 0 (one_if (is_freeable l.worker held.worker && is_current held.frame (lists_of s held.cache call.cpu).current))) checked
+        none : changes_of_free s (call_cpu call) l.worker (call_object call) ≡ 0
+        none = ap (λ o. option_map_or (changes_of_held s (call_cpu call) l.worker) o 0) there
+            ∙ ap (λ o. cond {A = ℕ} (is_some o) 0 (one_if (is_freeable l.worker held.worker && is_current held.frame (lists_of s held.cache (call_cpu call)).current))) checked
 
-  of_named : (held : Held) → held_under s call.object ≡ Some held → HasIdsFor s b held.cache call.cpu 1 → (slabs : Option CheckedState) → checked_of s held.cache ≡ slabs → FreesSome opening s b system x call
+  of_named : (held : Held) → held_under s (call_object call) ≡ Some held → HasIdsFor s b held.cache (call_cpu call) 1 → (slabs : Option CheckedState) → checked_of s held.cache ≡ slabs → FreesSome opening s b system x call
   of_named held there ids None plain =
-      any_freed opening s b system x call rest next own is (subst (λ o. IfSome o (λ held. (checked_of s held.cache ≡ None) × HasIds b (cpu_number held.cache call.cpu) 1)) (sym there) (plain, ids plain))
+      any_freed opening s b system x call rest next own is (subst (λ o. IfSome o (λ held. (checked_of s held.cache ≡ None) × HasIds b (cpu_number held.cache (call_cpu call)) 1)) (sym there) (plain, ids plain))
   of_named held there ids (Some slabs) checked = locked held there slabs checked
 
-  by_number : (named : Option Held) → held_under s call.object ≡ named → IfSome named (λ held. HasIdsFor s b held.cache call.cpu 1) → FreesSome opening s b system x call
+  by_number : (named : Option Held) → held_under s (call_object call) ≡ named → IfSome named (λ held. HasIdsFor s b held.cache (call_cpu call) 1) → FreesSome opening s b system x call
   by_number (Some held) there ids = of_named held there ids (checked_of s held.cache) refl
-  by_number None nothing ids = any_freed opening s b system x call rest next own is (subst (λ o. IfSome o (λ held. (checked_of s held.cache ≡ None) × HasIds b (cpu_number held.cache call.cpu) 1)) (sym nothing) tt)
+  by_number None nothing ids = any_freed opening s b system x call rest next own is (subst (λ o. IfSome o (λ held. (checked_of s held.cache ≡ None) × HasIds b (cpu_number held.cache (call_cpu call)) 1)) (sym nothing) tt)
 
 pub all_freed : AllFreesAreThoseOfLists
-all_freed opening s b system x call rest next own is ids = by_number opening s b system x call rest next own is (held_under s call.object) refl ids
+all_freed opening s b system x call rest next own is ids = by_number opening s b system x call rest next own is (held_under s (call_object call)) refl ids
 
 -- ---- words of objects
 
@@ -100,11 +101,11 @@ module _ (opening : World) (s : State) (b : Beside) (system : System) (x : ℕ) 
   abbrev k : ℕ
   k = (known_at (worker_at system x) call).cache
 
-  written : call.kind ≡ Write → (slabs : Option CheckedState) → checked_of s k ≡ slabs → WritesAlone opening s b system x call (turns_of_use s k)
+  written : call_kind call ≡ Write → (slabs : Option CheckedState) → checked_of s k ≡ slabs → WritesAlone opening s b system x call (turns_of_use s k)
   written is None plain = subst (λ o. WritesAlone opening s b system x call (if is_some o then 2 else 1)) (sym plain) (stores opening s b system x call rest next is plain)
   written is (Some slabs) checked = subst (λ o. WritesAlone opening s b system x call (if is_some o then 2 else 1)) (sym checked) (checked_stores opening s b system x call rest next is (subst (λ o. IsSome o) (sym checked) refl))
 
-  read : call.kind ≡ Read → (slabs : Option CheckedState) → checked_of s k ≡ slabs → ReadsAlone opening s b system x call (turns_of_use s k)
+  read : call_kind call ≡ Read → (slabs : Option CheckedState) → checked_of s k ≡ slabs → ReadsAlone opening s b system x call (turns_of_use s k)
   read is None plain = subst (λ o. ReadsAlone opening s b system x call (if is_some o then 2 else 1)) (sym plain) (loads opening s b system x call rest next is plain)
   read is (Some slabs) checked = subst (λ o. ReadsAlone opening s b system x call (if is_some o then 2 else 1)) (sym checked) (checked_loads opening s b system x call rest next is (subst (λ o. IsSome o) (sym checked) refl))
 

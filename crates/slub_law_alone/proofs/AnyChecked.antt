@@ -17,6 +17,7 @@ use Rattle.slub_lists.specs.Checked.{kept_by as held_by}
 use Rattle.slub_lists.specs.Places.{layout_at}
 use Rattle.slub_core.specs.declared.call.Call.{Call}
 use Rattle.slub_core.specs.declared.local.Known.{Known}
+use Rattle.slub_core.specs.Calls.{call_cpu, call_object}
 use Rattle.slub_core.specs.Setup.{cpu_number}
 use Rattle.slub_core.specs.Run.{System}
 use Rattle.slub_core.specs.World.{World, one_if}
@@ -43,10 +44,10 @@ use Rattle.slub_calls.specs.Changes.{grown, changes_of_alloc}
 module _ (opening : World) (s : State) (b : Beside) (system : System) (x : ℕ) (call : Call) (place k : ℕ) (slabs : CheckedState) (rest : IsAtRest opening s b system) (next : IsNext system x call) (is : IsCheckedAlloc s call place k slabs) where
   -- by so many turns and one, with no change of a CPU word
   some_turns : (turns all : ℕ) (given : Bool) → all ≡ 1 + turns → Gave opening s b system x call place all b given → AllocatesSome opening s b system x call place k
-  some_turns turns all given sum gave = gave_some opening s b system x call place k turns all b given sum (sym (grown_none b (cpu_number k call.cpu)) ∙ ap (grown b (cpu_number k call.cpu)) (sym unchanged)) gave
+  some_turns turns all given sum gave = gave_some opening s b system x call place k turns all b given sum (sym (grown_none b (cpu_number k (call_cpu call))) ∙ ap (grown b (cpu_number k (call_cpu call))) (sym unchanged)) gave
     where
-      unchanged : changes_of_alloc s k call.cpu given ≡ 0
-      unchanged = ap (λ o. cond {A = ℕ} (is_some o) 0 (one_if (eqb (length (lists_of s k call.cpu).free) 0 && is_some (lists_of s k call.cpu).current) + one_if given)) is.checked
+      unchanged : changes_of_alloc s k (call_cpu call) given ≡ 0
+      unchanged = ap (λ o. cond {A = ℕ} (is_some o) 0 (one_if (eqb (length (lists_of s k (call_cpu call)).free) 0 && is_some (lists_of s k (call_cpu call)).current) + one_if given)) is.checked
 
   orders : ((layout_at s k).order ≤ 3) × ((layout_at s k).min_order ≤ (layout_at s k).order)
   orders =
@@ -100,7 +101,7 @@ checked_freed opening s b system x call slabs ready next is = by_damage opening 
 pub checked_board_freed : CheckedBoardFreesAreThoseOfLists
 checked_board_freed opening s b system x call held slabs rest next is there nobodys checked =
     let takes : TakesFromBoard opening s b system x call held = objects_taken opening s b system x call held rest next is there nobodys in
-    let after : State = held_by s call.object (worker_at system x).worker held in
+    let after : State = held_by s (call_object call) (worker_at system x).worker held in
     let z : FreesLocked opening after b takes.taken x call = checked_freed opening after b takes.taken x call slabs takes.ready takes.next
     (record { kind = is; held = ap (λ (k : Known). k.held) takes.holds; checked = ap (λ (k : Known). checked_of s k.cache) takes.holds ∙ checked }) in
     let later : FreesAlone opening after b takes.taken x call (suc z.turns) b = subst (λ all. FreesAlone opening after b takes.taken x call all b) (omega arith) z.frees in

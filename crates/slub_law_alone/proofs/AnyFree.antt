@@ -20,6 +20,7 @@ use Rattle.slub_lists.proofs.Places.{own-once}
 use Rattle.slub_core.specs.declared.call.Call.{Call}
 use Rattle.slub_core.specs.declared.call.CallKind.TheVariants.{Free}
 use Rattle.slub_core.specs.declared.local.Known.{Known}
+use Rattle.slub_core.specs.Calls.{call_kind, call_cpu, call_object}
 use Rattle.slub_core.specs.Setup.{cpu_number}
 use Rattle.slub_core.specs.Local.{Local}
 use Rattle.slub_core.specs.Replies.{names_object}
@@ -63,10 +64,10 @@ module _ (opening : World) (s : State) (b : Beside) (system : System) (x : ℕ) 
   f = o.frame
 
   abbrev word : ℕ
-  word = cpu_number k call.cpu
+  word = cpu_number k (call_cpu call)
 
   abbrev lists : CpuLists
-  lists = lists_of s k call.cpu
+  lists = lists_of s k (call_cpu call)
 
   abbrev IsFreed : Type 0
   IsFreed = FreesBy opening s b system x call word f lists.current
@@ -85,7 +86,7 @@ module _ (opening : World) (s : State) (b : Beside) (system : System) (x : ℕ) 
       let objects : option_map_or (λ (y : Slab). y.objects) (slab_of s f) 0 ≡ slab.objects = ap (λ o. option_map_or (λ (y : Slab). y.objects) o 0) has.slab.1 in
       let object : (i : ℕ) → has_object i (slab_of s f) ≡ cond (nat_lt i slab.objects) 1 0 = λ i. ap (has_object i) has.slab.1 in
       let one : has_object o.index (slab_of s f) ≡ 1 = object o.index ∙ ap (λ z. cond {A = ℕ} z 1 0) (lt-ltb o.index slab.objects has.slab.3) in
-      let none : times o.index (own_free s f) ≡ 0 = omega (arith, begin.consistent.placed f o.index, held-once s call.object held has.named, one) in
+      let none : times o.index (own_free s f) ≡ 0 = omega (arith, begin.consistent.placed f o.index, held-once s (call_object call) held has.named, one) in
       let once : IsOnce slab.objects (own_free s f) = λ i. omega (arith, own-once s f i begin.consistent, object i) in
       omega (arith, objects, once-room slab.objects o.index (own_free s f) has.slab.3 none once)
 
@@ -142,46 +143,46 @@ module _ (opening : World) (s : State) (b : Beside) (system : System) (x : ℕ) 
 
 -- ---- whatever the number names
 
-module _ (opening : World) (s : State) (b : Beside) (system : System) (x : ℕ) (call : Call) (rest : IsAtRest opening s b system) (next : IsNext system x call) (own : HasOwnNumber system x) (is : call.kind ≡ Free) where
+module _ (opening : World) (s : State) (b : Beside) (system : System) (x : ℕ) (call : Call) (rest : IsAtRest opening s b system) (next : IsNext system x call) (own : HasOwnNumber system x) (is : call_kind call ≡ Free) where
   abbrev l : Local
   l = worker_at system x
 
   -- the worker finds nothing
-  unheld : IfSome (held_under s call.object) (λ held. is_freeable l.worker held.worker ≡ false) → FreesSome opening s b system x call
+  unheld : IfSome (held_under s (call_object call)) (λ held. is_freeable l.worker held.worker ≡ false) → FreesSome opening s b system x call
   unheld nothing =
-      let n = word_of_free s call.cpu call.object in
-      record { turns = 0; frees = subst (FreesAlone opening s b system x call 1) (sym (grown_none b n) ∙ ap (grown b n) (sym (none (held_under s call.object) nothing))) (finds_nothing opening s b system x call rest next is nothing) }
+      let n = word_of_free s (call_cpu call) (call_object call) in
+      record { turns = 0; frees = subst (FreesAlone opening s b system x call 1) (sym (grown_none b n) ∙ ap (grown b n) (sym (none (held_under s (call_object call)) nothing))) (finds_nothing opening s b system x call rest next is nothing) }
     where
-      none : (o : Option Held) → IfSome o (λ held. is_freeable l.worker held.worker ≡ false) → option_map_or (changes_of_held s call.cpu l.worker) o 0 ≡ 0
+      none : (o : Option Held) → IfSome o (λ held. is_freeable l.worker held.worker ≡ false) → option_map_or (changes_of_held s (call_cpu call) l.worker) o 0 ≡ 0
       none None other = refl
       none (Some held) other = by (is_some (checked_of s held.cache))
         where
-          by : (z : Bool) → cond {A = ℕ} z 0 (one_if (is_freeable l.worker held.worker && is_current held.frame (lists_of s held.cache call.cpu).current)) ≡ 0
+          by : (z : Bool) → cond {A = ℕ} z 0 (one_if (is_freeable l.worker held.worker && is_current held.frame (lists_of s held.cache (call_cpu call)).current)) ≡ 0
           by true = refl
-          by false = ap (λ z. one_if (z && is_current held.frame (lists_of s held.cache call.cpu).current)) other
+          by false = ap (λ z. one_if (z && is_current held.frame (lists_of s held.cache (call_cpu call)).current)) other
 
-  module _ (held : Held) (there : held_under s call.object ≡ Some held) where
+  module _ (held : Held) (there : held_under s (call_object call) ≡ Some held) where
     of_another : is_freeable l.worker held.worker ≡ false → FreesSome opening s b system x call
     of_another other = unheld (subst (λ o. IfSome o (λ held. is_freeable l.worker held.worker ≡ false)) (sym there) other)
 
-    module _ (plain : checked_of s held.cache ≡ None) (ids : HasIds b (cpu_number held.cache call.cpu) 1) where
+    module _ (plain : checked_of s held.cache ≡ None) (ids : HasIds b (cpu_number held.cache (call_cpu call)) 1) where
       abbrev changes_by : Held → ℕ
-      changes_by held = one_if (is_current held.frame (lists_of s held.cache call.cpu).current)
+      changes_by held = one_if (is_current held.frame (lists_of s held.cache (call_cpu call)).current)
 
       -- what is freed changes the word where its slab is current
-      by_turns : (turns : ℕ) → is_freeable l.worker held.worker ≡ true → FreesAlone opening s b system x call (1 + turns) (grown b (cpu_number held.cache call.cpu) (changes_by held)) → FreesSome opening s b system x call
+      by_turns : (turns : ℕ) → is_freeable l.worker held.worker ≡ true → FreesAlone opening s b system x call (1 + turns) (grown b (cpu_number held.cache (call_cpu call)) (changes_by held)) → FreesSome opening s b system x call
       by_turns turns free frees = record {
         turns = turns;
-        frees = subst (FreesAlone opening s b system x call (1 + turns)) (sym (ap (λ n. grown b n (changes_of_free s call.cpu l.worker call.object)) word_is ∙ ap (grown b (cpu_number held.cache call.cpu)) changes_are)) frees;
+        frees = subst (FreesAlone opening s b system x call (1 + turns)) (sym (ap (λ n. grown b n (changes_of_free s (call_cpu call) l.worker (call_object call))) word_is ∙ ap (grown b (cpu_number held.cache (call_cpu call))) changes_are)) frees;
       }
         where
-          word_is : word_of_free s call.cpu call.object ≡ cpu_number held.cache call.cpu
-          word_is = ap (λ o. option_map_or (λ (held : Held). cpu_number held.cache call.cpu) o 0) there
+          word_is : word_of_free s (call_cpu call) (call_object call) ≡ cpu_number held.cache (call_cpu call)
+          word_is = ap (λ o. option_map_or (λ (held : Held). cpu_number held.cache (call_cpu call)) o 0) there
 
-          changes_are : changes_of_free s call.cpu l.worker call.object ≡ changes_by held
-          changes_are = ap (λ o. option_map_or (changes_of_held s call.cpu l.worker) o 0) there
-              ∙ ap (λ o. cond {A = ℕ} (is_some o) 0 (one_if (is_freeable l.worker held.worker && is_current held.frame (lists_of s held.cache call.cpu).current))) plain
-              ∙ ap (λ z. one_if (z && is_current held.frame (lists_of s held.cache call.cpu).current)) free
+          changes_are : changes_of_free s (call_cpu call) l.worker (call_object call) ≡ changes_by held
+          changes_are = ap (λ o. option_map_or (changes_of_held s (call_cpu call) l.worker) o 0) there
+              ∙ ap (λ o. cond {A = ℕ} (is_some o) 0 (one_if (is_freeable l.worker held.worker && is_current held.frame (lists_of s held.cache (call_cpu call)).current))) plain
+              ∙ ap (λ z. one_if (z && is_current held.frame (lists_of s held.cache (call_cpu call)).current)) free
 
       of_its_own : held.worker ≡ Some l.worker → FreesSome opening s b system x call
       of_its_own mine =
@@ -191,24 +192,24 @@ module _ (opening : World) (s : State) (b : Beside) (system : System) (x : ℕ) 
           let known = known_at l call in
           let same : as_held l.worker known ≡ held = sym (same_Some held (as_held l.worker known) (sym there ∙ object.named)) in
           let cache : held.cache ≡ known.cache = ap (λ (h : Held). h.cache) (sym same) in
-          let z : FreesBy opening s b system x call (cpu_number known.cache call.cpu) known.frame (lists_of s known.cache call.cpu).current = held_freed opening s b system x call (rests_ready opening s b system x call rest next) next (record { kind = is; held = holds; unchecked = ap (checked_of s) (sym cache) ∙ plain })
-          (subst (λ k. HasIds b (cpu_number k call.cpu) 1) cache ids) in
-          by_turns z.turns (ap (is_freeable l.worker) mine ∙ eq-eqb l.worker l.worker refl) (subst (λ (h : Held). FreesAlone opening s b system x call (1 + z.turns) (grown b (cpu_number h.cache call.cpu) (changes_by h))) same z.frees)
+          let z : FreesBy opening s b system x call (cpu_number known.cache (call_cpu call)) known.frame (lists_of s known.cache (call_cpu call)).current = held_freed opening s b system x call (rests_ready opening s b system x call rest next) next (record { kind = is; held = holds; unchecked = ap (checked_of s) (sym cache) ∙ plain })
+          (subst (λ k. HasIds b (cpu_number k (call_cpu call)) 1) cache ids) in
+          by_turns z.turns (ap (is_freeable l.worker) mine ∙ eq-eqb l.worker l.worker refl) (subst (λ (h : Held). FreesAlone opening s b system x call (1 + z.turns) (grown b (cpu_number h.cache (call_cpu call)) (changes_by h))) same z.frees)
 
       of_board : held.worker ≡ None → FreesSome opening s b system x call
       of_board nobodys =
           let takes : TakesFromBoard opening s b system x call held = objects_taken opening s b system x call held rest next is there nobodys in
-          let after : State = held_by s call.object l.worker held in
+          let after : State = held_by s (call_object call) l.worker held in
           let known = known_at (worker_at takes.taken x) call in
-          let word = cpu_number known.cache call.cpu in
-          let z : FreesBy opening after b takes.taken x call word known.frame (lists_of s known.cache call.cpu).current = held_freed opening after b takes.taken x call takes.ready takes.next
+          let word = cpu_number known.cache (call_cpu call) in
+          let z : FreesBy opening after b takes.taken x call word known.frame (lists_of s known.cache (call_cpu call)).current = held_freed opening after b takes.taken x call takes.ready takes.next
           (record { kind = is; held = ap (λ (k : Known). k.held) takes.holds; unchecked = ap (λ (k : Known). checked_of s k.cache) takes.holds ∙ plain })
-          (subst (λ (k : Known). HasIds b (cpu_number k.cache call.cpu) 1) (sym takes.holds) ids) in
-          let d : Beside = grown b word (one_if (is_current known.frame (lists_of s known.cache call.cpu).current)) in
+          (subst (λ (k : Known). HasIds b (cpu_number k.cache (call_cpu call)) 1) (sym takes.holds) ids) in
+          let d : Beside = grown b word (one_if (is_current known.frame (lists_of s known.cache (call_cpu call)).current)) in
           let later : FreesAlone opening after b takes.taken x call (suc z.turns) d = subst (λ all. FreesAlone opening after b takes.taken x call all d) (omega arith) z.frees in
           let whole : FreesAlone opening s b system x call (1 + suc z.turns) d = subst (λ all. FreesAlone opening s b system x call all d) (omega arith) (board_frees opening s b system x call held rest next is there nobodys takes z.turns d later) in
           by_turns (suc z.turns) (ap (is_freeable l.worker) nobodys)
-          (subst (λ (k : Known). FreesAlone opening s b system x call (1 + suc z.turns) (grown b (cpu_number k.cache call.cpu) (one_if (is_current k.frame (lists_of s k.cache call.cpu).current)))) takes.holds whole)
+          (subst (λ (k : Known). FreesAlone opening s b system x call (1 + suc z.turns) (grown b (cpu_number k.cache (call_cpu call)) (one_if (is_current k.frame (lists_of s k.cache (call_cpu call)).current)))) takes.holds whole)
 
       of_named : (holder : Option ℕ) → held.worker ≡ holder → FreesSome opening s b system x call
       of_named None nobodys = of_board nobodys
@@ -217,9 +218,9 @@ module _ (opening : World) (s : State) (b : Beside) (system : System) (x : ℕ) 
         | inr other ↦ of_another (ap (is_freeable l.worker) whose ∙ other)
       ]
 
-  all_named : (named : Option Held) → held_under s call.object ≡ named → IfSome named (λ held. (checked_of s held.cache ≡ None) × HasIds b (cpu_number held.cache call.cpu) 1) → FreesSome opening s b system x call
+  all_named : (named : Option Held) → held_under s (call_object call) ≡ named → IfSome named (λ held. (checked_of s held.cache ≡ None) × HasIds b (cpu_number held.cache (call_cpu call)) 1) → FreesSome opening s b system x call
   all_named None nothing plain = unheld (subst (λ o. IfSome o (λ held. is_freeable l.worker held.worker ≡ false)) (sym nothing) tt)
   all_named (Some held) there plain = of_named held there plain.0 plain.1 held.worker refl
 
 pub any_freed : FreesAreThoseOfLists
-any_freed opening s b system x call rest next own is plain = all_named opening s b system x call rest next own is (held_under s call.object) refl plain
+any_freed opening s b system x call rest next own is plain = all_named opening s b system x call rest next own is (held_under s (call_object call)) refl plain

@@ -17,8 +17,8 @@ use Rattle.slub_core.specs.Steps.{rested}
 use Rattle.slub_core.specs.World.{World, world_of}
 use Rattle.slub_core.proofs.Opens.{rounds_keep}
 use Rattle.slub_core.proofs.Packed.{slab_in-bits, list_in-bits}
-use Rattle.slub_law_opening.specs.Opening.{Beside, setup_of, opened}
-use Rattle.slub_law_opening.specs.Rests.{IsBetween, Rests, held_on, held_in, held_among, held_under}
+use Rattle.slub_law_opening.specs.Opening.{Beside, setup_of, opened_words}
+use Rattle.slub_law_opening.specs.Rests.{IsBetween, Rests, held_on, held_in, held_among, times_held}
 use Rattle.slub_law_opening.specs.Table.{board_number, words_of, system_of}
 use Rattle.slub_law_opening.specs.Laws.{MayOpen}
 use Rattle.slub_law_opening.proofs.Opened.{opened-rests}
@@ -58,9 +58,9 @@ list_read : (w : World) (n : ℕ) → w.setup.locks ≡ 33 → n < w.setup.cpu_w
 list_read w n locks below = class_past w.lock w.setup.locks (past_locks w) (list_base + n) n (omega (arith, locks)) ∙ class_here (λ n. list_bits (w.list n)) w.setup.cpu_words (past_lists w) n below
 
 -- opened words have no bit beside their fields
-opened_whole : (s : State) (b : Beside) → MayOpen s b → AreWhole (setup_of s b) (words_of (opened s b))
+opened_whole : (s : State) (b : Beside) → MayOpen s b → AreWhole (setup_of s b) (words_of (opened_words s b))
 opened_whole s b may =
-    let w = opened s b in
+    let w = opened_words s b in
     let worded = (opened-rests s b [] may.beside may.coherent may.laid_down (All-nil (IsBetween (setup_of s b))) (All-nil HoldsNothing)).words in
     record {
       slab = λ f below. subst (λ x. slab_bits (slab_in x) ≡ x) (sym (slab_read w f refl refl below)) (ap slab_bits (slab_in-bits (w.slab f) (worded.slab f)));
@@ -85,14 +85,14 @@ all_between m n (l ∷ ls) are =
       some = here.some;
     })) (all_between m n ls (All-tail (IsBetween n) l ls are))
 
-among_rested : (m n : Setup) (o : ℕ) (ls : List Local) → All (IsBetween n) ls → (held_among (map (rested m) ls) o ≡ held_among ls o) × (sum_by (held_under o) (map (rested m) ls) ≡ sum_by (held_under o) ls)
+among_rested : (m n : Setup) (o : ℕ) (ls : List Local) → All (IsBetween n) ls → (held_among (map (rested m) ls) o ≡ held_among ls o) × (sum_by (times_held o) (map (rested m) ls) ≡ sum_by (times_held o) ls)
 among_rested m n o [] are = (refl, refl)
 among_rested m n o (l ∷ ls) are =
     let calls = rested_calls m l (All-head (IsBetween n) l ls are).between in
     let more = among_rested m n o ls (All-tail (IsBetween n) l ls are) in
-    let here = ap (held_under o) calls.same in
-    let c = sum_by-cons (held_under o) (rested m l) (map (rested m) ls) in
-    let d = sum_by-cons (held_under o) l ls in
+    let here = ap (times_held o) calls.same in
+    let c = sum_by-cons (times_held o) (rested m l) (map (rested m) ls) in
+    let d = sum_by-cons (times_held o) l ls in
     (ap (λ (l : Local). option_or (held_in l.worker l.known o) (held_among (map (rested m) ls) o)) calls.same ∙ ap (option_or (held_in l.worker l.known o)) more.0, omega (arith, c, d, more.1, here))
 
 rests_rested : (m : Setup) (s : State) (b : Beside) (w : World) (ls : List Local) → Rests s b w ls → Rests s b w (map (rested m) ls)

@@ -19,6 +19,7 @@ use Rattle.slub_core.specs.declared.local.FrameRun.{FrameRun}
 use Rattle.slub_core.specs.declared.spot.Spot.TheVariants.{Between, InChecked}
 use Rattle.slub_core.specs.declared.spot.CheckedSpot.TheVariants.{LockChecked, DoChecked, LockRun, MoveRun, GiveRun}
 use Rattle.slub_core.specs.declared.step.Answer.TheVariants.{Won}
+use Rattle.slub_core.specs.Calls.{call_cpu, call_object}
 use Rattle.slub_core.specs.Setup.{Setup, node_lock, pool_lock}
 use Rattle.slub_core.specs.World.{World, LockValue, Checked, Pool, update, world_of, pool_in}
 use Rattle.slub_core.specs.Local.{Local, Change, at, answered, stays}
@@ -140,7 +141,7 @@ module _ (opening : World) (s : State) (b : Beside) (system : System) (x : ℕ) 
     }
 
     between : IsBetween w.setup (rested m told)
-    between = rests_between m w.setup told (told_between w.setup l call k NoFrames begin.between (subst (λ (m : Setup). call.cpu < m.cpus) (sym rest.rests.rests.setup) begin.may.cpu))
+    between = rests_between m w.setup told (told_between w.setup l call k NoFrames begin.between (subst (λ (m : Setup). call_cpu call < m.cpus) (sym rest.rests.rests.setup) begin.may.cpu))
 
     slabs_are : (f : ℕ) → get_or s.slabs f None ≡ slab_at (record w { value = later }) f
     slabs_are f = slabs_there opening s b system rest f ∙ sym (pool_slabs (record w { value = left_value }) s.pool pool (pool_there opening s b system rest k slabs_left) f
@@ -152,8 +153,8 @@ module _ (opening : World) (s : State) (b : Beside) (system : System) (x : ℕ) 
         (pool_values (with_checked s k slabs_left) pool left_value (values_with s k c slabs_left is.checked s.slabs s.frees s.board s.gone s.live system.value (values_there opening s b system rest))) (λ f. refl) slabs_are
         (λ o. rest.rests.rests.named o ∙ sym (names_same m w system.locals x told refl refl refl o)) (λ o held there plain. there)
 
-    allocates : AllocatesNamed s place call.cpu l.worker call.object NoFrames after
-    allocates = allocates_checked s place call.cpu l.worker call.object k c NoFrames after is.named (alloc_lives opening s b system x call place k rest next c is) is.checked
+    allocates : AllocatesNamed s place (call_cpu call) l.worker (call_object call) NoFrames after
+    allocates = allocates_checked s place (call_cpu call) l.worker (call_object call) k c NoFrames after is.named (alloc_lives opening s b system x call place k rest next c is) is.checked
         (give.Empty, slabs_left, left_gives, (None, pool, ((refl, none_greater s.pool.free least (layout_at s k).order orders.1 dry), (refl, dry)), (refl, refl)))
 
     tells : AllocatesAlone opening s b system x call place 4 b

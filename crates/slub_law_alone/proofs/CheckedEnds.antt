@@ -15,6 +15,7 @@ use Rattle.slub_lists.specs.Alloc.{checked_of, own_free, slab_of}
 use Rattle.slub_lists.specs.Coherent.{IsAccounted, held_under}
 use Rattle.slub_core.specs.declared.call.Call.{Call}
 use Rattle.slub_core.specs.declared.spot.Spot.TheVariants.{Between}
+use Rattle.slub_core.specs.Calls.{call_cpu}
 use Rattle.slub_core.specs.Setup.{Setup, node_lock}
 use Rattle.slub_core.specs.World.{World, LockValue, Checked, update, world_of}
 use Rattle.slub_core.specs.Fresh.{IsWorded}
@@ -53,7 +54,7 @@ rests_between m n told is = subst (IsBetween n) (sym (rested_calls m told is.bet
 })
 
 -- a worker that has its reply and knows what it knew
-pub told_between : (n : Setup) (l : Local) (call : Call) (k : ℕ) (reply : Reply) → IsBetween n l → call.cpu < n.cpus → IsBetween n (answered (at (asking l call k) Between) reply)
+pub told_between : (n : Setup) (l : Local) (call : Call) (k : ℕ) (reply : Reply) → IsBetween n l → call_cpu call < n.cpus → IsBetween n (answered (at (asking l call k) Between) reply)
 told_between n l call k reply is cpu = record {
   between = refl;
   hands = is.hands;

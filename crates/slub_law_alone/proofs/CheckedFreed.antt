@@ -28,6 +28,7 @@ use Rattle.slub_core.specs.declared.call.CallKind.TheVariants.{Free}
 use Rattle.slub_core.specs.declared.local.Known.{Known}
 use Rattle.slub_core.specs.declared.spot.Spot.TheVariants.{Between, InChecked}
 use Rattle.slub_core.specs.declared.spot.CheckedSpot.TheVariants.{LockChecked, DoChecked, GiveChecked, LockRun}
+use Rattle.slub_core.specs.Calls.{call_cpu, call_object, call_place}
 use Rattle.slub_core.specs.Setup.{Setup, node_lock}
 use Rattle.slub_core.specs.World.{World, LockValue, Checked, update, world_of}
 use Rattle.slub_core.specs.Local.{Local, Change, at, answered, loses}
@@ -118,11 +119,11 @@ module _ (opening : World) (s : State) (b : Beside) (system : System) (x : ℕ) 
   -- ---- a damaged object
 
   module _ (damage : Damage) (found : damage_of_used c slot ≡ Some damage) where
-    told_damage : Frees s call.cpu l.worker call.object (Corrupt damage) s
-    told_damage = frees_checked s call.cpu l.worker call.object o (Corrupt damage) s c free_has.named free_has.lives is.checked (Err damage, c, (found, refl), (refl, sym still))
+    told_damage : Frees s (call_cpu call) l.worker (call_object call) (Corrupt damage) s
+    told_damage = frees_checked s (call_cpu call) l.worker (call_object call) o (Corrupt damage) s c free_has.named free_has.lives is.checked (Err damage, c, (found, refl), (refl, sym still))
       where
-        still : kept_by s call.object l.worker held ≡ s
-        still = ap (λ (board : List (Option Held)). record s { board = board }) (ap (set s.board call.object) (sym free_has.named) ∙ set-get_or s.board call.object None)
+        still : kept_by s (call_object call) l.worker held ≡ s
+        still = ap (λ (board : List (Option Held)). record s { board = board }) (ap (set s.board (call_object call)) (sym free_has.named) ∙ set-get_or s.board (call_object call) None)
 
     damaged : FreesAlone opening s b system x call 2 b
     damaged = record {
@@ -136,7 +137,7 @@ module _ (opening : World) (s : State) (b : Beside) (system : System) (x : ℕ) 
       known = known_kept opening s b system x call rest next k c c is.checked (unchanged c) 1 (Corrupt damage)
           (whole_of opening s b system x call rest next c is.checked Free c (Corrupt damage) is.kind refl refl free_spot
           (ap (took_back m system.value (at q (InChecked DoChecked Free)) c) found ∙ ap by_value (sym (update_was system.value (node_lock k) (Checked c) (guarded opening s b system x call rest next c is.checked)))))
-          ∙ knows_damaged l.known call.place call.object l.worker s o refl is.held free_has.object free_has.named;
+          ∙ knows_damaged l.known (call_place call) (call_object call) l.worker s o refl is.held free_has.object free_has.named;
     }
       where
         by_value : (ℕ → LockValue) → Change
@@ -164,50 +165,50 @@ module _ (opening : World) (s : State) (b : Beside) (system : System) (x : ℕ) 
     string = begin.between.string;
     run = refl;
     packed = record { cpu_word = begin.between.packed.cpu_word; slab_word = begin.between.packed.slab_word; list_word = begin.between.packed.list_word; next = begin.between.packed.next };
-    cpu = subst (λ (m : Setup). call.cpu < m.cpus) (sym rest.rests.rests.setup) begin.may.cpu;
-    numbers = All-set (λ (k : Known). k.object < w.setup.objects) l.known call.place lost (subst (λ (m : Setup). o.object < m.objects) (sym rest.rests.rests.setup) (omega (arith, free_has.object, free_has.on_board))) begin.between.numbers;
-    some = All-set (λ (k : Known). k.held ≡ true → 1 ≤ k.object) l.known call.place lost (λ e. absurd (false≢true e)) begin.between.some;
+    cpu = subst (λ (m : Setup). call_cpu call < m.cpus) (sym rest.rests.rests.setup) begin.may.cpu;
+    numbers = All-set (λ (k : Known). k.object < w.setup.objects) l.known (call_place call) lost (subst (λ (m : Setup). o.object < m.objects) (sym rest.rests.rests.setup) (omega (arith, free_has.object, free_has.on_board))) begin.between.numbers;
+    some = All-set (λ (k : Known). k.held ≡ true → 1 ≤ k.object) l.known (call_place call) lost (λ e. absurd (false≢true e)) begin.between.some;
   })
 
   abbrev pub freed_board : List (Option Held)
-  freed_board = set s.board call.object None
+  freed_board = set s.board (call_object call) None
 
   pub freed_names : (j : ℕ) → get_or freed_board j None ≡ named_in w (set system.locals x (rested m freed_told)) j
-  freed_names j = elim (cases_eq j call.object) [
-    | inl e ↦ ap (λ o. get_or freed_board o None) e ∙ get_or-set_same s.board call.object None None free_has.on_board
-        ∙ sym (named_lost w system.locals x call.place (rested m freed_told) lost next.there free_has.place known_is refl is.held j (free_has.object ∙ sym e) (rest.rests.rests.once j))
-    | inr away ↦ get_or-set_other s.board call.object j None None away ∙ rest.rests.rests.named j ∙ sym (named_other w system.locals x call.place (rested m freed_told) lost worker_is known_is refl j (λ e. away (sym e ∙ free_has.object)))
+  freed_names j = elim (cases_eq j (call_object call)) [
+    | inl e ↦ ap (λ o. get_or freed_board o None) e ∙ get_or-set_same s.board (call_object call) None None free_has.on_board
+        ∙ sym (named_lost w system.locals x (call_place call) (rested m freed_told) lost next.there free_has.place known_is refl is.held j (free_has.object ∙ sym e) (rest.rests.rests.once j))
+    | inr away ↦ get_or-set_other s.board (call_object call) j None None away ∙ rest.rests.rests.named j ∙ sym (named_other w system.locals x (call_place call) (rested m freed_told) lost worker_is known_is refl j (λ e. away (sym e ∙ free_has.object)))
   ]
     where
       calls : IsWithCalls freed_told (rested m freed_told)
       calls = rested_calls m freed_told refl
 
-      known_is : (rested m freed_told).known ≡ set l.known call.place lost
+      known_is : (rested m freed_told).known ≡ set l.known (call_place call) lost
       known_is = ap (λ (l : Local). l.known) calls.same
 
       worker_is : (rested m freed_told).worker ≡ l.worker
       worker_is = ap (λ (l : Local). l.worker) calls.same
 
   pub freed_were : (j : ℕ) (h : Held) → get_or freed_board j None ≡ Some h → held_under s j ≡ Some h
-  freed_were j h there = elim (cases_eq j call.object) [
-    | inl e ↦ absurd (let none = ap (λ o. get_or freed_board o None) e ∙ get_or-set_same s.board call.object None None free_has.on_board in cc (none, there))
-    | inr away ↦ sym (get_or-set_other s.board call.object j None None away) ∙ there
+  freed_were j h there = elim (cases_eq j (call_object call)) [
+    | inl e ↦ absurd (let none = ap (λ o. get_or freed_board o None) e ∙ get_or-set_same s.board (call_object call) None None free_has.on_board in cc (none, there))
+    | inr away ↦ sym (get_or-set_other s.board (call_object call) j None None away) ∙ there
   ]
 
   abbrev pub freed_gone : List (Option Held)
-  freed_gone = set s.gone call.object (Some held)
+  freed_gone = set s.gone (call_object call) (Some held)
 
   abbrev pub freed_live : List ℕ
   freed_live = set s.live k (get_or s.live k 0 - 1)
 
   pub freed_accounted : IsAccounted (record s { board = freed_board; live = freed_live })
-  freed_accounted = taken-accounted s call.object held begin.consistent free_has.named
+  freed_accounted = taken-accounted s (call_object call) held begin.consistent free_has.named
 
   abbrev pub slabs_taken : CheckedState
   slabs_taken = slab_taken c slot
 
   pub taken_used : IsUsed c slot
-  taken_used = held-used s call.object held c free_has.named is.checked begin.consistent
+  taken_used = held-used s (call_object call) held c free_has.named is.checked begin.consistent
 
   pub takes_it : TakesObject c slot (Ok tt) slabs_taken
   takes_it = taken-object c slot (sound opening s b system x call rest next c is.checked) taken_used
@@ -215,7 +216,7 @@ module _ (opening : World) (s : State) (b : Beside) (system : System) (x : ℕ) 
   -- its slab stays
   module _ (whole_it : damage_of_used c slot ≡ None) (stays_in : ¬ BecomesSpare s c o) where
     abbrev after : State
-    after = with_gone (with_checked (with_taken s call.object k) k slabs_taken) call.object l.worker held
+    after = with_gone (with_checked (with_taken s (call_object call) k) k slabs_taken) (call_object call) l.worker held
 
     whole : alone m x 2 system ≡ machine system.words (update system.value (node_lock k) (Checked slabs_taken)) (set system.locals x (rested m freed_told))
     whole = whole_to opening s b system x call rest next c is.checked Free slabs_taken freed_local freed_reply is.kind refl refl free_spot refl
@@ -231,18 +232,18 @@ module _ (opening : World) (s : State) (b : Beside) (system : System) (x : ℕ) 
           reply = Some freed_reply;
         }
 
-    frees : Frees s call.cpu l.worker call.object freed_reply after
-    frees = frees_checked s call.cpu l.worker call.object o freed_reply after c free_has.named free_has.lives is.checked (Ok tt, slabs_taken, (whole_it, refl), (refl, None, slabs_taken, (stays_in, refl), refl))
+    frees : Frees s (call_cpu call) l.worker (call_object call) freed_reply after
+    frees = frees_checked s (call_cpu call) l.worker (call_object call) o freed_reply after c free_has.named free_has.lives is.checked (Ok tt, slabs_taken, (whole_it, refl), (refl, None, slabs_taken, (stays_in, refl), refl))
 
     taken : FreesAlone opening s b system x call 2 b
     taken = record {
       reply = freed_reply;
       after = after;
       frees = frees;
-      known = known_ends s b system x 2 freed_told system.words (update system.value (node_lock k) (Checked slabs_taken)) next.there whole refl ∙ knows_freed l.known call.place o.object call.object l.worker s after held free_has.named (eq-eqb l.worker l.worker refl) free_has.on_board refl free_has.object;
+      known = known_ends s b system x 2 freed_told system.words (update system.value (node_lock k) (Checked slabs_taken)) next.there whole refl ∙ knows_freed l.known (call_place call) o.object (call_object call) l.worker s after held free_has.named (eq-eqb l.worker l.worker refl) free_has.on_board refl free_has.object;
       replies = replies_of opening s after b b system x 2 call freed_reply freed_told system.words (update system.value (node_lock k) (Checked slabs_taken)) next whole refl refl refl refl
-          (locked_setup opening s b system x rest next.there k c slabs_taken is.checked 1 freed_told whole takes_it.slabs.shape takes_it.slabs.flags freed_board freed_gone freed_live (length-set s.board call.object None) (length-set s.gone call.object (Some held)) (length-set s.live k _) freed_accounted freed_between freed_names (λ j h there plain. freed_were j h there))
-          (locked_rest opening s b system x rest next.there k c slabs_taken is.checked 1 freed_told whole takes_it.slabs.shape takes_it.slabs.flags freed_board freed_gone freed_live (length-set s.board call.object None) (length-set s.gone call.object (Some held)) (length-set s.live k _) freed_accounted freed_between freed_names (λ j h there plain. freed_were j h there));
+          (locked_setup opening s b system x rest next.there k c slabs_taken is.checked 1 freed_told whole takes_it.slabs.shape takes_it.slabs.flags freed_board freed_gone freed_live (length-set s.board (call_object call) None) (length-set s.gone (call_object call) (Some held)) (length-set s.live k _) freed_accounted freed_between freed_names (λ j h there plain. freed_were j h there))
+          (locked_rest opening s b system x rest next.there k c slabs_taken is.checked 1 freed_told whole takes_it.slabs.shape takes_it.slabs.flags freed_board freed_gone freed_live (length-set s.board (call_object call) None) (length-set s.gone (call_object call) (Some held)) (length-set s.live k _) freed_accounted freed_between freed_names (λ j h there plain. freed_were j h there));
     }
 
 pub damage_told : DamagedFreesAreTold

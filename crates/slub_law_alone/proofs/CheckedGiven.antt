@@ -30,6 +30,7 @@ use Rattle.slub_core.specs.declared.local.Known.{Known}
 use Rattle.slub_core.specs.declared.local.FrameRun.{FrameRun}
 use Rattle.slub_core.specs.declared.spot.Spot.TheVariants.{Between, InChecked}
 use Rattle.slub_core.specs.declared.spot.CheckedSpot.TheVariants.{LockChecked, DoChecked}
+use Rattle.slub_core.specs.Calls.{call_kind, call_cpu, call_object, call_place}
 use Rattle.slub_core.specs.Setup.{Setup, node_lock}
 use Rattle.slub_core.specs.World.{World, Checked, update, world_of}
 use Rattle.slub_core.specs.Local.{Local, at, answered, gets}
@@ -107,19 +108,19 @@ module _ (opening : World) (s : State) (b : Beside) (system : System) (x : ℕ) 
     abbrev pub given_held : Held
     given_held = record { frame = f; index = i; cache = k; worker = Some l.worker }
 
-    names : names_object call.kind ≡ true
+    names : names_object (call_kind call) ≡ true
     names = ap names_object is.kind
 
-    object : got.object ≡ call.object
+    object : got.object ≡ call_object call
     object = begin.may.known names
 
-    on_board : call.object < length s.board
+    on_board : call_object call < length s.board
     on_board = (begin.may.object names).1
 
     calls : IsWithCalls given_told (rested m given_told)
     calls = rested_calls m given_told refl
 
-    known_is : (rested m given_told).known ≡ set l.known call.place got
+    known_is : (rested m given_told).known ≡ set l.known (call_place call) got
     known_is = ap (λ (l : Local). l.known) calls.same
 
     worker_is : (rested m given_told).worker ≡ l.worker
@@ -132,28 +133,28 @@ module _ (opening : World) (s : State) (b : Beside) (system : System) (x : ℕ) 
       string = begin.between.string;
       run = bare;
       packed = record { cpu_word = begin.between.packed.cpu_word; slab_word = begin.between.packed.slab_word; list_word = begin.between.packed.list_word; next = begin.between.packed.next };
-      cpu = subst (λ (m : Setup). call.cpu < m.cpus) (sym rest.rests.rests.setup) begin.may.cpu;
-      numbers = All-set (λ (k : Known). k.object < w.setup.objects) l.known call.place got (subst (λ (m : Setup). got.object < m.objects) (sym rest.rests.rests.setup) (omega (arith, object, on_board))) begin.between.numbers;
-      some = All-set (λ (k : Known). k.held ≡ true → 1 ≤ k.object) l.known call.place got (λ _. omega (arith, object, (begin.may.object names).0)) begin.between.some;
+      cpu = subst (λ (m : Setup). call_cpu call < m.cpus) (sym rest.rests.rests.setup) begin.may.cpu;
+      numbers = All-set (λ (k : Known). k.object < w.setup.objects) l.known (call_place call) got (subst (λ (m : Setup). got.object < m.objects) (sym rest.rests.rests.setup) (omega (arith, object, on_board))) begin.between.numbers;
+      some = All-set (λ (k : Known). k.held ≡ true → 1 ≤ k.object) l.known (call_place call) got (λ _. omega (arith, object, (begin.may.object names).0)) begin.between.some;
     })
 
     abbrev pub given_board : List (Option Held)
-    given_board = set s.board call.object (Some given_held)
+    given_board = set s.board (call_object call) (Some given_held)
 
     -- what it knows then
-    pub given_knows : (t : State) → t.board ≡ given_board → given_told.known ≡ set l.known call.place (known_under t call.object)
-    given_knows t is = knows_given l.known call.place got.object call.object s.board given_held t is on_board object
+    pub given_knows : (t : State) → t.board ≡ given_board → given_told.known ≡ set l.known (call_place call) (known_under t (call_object call))
+    given_knows t is = knows_given l.known (call_place call) got.object (call_object call) s.board given_held t is on_board object
 
     abbrev pub given_live : List ℕ
     given_live = set s.live k (get_or s.live k 0 + 1)
 
     pub given_were : (o : ℕ) (h : Held) → get_or given_board o None ≡ Some h → checked_of s h.cache ≡ None → held_under s o ≡ Some h
-    given_were o h there plain = elim (cases_eq o call.object) [
+    given_were o h there plain = elim (cases_eq o (call_object call)) [
       | inl e ↦ absurd (
-          let here : Some given_held ≡ Some h = sym (get_or-set_same s.board call.object (Some given_held) None on_board) ∙ ap (λ o. get_or given_board o None) (sym e) ∙ there in
+          let here : Some given_held ≡ Some h = sym (get_or-set_same s.board (call_object call) (Some given_held) None on_board) ∙ ap (λ o. get_or given_board o None) (sym e) ∙ there in
           let same : k ≡ h.cache = ap (λ (o : Option Held). cache_in o) here in
           cc (is.checked, ap (checked_of s) same, plain))
-      | inr away ↦ sym (get_or-set_other s.board call.object o (Some given_held) None away) ∙ there
+      | inr away ↦ sym (get_or-set_other s.board (call_object call) o (Some given_held) None away) ∙ there
     ]
       where
         cache_in : Option Held → ℕ
@@ -161,17 +162,17 @@ module _ (opening : World) (s : State) (b : Beside) (system : System) (x : ℕ) 
         cache_in (Some h) = h.cache
 
     module _ (once : (o : ℕ) → times_named w (set system.locals x (rested m given_told)) o ≤ 1) where
-      pub given_unused : held_under s call.object ≡ None
-      given_unused = rest.rests.rests.named call.object ∙ named_new w system.locals x call.place (rested m given_told) got next.there (begin.may.place names) known_is refl (begin.may.new is.kind) call.object object (once call.object)
+      pub given_unused : held_under s (call_object call) ≡ None
+      given_unused = rest.rests.rests.named (call_object call) ∙ named_new w system.locals x (call_place call) (rested m given_told) got next.there (begin.may.place names) known_is refl (begin.may.new is.kind) (call_object call) object (once (call_object call))
 
       pub given_accounted : IsAccounted (record s { board = given_board; live = given_live })
-      given_accounted = accounted-with_held s call.object given_held (omega (arith, checked_few opening s b system rest k c is.checked, rest.lists.shaped.live)) on_board given_unused rest.lists.accounted
+      given_accounted = accounted-with_held s (call_object call) given_held (omega (arith, checked_few opening s b system rest k c is.checked, rest.lists.shaped.live)) on_board given_unused rest.lists.accounted
 
       pub given_names : (o : ℕ) → get_or given_board o None ≡ named_in w (set system.locals x (rested m given_told)) o
-      given_names o = elim (cases_eq o call.object) [
-        | inl e ↦ ap (λ o. get_or given_board o None) e ∙ get_or-set_same s.board call.object (Some given_held) None on_board ∙ ap (λ worker. Some (record { frame = f; index = i; cache = k; worker = Some worker })) (sym worker_is)
-            ∙ sym (named_held w system.locals x call.place (rested m given_told) l.known got next.there (begin.may.place names) known_is refl (once got.object)) ∙ ap (named_in w (set system.locals x (rested m given_told))) (object ∙ sym e)
-        | inr away ↦ get_or-set_other s.board call.object o (Some given_held) None away ∙ rest.rests.rests.named o ∙ sym (named_other w system.locals x call.place (rested m given_told) got worker_is known_is refl o (λ e. away (sym e ∙ object)))
+      given_names o = elim (cases_eq o (call_object call)) [
+        | inl e ↦ ap (λ o. get_or given_board o None) e ∙ get_or-set_same s.board (call_object call) (Some given_held) None on_board ∙ ap (λ worker. Some (record { frame = f; index = i; cache = k; worker = Some worker })) (sym worker_is)
+            ∙ sym (named_held w system.locals x (call_place call) (rested m given_told) l.known got next.there (begin.may.place names) known_is refl (once got.object)) ∙ ap (named_in w (set system.locals x (rested m given_told))) (object ∙ sym e)
+        | inr away ↦ get_or-set_other s.board (call_object call) o (Some given_held) None away ∙ rest.rests.rests.named o ∙ sym (named_other w system.locals x (call_place call) (rested m given_told) got worker_is known_is refl o (λ e. away (sym e ∙ object)))
       ]
 
   -- ---- an object of a listed slab
@@ -202,17 +203,17 @@ module _ (opening : World) (s : State) (b : Beside) (system : System) (x : ℕ) 
     once = value_once opening s b system x rest next.there 1 (update system.value (node_lock k) (Checked e)) told whole
 
     abbrev after : State
-    after = with_held (with_checked s k e) call.object (given_held slot.frame slot.index l.run begin.between.run)
+    after = with_held (with_checked s k e) (call_object call) (given_held slot.frame slot.index l.run begin.between.run)
 
     rests : IsAtRest opening after b (machine system.words (update system.value (node_lock k) (Checked e)) (set system.locals x (rested m told)))
     rests = locked_rest opening s b system x rest next.there k c e is.checked 1 told whole objects.slabs.shape objects.slabs.flags (given_board slot.frame slot.index l.run begin.between.run) s.gone (given_live slot.frame slot.index l.run begin.between.run)
-        (length-set s.board call.object _) refl (length-set s.live k _) (given_accounted slot.frame slot.index l.run begin.between.run once) (given_between slot.frame slot.index l.run begin.between.run) (given_names slot.frame slot.index l.run begin.between.run once) (given_were slot.frame slot.index l.run begin.between.run)
+        (length-set s.board (call_object call) _) refl (length-set s.live k _) (given_accounted slot.frame slot.index l.run begin.between.run once) (given_between slot.frame slot.index l.run begin.between.run) (given_names slot.frame slot.index l.run begin.between.run once) (given_were slot.frame slot.index l.run begin.between.run)
 
     sound_after : IsSound e
     sound_after = (was-checked after k e e (checked_here s k c e is.checked) rests.lists.shaped.checked).sound
 
-    allocates : AllocatesNamed s place call.cpu l.worker call.object reply after
-    allocates = allocates_checked s place call.cpu l.worker call.object k c reply after is.named alloc_lives is.checked
+    allocates : AllocatesNamed s place (call_cpu call) l.worker (call_object call) reply after
+    allocates = allocates_checked s place (call_cpu call) l.worker (call_object call) k c reply after is.named alloc_lives is.checked
         (give.Given slot, e, gives, record { unheld = given-unheld s k slot c e is.checked objects sound_after begin.consistent; address = refl; given = refl })
 
     given : AllocatesAlone opening s b system x call place 2 b
@@ -225,7 +226,7 @@ module _ (opening : World) (s : State) (b : Beside) (system : System) (x : ℕ) 
       known = known_ends s b system x 2 told system.words (update system.value (node_lock k) (Checked e)) next.there whole refl ∙ given_knows slot.frame slot.index l.run begin.between.run after refl;
       replies = replies_of opening s after b b system x 2 call reply told system.words (update system.value (node_lock k) (Checked e)) next whole refl refl refl refl
           (locked_setup opening s b system x rest next.there k c e is.checked 1 told whole objects.slabs.shape objects.slabs.flags (given_board slot.frame slot.index l.run begin.between.run) s.gone (given_live slot.frame slot.index l.run begin.between.run)
-          (length-set s.board call.object _) refl (length-set s.live k _) (given_accounted slot.frame slot.index l.run begin.between.run once) (given_between slot.frame slot.index l.run begin.between.run) (given_names slot.frame slot.index l.run begin.between.run once) (given_were slot.frame slot.index l.run begin.between.run)) rests;
+          (length-set s.board (call_object call) _) refl (length-set s.live k _) (given_accounted slot.frame slot.index l.run begin.between.run once) (given_between slot.frame slot.index l.run begin.between.run) (given_names slot.frame slot.index l.run begin.between.run once) (given_were slot.frame slot.index l.run begin.between.run)) rests;
     }
 
     given_is : given.reply ≡ Given (address_of slot.frame slot.index (layout_at s k))

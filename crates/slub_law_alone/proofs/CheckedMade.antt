@@ -35,6 +35,7 @@ use Rattle.slub_core.specs.declared.local.FrameRun.{FrameRun}
 use Rattle.slub_core.specs.declared.spot.Spot.TheVariants.{InChecked}
 use Rattle.slub_core.specs.declared.spot.CheckedSpot.TheVariants.{LockRun, MoveRun, AddSlab, GiveRun}
 use Rattle.slub_core.specs.declared.step.Answer.TheVariants.{Won}
+use Rattle.slub_core.specs.Calls.{call_cpu, call_object}
 use Rattle.slub_core.specs.Setup.{Setup, node_lock, pool_lock, pool_after}
 use Rattle.slub_core.specs.World.{World, LockValue, Checked, Pool, update, world_of, pool_in, one_if, objects_at}
 use Rattle.slub_core.specs.Local.{Local, Change, at, answered, stays}
@@ -284,7 +285,7 @@ module _ (opening : World) (s : State) (b : Beside) (system : System) (x : ℕ) 
     nodes = rest.lists.shaped.nodes;
     checked = length-set s.checked k (Some e) ∙ rest.lists.shaped.checked.numbers;
     memory = rest.lists.shaped.memory;
-    gone = rest.lists.shaped.gone ∙ sym (length-set s.board call.object (Some held));
+    gone = rest.lists.shaped.gone ∙ sym (length-set s.board (call_object call) (Some held));
     live = length-set s.live k _ ∙ rest.lists.shaped.live;
   }
 
@@ -296,7 +297,7 @@ module _ (opening : World) (s : State) (b : Beside) (system : System) (x : ℕ) 
   ]
 
   rests : IsAtRest opening after b (machine system.words later (set system.locals x (rested m told)))
-  rests = value_rest opening s b system x rest next.there 3 later told whole pool (set s.slabs f (Some slab)) s.frees (set s.checked k (Some e)) board s.gone live (length-set s.board call.object (Some held)) (checked_same s k c e is.checked)
+  rests = value_rest opening s b system x rest next.there 3 later told whole pool (set s.slabs f (Some slab)) s.frees (set s.checked k (Some e)) board s.gone live (length-set s.board (call_object call) (Some held)) (checked_same s k c e is.checked)
       (keeps_with s after k c e rest.lists is.checked (adds.others.flags ∙ objects_left.slabs.flags) refl refl lengths (given_accounted opening s b system x call place k rest next c is f 0 None refl once))
       (given_between opening s b system x call place k rest next c is f 0 None refl)
       (pool_values (record s { slabs = set s.slabs f (Some slab); checked = set s.checked k (Some e); board = board; live = live }) pool (update system.value (node_lock k) (Checked e)) (values_with s k c e is.checked (set s.slabs f (Some slab)) s.frees board s.gone live system.value (values_there opening s b system rest)))
@@ -304,7 +305,7 @@ module _ (opening : World) (s : State) (b : Beside) (system : System) (x : ℕ) 
 
   -- ---- on lists
 
-  gives : GivesSlot (with_checked_slab s_left k pool run left) (layout_at s k) k l.worker call.object (first_slot run) reply after
+  gives : GivesSlot (with_checked_slab s_left k pool run left) (layout_at s k) k l.worker (call_object call) (first_slot run) reply after
   gives = record {
     unheld = let zero : has_object 0 (slab_of s f) ≡ 0 = ap (has_object 0) none_there in omega (arith, begin.consistent.placed f 0, zero);
     address = refl;
@@ -314,8 +315,8 @@ module _ (opening : World) (s : State) (b : Beside) (system : System) (x : ℕ) 
       twice : set s.checked k (Some e) ≡ set (set s.checked k (Some left)) k (Some e)
       twice = sym (set-set s.checked k (Some left) (Some e))
 
-  allocates : AllocatesNamed s place call.cpu l.worker call.object reply after
-  allocates = allocates_checked s place call.cpu l.worker call.object k c reply after is.named lives is.checked
+  allocates : AllocatesNamed s place (call_cpu call) l.worker (call_object call) reply after
+  allocates = allocates_checked s place (call_cpu call) l.worker (call_object call) k c reply after is.named lives is.checked
       (give.Empty, left, left_gives opening s b system x call place k rest next c is empty, (Some run, pool, finds, inr gives))
 
   makes_one : AllocatesAlone opening s b system x call place 4 b
@@ -327,7 +328,7 @@ module _ (opening : World) (s : State) (b : Beside) (system : System) (x : ℕ) 
     words = record { lists = refl; sized = refl; words = λ other word h away there plain is_word. refl };
     known = known_ends s b system x 4 told system.words later next.there whole refl ∙ given_knows opening s b system x call place k rest next c is f 0 None refl after refl;
     replies = replies_of opening s after b b system x 4 call reply told system.words later next whole refl refl refl refl
-        (value_setup opening s b system x rest next.there 3 later told whole pool (set s.slabs f (Some slab)) s.frees (set s.checked k (Some e)) board s.gone live (length-set s.board call.object (Some held)) (checked_same s k c e is.checked)) rests;
+        (value_setup opening s b system x rest next.there 3 later told whole pool (set s.slabs f (Some slab)) s.frees (set s.checked k (Some e)) board s.gone live (length-set s.board (call_object call) (Some held)) (checked_same s k c e is.checked)) rests;
   }
 
   makes_is : makes_one.reply ≡ Given (address_of f 0 (layout_at s k))

@@ -22,6 +22,7 @@ use Rattle.slub_core.specs.declared.call.CallKind.TheVariants.{Poke}
 use Rattle.slub_core.specs.declared.local.Known.{Known}
 use Rattle.slub_core.specs.declared.spot.Spot.TheVariants.{InChecked}
 use Rattle.slub_core.specs.declared.spot.CheckedSpot.TheVariants.{GiveChecked}
+use Rattle.slub_core.specs.Calls.{call_kind, call_object, call_offset, call_byte}
 use Rattle.slub_core.specs.Setup.{Setup, node_lock}
 use Rattle.slub_core.specs.World.{World, Checked, update}
 use Rattle.slub_core.specs.Local.{Local, Change, at}
@@ -73,15 +74,15 @@ offset_out : (layout : Layout) (offset : ℤ) → is_offset layout offset ≡ fa
 offset_out layout offset e is = false≢true (sym e ∙ and_true (int_le (pos 0) (place_of layout offset)) (int_lt (place_of layout offset) (pos layout.size)) (true_is _ is.0.le) (true_is _ is.1.lt))
 
 -- what a worker holds, the lists know
-pub knows_held : (opening : World) (s : State) (b : Beside) (system : System) (x : ℕ) (call : Call) → IsAtRest opening s b system → IsNext system x call → call.kind ≡ Poke → (known_at (worker_at system x) call).held ≡ true
-    → known_to s (worker_at system x).worker call.object ≡ Some (held_known (worker_at system x).worker (known_at (worker_at system x) call))
+pub knows_held : (opening : World) (s : State) (b : Beside) (system : System) (x : ℕ) (call : Call) → IsAtRest opening s b system → IsNext system x call → call_kind call ≡ Poke → (known_at (worker_at system x) call).held ≡ true
+    → known_to s (worker_at system x).worker (call_object call) ≡ Some (held_known (worker_at system x).worker (known_at (worker_at system x) call))
 knows_held opening s b system x call rest next is held_it =
     let l = worker_at system x in
     let has = has_object opening s b system x call rest next (ap names_object is) held_it in
-    ap (λ h. option_or h (freed_by s l.worker call.object)) (held-by s l.worker call.object (known_at l call) has.named)
+    ap (λ h. option_or h (freed_by s l.worker (call_object call))) (held-by s l.worker (call_object call) (known_at l call) has.named)
 
 module _ (opening : World) (s : State) (b : Beside) (system : System) (x : ℕ) (call : Call) (rest : IsReady opening s b system x) (next : IsNext system x call) (c : CheckedState) (was : checked_of s (known_at (worker_at system x) call).cache ≡ Some c)
-    (knows : known_to s (worker_at system x).worker call.object ≡ Some (held_known (worker_at system x).worker (known_at (worker_at system x) call))) where
+    (knows : known_to s (worker_at system x).worker (call_object call) ≡ Some (held_known (worker_at system x).worker (known_at (worker_at system x) call))) where
   abbrev m : Setup
   m = setup_of s b
 
@@ -102,7 +103,7 @@ module _ (opening : World) (s : State) (b : Beside) (system : System) (x : ℕ) 
 
   -- the byte lies in the slot, and the slab is there
   abbrev in_slot : Call → Bool
-  in_slot call = is_offset c.layout call.offset
+  in_slot call = is_offset c.layout (call_offset call)
 
   abbrev is_there : Bool
   is_there = nat_lt o.index (objects_in (slab_of c o.frame))
@@ -111,17 +112,17 @@ module _ (opening : World) (s : State) (b : Beside) (system : System) (x : ℕ) 
   reply_by a d = if a then (if d then Poked else NotHeld) else OutOfSlot
 
   abbrev slabs_by : Call → Bool → Bool → CheckedState
-  slabs_by call a d = if a && d then with_byte c (record { frame = o.frame; index = o.index }) call.offset call.byte else c
+  slabs_by call a d = if a && d then with_byte c (record { frame = o.frame; index = o.index }) (call_offset call) (call_byte call) else c
 
   keeps : (a d : Bool) → is_there ≡ d → KeepsObjects c (slabs_by call a d)
   keeps true true e = let below = ltb-true o.index (objects_in (slab_of c o.frame)) e in written-objects c o.frame (sound opening s b system x call rest next c was) (omega arith) _
   keeps true false e = unchanged c
   keeps false d e = unchanged c
 
-  pokes_slabs : (a d : Bool) → in_slot call ≡ a → is_there ≡ d → PokesChecked s c held call.offset call.byte (reply_by a d) (with_checked s k (slabs_by call a d))
-  pokes_slabs true true a d = inside (offset_in c.layout call.offset a) (subst (λ z. MatchBool z ((Poked ≡ Poked) × (with_checked s k (slabs_by call true true) ≡ with_checked s k (slabs_by call true true))) ((Poked ≡ NotHeld) × (with_checked s k (slabs_by call true true) ≡ s))) (sym d) (refl, refl))
-  pokes_slabs true false a d = inside (offset_in c.layout call.offset a) (subst (λ z. MatchBool z ((NotHeld ≡ Poked) × (with_checked s k c ≡ with_checked s k (slabs_by call true true))) ((NotHeld ≡ NotHeld) × (with_checked s k c ≡ s))) (sym d) (refl, with-checked-same s k c was))
-  pokes_slabs false d a e = outside (offset_out c.layout call.offset a) refl (with-checked-same s k c was)
+  pokes_slabs : (a d : Bool) → in_slot call ≡ a → is_there ≡ d → PokesChecked s c held (call_offset call) (call_byte call) (reply_by a d) (with_checked s k (slabs_by call a d))
+  pokes_slabs true true a d = inside (offset_in c.layout (call_offset call) a) (subst (λ z. MatchBool z ((Poked ≡ Poked) × (with_checked s k (slabs_by call true true) ≡ with_checked s k (slabs_by call true true))) ((Poked ≡ NotHeld) × (with_checked s k (slabs_by call true true) ≡ s))) (sym d) (refl, refl))
+  pokes_slabs true false a d = inside (offset_in c.layout (call_offset call) a) (subst (λ z. MatchBool z ((NotHeld ≡ Poked) × (with_checked s k c ≡ with_checked s k (slabs_by call true true))) ((NotHeld ≡ NotHeld) × (with_checked s k c ≡ s))) (sym d) (refl, with-checked-same s k c was))
+  pokes_slabs false d a e = outside (offset_out c.layout (call_offset call) a) refl (with-checked-same s k c was)
 
   abbrev reply : Reply
   reply = reply_by (in_slot call) is_there
@@ -129,11 +130,11 @@ module _ (opening : World) (s : State) (b : Beside) (system : System) (x : ℕ) 
   abbrev slabs : CheckedState
   slabs = slabs_by call (in_slot call) is_there
 
-  pokes : Pokes s l.worker call.object call.offset call.byte reply (with_checked s k slabs)
-  pokes = subst (λ h. MatchOption h ((reply ≡ NotHeld) × (with_checked s k slabs ≡ s)) (λ (held : Held). MatchOption (checked_of s held.cache) ((reply ≡ NotChecked) × (with_checked s k slabs ≡ s)) (λ slabs_there. PokesChecked s slabs_there held call.offset call.byte reply (with_checked s k slabs)))) (sym knows)
-      (subst (λ h. MatchOption h ((reply ≡ NotChecked) × (with_checked s k slabs ≡ s)) (λ slabs_there. PokesChecked s slabs_there held call.offset call.byte reply (with_checked s k slabs))) (sym was) (pokes_slabs (in_slot call) is_there refl refl))
+  pokes : Pokes s l.worker (call_object call) (call_offset call) (call_byte call) reply (with_checked s k slabs)
+  pokes = subst (λ h. MatchOption h ((reply ≡ NotHeld) × (with_checked s k slabs ≡ s)) (λ (held : Held). MatchOption (checked_of s held.cache) ((reply ≡ NotChecked) × (with_checked s k slabs ≡ s)) (λ slabs_there. PokesChecked s slabs_there held (call_offset call) (call_byte call) reply (with_checked s k slabs)))) (sym knows)
+      (subst (λ h. MatchOption h ((reply ≡ NotChecked) × (with_checked s k slabs ≡ s)) (λ slabs_there. PokesChecked s slabs_there held (call_offset call) (call_byte call) reply (with_checked s k slabs))) (sym was) (pokes_slabs (in_slot call) is_there refl refl))
 
-  poke_alone : call.kind ≡ Poke → PokesAlone opening s b system x call
+  poke_alone : call_kind call ≡ Poke → PokesAlone opening s b system x call
   poke_alone is = record {
     reply = reply;
     after = with_checked s k slabs;

@@ -31,6 +31,7 @@ use Rattle.slub_core.specs.declared.local.FrameRun.{FrameRun}
 use Rattle.slub_core.specs.declared.spot.Spot.TheVariants.{InChecked}
 use Rattle.slub_core.specs.declared.spot.CheckedSpot.TheVariants.{LockChecked, DoChecked, LockRun, MoveRun, GiveRun, GiveChecked}
 use Rattle.slub_core.specs.declared.step.Answer.TheVariants.{Won}
+use Rattle.slub_core.specs.Calls.{call_cpu, call_object, call_place}
 use Rattle.slub_core.specs.Setup.{Setup, node_lock, pool_lock}
 use Rattle.slub_core.specs.World.{World, LockValue, Checked, Pool, update, world_of, pool_in, size_in, one_if}
 use Rattle.slub_core.specs.Local.{Local, Change, at, answered, loses, stays}
@@ -134,7 +135,7 @@ module _ (opening : World) (s : State) (b : Beside) (system : System) (x : ℕ) 
   gone = takes-slab mid f (layout_at s k).min_partial run e sound_mid (subst (λ z. IsSome z) (sym (slab-there mid.slabs f some_mid)) refl) (spare, refl, refl)
 
   there : Has c f
-  there = held-has s call.object held c (free_has opening s b system x call rest next c is).named is.checked begin.consistent
+  there = held-has s (call_object call) held c (free_has opening s b system x call rest next c is).named is.checked begin.consistent
 
   order_is : (checked_slab mid f).order ≡ order_of s f
   order_is = shape-order c mid f (took.slabs.shape f) ∙ sym (going-order s k f c is.checked there begin.consistent)
@@ -236,7 +237,7 @@ module _ (opening : World) (s : State) (b : Beside) (system : System) (x : ℕ) 
   live = freed_live opening s b system x call rest next c is
 
   abbrev after : State
-  after = with_gone (discarded (with_checked (with_taken s call.object k) k e) f) call.object l.worker held
+  after = with_gone (discarded (with_checked (with_taken s (call_object call) k) k e) f) (call_object call) l.worker held
 
   lengths : HasLengths after
   lengths = record {
@@ -246,7 +247,7 @@ module _ (opening : World) (s : State) (b : Beside) (system : System) (x : ℕ) 
     nodes = rest.lists.shaped.nodes;
     checked = length-set s.checked k (Some e) ∙ rest.lists.shaped.checked.numbers;
     memory = rest.lists.shaped.memory;
-    gone = length-set s.gone call.object (Some held) ∙ rest.lists.shaped.gone ∙ sym (length-set s.board call.object None);
+    gone = length-set s.gone (call_object call) (Some held) ∙ rest.lists.shaped.gone ∙ sym (length-set s.board (call_object call) None);
     live = length-set s.live k _ ∙ rest.lists.shaped.live;
   }
 
@@ -264,24 +265,24 @@ module _ (opening : World) (s : State) (b : Beside) (system : System) (x : ℕ) 
   ]
 
   rests : IsAtRest opening after b (machine system.words later (set system.locals x (rested m told)))
-  rests = value_rest opening s b system x rest next.there 3 later told whole pool (set s.slabs f None) (set s.frees f []) (set s.checked k (Some e)) board gone_list live (length-set s.board call.object None) (checked_same s k c e is.checked)
+  rests = value_rest opening s b system x rest next.there 3 later told whole pool (set s.slabs f None) (set s.frees f []) (set s.checked k (Some e)) board gone_list live (length-set s.board (call_object call) None) (checked_same s k c e is.checked)
       (keeps_with s after k c e rest.lists is.checked (gone.others.flags ∙ took.slabs.flags) refl refl lengths (freed_accounted opening s b system x call rest next c is)) (freed_between opening s b system x call rest next c is)
       (pool_values (record s { slabs = set s.slabs f None; frees = set s.frees f []; checked = set s.checked k (Some e); board = board; gone = gone_list; live = live }) pool first (values_with s k c e is.checked (set s.slabs f None) (set s.frees f []) board gone_list live system.value (values_there opening s b system rest)))
       own_are slabs_are (freed_names opening s b system x call rest next c is) (λ j h there plain. freed_were opening s b system x call rest next c is j h there)
 
-  frees : Frees s call.cpu l.worker call.object reply after
+  frees : Frees s (call_cpu call) l.worker (call_object call) reply after
   frees =
       let has = free_has opening s b system x call rest next c is in
-      frees_checked s call.cpu l.worker call.object o reply after c has.named has.lives is.checked (Ok tt, mid, (whole_it, refl), (refl, Some run, e, (spare, refl, refl), refl))
+      frees_checked s (call_cpu call) l.worker (call_object call) o reply after c has.named has.lives is.checked (Ok tt, mid, (whole_it, refl), (refl, Some run, e, (spare, refl, refl), refl))
 
   put_back : FreesAlone opening s b system x call 4 b
   put_back = record {
     reply = reply;
     after = after;
     frees = frees;
-    known = known_ends s b system x 4 told system.words later next.there whole refl ∙ (let has = free_has opening s b system x call rest next c is in knows_freed l.known call.place o.object call.object l.worker s after held has.named (eq-eqb l.worker l.worker refl) has.on_board refl has.object);
+    known = known_ends s b system x 4 told system.words later next.there whole refl ∙ (let has = free_has opening s b system x call rest next c is in knows_freed l.known (call_place call) o.object (call_object call) l.worker s after held has.named (eq-eqb l.worker l.worker refl) has.on_board refl has.object);
     replies = replies_of opening s after b b system x 4 call reply told system.words later next whole refl refl refl refl
-        (value_setup opening s b system x rest next.there 3 later told whole pool (set s.slabs f None) (set s.frees f []) (set s.checked k (Some e)) board gone_list live (length-set s.board call.object None) (checked_same s k c e is.checked)) rests;
+        (value_setup opening s b system x rest next.there 3 later told whole pool (set s.slabs f None) (set s.frees f []) (set s.checked k (Some e)) board gone_list live (length-set s.board (call_object call) None) (checked_same s k c e is.checked)) rests;
   }
 
 pub spare_goes : SpareSlabsArePutBack

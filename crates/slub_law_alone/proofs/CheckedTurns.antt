@@ -17,6 +17,7 @@ use Rattle.slub_core.specs.declared.step.Answer.{Answer}
 use Rattle.slub_core.specs.declared.step.Answer.TheVariants.{Done, Won, Lost}
 use Rattle.slub_core.specs.declared.step.Op.TheVariants.{Store, Exchange}
 use Rattle.slub_core.specs.declared.step.Place.TheVariants.{LockOf}
+use Rattle.slub_core.specs.Calls.{call_kind, call_cpu, call_cache, call_place}
 use Rattle.slub_core.specs.Setup.{Setup, node_lock}
 use Rattle.slub_core.specs.World.{World, LockValue, Checked}
 use Rattle.slub_core.specs.Local.{Local, at, answered}
@@ -33,21 +34,21 @@ use Rattle.slub_law_alone.proofs.Turns.{machine, turn_goes, settle_rests, then_t
 
 -- a worker whose call is of this cache
 abbrev pub asking : Local → Call → ℕ → Local
-asking l call k = record l { cache = k; cpu = call.cpu; place = call.place; fast = false; turn = 0; count = 0 }
+asking l call k = record l { cache = k; cpu = call_cpu call; place = call_place call; fast = false; turn = 0; count = 0 }
 
 -- the worker begins a call of a checked cache
-pub begin_checked : (m : Setup) (l : Local) (call : Call) (calls : List Call) (kind : CallKind) (k : ℕ) → l.spot ≡ Between → l.todo ≡ call ∷ calls → call.kind ≡ kind → cache_for m (known_at l call) call.cache kind ≡ k → first_cpu kind call.cpu ≡ call.cpu
+pub begin_checked : (m : Setup) (l : Local) (call : Call) (calls : List Call) (kind : CallKind) (k : ℕ) → l.spot ≡ Between → l.todo ≡ call ∷ calls → call_kind call ≡ kind → cache_for m (known_at l call) (call_cache call) kind ≡ k → first_cpu kind (call_cpu call) ≡ call_cpu call
     → m.checks k ≡ true → first_spot kind true (known_at l call).held ≡ InChecked LockChecked kind → begun m false l ≡ at (asking l call k) (InChecked LockChecked kind)
 begin_checked m l call calls kind k between todo is cache cpu checked at_spot =
     ap (begun_at m false l) between ∙ ap (begun_with m false l) todo
-    ∙ ap (λ kind. by (first_spot kind (m.checks (cache_for m (known_at l call) call.cache kind)) (known_at l call).held) (cache_for m (known_at l call) call.cache kind) (first_cpu kind call.cpu)) is
-    ∙ ap (λ k. by (first_spot kind (m.checks k) (known_at l call).held) k (first_cpu kind call.cpu)) cache
+    ∙ ap (λ kind. by (first_spot kind (m.checks (cache_for m (known_at l call) (call_cache call) kind)) (known_at l call).held) (cache_for m (known_at l call) (call_cache call) kind) (first_cpu kind (call_cpu call))) is
+    ∙ ap (λ k. by (first_spot kind (m.checks k) (known_at l call).held) k (first_cpu kind (call_cpu call))) cache
     ∙ ap (by (first_spot kind (m.checks k) (known_at l call).held) k) cpu
-    ∙ ap (λ z. by (first_spot kind z (known_at l call).held) k call.cpu) checked
-    ∙ ap (λ spot. by spot k call.cpu) at_spot
+    ∙ ap (λ z. by (first_spot kind z (known_at l call).held) k (call_cpu call)) checked
+    ∙ ap (λ spot. by spot k (call_cpu call)) at_spot
   where
     by : Spot → ℕ → ℕ → Local
-    by spot cache cpu = record l { spot = spot; cache = cache; cpu = cpu; place = call.place; fast = false; turn = 0; count = 0 }
+    by spot cache cpu = record l { spot = spot; cache = cache; cpu = cpu; place = call_place call; fast = false; turn = 0; count = 0 }
 
 -- ---- what is there
 

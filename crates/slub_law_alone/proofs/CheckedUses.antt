@@ -30,6 +30,7 @@ use Rattle.slub_core.specs.declared.call.CallKind.TheVariants.{Write, Read}
 use Rattle.slub_core.specs.declared.local.Known.{Known}
 use Rattle.slub_core.specs.declared.spot.Spot.TheVariants.{Between, InChecked}
 use Rattle.slub_core.specs.declared.spot.CheckedSpot.TheVariants.{LockChecked, DoChecked, GiveChecked}
+use Rattle.slub_core.specs.Calls.{call_kind, call_cpu, call_cache, call_object, call_word, call_value}
 use Rattle.slub_core.specs.Setup.{Setup, node_lock}
 use Rattle.slub_core.specs.World.{World, LockValue, Checked, update, world_of}
 use Rattle.slub_core.specs.Local.{Local, Change, at, answered, call_of, no_call}
@@ -81,7 +82,7 @@ module _ (opening : World) (s : State) (b : Beside) (system : System) (x : ℕ) 
 
   between : IsBetween (world_of (setup_of s b) system.value system.words).setup (rested (setup_of s b) told)
   between = rests_between (setup_of s b) (world_of (setup_of s b) system.value system.words).setup told
-      (told_between (world_of (setup_of s b) system.value system.words).setup (worker_at system x) call k reply begin.between (subst (λ (m : Setup). call.cpu < m.cpus) (sym rest.rests.rests.setup) begin.may.cpu))
+      (told_between (world_of (setup_of s b) system.value system.words).setup (worker_at system x) call k reply begin.between (subst (λ (m : Setup). call_cpu call < m.cpus) (sym rest.rests.rests.setup) begin.may.cpu))
 
   names : (o : ℕ) → held_under s o ≡ named_in (world_of (setup_of s b) system.value system.words) (set system.locals x (rested (setup_of s b) told)) o
   names o = rest.rests.rests.named o ∙ sym (names_same (setup_of s b) (world_of (setup_of s b) system.value system.words) system.locals x told refl refl refl o)
@@ -145,67 +146,67 @@ module _ (opening : World) (s : State) (b : Beside) (system : System) (x : ℕ) 
   does_kind kind then_is is = ap (λ v. do_checked m system.value (at q (InChecked DoChecked kind)) kind (slabs_in (m.layout k) v)) guarded ∙ is
 
   -- the two turns, after which the worker is another
-  pub whole_to : (kind : CallKind) (e : CheckedState) (r : Local) (reply : Reply) → call.kind ≡ kind → cache_for m o call.cache kind ≡ k → first_cpu kind call.cpu ≡ call.cpu → first_spot kind true o.held ≡ InChecked LockChecked kind → r.cache ≡ k
+  pub whole_to : (kind : CallKind) (e : CheckedState) (r : Local) (reply : Reply) → call_kind call ≡ kind → cache_for m o (call_cache call) kind ≡ k → first_cpu kind (call_cpu call) ≡ call_cpu call → first_spot kind true o.held ≡ InChecked LockChecked kind → r.cache ≡ k
       → do_checked m system.value (at q (InChecked DoChecked kind)) kind c ≡ change (update system.value (node_lock k) (Checked e)) (at r (InChecked GiveChecked kind)) (Some reply)
       → alone m x 2 system ≡ machine system.words (update system.value (node_lock k) (Checked e)) (set system.locals x (rested m (answered (at r Between) reply)))
   whole_to kind e r reply is cache cpu spot same does = ap (alone m x 2) (sym from_start)
       ∙ two_turns m system.words system.value (update system.value (node_lock k) (Checked e)) system.locals x l q r kind reply next.there (begin_checked m l call next.calls kind k begins_at.between.between next.todo is cache cpu checks spot) free same (does_kind kind _ does)
 
   -- or knows what it knew
-  pub whole_of : (kind : CallKind) (e : CheckedState) (reply : Reply) → call.kind ≡ kind → cache_for m o call.cache kind ≡ k → first_cpu kind call.cpu ≡ call.cpu → first_spot kind true o.held ≡ InChecked LockChecked kind
+  pub whole_of : (kind : CallKind) (e : CheckedState) (reply : Reply) → call_kind call ≡ kind → cache_for m o (call_cache call) kind ≡ k → first_cpu kind (call_cpu call) ≡ call_cpu call → first_spot kind true o.held ≡ InChecked LockChecked kind
       → do_checked m system.value (at q (InChecked DoChecked kind)) kind c ≡ change (update system.value (node_lock k) (Checked e)) (at q (InChecked GiveChecked kind)) (Some reply)
       → alone m x 2 system ≡ machine system.words (update system.value (node_lock k) (Checked e)) (set system.locals x (rested m (answered (at q Between) reply)))
   whole_of kind e reply is cache cpu spot does = whole_to kind e q reply is cache cpu spot refl does
 
   -- the worker holds the object, and the word lies in it
-  module _ (held_it : o.held ≡ true) (names : names_object call.kind ≡ true) (fits : is_word (layout_at s k) call.word ≡ true) where
+  module _ (held_it : o.held ≡ true) (names : names_object (call_kind call) ≡ true) (fits : is_word (layout_at s k) (call_word call) ≡ true) where
     abbrev held : Held
     held = as_held l.worker o
 
     has : HasObject s system x call
     has = ready_object opening s b system x call rest next names held_it
 
-    known : words.held_by s l.worker call.object ≡ Some held
-    known = held-by s l.worker call.object o has.named
+    known : words.held_by s l.worker (call_object call) ≡ Some held
+    known = held-by s l.worker (call_object call) o has.named
 
     layout_is : HasLayout s k (layout_at s k)
     layout_is = has_layout s k has.lives
 
     some : 0 < objects_in (slab_of c o.frame)
-    some = omega (arith, held-index s call.object held c has.named was begins_at.consistent)
+    some = omega (arith, held-index s (call_object call) held c has.named was begins_at.consistent)
 
     abbrev written : CheckedState
-    written = with_word c slot call.word call.value
+    written = with_word c slot (call_word call) (call_value call)
 
-    write_locked : call.kind ≡ Write → WritesAlone opening s b system x call 2
+    write_locked : call_kind call ≡ Write → WritesAlone opening s b system x call 2
     write_locked is = record {
       reply = Wrote;
       after = with_checked s k written;
-      writes = writes-word s l.worker call.object call.word held (layout_at s k) known layout_is call.value (with_checked s k written) fits (sym (ap in_lists was));
+      writes = writes-word s l.worker (call_object call) (call_word call) held (layout_at s k) known layout_is (call_value call) (with_checked s k written) fits (sym (ap in_lists was));
       replies = replies_kept opening s b system x call rest next k c written was (written-objects c o.frame sound some _) 1 Wrote (whole_of Write written Wrote is refl refl refl (ap by_call call_is));
       known = known_kept opening s b system x call rest next k c written was (written-objects c o.frame sound some _) 1 Wrote (whole_of Write written Wrote is refl refl refl (ap by_call call_is));
     }
       where
         in_lists : Option CheckedState → State
-        in_lists o = option_map_or (λ slabs. with_checked s k (with_word slabs slot call.word call.value)) o (record s { memory = set s.memory (words.word_at (layout_at s k) held call.word) call.value })
+        in_lists o = option_map_or (λ slabs. with_checked s k (with_word slabs slot (call_word call) (call_value call))) o (record s { memory = set s.memory (words.word_at (layout_at s k) held (call_word call)) (call_value call) })
 
         by_call : Call → Change
-        by_call call = change (update system.value (node_lock k) (Checked (with_word c slot call.word call.value))) (at q (InChecked GiveChecked Write)) (Some Wrote)
+        by_call call = change (update system.value (node_lock k) (Checked (with_word c slot (call_word call) (call_value call)))) (at q (InChecked GiveChecked Write)) (Some Wrote)
 
     abbrev found : ℕ
-    found = word_of c slot call.word
+    found = word_of c slot (call_word call)
 
-    read_locked : call.kind ≡ Read → ReadsAlone opening s b system x call 2
+    read_locked : call_kind call ≡ Read → ReadsAlone opening s b system x call 2
     read_locked is = record {
       reply = Value found;
-      reads = reads-word s l.worker call.object call.word held (layout_at s k) known layout_is found fits (slab-read s (layout_at s k) held call.word c was);
+      reads = reads-word s l.worker (call_object call) (call_word call) held (layout_at s k) known layout_is found fits (slab-read s (layout_at s k) held (call_word call) c was);
       replies = subst (λ t. Replies opening s b system x call 2 (Value found) t b) (with-checked-same s k c was)
           (replies_kept opening s b system x call rest next k c c was (unchanged c) 1 (Value found) (whole_of Read c (Value found) is refl refl refl (ap by_call call_is ∙ ap by_value (sym (update_was system.value (node_lock k) (Checked c) guarded)))));
       known = known_kept opening s b system x call rest next k c c was (unchanged c) 1 (Value found) (whole_of Read c (Value found) is refl refl refl (ap by_call call_is ∙ ap by_value (sym (update_was system.value (node_lock k) (Checked c) guarded))));
     }
       where
         by_call : Call → Change
-        by_call call = change system.value (at q (InChecked GiveChecked Read)) (Some (Value (word_of c slot call.word)))
+        by_call call = change system.value (at q (InChecked GiveChecked Read)) (Some (Value (word_of c slot (call_word call))))
 
         by_value : (ℕ → LockValue) → Change
         by_value value = change value (at q (InChecked GiveChecked Read)) (Some (Value found))

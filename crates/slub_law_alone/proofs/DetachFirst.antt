@@ -17,6 +17,7 @@ use Rattle.slub_core.specs.declared.step.Answer.{Answer}
 use Rattle.slub_core.specs.declared.step.Answer.TheVariants.{Word, Won, Lost}
 use Rattle.slub_core.specs.declared.step.Op.TheVariants.{Load, Exchange}
 use Rattle.slub_core.specs.declared.step.Place.TheVariants.{CpuOf}
+use Rattle.slub_core.specs.Calls.{call_cpu, call_place}
 use Rattle.slub_core.specs.Setup.{Setup, cpu_number}
 use Rattle.slub_core.specs.Words.{cpu_in, cpu_base}
 use Rattle.slub_core.specs.World.{World, pointer, set_cpu, world_of}
@@ -42,7 +43,7 @@ use Rattle.slub_law_alone.proofs.Turns.{machine, turn_goes, settle_goes, then_tu
 use Rattle.slub_calls.proofs.ChangeNumbers.{cpu_here}
 
 module _ (opening : World) (s : State) (b : Beside) (system : System) (x : ℕ) (call : Call) (place k f : ℕ) (rest : IsAtRest opening s b system) (next : IsNext system x call) (is : IsAlloc s call place k)
-    (ids : HasIds b (cpu_number k call.cpu) 1) (empty : (lists_of s k call.cpu).free ≡ []) (current : (lists_of s k call.cpu).current ≡ Some f) where
+    (ids : HasIds b (cpu_number k (call_cpu call)) 1) (empty : (lists_of s k (call_cpu call)).free ≡ []) (current : (lists_of s k (call_cpu call)).current ≡ Some f) where
   abbrev m : Setup
   m = setup_of s b
 
@@ -53,13 +54,13 @@ module _ (opening : World) (s : State) (b : Beside) (system : System) (x : ℕ) 
   l = worker_at system x
 
   abbrev n : ℕ
-  n = cpu_number k call.cpu
+  n = cpu_number k (call_cpu call)
 
   abbrev c : CpuWord
   c = w.cpu n
 
   abbrev lists : CpuLists
-  lists = lists_of s k call.cpu
+  lists = lists_of s k (call_cpu call)
 
   begin : IsStart opening s b system x call
   begin = starts opening s b system x call rest next
@@ -74,7 +75,7 @@ module _ (opening : World) (s : State) (b : Beside) (system : System) (x : ℕ) 
   small = omega (arith, begin.setup.live k lives, begin.may.cpu, begin.few)
 
   here : cpu_at s n ≡ lists
-  here = cpu_here s k call.cpu begin.may.cpu begin.few
+  here = cpu_here s k (call_cpu call) begin.may.cpu begin.few
 
   cpu_is : IsCpuOf b w n lists
   cpu_is = subst (IsCpuOf b w n) here (resting.cpu n small)
@@ -93,7 +94,7 @@ module _ (opening : World) (s : State) (b : Beside) (system : System) (x : ℕ) 
   -- ---- the turns
 
   abbrev asked : Local
-  asked = record l { spot = InAlloc LoadCpu; cache = k; cpu = call.cpu; place = call.place; fast = false; turn = 0; count = 0 }
+  asked = record l { spot = InAlloc LoadCpu; cache = k; cpu = call_cpu call; place = call_place call; fast = false; turn = 0; count = 0 }
 
   abbrev loaded : Local
   loaded = record asked { cpu_word = c; spot = InAlloc Detach }

@@ -35,6 +35,7 @@ use Rattle.slub_core.specs.declared.step.Answer.{Answer}
 use Rattle.slub_core.specs.declared.step.Answer.TheVariants.{Word, Won, Lost}
 use Rattle.slub_core.specs.declared.step.Op.TheVariants.{Load, Exchange}
 use Rattle.slub_core.specs.declared.step.Place.TheVariants.{CpuOf, MemoryOf}
+use Rattle.slub_core.specs.Calls.{call_kind, call_cpu, call_cache, call_object, call_place}
 use Rattle.slub_core.specs.Setup.{Setup, IsSetup, cpu_number, pointer_at, hardened}
 use Rattle.slub_core.specs.Words.{cpu_in, cpu_base, memory_base}
 use Rattle.slub_core.specs.World.{World, update, set_cpu, pointer, exists_at, IsChain, world_from, world_of, one_if}
@@ -72,22 +73,22 @@ use Rattle.slub_calls.specs.Changes.{grown}
 use Rattle.slub_calls.proofs.ChangeNumbers.{cpu_here}
 
 -- the worker begins the call
-pub begin_alloc : (m : Setup) (l : Local) (call : Call) (calls : List Call) (k : ℕ) → l.spot ≡ Between → l.todo ≡ call ∷ calls → call.kind ≡ Alloc → call.cache ≡ Some k → m.checks k ≡ false
-    → begun m false l ≡ record l { spot = InAlloc LoadCpu; cache = k; cpu = call.cpu; place = call.place; fast = false; turn = 0; count = 0 }
+pub begin_alloc : (m : Setup) (l : Local) (call : Call) (calls : List Call) (k : ℕ) → l.spot ≡ Between → l.todo ≡ call ∷ calls → call_kind call ≡ Alloc → call_cache call ≡ Some k → m.checks k ≡ false
+    → begun m false l ≡ record l { spot = InAlloc LoadCpu; cache = k; cpu = call_cpu call; place = call_place call; fast = false; turn = 0; count = 0 }
 begin_alloc m l call calls k between todo kind asks plain =
-    ap (begun_at m false l) between ∙ ap (begun_with m false l) todo ∙ ap (λ kind. by kind call.cache) kind ∙ ap (by Alloc) asks ∙ ap last plain
+    ap (begun_at m false l) between ∙ ap (begun_with m false l) todo ∙ ap (λ kind. by kind (call_cache call)) kind ∙ ap (by Alloc) asks ∙ ap last plain
   where
     by : CallKind → Option ℕ → Local
     by kind named =
-        let known = get_or l.known call.place nobody in
+        let known = get_or l.known (call_place call) nobody in
         let cache = cache_for m known named kind in
-        record l { spot = first_spot kind (m.checks cache) known.held; cache = cache; cpu = first_cpu kind call.cpu; place = call.place; fast = false; turn = 0; count = 0 }
+        record l { spot = first_spot kind (m.checks cache) known.held; cache = cache; cpu = first_cpu kind (call_cpu call); place = call_place call; fast = false; turn = 0; count = 0 }
 
     last : Bool → Local
-    last z = record l { spot = first_spot Alloc z (get_or l.known call.place nobody).held; cache = k; cpu = call.cpu; place = call.place; fast = false; turn = 0; count = 0 }
+    last z = record l { spot = first_spot Alloc z (get_or l.known (call_place call) nobody).held; cache = k; cpu = call_cpu call; place = call_place call; fast = false; turn = 0; count = 0 }
 
 module _ (opening : World) (s : State) (b : Beside) (system : System) (x : ℕ) (call : Call) (place k : ℕ) (rest : IsAtRest opening s b system) (next : IsNext system x call) (is : IsAlloc s call place k)
-    (ids : HasIds b (cpu_number k call.cpu) 1) (some : 0 < length (lists_of s k call.cpu).free) where
+    (ids : HasIds b (cpu_number k (call_cpu call)) 1) (some : 0 < length (lists_of s k (call_cpu call)).free) where
   abbrev m : Setup
   m = setup_of s b
 
@@ -98,13 +99,13 @@ module _ (opening : World) (s : State) (b : Beside) (system : System) (x : ℕ) 
   l = worker_at system x
 
   abbrev n : ℕ
-  n = cpu_number k call.cpu
+  n = cpu_number k (call_cpu call)
 
   abbrev c : CpuWord
   c = w.cpu n
 
   abbrev lists : CpuLists
-  lists = lists_of s k call.cpu
+  lists = lists_of s k (call_cpu call)
 
   consistent : IsConsistent s
   consistent = consistent-of s rest.lists
@@ -130,7 +131,7 @@ module _ (opening : World) (s : State) (b : Beside) (system : System) (x : ℕ) 
   inside : k < 32
   inside = setup.live k lives
 
-  cpu : call.cpu < s.cpus
+  cpu : call_cpu call < s.cpus
   cpu = may.cpu
 
   few : s.cpus ≤ 16
@@ -143,7 +144,7 @@ module _ (opening : World) (s : State) (b : Beside) (system : System) (x : ℕ) 
   number = omega (arith, cpu, few)
 
   here : cpu_at s n ≡ lists
-  here = cpu_here s k call.cpu cpu few
+  here = cpu_here s k (call_cpu call) cpu few
 
   cpu_is : IsCpuOf b w n lists
   cpu_is = subst (IsCpuOf b w n) here (resting.cpu n small)
@@ -151,7 +152,7 @@ module _ (opening : World) (s : State) (b : Beside) (system : System) (x : ℕ) 
   table : IsTable m system.words
   table = record { length = rest.rests.count; locks = refl; cpu_words = refl; frames = omega (arith, setup.frames); objects = rest.beside.objects.0 }
 
-  names : names_object call.kind ≡ true
+  names : names_object (call_kind call) ≡ true
   names = ap names_object is.kind
 
   -- ---- the object
@@ -207,7 +208,7 @@ module _ (opening : World) (s : State) (b : Beside) (system : System) (x : ℕ) 
   -- ---- the turns
 
   abbrev asked : Local
-  asked = record l { spot = InAlloc LoadCpu; cache = k; cpu = call.cpu; place = call.place; fast = false; turn = 0; count = 0 }
+  asked = record l { spot = InAlloc LoadCpu; cache = k; cpu = call_cpu call; place = call_place call; fast = false; turn = 0; count = 0 }
 
   abbrev loaded : Local
   loaded = record asked { cpu_word = c; spot = InAlloc LoadNext }
@@ -216,7 +217,7 @@ module _ (opening : World) (s : State) (b : Beside) (system : System) (x : ℕ) 
   followed = record loaded { next = follows; spot = InAlloc Pop }
 
   abbrev known : Known
-  known = record { object = (get_or l.known call.place nobody).object; frame = c.frame; index = c.head - 1; cache = k; held = true }
+  known = record { object = (get_or l.known (call_place call) nobody).object; frame = c.frame; index = c.head - 1; cache = k; held = true }
 
   abbrev has : Local
   has = at (gets followed k c.frame (c.head - 1)) Between
@@ -296,7 +297,7 @@ module _ (opening : World) (s : State) (b : Beside) (system : System) (x : ℕ) 
   held = record { frame = c.frame; index = c.head - 1; cache = k; worker = Some l.worker }
 
   abbrev after : State
-  after = with_given s k call.cpu left call.object held
+  after = with_given s k (call_cpu call) left (call_object call) held
 
   abbrev given : State
   given = record after { memory = memory_of w (512 * s.frames) }
@@ -307,26 +308,26 @@ module _ (opening : World) (s : State) (b : Beside) (system : System) (x : ℕ) 
   calls : IsWithCalls told (rested m told)
   calls = rested_calls m told refl
 
-  known_is : (rested m told).known ≡ set l.known call.place known
+  known_is : (rested m told).known ≡ set l.known (call_place call) known
   known_is = ap (λ (l : Local). l.known) calls.same
 
   worker_is : (rested m told).worker ≡ l.worker
   worker_is = ap (λ (l : Local). l.worker) calls.same
 
-  object : known.object ≡ call.object
+  object : known.object ≡ call_object call
   object = may.known names
 
-  on_board : call.object < length s.board
+  on_board : call_object call < length s.board
   on_board = (may.object names).1
 
   once : (o : ℕ) → times_named (set_cpu w n v) (set system.locals x (rested m told)) o ≤ 1
   once o = subst (λ w. times_named w (set system.locals x (rested m told)) o ≤ 1) says (once_named m opening (machine words system.value (set system.locals x (rested m told))) ended o)
 
-  unused : held_under s call.object ≡ None
-  unused = resting.named call.object ∙ named_new w system.locals x call.place (rested m told) known next.there (may.place names) known_is refl (may.new is.kind) call.object object (once call.object)
+  unused : held_under s (call_object call) ≡ None
+  unused = resting.named (call_object call) ∙ named_new w system.locals x (call_place call) (rested m told) known next.there (may.place names) known_is refl (may.new is.kind) (call_object call) object (once (call_object call))
 
-  place_below : cpu_place s k call.cpu < length s.cpu_lists
-  place_below = place-inside s k call.cpu rest.lists.shaped inside cpu
+  place_below : cpu_place s k (call_cpu call) < length s.cpu_lists
+  place_below = place-inside s k (call_cpu call) rest.lists.shaped inside cpu
 
   worker_rests : IsBetween w.setup (rested m told)
   worker_rests = subst (IsBetween w.setup) (sym calls.same) (record {
@@ -335,47 +336,47 @@ module _ (opening : World) (s : State) (b : Beside) (system : System) (x : ℕ) 
     string = between.string;
     run = between.run;
     packed = record { cpu_word = resting.words.cpu n; slab_word = between.packed.slab_word; list_word = between.packed.list_word; next = omega arith };
-    cpu = subst (λ (m : Setup). call.cpu < m.cpus) (sym resting.setup) may.cpu;
-    numbers = All-set (λ (k : Known). k.object < w.setup.objects) l.known call.place known (subst (λ (m : Setup). known.object < m.objects) (sym resting.setup) (omega (arith, object, on_board))) between.numbers;
-    some = All-set (λ (k : Known). k.held ≡ true → 1 ≤ k.object) l.known call.place known (λ _. omega (arith, object, (may.object names).0)) between.some;
+    cpu = subst (λ (m : Setup). call_cpu call < m.cpus) (sym resting.setup) may.cpu;
+    numbers = All-set (λ (k : Known). k.object < w.setup.objects) l.known (call_place call) known (subst (λ (m : Setup). known.object < m.objects) (sym resting.setup) (omega (arith, object, on_board))) between.numbers;
+    some = All-set (λ (k : Known). k.held ≡ true → 1 ≤ k.object) l.known (call_place call) known (λ _. omega (arith, object, (may.object names).0)) between.some;
   })
 
   ends : Rests given d (set_cpu w n v) (set system.locals x (rested m told))
-  ends = rests_changed s b w system.locals s.frees (set s.cpu_lists (cpu_place s k call.cpu) left) (memory_of w (512 * s.frames)) (set s.board call.object (Some held)) s.gone (set s.live k (get_or s.live k 0 + 1)) (set b.tids n (tid_of b n + 1 * b.step))
+  ends = rests_changed s b w system.locals s.frees (set s.cpu_lists (cpu_place s k (call_cpu call)) left) (memory_of w (512 * s.frames)) (set s.board (call_object call) (Some held)) s.gone (set s.live k (get_or s.live k 0 + 1)) (set b.tids n (tid_of b n + 1 * b.step))
       (update w.cpu n v) w.slab w.memory (set system.locals x (rested m told)) resting
-      (length-set s.board call.object (Some held))
+      (length-set s.board (call_object call) (Some held))
       (let f = at_front m opening (machine words system.value (set system.locals x (rested m told))) x (omega (arith, next.there, length-set system.locals x (rested m told))) ended in subst IsWorded says f.stands.fresh.worded)
       (All-set (IsBetween w.setup) system.locals x (rested m told) worker_rests resting.workers)
-      (cpus_changed s b w k call.cpu left v (tid_of b n + 1 * b.step) w.slab w.memory cpu few place_below (omega (arith, small, rest.beside.tids)) resting.cpu (omega (arith, cpu_is.tid)) (sym current ∙ cpu_is.current)
+      (cpus_changed s b w k (call_cpu call) left v (tid_of b n + 1 * b.step) w.slab w.memory cpu few place_below (omega (arith, small, rest.beside.tids)) resting.cpu (omega (arith, cpu_is.tid)) (sym current ∙ cpu_is.current)
       (subst (λ h. IsChain (pointer w k c.frame) h first.0) (sym follows_is) first.2) refl (λ n below away. (resting.cpu n below).free))
       (λ f. same_word (w.slab f)) (λ f. record { chain = (resting.own f).chain; in_use = (resting.own f).in_use })
       names_are once (λ o word h there plain is_word. copied m system.value system.words _)
     where
-      names_are : (o : ℕ) → get_or (set s.board call.object (Some held)) o None ≡ named_in (set_cpu w n v) (set system.locals x (rested m told)) o
-      names_are o = elim (cases_eq o call.object) [
-        | inl e ↦ ap (λ o. get_or (set s.board call.object (Some held)) o None) e ∙ get_or-set_same s.board call.object (Some held) None on_board ∙ ap (λ worker. Some (record { frame = c.frame; index = c.head - 1; cache = k; worker = Some worker })) (sym worker_is)
-            ∙ sym (named_held (set_cpu w n v) system.locals x call.place (rested m told) l.known known next.there (may.place names) known_is refl (once known.object)) ∙ ap (named_in (set_cpu w n v) (set system.locals x (rested m told))) (object ∙ sym e)
-        | inr away ↦ get_or-set_other s.board call.object o (Some held) None away ∙ resting.named o ∙ sym (named_other w system.locals x call.place (rested m told) known worker_is known_is refl o (λ e. away (sym e ∙ object)))
+      names_are : (o : ℕ) → get_or (set s.board (call_object call) (Some held)) o None ≡ named_in (set_cpu w n v) (set system.locals x (rested m told)) o
+      names_are o = elim (cases_eq o (call_object call)) [
+        | inl e ↦ ap (λ o. get_or (set s.board (call_object call) (Some held)) o None) e ∙ get_or-set_same s.board (call_object call) (Some held) None on_board ∙ ap (λ worker. Some (record { frame = c.frame; index = c.head - 1; cache = k; worker = Some worker })) (sym worker_is)
+            ∙ sym (named_held (set_cpu w n v) system.locals x (call_place call) (rested m told) l.known known next.there (may.place names) known_is refl (once known.object)) ∙ ap (named_in (set_cpu w n v) (set system.locals x (rested m told))) (object ∙ sym e)
+        | inr away ↦ get_or-set_other s.board (call_object call) o (Some held) None away ∙ resting.named o ∙ sym (named_other w system.locals x (call_place call) (rested m told) known worker_is known_is refl o (λ e. away (sym e ∙ object)))
       ]
 
   -- ---- on lists
 
   accounted : IsAccounted given
-  accounted = accounted-with_held (with_lists s k call.cpu left) call.object held (omega (arith, inside, rest.lists.shaped.live)) on_board unused rest.lists.accounted
+  accounted = accounted-with_held (with_lists s k (call_cpu call) left) (call_object call) held (omega (arith, inside, rest.lists.shaped.live)) on_board unused rest.lists.accounted
 
   lengths : HasLengths given
   lengths = record {
     slabs = rest.lists.shaped.slabs;
     frees = rest.lists.shaped.frees;
-    cpu_lists = length-set s.cpu_lists (cpu_place s k call.cpu) left ∙ rest.lists.shaped.cpu_lists;
+    cpu_lists = length-set s.cpu_lists (cpu_place s k (call_cpu call)) left ∙ rest.lists.shaped.cpu_lists;
     nodes = rest.lists.shaped.nodes;
     checked = rest.lists.shaped.checked.numbers;
     memory = copied_length w (512 * s.frames);
-    gone = rest.lists.shaped.gone ∙ sym (length-set s.board call.object (Some held));
+    gone = rest.lists.shaped.gone ∙ sym (length-set s.board (call_object call) (Some held));
     live = length-set s.live k (get_or s.live k 0 + 1) ∙ rest.lists.shaped.live;
   }
 
-  gives : (live : Cache) → cache_of s k ≡ Some live → Gives s live.layout k call.cpu l.worker call.object reply after
+  gives : (live : Cache) → cache_of s k ≡ Some live → Gives s live.layout k (call_cpu call) l.worker (call_object call) reply after
   gives live e = record {
     frame = c.frame;
     index = c.head - 1;
@@ -395,13 +396,13 @@ module _ (opening : World) (s : State) (b : Beside) (system : System) (x : ℕ) 
       layout_is : (o : Option Cache) → o ≡ Some live → option_map_or (λ (live : Cache). live.layout) o no_layout ≡ live.layout
       layout_is o e = ap (λ o. option_map_or (λ (live : Cache). live.layout) o no_layout) e
 
-  allocates : AllocatesNamed s place call.cpu l.worker call.object reply after
-  allocates = subst (λ o. MatchOption o ((reply ≡ NoSuchCache) × (after ≡ s)) (λ cache. MatchOption (cache_of s cache) ⊥ (λ live. AllocatesFrom s live.layout cache call.cpu l.worker call.object reply after))) (sym is.named) (by (cache_of s k) refl lives)
+  allocates : AllocatesNamed s place (call_cpu call) l.worker (call_object call) reply after
+  allocates = subst (λ o. MatchOption o ((reply ≡ NoSuchCache) × (after ≡ s)) (λ cache. MatchOption (cache_of s cache) ⊥ (λ live. AllocatesFrom s live.layout cache (call_cpu call) l.worker (call_object call) reply after))) (sym is.named) (by (cache_of s k) refl lives)
     where
-      by : (o : Option Cache) → cache_of s k ≡ o → is_some o ≡ true → MatchOption o ⊥ (λ live. AllocatesFrom s live.layout k call.cpu l.worker call.object reply after)
+      by : (o : Option Cache) → cache_of s k ≡ o → is_some o ≡ true → MatchOption o ⊥ (λ live. AllocatesFrom s live.layout k (call_cpu call) l.worker (call_object call) reply after)
       by None e live = false≢true live
       by (Some live) e has_it = from-unchecked (checked_of s k) _ _ is.unchecked
-          (subst (λ free. MatchResult (from_free s k call.cpu (batch_of live.layout) free) (λ stocked. Gives stocked live.layout k call.cpu l.worker call.object reply after) (λ bare. AllocatesNew bare live.layout k call.cpu l.worker call.object reply after)) (sym first.1) (gives live e))
+          (subst (λ free. MatchResult (from_free s k (call_cpu call) (batch_of live.layout) free) (λ stocked. Gives stocked live.layout k (call_cpu call) l.worker (call_object call) reply after) (λ bare. AllocatesNew bare live.layout k (call_cpu call) l.worker (call_object call) reply after)) (sym first.1) (gives live e))
 
   pub pops : AllocatesAlone opening s b system x call place 3 d
   pops = record {
@@ -412,16 +413,16 @@ module _ (opening : World) (s : State) (b : Beside) (system : System) (x : ℕ) 
     words = record {
       lists = refl;
       sized = copied_length w (512 * s.frames) ∙ sym rest.lists.shaped.memory;
-      words = λ other word h away there plain is_word. sym (copied m system.value system.words _) ∙ resting.contents other word h (sym (get_or-set_other s.board call.object other (Some held) None away) ∙ there) plain is_word;
+      words = λ other word h away there plain is_word. sym (copied m system.value system.words _) ∙ resting.contents other word h (sym (get_or-set_other s.board (call_object call) other (Some held) None away) ∙ there) plain is_word;
     };
-    known = known_ends s b system x 3 told words system.value next.there whole refl ∙ knows_given l.known call.place known.object call.object s.board held after refl on_board object;
+    known = known_ends s b system x 3 told words system.value next.there whole refl ∙ knows_given l.known (call_place call) known.object (call_object call) s.board held after refl on_board object;
     replies = replies_of opening s given b d system x 3 call reply told words system.value next whole refl refl refl refl same
         (ends_at_rest opening (set_cpu w n v) s given b d system (machine words system.value (set system.locals x (rested m told))) rest same refl refl lengths accounted (length-set b.tids n (tid_of b n + 1 * b.step) ∙ rest.beside.tids) refl refl ended says ends (whole_cpu m system.words n (cpu_bits v) refl small rest.whole));
   }
     where
       same : setup_of given d ≡ setup_of s b
-      same = setup_same s b w system.locals s.frees (set s.cpu_lists (cpu_place s k call.cpu) left) (memory_of w (512 * s.frames)) (set s.board call.object (Some held)) s.gone (set s.live k (get_or s.live k 0 + 1)) (set b.tids n (tid_of b n + 1 * b.step))
-          (update w.cpu n v) w.slab w.memory (set system.locals x (rested m told)) (length-set s.board call.object (Some held))
+      same = setup_same s b w system.locals s.frees (set s.cpu_lists (cpu_place s k (call_cpu call)) left) (memory_of w (512 * s.frames)) (set s.board (call_object call) (Some held)) s.gone (set s.live k (get_or s.live k 0 + 1)) (set b.tids n (tid_of b n + 1 * b.step))
+          (update w.cpu n v) w.slab w.memory (set system.locals x (rested m told)) (length-set s.board (call_object call) (Some held))
 
   pub pops_gives : is_given pops.reply ≡ true
   unfolding pops

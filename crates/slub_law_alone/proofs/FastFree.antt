@@ -34,6 +34,7 @@ use Rattle.slub_core.specs.declared.step.Answer.{Answer}
 use Rattle.slub_core.specs.declared.step.Answer.TheVariants.{Word, Done, Won, Lost}
 use Rattle.slub_core.specs.declared.step.Op.TheVariants.{Load, Store, Exchange}
 use Rattle.slub_core.specs.declared.step.Place.TheVariants.{CpuOf, MemoryOf}
+use Rattle.slub_core.specs.Calls.{call_kind, call_cpu, call_object, call_place}
 use Rattle.slub_core.specs.Setup.{Setup, cpu_number, pointer_at, hardened}
 use Rattle.slub_core.specs.Words.{cpu_in, cpu_base, memory_base}
 use Rattle.slub_core.specs.World.{World, update, set_cpu, set_memory, pointer, IsChain, world_of}
@@ -90,7 +91,7 @@ pub layout_of : (s : State) (k : ℕ) (live : Cache) → cache_of s k ≡ Some l
 layout_of s k live e = ap (λ o. option_map_or (λ (live : Cache). live.layout) o no_layout) e
 
 module _ (opening : World) (s : State) (b : Beside) (system : System) (x : ℕ) (call : Call) (rest : IsReady opening s b system x) (next : IsNext system x call) (is : IsFree s (worker_at system x) call)
-    (ids : HasIds b (cpu_number (known_at (worker_at system x) call).cache call.cpu) 1) (current : (lists_of s (known_at (worker_at system x) call).cache call.cpu).current ≡ Some (known_at (worker_at system x) call).frame) where
+    (ids : HasIds b (cpu_number (known_at (worker_at system x) call).cache (call_cpu call)) 1) (current : (lists_of s (known_at (worker_at system x) call).cache (call_cpu call)).current ≡ Some (known_at (worker_at system x) call).frame) where
   abbrev m : Setup
   m = setup_of s b
 
@@ -104,13 +105,13 @@ module _ (opening : World) (s : State) (b : Beside) (system : System) (x : ℕ) 
   o = known_at l call
 
   abbrev n : ℕ
-  n = cpu_number o.cache call.cpu
+  n = cpu_number o.cache (call_cpu call)
 
   abbrev c : CpuWord
   c = w.cpu n
 
   abbrev lists : CpuLists
-  lists = lists_of s o.cache call.cpu
+  lists = lists_of s o.cache (call_cpu call)
 
   abbrev held : Held
   held = as_held l.worker o
@@ -118,7 +119,7 @@ module _ (opening : World) (s : State) (b : Beside) (system : System) (x : ℕ) 
   begin : IsReadyStart opening s b system x call
   begin = ready_starts opening s b system x call rest next
 
-  names : names_object call.kind ≡ true
+  names : names_object (call_kind call) ≡ true
   names = ap names_object is.kind
 
   has : HasObject s system x call
@@ -127,14 +128,14 @@ module _ (opening : World) (s : State) (b : Beside) (system : System) (x : ℕ) 
   resting : Rests s b w system.locals
   resting = rest.rests.rests
 
-  cpu : call.cpu < s.cpus
+  cpu : call_cpu call < s.cpus
   cpu = begin.may.cpu
 
   small : n < 512
   small = omega (arith, has.inside, cpu, begin.few)
 
   here : cpu_at s n ≡ lists
-  here = cpu_here s o.cache call.cpu cpu begin.few
+  here = cpu_here s o.cache (call_cpu call) cpu begin.few
 
   cpu_is : IsCpuOf b w n lists
   cpu_is = subst (IsCpuOf b w n) here (resting.cpu n small)
@@ -151,7 +152,7 @@ module _ (opening : World) (s : State) (b : Beside) (system : System) (x : ℕ) 
   -- ---- the turns
 
   abbrev asked : Local
-  asked = record l { spot = InFree LoadOwn; cache = o.cache; cpu = call.cpu; place = call.place; fast = false; turn = 0; count = 0 }
+  asked = record l { spot = InFree LoadOwn; cache = o.cache; cpu = call_cpu call; place = call_place call; fast = false; turn = 0; count = 0 }
 
   abbrev loaded : Local
   loaded = record asked { cpu_word = c; spot = InFree LinkOwn }
@@ -246,7 +247,7 @@ module _ (opening : World) (s : State) (b : Beside) (system : System) (x : ℕ) 
   left = record lists { free = o.index ∷ lists.free }
 
   abbrev after : State
-  after = with_gone (freed_here (with_taken s call.object o.cache) o.cache call.cpu o.index) call.object l.worker held
+  after = with_gone (freed_here (with_taken s (call_object call) o.cache) o.cache (call_cpu call) o.index) (call_object call) l.worker held
 
   abbrev d : Beside
   d = grown b n 1
@@ -254,7 +255,7 @@ module _ (opening : World) (s : State) (b : Beside) (system : System) (x : ℕ) 
   calls : IsWithCalls told (rested m told)
   calls = rested_calls m told refl
 
-  known_is : (rested m told).known ≡ set l.known call.place lost
+  known_is : (rested m told).known ≡ set l.known (call_place call) lost
   known_is = ap (λ (l : Local). l.known) calls.same
 
   worker_is : (rested m told).worker ≡ l.worker
@@ -263,8 +264,8 @@ module _ (opening : World) (s : State) (b : Beside) (system : System) (x : ℕ) 
   once : (o : ℕ) → times_named (set_cpu (set_memory w p value) n v) (set system.locals x (rested m told)) o ≤ 1
   once o = subst (λ w. times_named w (set system.locals x (rested m told)) o ≤ 1) says (once_named m opening (machine words system.value (set system.locals x (rested m told))) ended o)
 
-  place_below : cpu_place s o.cache call.cpu < length s.cpu_lists
-  place_below = place-inside s o.cache call.cpu rest.lists.shaped has.inside cpu
+  place_below : cpu_place s o.cache (call_cpu call) < length s.cpu_lists
+  place_below = place-inside s o.cache (call_cpu call) rest.lists.shaped has.inside cpu
 
   worker_rests : IsBetween w.setup (rested m told)
   worker_rests = subst (IsBetween w.setup) (sym calls.same) (record {
@@ -273,15 +274,15 @@ module _ (opening : World) (s : State) (b : Beside) (system : System) (x : ℕ) 
     string = begin.between.string;
     run = begin.between.run;
     packed = record { cpu_word = resting.words.cpu n; slab_word = begin.between.packed.slab_word; list_word = begin.between.packed.list_word; next = begin.between.packed.next };
-    cpu = subst (λ (m : Setup). call.cpu < m.cpus) (sym resting.setup) begin.may.cpu;
-    numbers = All-set (λ (k : Known). k.object < w.setup.objects) l.known call.place lost (subst (λ (m : Setup). o.object < m.objects) (sym resting.setup) (omega (arith, has.object, has.on_board))) begin.between.numbers;
-    some = All-set (λ (k : Known). k.held ≡ true → 1 ≤ k.object) l.known call.place lost (λ e. absurd (false≢true e)) begin.between.some;
+    cpu = subst (λ (m : Setup). call_cpu call < m.cpus) (sym resting.setup) begin.may.cpu;
+    numbers = All-set (λ (k : Known). k.object < w.setup.objects) l.known (call_place call) lost (subst (λ (m : Setup). o.object < m.objects) (sym resting.setup) (omega (arith, has.object, has.on_board))) begin.between.numbers;
+    some = All-set (λ (k : Known). k.held ≡ true → 1 ≤ k.object) l.known (call_place call) lost (λ e. absurd (false≢true e)) begin.between.some;
   })
 
   head_free : IsChain (pointer (set_cpu (set_memory w p value) n v) o.cache c.frame) (o.index + 1) (o.index ∷ lists.free)
   head_free =
       let u : World = set_cpu (set_memory w p value) n v in
-      let stands = cpu_stands s call.object held begin.consistent has.named p (pointer_own s call.object held begin.consistent has.named) b w system.locals resting (update w.cpu n v) w.slab value n small in
+      let stands = cpu_stands s (call_object call) held begin.consistent has.named p (pointer_own s (call_object call) held begin.consistent has.named) b w system.locals resting (update w.cpu n v) w.slab value n small in
       let mine : IsChain (pointer u o.cache c.frame) c.head lists.free = subst (λ k. IsChain (pointer u k c.frame) c.head lists.free) number (subst (λ (x : CpuLists). IsChain (pointer u (n / 16) c.frame) c.head x.free) here stands) in
       (omega arith, subst (λ h. IsChain (pointer u o.cache c.frame) h lists.free) (sym (leads_back u refl)) mine)
     where
@@ -294,52 +295,52 @@ module _ (opening : World) (s : State) (b : Beside) (system : System) (x : ℕ) 
           ∙ ap (hardened o.cache p) (update_same w.memory p value) ∙ comes-back o.cache p c.head
 
   ends : Rests after d (set_cpu (set_memory w p value) n v) (set system.locals x (rested m told))
-  ends = rests_changed s b w system.locals s.frees (set s.cpu_lists (cpu_place s o.cache call.cpu) left) s.memory (set s.board call.object None) (set s.gone call.object (Some held)) (set s.live o.cache (get_or s.live o.cache 0 - 1)) (set b.tids n (tid_of b n + 1 * b.step))
+  ends = rests_changed s b w system.locals s.frees (set s.cpu_lists (cpu_place s o.cache (call_cpu call)) left) s.memory (set s.board (call_object call) None) (set s.gone (call_object call) (Some held)) (set s.live o.cache (get_or s.live o.cache 0 - 1)) (set b.tids n (tid_of b n + 1 * b.step))
       (update w.cpu n v) w.slab (update w.memory p value) (set system.locals x (rested m told)) resting
-      (length-set s.board call.object None)
+      (length-set s.board (call_object call) None)
       (let f = at_front m opening (machine words system.value (set system.locals x (rested m told))) x (omega (arith, next.there, length-set system.locals x (rested m told))) ended in subst IsWorded says f.stands.fresh.worded)
       (All-set (IsBetween w.setup) system.locals x (rested m told) worker_rests resting.workers)
-      (cpus_changed s b w o.cache call.cpu left v (tid_of b n + 1 * b.step) w.slab (update w.memory p value) cpu begin.few place_below (omega (arith, small, rest.beside.tids)) resting.cpu (omega (arith, cpu_is.tid)) cpu_is.current
-      head_free refl (λ n below away. cpu_stands s call.object held begin.consistent has.named p (pointer_own s call.object held begin.consistent has.named) b w system.locals resting (update w.cpu (cpu_number o.cache call.cpu) v) w.slab value n below))
-      (λ f. same_word (w.slab f)) (λ f. record { chain = own_stands s call.object held begin.consistent has.named p (pointer_own s call.object held begin.consistent has.named) b w system.locals resting (update w.cpu n v) w.slab value f; in_use = (resting.own f).in_use })
+      (cpus_changed s b w o.cache (call_cpu call) left v (tid_of b n + 1 * b.step) w.slab (update w.memory p value) cpu begin.few place_below (omega (arith, small, rest.beside.tids)) resting.cpu (omega (arith, cpu_is.tid)) cpu_is.current
+      head_free refl (λ n below away. cpu_stands s (call_object call) held begin.consistent has.named p (pointer_own s (call_object call) held begin.consistent has.named) b w system.locals resting (update w.cpu (cpu_number o.cache (call_cpu call)) v) w.slab value n below))
+      (λ f. same_word (w.slab f)) (λ f. record { chain = own_stands s (call_object call) held begin.consistent has.named p (pointer_own s (call_object call) held begin.consistent has.named) b w system.locals resting (update w.cpu n v) w.slab value f; in_use = (resting.own f).in_use })
       names_are once words_are
     where
-      names_are : (j : ℕ) → get_or (set s.board call.object None) j None ≡ named_in (set_cpu (set_memory w p value) n v) (set system.locals x (rested m told)) j
-      names_are j = elim (cases_eq j call.object) [
-        | inl e ↦ ap (λ o. get_or (set s.board call.object None) o None) e ∙ get_or-set_same s.board call.object None None has.on_board
-            ∙ sym (named_lost (set_cpu (set_memory w p value) n v) system.locals x call.place (rested m told) lost next.there has.place known_is refl is.held j (has.object ∙ sym e) (resting.once j))
-        | inr away ↦ get_or-set_other s.board call.object j None None away ∙ resting.named j ∙ sym (named_other (set_cpu (set_memory w p value) n v) system.locals x call.place (rested m told) lost worker_is known_is refl j (λ e. away (sym e ∙ has.object)))
+      names_are : (j : ℕ) → get_or (set s.board (call_object call) None) j None ≡ named_in (set_cpu (set_memory w p value) n v) (set system.locals x (rested m told)) j
+      names_are j = elim (cases_eq j (call_object call)) [
+        | inl e ↦ ap (λ o. get_or (set s.board (call_object call) None) o None) e ∙ get_or-set_same s.board (call_object call) None None has.on_board
+            ∙ sym (named_lost (set_cpu (set_memory w p value) n v) system.locals x (call_place call) (rested m told) lost next.there has.place known_is refl is.held j (has.object ∙ sym e) (resting.once j))
+        | inr away ↦ get_or-set_other s.board (call_object call) j None None away ∙ resting.named j ∙ sym (named_other (set_cpu (set_memory w p value) n v) system.locals x (call_place call) (rested m told) lost worker_is known_is refl j (λ e. away (sym e ∙ has.object)))
       ]
 
-      words_are : (j word : ℕ) (h : Held) → get_or (set s.board call.object None) j None ≡ Some h → KeepsWord s (set_cpu (set_memory w p value) n v) h word
-      words_are j word h there plain inside = elim (cases_eq j call.object) [
-        | inl e ↦ absurd (let none = ap (λ o. get_or (set s.board call.object None) o None) e ∙ get_or-set_same s.board call.object None None has.on_board in cc (none, there))
+      words_are : (j word : ℕ) (h : Held) → get_or (set s.board (call_object call) None) j None ≡ Some h → KeepsWord s (set_cpu (set_memory w p value) n v) h word
+      words_are j word h there plain inside = elim (cases_eq j (call_object call)) [
+        | inl e ↦ absurd (let none = ap (λ o. get_or (set s.board (call_object call) None) o None) e ∙ get_or-set_same s.board (call_object call) None None has.on_board in cc (none, there))
         | inr away ↦
-            let before : held_under s j ≡ Some h = sym (get_or-set_other s.board call.object j None None away) ∙ there in
-            update_other w.memory p value (word_at (layout_at s h.cache) h word) (word_apart s call.object held begin.consistent has.named j word h before away inside) ∙ resting.contents j word h before plain inside
+            let before : held_under s j ≡ Some h = sym (get_or-set_other s.board (call_object call) j None None away) ∙ there in
+            update_other w.memory p value (word_at (layout_at s h.cache) h word) (word_apart s (call_object call) held begin.consistent has.named j word h before away inside) ∙ resting.contents j word h before plain inside
       ]
 
   -- ---- on lists
 
   accounted : IsAccounted after
-  accounted = taken-accounted s call.object held begin.consistent has.named
+  accounted = taken-accounted s (call_object call) held begin.consistent has.named
 
   lengths : HasLengths after
   lengths = record {
     slabs = rest.lists.shaped.slabs;
     frees = rest.lists.shaped.frees;
-    cpu_lists = length-set s.cpu_lists (cpu_place s o.cache call.cpu) left ∙ rest.lists.shaped.cpu_lists;
+    cpu_lists = length-set s.cpu_lists (cpu_place s o.cache (call_cpu call)) left ∙ rest.lists.shaped.cpu_lists;
     nodes = rest.lists.shaped.nodes;
     checked = rest.lists.shaped.checked.numbers;
     memory = rest.lists.shaped.memory;
-    gone = length-set s.gone call.object (Some held) ∙ rest.lists.shaped.gone ∙ sym (length-set s.board call.object None);
+    gone = length-set s.gone (call_object call) (Some held) ∙ rest.lists.shaped.gone ∙ sym (length-set s.board (call_object call) None);
     live = length-set s.live o.cache (get_or s.live o.cache 0 - 1) ∙ rest.lists.shaped.live;
   }
 
-  frees : Frees s call.cpu l.worker call.object reply after
-  frees = frees_held s call.cpu l.worker call.object o after has.named has.lives is.unchecked (λ live e. (
+  frees : Frees s (call_cpu call) l.worker (call_object call) reply after
+  frees = frees_held s (call_cpu call) l.worker (call_object call) o after has.named has.lives is.unchecked (λ live e. (
     ap (λ layout. Freed (address_of o.frame o.index layout)) (layout_of s o.cache live e),
-    sym (ap (λ z. with_gone (cond {A = State} z (freed_here (with_taken s call.object o.cache) o.cache call.cpu o.index) (freed_there (with_taken s call.object o.cache) live.layout o.cache call.cpu o.frame o.index)) call.object l.worker held) on_cpu),
+    sym (ap (λ z. with_gone (cond {A = State} z (freed_here (with_taken s (call_object call) o.cache) o.cache (call_cpu call) o.index) (freed_there (with_taken s (call_object call) o.cache) live.layout o.cache (call_cpu call) o.frame o.index)) (call_object call) l.worker held) on_cpu),
   ))
     where
       on_cpu : is_current o.frame lists.current ≡ true
@@ -350,14 +351,14 @@ module _ (opening : World) (s : State) (b : Beside) (system : System) (x : ℕ) 
     reply = reply;
     after = after;
     frees = frees;
-    known = known_ends s b system x 3 told words system.value next.there whole refl ∙ knows_freed l.known call.place o.object call.object l.worker s after held has.named (eq-eqb l.worker l.worker refl) has.on_board refl has.object;
+    known = known_ends s b system x 3 told words system.value next.there whole refl ∙ knows_freed l.known (call_place call) o.object (call_object call) l.worker s after held has.named (eq-eqb l.worker l.worker refl) has.on_board refl has.object;
     replies = replies_of opening s after b d system x 3 call reply told words system.value next whole refl refl refl refl same
         (ends_ready opening (set_cpu (set_memory w p value) n v) s after b d system (machine words system.value (set system.locals x (rested m told))) rest same refl refl lengths accounted (length-set b.tids n (tid_of b n + 1 * b.step) ∙ rest.beside.tids) refl refl ended says ends (whole_cpu m words1 n (cpu_bits v) refl small (whole_memory m system.words p value refl begin.table.objects rest.whole)));
   }
     where
       same : setup_of after d ≡ setup_of s b
-      same = setup_same s b w system.locals s.frees (set s.cpu_lists (cpu_place s o.cache call.cpu) left) s.memory (set s.board call.object None) (set s.gone call.object (Some held)) (set s.live o.cache (get_or s.live o.cache 0 - 1)) (set b.tids n (tid_of b n + 1 * b.step))
-          (update w.cpu n v) w.slab (update w.memory p value) (set system.locals x (rested m told)) (length-set s.board call.object None)
+      same = setup_same s b w system.locals s.frees (set s.cpu_lists (cpu_place s o.cache (call_cpu call)) left) s.memory (set s.board (call_object call) None) (set s.gone (call_object call) (Some held)) (set s.live o.cache (get_or s.live o.cache 0 - 1)) (set b.tids n (tid_of b n + 1 * b.step))
+          (update w.cpu n v) w.slab (update w.memory p value) (set system.locals x (rested m told)) (length-set s.board (call_object call) None)
 
 pub fast_pushes : FastFreesArePushes
 fast_pushes opening s b system x call rest next is ids current = pushes opening s b system x call rest next is ids current

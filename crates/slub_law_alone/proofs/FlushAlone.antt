@@ -20,6 +20,7 @@ use Rattle.slub_core.specs.declared.local.Answered.{Answered}
 use Rattle.slub_core.specs.declared.spot.Spot.TheVariants.{Between, InOffline}
 use Rattle.slub_core.specs.declared.spot.Sweep.TheVariants.{Flushing}
 use Rattle.slub_core.specs.declared.spot.OfflineSpot.TheVariants.{LoadCurrent, TakeCurrent}
+use Rattle.slub_core.specs.Calls.{call_kind, call_cpu, call_cache, call_place}
 use Rattle.slub_core.specs.Setup.{Setup}
 use Rattle.slub_core.specs.World.{World}
 use Rattle.slub_core.specs.Local.{Local, Turn, answered, at, call_of, no_call, nobody}
@@ -175,18 +176,18 @@ flush_all opening x m (j ∷ ks) k s b system l same left own is =
 
 -- ---- the call
 
-begin_flush : (m : Setup) (l : Local) (call : Call) (calls : List Call) → l.spot ≡ Between → l.todo ≡ call ∷ calls → call.kind ≡ Flush
-    → begun m false l ≡ record l { spot = InOffline LoadCurrent Flushing; cache = slice_index m.plain 0; cpu = call.cpu; place = call.place; fast = false; turn = 0; count = 0 }
+begin_flush : (m : Setup) (l : Local) (call : Call) (calls : List Call) → l.spot ≡ Between → l.todo ≡ call ∷ calls → call_kind call ≡ Flush
+    → begun m false l ≡ record l { spot = InOffline LoadCurrent Flushing; cache = slice_index m.plain 0; cpu = call_cpu call; place = call_place call; fast = false; turn = 0; count = 0 }
 begin_flush m l call calls between todo kind =
     ap (begun_at m false l) between ∙ ap (begun_with m false l) todo ∙ ap by kind
   where
     by : CallKind → Local
     by kind =
-        let known = get_or l.known call.place nobody in
-        let cache = cache_for m known call.cache kind in
-        record l { spot = first_spot kind (m.checks cache) known.held; cache = cache; cpu = first_cpu kind call.cpu; place = call.place; fast = false; turn = 0; count = 0 }
+        let known = get_or l.known (call_place call) nobody in
+        let cache = cache_for m known (call_cache call) kind in
+        record l { spot = first_spot kind (m.checks cache) known.held; cache = cache; cpu = first_cpu kind (call_cpu call); place = call_place call; fast = false; turn = 0; count = 0 }
 
-module _ (opening : World) (s : State) (b : Beside) (system : System) (x : ℕ) (call : Call) (rest : IsAtRest opening s b system) (next : IsNext system x call) (kind : call.kind ≡ Flush) where
+module _ (opening : World) (s : State) (b : Beside) (system : System) (x : ℕ) (call : Call) (rest : IsAtRest opening s b system) (next : IsNext system x call) (kind : call_kind call ≡ Flush) where
   abbrev m : Setup
   m = setup_of s b
 
@@ -196,7 +197,7 @@ module _ (opening : World) (s : State) (b : Beside) (system : System) (x : ℕ) 
   begin : IsStart opening s b system x call
   begin = starts opening s b system x call rest next
 
-  cpu : call.cpu < s.cpus
+  cpu : call_cpu call < s.cpus
   cpu = begin.may.cpu
 
   -- there is a cache, since the call takes a step
@@ -204,23 +205,23 @@ module _ (opening : World) (s : State) (b : Beside) (system : System) (x : ℕ) 
   some = by (eqb (length m.plain) 0) takes
     where
       takes : cond {A = Option Reply} (eqb (length m.plain) 0) (Some (Flushed 0)) None ≡ None
-      takes = ap (told_at_once m (get_or l.known call.place nobody) call) (sym kind) ∙ subst (TakesStep m l) next.todo (All-get_or (IsRested m) system.locals x idle next.there rest.coherent.rested begin.between.between)
+      takes = ap (told_at_once m (get_or l.known (call_place call) nobody) call) (sym kind) ∙ subst (TakesStep m l) next.todo (All-get_or (IsRested m) system.locals x idle next.there rest.coherent.rested begin.between.between)
 
       by : (z : Bool) → cond {A = Option Reply} z (Some (Flushed 0)) None ≡ None → z ≡ false
       by true e = absurd (let z = e in cc z)
       by false e = refl
 
   abbrev first : Local
-  first = stood opening s b system x call rest next Flushing (slice_index m.plain 0) call.cpu cpu
+  first = stood opening s b system x call rest next Flushing (slice_index m.plain 0) (call_cpu call) cpu
 
   begins : begun m false l ≡ first
   begins = begin_flush m l call next.calls begin.between.between next.todo kind
 
   abbrev start : System
-  start = began opening s b system x call rest next Flushing (slice_index m.plain 0) call.cpu cpu
+  start = began opening s b system x call rest next Flushing (slice_index m.plain 0) (call_cpu call) cpu
 
   at_first : RestsBut opening s b start x first
-  at_first = rests_began opening s b system x call rest next Flushing (slice_index m.plain 0) call.cpu cpu begins
+  at_first = rests_began opening s b system x call rest next Flushing (slice_index m.plain 0) (call_cpu call) cpu begins
 
   all_of : (ks : List ℕ) → m.plain ≡ ks → FlushEnds opening s b start x first m.plain
   all_of [] none = absurd (false≢true (sym some ∙ ap (λ (ks : List ℕ). eqb (length ks) 0) none))
@@ -230,25 +231,25 @@ module _ (opening : World) (s : State) (b : Beside) (system : System) (x : ℕ) 
   all = all_of m.plain refl
 
   abbrev after : State
-  after = fold (flushed_at call.cpu) s m.plain
+  after = fold (flushed_at (call_cpu call)) s m.plain
 
   abbrev reply : Reply
-  reply = Flushed (slabs_from s call.cpu m.plain)
+  reply = Flushed (slabs_from s (call_cpu call) m.plain)
 
   ran : alone m x (suc all.ends.turns) start ≡ alone m x (suc all.ends.turns) system
-  ran = same_turns opening s b system x call rest next Flushing (slice_index m.plain 0) call.cpu cpu begins all.ends.turns
+  ran = same_turns opening s b system x call rest next Flushing (slice_index m.plain 0) (call_cpu call) cpu begins all.ends.turns
 
   flushes_alone : FlushesAlone opening s b system x call
   flushes_alone = record {
     turns = all.ends.turns;
     reply = reply;
     after = after;
-    flushes = record { moved = ap Flushed (slabs_all s call.cpu begin.consistent cpu); steps = sym (flushed_plain s call.cpu) };
-    beside = ids_from s b call.cpu m.plain;
-    changes = ids_once s b call.cpu begin.consistent cpu rest.beside.tids;
+    flushes = record { moved = ap Flushed (slabs_all s (call_cpu call) begin.consistent cpu); steps = sym (flushed_plain s (call_cpu call)) };
+    beside = ids_from s b (call_cpu call) m.plain;
+    changes = ids_once s b (call_cpu call) begin.consistent cpu rest.beside.tids;
     replies = record {
       setup = all.ends.setup;
-      rest = subst (IsAtRest opening after (ids_from s b call.cpu m.plain)) ran all.ends.rest;
+      rest = subst (IsAtRest opening after (ids_from s b (call_cpu call) m.plain)) ran all.ends.rest;
       replied = record {
         told = all.told;
         between = all.between;

@@ -14,6 +14,7 @@ use Rattle.slub_lists.specs.Places.{layout_at}
 use Rattle.slub_lists.specs.Words.{word_at}
 use Rattle.slub_core.specs.declared.call.Call.{Call}
 use Rattle.slub_core.specs.declared.local.Known.{Known}
+use Rattle.slub_core.specs.Calls.{call_cpu, call_object, call_place}
 use Rattle.slub_core.specs.Setup.{Setup, pointer_at, hardened}
 use Rattle.slub_core.specs.World.{World, update, set_slab, set_memory, pointer, IsChain, world_of}
 use Rattle.slub_core.specs.Local.{Local, nobody}
@@ -22,7 +23,7 @@ use Rattle.slub_core.specs.Run.{System, idle}
 use Rattle.slub_core.proofs.Packed.{IsSlabFit}
 use Rattle.slub_core.proofs.Update.{update_same, update_other, each_updated}
 use Rattle.slub_law_opening.specs.Opening.{Beside, setup_of}
-use Rattle.slub_law_opening.specs.Rests.{IsBetween, IsFreelistOf, KeepsWord, Rests, held_under as held_by, named as named_in, times_named}
+use Rattle.slub_law_opening.specs.Rests.{IsBetween, IsFreelistOf, KeepsWord, Rests, times_held as held_by, named as named_in, times_named}
 use Rattle.slub_law_opening.proofs.Names.{as_held, holds}
 use Rattle.slub_law_opening.proofs.Rows.{comes-back}
 use Rattle.slub_law_alone.specs.Alone.{worker_at, known_at, IsNext}
@@ -36,7 +37,7 @@ use Rattle.slub_law_alone.proofs.Ready.{IsReadyStart, ready_starts, ready_object
 use Rattle.slub_law_alone.proofs.Start.{HasObject}
 
 module _ (opening : World) (s : State) (b : Beside) (system : System) (x : ℕ) (call : Call) (rest : IsReady opening s b system x) (next : IsNext system x call) (is : IsFree s (worker_at system x) call)
-    (away : (lists_of s (known_at (worker_at system x) call).cache call.cpu).current ≢ Some (known_at (worker_at system x) call).frame) where
+    (away : (lists_of s (known_at (worker_at system x) call).cache (call_cpu call)).current ≢ Some (known_at (worker_at system x) call).frame) where
   abbrev m : Setup
   m = setup_of s b
 
@@ -78,7 +79,7 @@ module _ (opening : World) (s : State) (b : Beside) (system : System) (x : ℕ) 
 
   -- the worker without the object
   abbrev pub quiet : Local
-  quiet = record l { known = set l.known call.place lost }
+  quiet = record l { known = set l.known (call_place call) lost }
 
   abbrev pub ends : List Local
   ends = set system.locals x quiet
@@ -91,7 +92,7 @@ module _ (opening : World) (s : State) (b : Beside) (system : System) (x : ℕ) 
   put = set_slab (set_memory w p value) f v
 
   abbrev pub freed : State
-  freed = with_gone (with_freed (with_taken s call.object o.cache) f o.index) call.object l.worker held
+  freed = with_gone (with_freed (with_taken s (call_object call) o.cache) f o.index) (call_object call) l.worker held
 
   quiet_rests : IsBetween w.setup quiet
   quiet_rests = record {
@@ -101,17 +102,17 @@ module _ (opening : World) (s : State) (b : Beside) (system : System) (x : ℕ) 
     run = begin.between.run;
     packed = record { cpu_word = begin.between.packed.cpu_word; slab_word = begin.between.packed.slab_word; list_word = begin.between.packed.list_word; next = begin.between.packed.next };
     cpu = begin.between.cpu;
-    numbers = All-set (λ (k : Known). k.object < w.setup.objects) l.known call.place lost (subst (λ (m : Setup). o.object < m.objects) (sym resting.setup) (omega (arith, has.object, has.on_board))) begin.between.numbers;
-    some = All-set (λ (k : Known). k.held ≡ true → 1 ≤ k.object) l.known call.place lost (λ e. absurd (false≢true e)) begin.between.some;
+    numbers = All-set (λ (k : Known). k.object < w.setup.objects) l.known (call_place call) lost (subst (λ (m : Setup). o.object < m.objects) (sym resting.setup) (omega (arith, has.object, has.on_board))) begin.between.numbers;
+    some = All-set (λ (k : Known). k.held ≡ true → 1 ≤ k.object) l.known (call_place call) lost (λ e. absurd (false≢true e)) begin.between.some;
   }
 
   -- no number names more than before
   once : (j : ℕ) → times_named put ends j ≤ 1
   once j =
       let a = sum_by-set (held_by j) system.locals x quiet idle next.there in
-      let c = sum_by-set (holds j) l.known call.place lost nobody has.place in
+      let c = sum_by-set (holds j) l.known (call_place call) lost nobody has.place in
       let was = resting.once j in
-      let less : held_by j quiet ≡ sum_by (holds j) (set l.known call.place lost) = refl in
+      let less : held_by j quiet ≡ sum_by (holds j) (set l.known (call_place call) lost) = refl in
       let all : held_by j l ≡ sum_by (holds j) l.known = refl in
       let none : holds j lost ≡ 0 = refl in
       omega (arith, a, c, was, less, all, none)
@@ -123,26 +124,26 @@ module _ (opening : World) (s : State) (b : Beside) (system : System) (x : ℕ) 
   free_is = get_or-set_same s.frees f (o.index ∷ own_free s f) [] frees_below
 
   stands : (j : ℕ) → IsChain (pointer put (w.slab j).cache j) (w.slab j).head (own_free s j)
-  stands j = own_stands s call.object held begin.consistent has.named p (pointer_own s call.object held begin.consistent has.named) b w system.locals resting w.cpu (update w.slab f v) value j
+  stands j = own_stands s (call_object call) held begin.consistent has.named p (pointer_own s (call_object call) held begin.consistent has.named) b w system.locals resting w.cpu (update w.slab f v) value j
 
   leads_back : pointer put z.cache f o.index ≡ z.head
   leads_back = ap (λ k. pointer put k f o.index) (place.cache opening s b system x call rest next is away)
       ∙ ap (λ (m : Setup). hardened o.cache (pointer_at m o.cache f o.index) (update w.memory p value (pointer_at m o.cache f o.index))) resting.setup
       ∙ ap (hardened o.cache p) (update_same w.memory p value) ∙ comes-back o.cache p z.head
 
-  names_are : (j : ℕ) → get_or (set s.board call.object None) j None ≡ named_in put ends j
-  names_are j = elim (cases_eq j call.object) [
-    | inl e ↦ ap (λ o. get_or (set s.board call.object None) o None) e ∙ get_or-set_same s.board call.object None None has.on_board
-        ∙ sym (named_lost put system.locals x call.place quiet lost next.there has.place refl refl is.held j (has.object ∙ sym e) (resting.once j))
-    | inr d ↦ get_or-set_other s.board call.object j None None d ∙ resting.named j ∙ sym (named_other put system.locals x call.place quiet lost refl refl refl j (λ e. d (sym e ∙ has.object)))
+  names_are : (j : ℕ) → get_or (set s.board (call_object call) None) j None ≡ named_in put ends j
+  names_are j = elim (cases_eq j (call_object call)) [
+    | inl e ↦ ap (λ o. get_or (set s.board (call_object call) None) o None) e ∙ get_or-set_same s.board (call_object call) None None has.on_board
+        ∙ sym (named_lost put system.locals x (call_place call) quiet lost next.there has.place refl refl is.held j (has.object ∙ sym e) (resting.once j))
+    | inr d ↦ get_or-set_other s.board (call_object call) j None None d ∙ resting.named j ∙ sym (named_other put system.locals x (call_place call) quiet lost refl refl refl j (λ e. d (sym e ∙ has.object)))
   ]
 
-  words_are : (j word : ℕ) (h : Held) → get_or (set s.board call.object None) j None ≡ Some h → KeepsWord s put h word
-  words_are j word h there plain inside = elim (cases_eq j call.object) [
-    | inl e ↦ absurd (let none = ap (λ o. get_or (set s.board call.object None) o None) e ∙ get_or-set_same s.board call.object None None has.on_board in cc (none, there))
+  words_are : (j word : ℕ) (h : Held) → get_or (set s.board (call_object call) None) j None ≡ Some h → KeepsWord s put h word
+  words_are j word h there plain inside = elim (cases_eq j (call_object call)) [
+    | inl e ↦ absurd (let none = ap (λ o. get_or (set s.board (call_object call) None) o None) e ∙ get_or-set_same s.board (call_object call) None None has.on_board in cc (none, there))
     | inr d ↦
-        let before : held_under s j ≡ Some h = sym (get_or-set_other s.board call.object j None None d) ∙ there in
-        update_other w.memory p value (word_at (layout_at s h.cache) h word) (word_apart s call.object held begin.consistent has.named j word h before d inside) ∙ resting.contents j word h before plain inside
+        let before : held_under s j ≡ Some h = sym (get_or-set_other s.board (call_object call) j None None d) ∙ there in
+        update_other w.memory p value (word_at (layout_at s h.cache) h word) (word_apart s (call_object call) held begin.consistent has.named j word h before d inside) ∙ resting.contents j word h before plain inside
   ]
 
   -- where an object of the slab is in use
@@ -164,9 +165,9 @@ module _ (opening : World) (s : State) (b : Beside) (system : System) (x : ℕ) 
         }
 
     pub freed_rests : Rests freed b put ends
-    freed_rests = rests_changed s b w system.locals (set s.frees f (o.index ∷ own_free s f)) s.cpu_lists s.memory (set s.board call.object None) (set s.gone call.object (Some held)) (set s.live o.cache (get_or s.live o.cache 0 - 1)) b.tids
+    freed_rests = rests_changed s b w system.locals (set s.frees f (o.index ∷ own_free s f)) s.cpu_lists s.memory (set s.board (call_object call) None) (set s.gone (call_object call) (Some held)) (set s.live o.cache (get_or s.live o.cache 0 - 1)) b.tids
         w.cpu (update w.slab f v) (update w.memory p value) ends resting
-        (length-set s.board call.object None)
+        (length-set s.board (call_object call) None)
         (record {
           cpu = resting.words.cpu;
           slab = each_updated w.slab f v (λ _ (d : SlabWord). IsSlabFit d) (place.fit opening s b system x call rest next is away) (λ i d. resting.words.slab i);
@@ -179,7 +180,7 @@ module _ (opening : World) (s : State) (b : Beside) (system : System) (x : ℕ) 
         (λ n below. let c = resting.cpu n below in record {
           tid = c.tid;
           current = c.current;
-          free = cpu_stands s call.object held begin.consistent has.named p (pointer_own s call.object held begin.consistent has.named) b w system.locals resting w.cpu (update w.slab f v) value n below;
+          free = cpu_stands s (call_object call) held begin.consistent has.named p (pointer_own s (call_object call) held begin.consistent has.named) b w system.locals resting w.cpu (update w.slab f v) value n below;
           count = c.count;
           partial = c.partial;
         })

@@ -35,6 +35,7 @@ use Rattle.slub_core.specs.declared.spot.CheckedSpot.TheVariants.{LockChecked}
 use Rattle.slub_core.specs.declared.step.Answer.TheVariants.{Word}
 use Rattle.slub_core.specs.declared.step.Op.TheVariants.{Swap}
 use Rattle.slub_core.specs.declared.step.Place.TheVariants.{BoardOf}
+use Rattle.slub_core.specs.Calls.{call_kind, call_cpu, call_cache, call_object, call_place}
 use Rattle.slub_core.specs.Setup.{Setup}
 use Rattle.slub_core.specs.Words.{board_base, board_in, word_count}
 use Rattle.slub_core.specs.World.{World, update, world_of}
@@ -47,8 +48,8 @@ use Rattle.slub_core.specs.Run.{System, idle, turn}
 use Rattle.slub_core.specs.Law.{IsCoherentSystem}
 use Rattle.slub_core.proofs.Update.{update_other}
 use Rattle.slub_core.proofs.StepWords.{world_of-board, board-read}
-use Rattle.slub_law_opening.specs.Opening.{Beside, IsBeside, setup_of, opened}
-use Rattle.slub_law_opening.specs.Rests.{IsBetween, KeepsWord, Rests, named as named_in, times_named, held_on, held_among, held_under as held_times}
+use Rattle.slub_law_opening.specs.Opening.{Beside, IsBeside, setup_of, opened_words}
+use Rattle.slub_law_opening.specs.Rests.{IsBetween, KeepsWord, Rests, named as named_in, times_named, held_on, held_among, times_held as held_times}
 use Rattle.slub_law_alone.specs.Alone.{AreWhole, own_pick, alone, worker_at, known_at, known_as, IsAtRest, IsNext}
 use Rattle.slub_law_alone.specs.Ready.{with_begun}
 use Rattle.slub_law_alone.specs.Boards.{TakesFromBoard, BoardObjectsAreTaken, BoardFreesAreFrees}
@@ -141,7 +142,7 @@ module _ (s : State) (object worker : ℕ) (held : Held) (there : held_under s o
 
   pub held_setup : (b : Beside) → setup_of (held_by s object worker held) b ≡ setup_of s b
   held_setup b =
-      let w = opened s b in
+      let w = opened_words s b in
       setup_same s b w [] s.frees s.cpu_lists s.memory (set s.board object (Some h)) s.gone s.live b.tids w.cpu w.slab w.memory [] (length-set s.board object (Some h))
 
   -- its free leaves what the free of the object on the board leaves
@@ -195,7 +196,7 @@ first_free : (checked : Bool) → first_spot Free checked true ≡ way checked
 first_free true = refl
 first_free false = refl
 
-module _ (opening : World) (s : State) (b : Beside) (system : System) (x : ℕ) (call : Call) (rest : IsAtRest opening s b system) (next : IsNext system x call) (is : call.kind ≡ Free) (dw : BoardWord)
+module _ (opening : World) (s : State) (b : Beside) (system : System) (x : ℕ) (call : Call) (rest : IsAtRest opening s b system) (next : IsNext system x call) (is : call_kind call ≡ Free) (dw : BoardWord)
     (board : (world_of (setup_of s b) system.value system.words).board (known_at (worker_at system x) call).object ≡ Some dw) (unheld : (known_at (worker_at system x) call).held ≡ false) where
   abbrev m : Setup
   m = setup_of s b
@@ -215,39 +216,39 @@ module _ (opening : World) (s : State) (b : Beside) (system : System) (x : ℕ) 
   begin : IsStart opening s b system x call
   begin = starts opening s b system x call rest next
 
-  names : names_object call.kind ≡ true
+  names : names_object (call_kind call) ≡ true
   names = ap names_object is
 
   resting : Rests s b w system.locals
   resting = rest.rests.rests
 
-  object : o.object ≡ call.object
+  object : o.object ≡ call_object call
   object = begin.may.known names
 
-  place : call.place < length l.known
+  place : call_place call < length l.known
   place = begin.may.place names
 
   some_number : 1 ≤ o.object
   some_number = let some = (begin.may.object names).0 in omega (arith, object, some)
 
-  on_board : call.object < length s.board
+  on_board : call_object call < length s.board
   on_board = (begin.may.object names).1
 
   below_number : o.object < m.objects
   below_number = omega (arith, object, on_board)
 
-  named : held_under s call.object ≡ Some held
-  named = resting.named call.object ∙ ap (λ d. option_or (option_map held_on d) (held_among system.locals call.object)) (ap w.board (sym object) ∙ board)
+  named : held_under s (call_object call) ≡ Some held
+  named = resting.named (call_object call) ∙ ap (λ d. option_or (option_map held_on d) (held_among system.locals (call_object call))) (ap w.board (sym object) ∙ board)
 
   abbrev asking : Local
-  asking = record l { spot = InFree TakeBoard; cache = o.cache; cpu = call.cpu; place = call.place; fast = false; turn = 0; count = 0 }
+  asking = record l { spot = InFree TakeBoard; cache = o.cache; cpu = call_cpu call; place = call_place call; fast = false; turn = 0; count = 0 }
 
   abbrev got : Known
   got = record { object = o.object; frame = dw.frame; index = dw.index; cache = dw.cache; held = true }
 
   -- the worker that holds the object, at this spot
   abbrev holding : Spot → Local
-  holding spot = record l { spot = spot; cache = dw.cache; cpu = call.cpu; place = call.place; fast = false; turn = 0; count = 0; known = set l.known call.place got }
+  holding spot = record l { spot = spot; cache = dw.cache; cpu = call_cpu call; place = call_place call; fast = false; turn = 0; count = 0; known = set l.known (call_place call) got }
 
   abbrev asked : Local
   asked = holding (way (m.checks dw.cache))
@@ -256,7 +257,7 @@ module _ (opening : World) (s : State) (b : Beside) (system : System) (x : ℕ) 
   holds = holding Between
 
   here_is : known_at holds call ≡ got
-  here_is = get_or-set_same l.known call.place got nobody place
+  here_is = get_or-set_same l.known (call_place call) got nobody place
 
   waits : (c : Bool) → (at_once m false system.value (holding (way c)) (way c) ≡ stays system.value (holding (way c))) × (rested m (holding (way c)) ≡ holding (way c)) × (begun m false (holding (way c)) ≡ holding (way c))
   waits true = (refl, refl, refl)
@@ -267,8 +268,8 @@ module _ (opening : World) (s : State) (b : Beside) (system : System) (x : ℕ) 
     where
       by : CallKind → Known → Local
       by kind k =
-          let cache = cache_for m k call.cache kind in
-          record holds { spot = first_spot kind (m.checks cache) k.held; cache = cache; cpu = first_cpu kind call.cpu; place = call.place; fast = false; turn = 0; count = 0 }
+          let cache = cache_for m k (call_cache call) kind in
+          record holds { spot = first_spot kind (m.checks cache) k.held; cache = cache; cpu = first_cpu kind (call_cpu call); place = call_place call; fast = false; turn = 0; count = 0 }
 
   abbrev y : ℕ
   y = get_or system.words (board_base m + o.object) 0
@@ -305,7 +306,7 @@ module _ (opening : World) (s : State) (b : Beside) (system : System) (x : ℕ) 
   says = world_of-board m system.value system.words o.object 0 begin.table some_number below_number
 
   abbrev after : State
-  after = held_by s call.object l.worker held
+  after = held_by s (call_object call) l.worker held
 
   abbrev holder : Held
   holder = record held { worker = Some l.worker }
@@ -324,14 +325,14 @@ module _ (opening : World) (s : State) (b : Beside) (system : System) (x : ℕ) 
     string = begin.between.string;
     run = begin.between.run;
     packed = record { cpu_word = begin.between.packed.cpu_word; slab_word = begin.between.packed.slab_word; list_word = begin.between.packed.list_word; next = begin.between.packed.next };
-    cpu = subst (λ (m : Setup). call.cpu < m.cpus) (sym resting.setup) begin.may.cpu;
-    numbers = All-set (λ (k : Known). k.object < w.setup.objects) l.known call.place got (subst (λ (m : Setup). o.object < m.objects) (sym resting.setup) below_number) begin.between.numbers;
-    some = All-set (λ (k : Known). k.held ≡ true → 1 ≤ k.object) l.known call.place got (λ e. some_number) begin.between.some;
+    cpu = subst (λ (m : Setup). call_cpu call < m.cpus) (sym resting.setup) begin.may.cpu;
+    numbers = All-set (λ (k : Known). k.object < w.setup.objects) l.known (call_place call) got (subst (λ (m : Setup). o.object < m.objects) (sym resting.setup) below_number) begin.between.numbers;
+    some = All-set (λ (k : Known). k.held ≡ true → 1 ≤ k.object) l.known (call_place call) got (λ e. some_number) begin.between.some;
   }
 
   ends : Rests after b u (set system.locals x holds)
   ends = record {
-    setup = resting.setup ∙ sym (held_setup s call.object l.worker held named b);
+    setup = resting.setup ∙ sym (held_setup s (call_object call) l.worker held named b);
     words = let front = at_front m opening took x (omega (arith, next.there, length-set system.locals x asked)) coherent in subst IsWorded says front.stands.fresh.worded;
     workers = All-set (IsBetween w.setup) system.locals x holds worker_rests resting.workers;
     locks = resting.locks;
@@ -349,32 +350,32 @@ module _ (opening : World) (s : State) (b : Beside) (system : System) (x : ℕ) 
     contents = words_are;
   }
     where
-      names_are : (j : ℕ) → get_or (set s.board call.object (Some holder)) j None ≡ named_in u (set system.locals x holds) j
-      names_are j = elim (cases_eq j call.object) [
-        | inl e ↦ ap (λ o. get_or (set s.board call.object (Some holder)) o None) e ∙ get_or-set_same s.board call.object (Some holder) None on_board
-            ∙ sym (ap (named_in u (set system.locals x holds)) (e ∙ sym object) ∙ named_held u system.locals x call.place holds l.known got next.there place refl refl (once o.object))
-        | inr away ↦ get_or-set_other s.board call.object j (Some holder) None away ∙ resting.named j ∙ sym (named_other w system.locals x call.place holds got refl refl refl j (λ e. away (sym e ∙ object)))
+      names_are : (j : ℕ) → get_or (set s.board (call_object call) (Some holder)) j None ≡ named_in u (set system.locals x holds) j
+      names_are j = elim (cases_eq j (call_object call)) [
+        | inl e ↦ ap (λ o. get_or (set s.board (call_object call) (Some holder)) o None) e ∙ get_or-set_same s.board (call_object call) (Some holder) None on_board
+            ∙ sym (ap (named_in u (set system.locals x holds)) (e ∙ sym object) ∙ named_held u system.locals x (call_place call) holds l.known got next.there place refl refl (once o.object))
+        | inr away ↦ get_or-set_other s.board (call_object call) j (Some holder) None away ∙ resting.named j ∙ sym (named_other w system.locals x (call_place call) holds got refl refl refl j (λ e. away (sym e ∙ object)))
             ∙ ap (λ d. option_or (option_map held_on d) (held_among (set system.locals x holds) j)) (sym (update_other w.board o.object None j (λ e. away (e ∙ object))))
       ]
 
       injected : {x y : Held} → Some x ≡ Some y → x ≡ y
       injected e = cc
 
-      words_are : (j word : ℕ) (h : Held) → get_or (set s.board call.object (Some holder)) j None ≡ Some h → KeepsWord after u h word
-      words_are j word h there = elim (cases_eq j call.object) [
-        | inl e ↦ subst (λ h. KeepsWord after u h word) (injected (sym (ap (λ o. get_or (set s.board call.object (Some holder)) o None) e ∙ get_or-set_same s.board call.object (Some holder) None on_board) ∙ there)) (resting.contents call.object word held named)
-        | inr away ↦ resting.contents j word h (sym (get_or-set_other s.board call.object j (Some holder) None away) ∙ there)
+      words_are : (j word : ℕ) (h : Held) → get_or (set s.board (call_object call) (Some holder)) j None ≡ Some h → KeepsWord after u h word
+      words_are j word h there = elim (cases_eq j (call_object call)) [
+        | inl e ↦ subst (λ h. KeepsWord after u h word) (injected (sym (ap (λ o. get_or (set s.board (call_object call) (Some holder)) o None) e ∙ get_or-set_same s.board (call_object call) (Some holder) None on_board) ∙ there)) (resting.contents (call_object call) word held named)
+        | inr away ↦ resting.contents j word h (sym (get_or-set_other s.board (call_object call) j (Some holder) None away) ∙ there)
       ]
 
   same : setup_of after b ≡ m
-  same = held_setup s call.object l.worker held named b
+  same = held_setup s (call_object call) l.worker held named b
 
   is_taken : TakesFromBoard opening s b system x call held
   is_taken = record {
     taken = taken;
     ready = record {
-      lists = held_coherent s call.object l.worker held named rest.lists;
-      beside = held_beside s call.object l.worker held named b rest.beside;
+      lists = held_coherent s (call_object call) l.worker held named rest.lists;
+      beside = held_beside s (call_object call) l.worker held named b rest.beside;
       rests = record {
         count = length-set system.words (board_base m + o.object) 0 ∙ rest.rests.count ∙ ap word_count (sym same);
         rests = subst (λ m. Rests after b (world_of m system.value words) (set system.locals x holds)) (sym same) (subst (λ w. Rests after b w (set system.locals x holds)) (sym says) ends);
@@ -384,7 +385,7 @@ module _ (opening : World) (s : State) (b : Beside) (system : System) (x : ℕ) 
     };
     next = record { there = omega (arith, next.there, length-set system.locals x holds); calls = next.calls; todo = ap (λ (l : Local). l.todo) mine ∙ next.todo };
     holds = ap (λ l. known_at l call) mine ∙ here_is ∙ (λ i. record { object = object i; frame = dw.frame; index = dw.index; cache = dw.cache; held = true });
-    known = ap (λ (l : Local). l.known) mine ∙ (λ i. set l.known call.place (record { object = object i; frame = dw.frame; index = dw.index; cache = dw.cache; held = true }));
+    known = ap (λ (l : Local). l.known) mine ∙ (λ i. set l.known (call_place call) (record { object = object i; frame = dw.frame; index = dw.index; cache = dw.cache; held = true }));
     number = ap (λ (l : Local). l.worker) mine;
     done = ap (λ (l : Local). l.done) mine;
     todo = ap (λ (l : Local). l.todo) mine;
@@ -400,7 +401,7 @@ objects_taken opening s b system x call held rest next is named nobodys =
     let w = world_of (setup_of s b) system.value system.words in
     let begin = starts opening s b system x call rest next in
     let object = begin.may.known (ap names_object is) in
-    let on = on_board_it w system.locals call.object held (sym (rest.rests.rests.named call.object) ∙ named) nobodys in
+    let on = on_board_it w system.locals (call_object call) held (sym (rest.rests.rests.named (call_object call)) ∙ named) nobodys in
     let unheld = board_unheld opening s b system x call held rest next is named nobodys in
     subst (λ h. TakesFromBoard opening s b system x call h) on.is (is_taken opening s b system x call rest next is on.word (ap w.board object ∙ on.there) unheld)
 
@@ -409,13 +410,13 @@ board_frees opening s b system x call held rest next is named nobodys takes turn
     let m = setup_of s b in
     let l = worker_at system x in
     let end = alone m x (suc (suc turns)) system in
-    let same = held_setup s call.object l.worker held named b in
+    let same = held_setup s (call_object call) l.worker held named b in
     let r = frees.replies in
-    let ran : alone (setup_of (held_by s call.object l.worker held) b) x (suc turns) takes.taken ≡ end = ap (λ m. alone m x (suc turns) takes.taken) same ∙ sym (takes.later turns) in
+    let ran : alone (setup_of (held_by s (call_object call) l.worker held) b) x (suc turns) takes.taken ≡ end = ap (λ m. alone m x (suc turns) takes.taken) same ∙ sym (takes.later turns) in
     record {
       reply = frees.reply;
       after = frees.after;
-      frees = freed_from_board s call.object l.worker held named nobodys call.cpu frees.reply frees.after (subst (λ worker. Frees (held_by s call.object l.worker held) call.cpu worker call.object frees.reply frees.after) takes.number frees.frees);
+      frees = freed_from_board s (call_object call) l.worker held named nobodys (call_cpu call) frees.reply frees.after (subst (λ worker. Frees (held_by s (call_object call) l.worker held) (call_cpu call) worker (call_object call) frees.reply frees.after) takes.number frees.frees);
       replies = record {
         setup = r.setup ∙ same;
         rest = subst (IsAtRest opening frees.after d) ran r.rest;
@@ -427,8 +428,8 @@ board_frees opening s b system x call held rest next is named nobodys takes turn
           todo = r.replied.todo ∙ ap (drop 1) takes.todo;
           rested = sym (ap (λ (t : System). worker_at t x) ran) ∙ r.replied.rested ∙ ap (λ m. rested m r.replied.told) same;
         };
-        others = sym (ap (λ (t : System). t.locals) ran) ∙ r.others ∙ ap (λ ls. set ls x (worker_at (alone (setup_of (held_by s call.object l.worker held) b) x (suc turns) takes.taken) x)) takes.others
-            ∙ set-set system.locals x (worker_at takes.taken x) (worker_at (alone (setup_of (held_by s call.object l.worker held) b) x (suc turns) takes.taken) x) ∙ ap (λ (t : System). set system.locals x (worker_at t x)) ran;
+        others = sym (ap (λ (t : System). t.locals) ran) ∙ r.others ∙ ap (λ ls. set ls x (worker_at (alone (setup_of (held_by s (call_object call) l.worker held) b) x (suc turns) takes.taken) x)) takes.others
+            ∙ set-set system.locals x (worker_at takes.taken x) (worker_at (alone (setup_of (held_by s (call_object call) l.worker held) b) x (suc turns) takes.taken) x) ∙ ap (λ (t : System). set system.locals x (worker_at t x)) ran;
       };
       known = sym (ap (λ (t : System). (worker_at t x).known) ran) ∙ frees.known ∙ known_twice;
     }
@@ -437,15 +438,15 @@ board_frees opening s b system x call held rest next is named nobodys takes turn
     by_done done = record { call = call; reply = frees.reply } ∷ done
 
     -- the object that it takes first
-    known_twice : known_freed (worker_at takes.taken x).known call.place call.object (worker_at takes.taken x).worker (get_or (set s.board call.object (Some (record held { worker = Some (worker_at system x).worker }))) call.object None) (held_under frees.after call.object)
-        ≡ known_freed (worker_at system x).known call.place call.object (worker_at system x).worker (held_under s call.object) (held_under frees.after call.object)
+    known_twice : known_freed (worker_at takes.taken x).known (call_place call) (call_object call) (worker_at takes.taken x).worker (get_or (set s.board (call_object call) (Some (record held { worker = Some (worker_at system x).worker }))) (call_object call) None) (held_under frees.after (call_object call))
+        ≡ known_freed (worker_at system x).known (call_place call) (call_object call) (worker_at system x).worker (held_under s (call_object call)) (held_under frees.after (call_object call))
     known_twice =
         let l = worker_at system x in
-        let now = held_under frees.after call.object in
-        let taken = set l.known call.place (known_as call.object held) in
-        ap (λ ks. known_freed ks call.place call.object (worker_at takes.taken x).worker (get_or (set s.board call.object (Some (record held { worker = Some l.worker }))) call.object None) now) takes.known
-        ∙ ap (λ y. known_freed taken call.place call.object y (get_or (set s.board call.object (Some (record held { worker = Some l.worker }))) call.object None) now) takes.number
-        ∙ ap (λ h. known_freed taken call.place call.object l.worker h now) (get_or-set_same s.board call.object (Some (record held { worker = Some l.worker })) None (inside-of s.board call.object held named))
-        ∙ ap (λ z. cond {A = List Known} z (set taken call.place (record (known_as call.object held) { held = is_some now })) taken) (eq-eqb l.worker l.worker refl)
-        ∙ set-set l.known call.place (known_as call.object held) (record (known_as call.object held) { held = is_some now })
-        ∙ sym (ap (λ h. known_freed l.known call.place call.object l.worker h now) named ∙ ap (λ h. cond {A = List Known} (is_freeable l.worker h) (set l.known call.place (record (known_as call.object held) { held = is_some now })) l.known) nobodys)
+        let now = held_under frees.after (call_object call) in
+        let taken = set l.known (call_place call) (known_as (call_object call) held) in
+        ap (λ ks. known_freed ks (call_place call) (call_object call) (worker_at takes.taken x).worker (get_or (set s.board (call_object call) (Some (record held { worker = Some l.worker }))) (call_object call) None) now) takes.known
+        ∙ ap (λ y. known_freed taken (call_place call) (call_object call) y (get_or (set s.board (call_object call) (Some (record held { worker = Some l.worker }))) (call_object call) None) now) takes.number
+        ∙ ap (λ h. known_freed taken (call_place call) (call_object call) l.worker h now) (get_or-set_same s.board (call_object call) (Some (record held { worker = Some l.worker })) None (inside-of s.board (call_object call) held named))
+        ∙ ap (λ z. cond {A = List Known} z (set taken (call_place call) (record (known_as (call_object call) held) { held = is_some now })) taken) (eq-eqb l.worker l.worker refl)
+        ∙ set-set l.known (call_place call) (known_as (call_object call) held) (record (known_as (call_object call) held) { held = is_some now })
+        ∙ sym (ap (λ h. known_freed l.known (call_place call) (call_object call) l.worker h now) named ∙ ap (λ h. cond {A = List Known} (is_freeable l.worker h) (set l.known (call_place call) (record (known_as (call_object call) held) { held = is_some now })) l.known) nobodys)

@@ -38,6 +38,7 @@ use Rattle.slub_core.specs.declared.step.Answer.{Answer}
 use Rattle.slub_core.specs.declared.step.Answer.TheVariants.{Word, Done, Won, Lost}
 use Rattle.slub_core.specs.declared.step.Op.TheVariants.{Load, Store, Exchange, Swap}
 use Rattle.slub_core.specs.declared.step.Place.TheVariants.{CpuOf, SlabOf, ListOf, LockOf}
+use Rattle.slub_core.specs.Calls.{call_kind, call_cpu, call_object, call_place}
 use Rattle.slub_core.specs.Setup.{Setup, cpu_number, pointer_at, hardened, node_lock}
 use Rattle.slub_core.specs.Words.{cpu_in, slab_in, cpu_base, slab_base, memory_base, list_in, list_base, no_list_word}
 use Rattle.slub_core.specs.World.{World, LockValue, Node, update, set_cpu, set_slab, set_lock, set_value, pointer, IsChain, Links, world_from, world_of, one_if, frames_in}
@@ -86,7 +87,7 @@ use Rattle.slub_calls.specs.Changes.{grown}
 use Rattle.slub_calls.proofs.ChangeNumbers.{cpu_here}
 
 module _ (opening : World) (s : State) (b : Beside) (system : System) (x : ℕ) (call : Call) (place k f : ℕ) (others : List ℕ) (rest : IsAtRest opening s b system) (next : IsNext system x call) (is : IsAlloc s call place k)
-    (ids : HasIds b (cpu_number k call.cpu) 1) (current : (lists_of s k call.cpu).current ≡ None) (none : (lists_of s k call.cpu).partial ≡ []) (nodes : node_of s k ≡ f ∷ others) where
+    (ids : HasIds b (cpu_number k (call_cpu call)) 1) (current : (lists_of s k (call_cpu call)).current ≡ None) (none : (lists_of s k (call_cpu call)).partial ≡ []) (nodes : node_of s k ≡ f ∷ others) where
   abbrev m : Setup
   m = setup_of s b
 
@@ -97,7 +98,7 @@ module _ (opening : World) (s : State) (b : Beside) (system : System) (x : ℕ) 
   l = worker_at system x
 
   abbrev n : ℕ
-  n = cpu_number k call.cpu
+  n = cpu_number k (call_cpu call)
 
   abbrev c : CpuWord
   c = w.cpu n
@@ -106,7 +107,7 @@ module _ (opening : World) (s : State) (b : Beside) (system : System) (x : ℕ) 
   z = w.slab f
 
   abbrev lists : CpuLists
-  lists = lists_of s k call.cpu
+  lists = lists_of s k (call_cpu call)
 
   -- the slabs that go to the partial list, and those that stay
   abbrev ts : List ℕ
@@ -130,7 +131,7 @@ module _ (opening : World) (s : State) (b : Beside) (system : System) (x : ℕ) 
   inside : k < 32
   inside = begin.setup.live k lives
 
-  cpu : call.cpu < s.cpus
+  cpu : call_cpu call < s.cpus
   cpu = begin.may.cpu
 
   small : n < 512
@@ -140,12 +141,12 @@ module _ (opening : World) (s : State) (b : Beside) (system : System) (x : ℕ) 
   number = omega (arith, cpu, begin.few)
 
   here : cpu_at s n ≡ lists
-  here = cpu_here s k call.cpu cpu begin.few
+  here = cpu_here s k (call_cpu call) cpu begin.few
 
   cpu_is : IsCpuOf b w n lists
   cpu_is = subst (IsCpuOf b w n) here (resting.cpu n small)
 
-  names : names_object call.kind ≡ true
+  names : names_object (call_kind call) ≡ true
   names = ap names_object is.kind
 
   empty : lists.free ≡ []
@@ -168,8 +169,8 @@ module _ (opening : World) (s : State) (b : Beside) (system : System) (x : ℕ) 
 
   -- ---- the slab
 
-  place_below : cpu_place s k call.cpu < length s.cpu_lists
-  place_below = place-inside s k call.cpu rest.lists.shaped inside cpu
+  place_below : cpu_place s k (call_cpu call) < length s.cpu_lists
+  place_below = place-inside s k (call_cpu call) rest.lists.shaped inside cpu
 
   nodes_below : k < length s.nodes
   nodes_below = omega (arith, inside, rest.lists.shaped.nodes)
@@ -266,7 +267,7 @@ module _ (opening : World) (s : State) (b : Beside) (system : System) (x : ℕ) 
   -- ---- the turns
 
   abbrev asked : Local
-  asked = record l { spot = InAlloc LoadCpu; cache = k; cpu = call.cpu; place = call.place; fast = false; turn = 0; count = 0 }
+  asked = record l { spot = InAlloc LoadCpu; cache = k; cpu = call_cpu call; place = call_place call; fast = false; turn = 0; count = 0 }
 
   abbrev loaded : Local
   loaded = record asked { cpu_word = c; spot = InAlloc TakeList }
@@ -487,10 +488,10 @@ module _ (opening : World) (s : State) (b : Beside) (system : System) (x : ℕ) 
   words = set words3 (cpu_base + n) (cpu_bits v)
 
   abbrev known : Known
-  known = record { object = (get_or l.known call.place nobody).object; frame = f; index = z.head - 1; cache = k; held = true }
+  known = record { object = (get_or l.known (call_place call) nobody).object; frame = f; index = z.head - 1; cache = k; held = true }
 
   abbrev has : Local
-  has = record holding { spot = Between; cpu_word = c; known = set l.known call.place known }
+  has = record holding { spot = Between; cpu_word = c; known = set l.known (call_place call) known }
 
   abbrev reply : Reply
   reply = Given (address_of f (z.head - 1) (layout_at s k))
@@ -551,7 +552,7 @@ module _ (opening : World) (s : State) (b : Beside) (system : System) (x : ℕ) 
   held = record { frame = f; index = z.head - 1; cache = k; worker = Some l.worker }
 
   abbrev after : State
-  after = record s { slabs = set s.slabs f (option_map (marked true) (slab_of s f)); frees = set s.frees f []; cpu_lists = set s.cpu_lists (cpu_place s k call.cpu) left; nodes = set s.nodes k fs; board = set s.board call.object (Some held); live = set s.live k (get_or s.live k 0 + 1) }
+  after = record s { slabs = set s.slabs f (option_map (marked true) (slab_of s f)); frees = set s.frees f []; cpu_lists = set s.cpu_lists (cpu_place s k (call_cpu call)) left; nodes = set s.nodes k fs; board = set s.board (call_object call) (Some held); live = set s.live k (get_or s.live k 0 + 1) }
 
   abbrev given : State
   given = record after { memory = memory_of w (512 * s.frames) }
@@ -562,23 +563,23 @@ module _ (opening : World) (s : State) (b : Beside) (system : System) (x : ℕ) 
   calls : IsWithCalls told (rested m told)
   calls = rested_calls m told refl
 
-  known_is : (rested m told).known ≡ set l.known call.place known
+  known_is : (rested m told).known ≡ set l.known (call_place call) known
   known_is = ap (λ (l : Local). l.known) calls.same
 
   worker_is : (rested m told).worker ≡ l.worker
   worker_is = ap (λ (l : Local). l.worker) calls.same
 
-  object : known.object ≡ call.object
+  object : known.object ≡ call_object call
   object = begin.may.known names
 
-  on_board : call.object < length s.board
+  on_board : call_object call < length s.board
   on_board = (begin.may.object names).1
 
   once : (o : ℕ) → times_named u (set system.locals x (rested m told)) o ≤ 1
   once o = subst (λ w. times_named w (set system.locals x (rested m told)) o ≤ 1) says (once_named m opening final ended o)
 
-  unused : held_under s call.object ≡ None
-  unused = resting.named call.object ∙ named_new w system.locals x call.place (rested m told) known next.there (begin.may.place names) known_is refl (begin.may.new is.kind) call.object object (once call.object)
+  unused : held_under s (call_object call) ≡ None
+  unused = resting.named (call_object call) ∙ named_new w system.locals x (call_place call) (rested m told) known next.there (begin.may.place names) known_is refl (begin.may.new is.kind) (call_object call) object (once (call_object call))
 
   frees_below : f < length s.frees
   frees_below = omega (arith, within.1, rest.lists.shaped.frees)
@@ -590,9 +591,9 @@ module _ (opening : World) (s : State) (b : Beside) (system : System) (x : ℕ) 
     string = refl;
     run = begin.between.run;
     packed = record { cpu_word = resting.words.cpu n; slab_word = pushed.slab_fit; list_word = pushed.list_fit; next = begin.between.packed.next };
-    cpu = subst (λ (m : Setup). call.cpu < m.cpus) (sym resting.setup) begin.may.cpu;
-    numbers = All-set (λ (k : Known). k.object < w.setup.objects) l.known call.place known (subst (λ (m : Setup). known.object < m.objects) (sym resting.setup) (omega (arith, object, on_board))) begin.between.numbers;
-    some = All-set (λ (k : Known). k.held ≡ true → 1 ≤ k.object) l.known call.place known (λ _. omega (arith, object, (begin.may.object names).0)) begin.between.some;
+    cpu = subst (λ (m : Setup). call_cpu call < m.cpus) (sym resting.setup) begin.may.cpu;
+    numbers = All-set (λ (k : Known). k.object < w.setup.objects) l.known (call_place call) known (subst (λ (m : Setup). known.object < m.objects) (sym resting.setup) (omega (arith, object, on_board))) begin.between.numbers;
+    some = All-set (λ (k : Known). k.held ≡ true → 1 ≤ k.object) l.known (call_place call) known (λ _. omega (arith, object, (begin.may.object names).0)) begin.between.some;
   })
 
   -- a fact at each slab word
@@ -641,7 +642,7 @@ module _ (opening : World) (s : State) (b : Beside) (system : System) (x : ℕ) 
   }
 
   cpu_ends : (i : ℕ) → i < 512 → IsCpuOf b2 u i (cpu_at given i)
-  cpu_ends i below = cpus_relisted s b (record w { link = links; value = update w.value j (Node fs) }) k call.cpu left v (tid_of b n + 1 * b.step) listing slabs cpu begin.few place_below (omega (arith, small, rest.beside.tids)) cpu_linked (omega (arith, cpu_is.tid))
+  cpu_ends i below = cpus_relisted s b (record w { link = links; value = update w.value j (Node fs) }) k (call_cpu call) left v (tid_of b n + 1 * b.step) listing slabs cpu begin.few place_below (omega (arith, small, rest.beside.tids)) cpu_linked (omega (arith, cpu_is.tid))
       (sym (cond-false {A = Option ℕ} (eqb f 0) None (Some f) (ne_eqb f 0 (λ none. absurd (let some = within.0 in omega arith)))))
       (subst (λ h. IsChain (pointer w k f) h first.0) (sym follows_is) first.2)
       (pushed_count no_list_word ts ∙ (let long = length-reverse ts in let e : 0 + length ts ≡ length (reverse ts) = omega (arith, long) in e))
@@ -670,16 +671,16 @@ module _ (opening : World) (s : State) (b : Beside) (system : System) (x : ℕ) 
       unmarked : (g : ℕ) → (w.slab g).cache ≡ k → times g fs ≡ 0 → false ≡ nat_lt 0 (times g (node_of given (w.slab g).cache))
       unmarked g of_k none = sym (ap (λ q. nat_lt 0 (times g (node_of given q))) of_k ∙ ap (λ fs. nat_lt 0 (times g fs)) node_left ∙ ap (nat_lt 0) none)
 
-  names_are : (o : ℕ) → get_or (set s.board call.object (Some held)) o None ≡ named_in u (set system.locals x (rested m told)) o
-  names_are o = elim (cases_eq o call.object) [
-    | inl e ↦ ap (λ o. get_or (set s.board call.object (Some held)) o None) e ∙ get_or-set_same s.board call.object (Some held) None on_board ∙ ap (λ worker. Some (record { frame = f; index = z.head - 1; cache = k; worker = Some worker })) (sym worker_is)
-        ∙ sym (named_held u system.locals x call.place (rested m told) l.known known next.there (begin.may.place names) known_is refl (once known.object)) ∙ ap (named_in u (set system.locals x (rested m told))) (object ∙ sym e)
-    | inr away ↦ get_or-set_other s.board call.object o (Some held) None away ∙ resting.named o ∙ sym (named_other u system.locals x call.place (rested m told) known worker_is known_is refl o (λ e. away (sym e ∙ object)))
+  names_are : (o : ℕ) → get_or (set s.board (call_object call) (Some held)) o None ≡ named_in u (set system.locals x (rested m told)) o
+  names_are o = elim (cases_eq o (call_object call)) [
+    | inl e ↦ ap (λ o. get_or (set s.board (call_object call) (Some held)) o None) e ∙ get_or-set_same s.board (call_object call) (Some held) None on_board ∙ ap (λ worker. Some (record { frame = f; index = z.head - 1; cache = k; worker = Some worker })) (sym worker_is)
+        ∙ sym (named_held u system.locals x (call_place call) (rested m told) l.known known next.there (begin.may.place names) known_is refl (once known.object)) ∙ ap (named_in u (set system.locals x (rested m told))) (object ∙ sym e)
+    | inr away ↦ get_or-set_other s.board (call_object call) o (Some held) None away ∙ resting.named o ∙ sym (named_other u system.locals x (call_place call) (rested m told) known worker_is known_is refl o (λ e. away (sym e ∙ object)))
   ]
 
   same_setup : setup_of given b2 ≡ setup_of s b
-  same_setup = setup_same s b w system.locals (set s.frees f []) (set s.cpu_lists (cpu_place s k call.cpu) left) given.memory (set s.board call.object (Some held)) s.gone (set s.live k (get_or s.live k 0 + 1)) (set b.tids n (tid_of b n + 1 * b.step))
-      (update w.cpu n v) slabs w.memory (set system.locals x (rested m told)) (length-set s.board call.object (Some held))
+  same_setup = setup_same s b w system.locals (set s.frees f []) (set s.cpu_lists (cpu_place s k (call_cpu call)) left) given.memory (set s.board (call_object call) (Some held)) s.gone (set s.live k (get_or s.live k 0 + 1)) (set b.tids n (tid_of b n + 1 * b.step))
+      (update w.cpu n v) slabs w.memory (set system.locals x (rested m told)) (length-set s.board (call_object call) (Some held))
 
   ends : Rests given b2 u (set system.locals x (rested m told))
   ends = record {
@@ -704,27 +705,27 @@ module _ (opening : World) (s : State) (b : Beside) (system : System) (x : ℕ) 
   -- ---- on lists
 
   accounted : IsAccounted given
-  accounted = accounted-with_held s call.object held (omega (arith, inside, rest.lists.shaped.live)) on_board unused rest.lists.accounted
+  accounted = accounted-with_held s (call_object call) held (omega (arith, inside, rest.lists.shaped.live)) on_board unused rest.lists.accounted
 
   lengths : HasLengths given
   lengths = record {
     slabs = length-set s.slabs f (option_map (marked true) (slab_of s f)) ∙ rest.lists.shaped.slabs;
     frees = length-set s.frees f [] ∙ rest.lists.shaped.frees;
-    cpu_lists = length-set s.cpu_lists (cpu_place s k call.cpu) left ∙ rest.lists.shaped.cpu_lists;
+    cpu_lists = length-set s.cpu_lists (cpu_place s k (call_cpu call)) left ∙ rest.lists.shaped.cpu_lists;
     nodes = length-set s.nodes k fs ∙ rest.lists.shaped.nodes;
     checked = rest.lists.shaped.checked.numbers;
     memory = copied_length w (512 * s.frames);
-    gone = rest.lists.shaped.gone ∙ sym (length-set s.board call.object (Some held));
+    gone = rest.lists.shaped.gone ∙ sym (length-set s.board (call_object call) (Some held));
     live = length-set s.live k (get_or s.live k 0 + 1) ∙ rest.lists.shaped.live;
   }
 
   abbrev stock : State
-  stock = taken_up (with_node_list s k fs) k call.cpu f (reverse ts)
+  stock = taken_up (with_node_list s k fs) k (call_cpu call) f (reverse ts)
 
-  stock_lists : lists_of stock k call.cpu ≡ record { current = Some f; free = own_free s f; partial = reverse ts }
-  stock_lists = get_or-set_same s.cpu_lists (cpu_place s k call.cpu) (record { current = Some f; free = own_free s f; partial = reverse ts }) no_lists place_below
+  stock_lists : lists_of stock k (call_cpu call) ≡ record { current = Some f; free = own_free s f; partial = reverse ts }
+  stock_lists = get_or-set_same s.cpu_lists (cpu_place s k (call_cpu call)) (record { current = Some f; free = own_free s f; partial = reverse ts }) no_lists place_below
 
-  stock_gives : (live : Cache) → cache_of s k ≡ Some live → Gives stock live.layout k call.cpu l.worker call.object reply after
+  stock_gives : (live : Cache) → cache_of s k ≡ Some live → Gives stock live.layout k (call_cpu call) l.worker (call_object call) reply after
   stock_gives live e = record {
     frame = f;
     index = z.head - 1;
@@ -738,28 +739,28 @@ module _ (opening : World) (s : State) (b : Beside) (system : System) (x : ℕ) 
       frees = set s.frees f [];
       cpu_lists = cpus_are i;
       nodes = set s.nodes k fs;
-      board = set s.board call.object (Some (record { frame = f; index = z.head - 1; cache = k; worker = Some l.worker }));
+      board = set s.board (call_object call) (Some (record { frame = f; index = z.head - 1; cache = k; worker = Some l.worker }));
       live = set s.live k (get_or s.live k 0 + 1);
     };
   }
     where
-      cpus_are : set s.cpu_lists (cpu_place s k call.cpu) left ≡ set stock.cpu_lists (cpu_place s k call.cpu) (record { current = Some f; free = first.0; partial = (lists_of stock k call.cpu).partial })
-      cpus_are = sym (set-set s.cpu_lists (cpu_place s k call.cpu) (record { current = Some f; free = own_free s f; partial = reverse ts }) left)
-          ∙ ap (λ fs. set stock.cpu_lists (cpu_place s k call.cpu) (record { current = Some f; free = first.0; partial = fs })) (sym (ap (λ (x : CpuLists). x.partial) stock_lists))
+      cpus_are : set s.cpu_lists (cpu_place s k (call_cpu call)) left ≡ set stock.cpu_lists (cpu_place s k (call_cpu call)) (record { current = Some f; free = first.0; partial = (lists_of stock k (call_cpu call)).partial })
+      cpus_are = sym (set-set s.cpu_lists (cpu_place s k (call_cpu call)) (record { current = Some f; free = own_free s f; partial = reverse ts }) left)
+          ∙ ap (λ fs. set stock.cpu_lists (cpu_place s k (call_cpu call)) (record { current = Some f; free = first.0; partial = fs })) (sym (ap (λ (x : CpuLists). x.partial) stock_lists))
 
-  gives : (live : Cache) → cache_of s k ≡ Some live → Gives (taken_up (with_node_list s k (drop (batch_of live.layout) others)) k call.cpu f (reverse (take (batch_of live.layout) others))) live.layout k call.cpu l.worker call.object reply after
-  gives live e = subst (λ (y : Layout). Gives (taken_up (with_node_list s k (drop (batch_of y) others)) k call.cpu f (reverse (take (batch_of y) others))) live.layout k call.cpu l.worker call.object reply after) (layout_of s k live e) (stock_gives live e)
+  gives : (live : Cache) → cache_of s k ≡ Some live → Gives (taken_up (with_node_list s k (drop (batch_of live.layout) others)) k (call_cpu call) f (reverse (take (batch_of live.layout) others))) live.layout k (call_cpu call) l.worker (call_object call) reply after
+  gives live e = subst (λ (y : Layout). Gives (taken_up (with_node_list s k (drop (batch_of y) others)) k (call_cpu call) f (reverse (take (batch_of y) others))) live.layout k (call_cpu call) l.worker (call_object call) reply after) (layout_of s k live e) (stock_gives live e)
 
-  allocates : AllocatesNamed s place call.cpu l.worker call.object reply after
-  allocates = subst (λ o. MatchOption o ((reply ≡ NoSuchCache) × (after ≡ s)) (λ cache. MatchOption (cache_of s cache) ⊥ (λ live. AllocatesFrom s live.layout cache call.cpu l.worker call.object reply after))) (sym is.named) (by (cache_of s k) refl lives)
+  allocates : AllocatesNamed s place (call_cpu call) l.worker (call_object call) reply after
+  allocates = subst (λ o. MatchOption o ((reply ≡ NoSuchCache) × (after ≡ s)) (λ cache. MatchOption (cache_of s cache) ⊥ (λ live. AllocatesFrom s live.layout cache (call_cpu call) l.worker (call_object call) reply after))) (sym is.named) (by (cache_of s k) refl lives)
     where
-      by : (o : Option Cache) → cache_of s k ≡ o → is_some o ≡ true → MatchOption o ⊥ (λ live. AllocatesFrom s live.layout k call.cpu l.worker call.object reply after)
+      by : (o : Option Cache) → cache_of s k ≡ o → is_some o ≡ true → MatchOption o ⊥ (λ live. AllocatesFrom s live.layout k (call_cpu call) l.worker (call_object call) reply after)
       by None e live = false≢true live
       by (Some live) e has_it = from-unchecked (checked_of s k) _ _ is.unchecked
-          (subst (λ free. MatchResult (from_free s k call.cpu (batch_of live.layout) free) (λ stocked. Gives stocked live.layout k call.cpu l.worker call.object reply after) (λ bare. AllocatesNew bare live.layout k call.cpu l.worker call.object reply after)) (sym empty)
-          (subst (λ o. MatchResult (from_slabs s k call.cpu (batch_of live.layout) o) (λ stocked. Gives stocked live.layout k call.cpu l.worker call.object reply after) (λ bare. AllocatesNew bare live.layout k call.cpu l.worker call.object reply after)) (sym current)
-          (subst (λ fs. MatchResult (from_partial s k call.cpu (batch_of live.layout) fs) (λ stocked. Gives stocked live.layout k call.cpu l.worker call.object reply after) (λ bare. AllocatesNew bare live.layout k call.cpu l.worker call.object reply after)) (sym none)
-          (subst (λ fs. MatchResult (from_node s k call.cpu (batch_of live.layout) fs) (λ stocked. Gives stocked live.layout k call.cpu l.worker call.object reply after) (λ bare. AllocatesNew bare live.layout k call.cpu l.worker call.object reply after)) (sym nodes) (gives live e)))))
+          (subst (λ free. MatchResult (from_free s k (call_cpu call) (batch_of live.layout) free) (λ stocked. Gives stocked live.layout k (call_cpu call) l.worker (call_object call) reply after) (λ bare. AllocatesNew bare live.layout k (call_cpu call) l.worker (call_object call) reply after)) (sym empty)
+          (subst (λ o. MatchResult (from_slabs s k (call_cpu call) (batch_of live.layout) o) (λ stocked. Gives stocked live.layout k (call_cpu call) l.worker (call_object call) reply after) (λ bare. AllocatesNew bare live.layout k (call_cpu call) l.worker (call_object call) reply after)) (sym current)
+          (subst (λ fs. MatchResult (from_partial s k (call_cpu call) (batch_of live.layout) fs) (λ stocked. Gives stocked live.layout k (call_cpu call) l.worker (call_object call) reply after) (λ bare. AllocatesNew bare live.layout k (call_cpu call) l.worker (call_object call) reply after)) (sym none)
+          (subst (λ fs. MatchResult (from_node s k (call_cpu call) (batch_of live.layout) fs) (λ stocked. Gives stocked live.layout k (call_cpu call) l.worker (call_object call) reply after) (λ bare. AllocatesNew bare live.layout k (call_cpu call) l.worker (call_object call) reply after)) (sym nodes) (gives live e)))))
 
   pub takes : AllocatesAlone opening s b system x call place turns b2
   takes = record {
@@ -770,9 +771,9 @@ module _ (opening : World) (s : State) (b : Beside) (system : System) (x : ℕ) 
     words = record {
       lists = refl;
       sized = copied_length w (512 * s.frames) ∙ sym rest.lists.shaped.memory;
-      words = λ other word h away there plain is_word. sym (copied m system.value system.words _) ∙ resting.contents other word h (sym (get_or-set_other s.board call.object other (Some held) None away) ∙ there) plain is_word;
+      words = λ other word h away there plain is_word. sym (copied m system.value system.words _) ∙ resting.contents other word h (sym (get_or-set_other s.board (call_object call) other (Some held) None away) ∙ there) plain is_word;
     };
-    known = known_ends s b system x turns told words later next.there whole refl ∙ knows_given l.known call.place known.object call.object s.board held after refl on_board object;
+    known = known_ends s b system x turns told words later next.there whole refl ∙ knows_given l.known (call_place call) known.object (call_object call) s.board held after refl on_board object;
     replies = replies_of opening s given b b2 system x turns call reply told words later next whole refl refl refl refl same_setup
         (ends_at_rest opening u s given b b2 system final rest same_setup refl refl lengths accounted (length-set b.tids n (tid_of b n + 1 * b.step) ∙ rest.beside.tids) refl refl ended says ends
         (whole_cpu m words3 n (cpu_bits v) refl small (whole_lock m pushed.after j 0 j_small pushed.whole)));

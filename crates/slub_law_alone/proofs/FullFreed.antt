@@ -42,6 +42,7 @@ use Rattle.slub_core.specs.declared.step.Answer.{Answer}
 use Rattle.slub_core.specs.declared.step.Answer.TheVariants.{Word, Done, Won, Lost}
 use Rattle.slub_core.specs.declared.step.Op.TheVariants.{Load, Store, Exchange}
 use Rattle.slub_core.specs.declared.step.Place.TheVariants.{CpuOf, SlabOf, MemoryOf, ListOf, LinkOf}
+use Rattle.slub_core.specs.Calls.{call_kind, call_cpu, call_object, call_place}
 use Rattle.slub_core.specs.Setup.{Setup, cpu_number, pointer_at, hardened}
 use Rattle.slub_core.specs.Words.{cpu_in, slab_in, cpu_base, slab_base, memory_base, list_in, list_base, link_base}
 use Rattle.slub_core.specs.World.{World, update, set_slab, set_memory, pointer, IsChain, world_of, Links, set_list, set_link, one_if}
@@ -67,7 +68,7 @@ use Rattle.slub_core.specs.Alloc.{single_string}
 use Rattle.slub_cache_create.specs.declared.caches.Cache.{Cache}
 use Rattle.slub_law_alone.specs.Alone.{own_pick, alone, worker_at, known_at, IsNext}
 use Rattle.slub_law_alone.specs.Ready.{IsReady}
-use Rattle.slub_law_alone.specs.Laws.{IsFree, FreesAlone, HasRoom, FullSlabsAreListed}
+use Rattle.slub_law_alone.specs.Laws.{IsFree, FreesAlone, ListHasRoom, FullSlabsAreListed}
 use Rattle.slub_law_alone.proofs.Apart.{IsSlabAt, slab_word, plain_word, pointer_own, cpu_stands, own_stands, word_apart}
 use Rattle.slub_law_alone.proofs.Bits.{whole_memory, whole_slab, whole_list_word, whole_link}
 use Rattle.slub_law_alone.proofs.Changed.{SameSlab, setup_same, same_word, rests_relisted, slab_kept}
@@ -110,7 +111,7 @@ no_third false b c d e = refl
 
 module _ (opening : World) (s : State) (b : Beside) (system : System) (x : ℕ) (call : Call) (rest : IsReady opening s b system x) (next : IsNext system x call) (is : IsFree s (worker_at system x) call)
     (unfrozen : is_frozen s (known_at (worker_at system x) call).frame ≡ false) (full : own_free s (known_at (worker_at system x) call).frame ≡ [])
-    (room : HasRoom s (known_at (worker_at system x) call).cache call.cpu) where
+    (room : ListHasRoom s (known_at (worker_at system x) call).cache (call_cpu call)) where
   abbrev m : Setup
   m = setup_of s b
 
@@ -127,7 +128,7 @@ module _ (opening : World) (s : State) (b : Beside) (system : System) (x : ℕ) 
   f = o.frame
 
   abbrev n : ℕ
-  n = cpu_number o.cache call.cpu
+  n = cpu_number o.cache (call_cpu call)
 
   abbrev c : CpuWord
   c = w.cpu n
@@ -141,7 +142,7 @@ module _ (opening : World) (s : State) (b : Beside) (system : System) (x : ℕ) 
   begin : IsReadyStart opening s b system x call
   begin = ready_starts opening s b system x call rest next
 
-  names : names_object call.kind ≡ true
+  names : names_object (call_kind call) ≡ true
   names = ap names_object is.kind
 
   has : HasObject s system x call
@@ -150,18 +151,18 @@ module _ (opening : World) (s : State) (b : Beside) (system : System) (x : ℕ) 
   resting : Rests s b w system.locals
   resting = rest.rests.rests
 
-  cpu : call.cpu < s.cpus
+  cpu : call_cpu call < s.cpus
   cpu = begin.may.cpu
 
   small : n < 512
   small = omega (arith, has.inside, cpu, begin.few)
 
-  cpu_is : IsCpuOf b w n (lists_of s o.cache call.cpu)
-  cpu_is = subst (IsCpuOf b w n) (cpu_here s o.cache call.cpu cpu begin.few) (resting.cpu n small)
+  cpu_is : IsCpuOf b w n (lists_of s o.cache (call_cpu call))
+  cpu_is = subst (IsCpuOf b w n) (cpu_here s o.cache (call_cpu call) cpu begin.few) (resting.cpu n small)
 
-  away : (lists_of s o.cache call.cpu).current ≢ Some f
+  away : (lists_of s o.cache (call_cpu call)).current ≢ Some f
   away current =
-      let there = current-at s n f begin.consistent (ap (λ (x : CpuLists). x.current) (cpu_here s o.cache call.cpu cpu begin.few) ∙ current) in
+      let there = current-at s n f begin.consistent (ap (λ (x : CpuLists). x.current) (cpu_here s o.cache (call_cpu call) cpu begin.few) ∙ current) in
       let frozen_it = ap (λ o. option_map_or (λ (x : Slab). x.frozen) o false) there.there ∙ there.frozen in
       false≢true (sym unfrozen ∙ frozen_it)
 
@@ -209,7 +210,7 @@ module _ (opening : World) (s : State) (b : Beside) (system : System) (x : ℕ) 
   -- ---- the worker, and what it leaves
 
   abbrev asked : Local
-  asked = record l { spot = InFree LoadOwn; cache = o.cache; cpu = call.cpu; place = call.place; fast = false; turn = 0; count = 0 }
+  asked = record l { spot = InFree LoadOwn; cache = o.cache; cpu = call_cpu call; place = call_place call; fast = false; turn = 0; count = 0 }
 
   abbrev loaded : Local
   loaded = record asked { cpu_word = c; spot = InFree LoadSlab }
@@ -218,7 +219,7 @@ module _ (opening : World) (s : State) (b : Beside) (system : System) (x : ℕ) 
   lost = record o { held = false }
 
   abbrev freed_it : Local
-  freed_it = record loaded { slab_word = z; spot = Between; known = set l.known call.place lost }
+  freed_it = record loaded { slab_word = z; spot = Between; known = set l.known (call_place call) lost }
 
   abbrev reply : Reply
   reply = Freed (address_of f o.index (layout_at s o.cache))
@@ -281,7 +282,7 @@ module _ (opening : World) (s : State) (b : Beside) (system : System) (x : ℕ) 
   not_the_last = no_third (not z.frozen) z.listed (not (eqb z.head 0)) (eqb z.inuse 1) (ap not (eq-eqb z.head 0 head_none))
 
   abbrev lists : CpuLists
-  lists = lists_of s o.cache call.cpu
+  lists = lists_of s o.cache (call_cpu call)
 
   abbrev lw : ListWord
   lw = w.list n
@@ -458,12 +459,12 @@ module _ (opening : World) (s : State) (b : Beside) (system : System) (x : ℕ) 
   left = record lists { partial = f ∷ lists.partial }
 
   abbrev after : State
-  after = with_gone (with_lists (with_freed (with_taken s call.object o.cache) f o.index) o.cache call.cpu left) call.object l.worker held
+  after = with_gone (with_lists (with_freed (with_taken s (call_object call) o.cache) f o.index) o.cache (call_cpu call) left) (call_object call) l.worker held
 
   calls : IsWithCalls listed_it (rested m listed_it)
   calls = rested_calls m listed_it refl
 
-  known_is : (rested m listed_it).known ≡ set l.known call.place lost
+  known_is : (rested m listed_it).known ≡ set l.known (call_place call) lost
   known_is = ap (λ (l : Local). l.known) calls.same
 
   worker_is : (rested m listed_it).worker ≡ l.worker
@@ -479,22 +480,22 @@ module _ (opening : World) (s : State) (b : Beside) (system : System) (x : ℕ) 
     string = refl;
     run = begin.between.run;
     packed = record { cpu_word = resting.words.cpu n; slab_word = resting.words.slab f; list_word = resting.words.list n; next = begin.between.packed.next };
-    cpu = subst (λ (m : Setup). call.cpu < m.cpus) (sym resting.setup) begin.may.cpu;
-    numbers = All-set (λ (k : Known). k.object < w.setup.objects) l.known call.place lost (subst (λ (m : Setup). o.object < m.objects) (sym resting.setup) (omega (arith, has.object, has.on_board))) begin.between.numbers;
-    some = All-set (λ (k : Known). k.held ≡ true → 1 ≤ k.object) l.known call.place lost (λ e. absurd (false≢true e)) begin.between.some;
+    cpu = subst (λ (m : Setup). call_cpu call < m.cpus) (sym resting.setup) begin.may.cpu;
+    numbers = All-set (λ (k : Known). k.object < w.setup.objects) l.known (call_place call) lost (subst (λ (m : Setup). o.object < m.objects) (sym resting.setup) (omega (arith, has.object, has.on_board))) begin.between.numbers;
+    some = All-set (λ (k : Known). k.held ≡ true → 1 ≤ k.object) l.known (call_place call) lost (λ e. absurd (false≢true e)) begin.between.some;
   })
 
   frees_below : f < length s.frees
   frees_below = omega (arith, within.1, rest.lists.shaped.frees)
 
-  place_below : cpu_place s o.cache call.cpu < length s.cpu_lists
-  place_below = place-inside s o.cache call.cpu rest.lists.shaped has.inside cpu
+  place_below : cpu_place s o.cache (call_cpu call) < length s.cpu_lists
+  place_below = place-inside s o.cache (call_cpu call) rest.lists.shaped has.inside cpu
 
   free_is : get_or (set s.frees f (o.index ∷ own_free s f)) f [] ≡ o.index ∷ own_free s f
   free_is = get_or-set_same s.frees f (o.index ∷ own_free s f) [] frees_below
 
   stands : (g : ℕ) → IsChain (pointer u (w.slab g).cache g) (w.slab g).head (own_free s g)
-  stands g = own_stands s call.object held begin.consistent has.named p (pointer_own s call.object held begin.consistent has.named) b w system.locals resting w.cpu (update w.slab f v) value g
+  stands g = own_stands s (call_object call) held begin.consistent has.named p (pointer_own s (call_object call) held begin.consistent has.named) b w system.locals resting w.cpu (update w.slab f v) value g
 
   leads_back : pointer u z.cache f o.index ≡ z.head
   leads_back = ap (λ k. pointer u k f o.index) cache
@@ -519,19 +520,19 @@ module _ (opening : World) (s : State) (b : Beside) (system : System) (x : ℕ) 
       (λ g has_it. update_other w.link f lw.front g (λ e. absurd (let t = partial-one s k f in let same = ap (λ g. times g (cpu_at s k).partial) e in omega (arith, t, same, has_it, never_listed)))) (resting.cpu k below).partial
 
   free_still : (k : ℕ) → k < 512 → IsChain (pointer u (k / 16) (w.cpu k).frame) (w.cpu k).head (cpu_at s k).free
-  free_still k below = cpu_stands s call.object held begin.consistent has.named p (pointer_own s call.object held begin.consistent has.named) b w system.locals resting w.cpu (update w.slab f v) value k below
+  free_still k below = cpu_stands s (call_object call) held begin.consistent has.named p (pointer_own s (call_object call) held begin.consistent has.named) b w system.locals resting w.cpu (update w.slab f v) value k below
 
   cpu_ends : (k : ℕ) → k < 512 → IsCpuOf b u k (cpu_at after k)
   cpu_ends k below = elim (cases_eq k n) [
-    | inl e ↦ subst (λ k. IsCpuOf b u k (cpu_at after k)) (sym e) (subst (IsCpuOf b u n) (sym (cpu_changed s o.cache call.cpu left cpu begin.few place_below)) (record {
+    | inl e ↦ subst (λ k. IsCpuOf b u k (cpu_at after k)) (sym e) (subst (IsCpuOf b u n) (sym (cpu_changed s o.cache (call_cpu call) left cpu begin.few place_below)) (record {
       tid = cpu_is.tid;
       current = cpu_is.current;
-      free = subst (λ (x : CpuLists). IsChain (pointer u (n / 16) c.frame) c.head x.free) (cpu_here s o.cache call.cpu cpu begin.few) (free_still n small);
+      free = subst (λ (x : CpuLists). IsChain (pointer u (n / 16) c.frame) c.head x.free) (cpu_here s o.cache (call_cpu call) cpu begin.few) (free_still n small);
       count = ap (λ (z : ListWord). z.count) (update_same w.list n longer) ∙ (let count = cpu_is.count in omega arith);
       partial = subst (λ (z : ListWord). Links u.link z.front (f ∷ lists.partial) 0) (sym (update_same w.list n longer))
-          (refl, subst (λ front. Links u.link front lists.partial 0) (sym (update_same w.link f lw.front)) (subst (λ (x : CpuLists). Links u.link lw.front x.partial 0) (cpu_here s o.cache call.cpu cpu begin.few) (links_still n small)));
+          (refl, subst (λ front. Links u.link front lists.partial 0) (sym (update_same w.link f lw.front)) (subst (λ (x : CpuLists). Links u.link lw.front x.partial 0) (cpu_here s o.cache (call_cpu call) cpu begin.few) (links_still n small)));
     }))
-    | inr d ↦ subst (IsCpuOf b u k) (sym (cpu_other s o.cache call.cpu left k cpu begin.few d)) (record {
+    | inr d ↦ subst (IsCpuOf b u k) (sym (cpu_other s o.cache (call_cpu call) left k cpu begin.few d)) (record {
       tid = (resting.cpu k below).tid;
       current = (resting.cpu k below).current;
       free = free_still k below;
@@ -544,9 +545,9 @@ module _ (opening : World) (s : State) (b : Beside) (system : System) (x : ℕ) 
   same_slabs = each_updated w.slab f v (λ g (c : SlabWord). SameSlab (w.slab g) c) (record { objects = refl; cache = refl; frozen = refl; listed = refl }) (λ g d. same_word (w.slab g))
 
   ends : Rests after b u (set system.locals x (rested m listed_it))
-  ends = rests_relisted s b w system.locals s.slabs (set s.frees f (o.index ∷ own_free s f)) (set s.cpu_lists (cpu_place s o.cache call.cpu) left) s.memory (set s.board call.object None) (set s.gone call.object (Some held)) (set s.live o.cache (get_or s.live o.cache 0 - 1)) b.tids
+  ends = rests_relisted s b w system.locals s.slabs (set s.frees f (o.index ∷ own_free s f)) (set s.cpu_lists (cpu_place s o.cache (call_cpu call)) left) s.memory (set s.board (call_object call) None) (set s.gone (call_object call) (Some held)) (set s.live o.cache (get_or s.live o.cache 0 - 1)) b.tids
       w.cpu (update w.list n longer) (update w.slab f v) (update w.link f lw.front) w.board (update w.memory p value) (set system.locals x (rested m listed_it)) resting
-      (length-set s.board call.object None)
+      (length-set s.board (call_object call) None)
       (let front = at_front m opening (machine words system.value (set system.locals x (rested m listed_it))) x (omega (arith, next.there, length-set system.locals x (rested m listed_it))) ended in subst IsWorded says front.stands.fresh.worded)
       (All-set (IsBetween w.setup) system.locals x (rested m listed_it) worker_rests resting.workers)
       cpu_ends (λ g. resting.slab g ∙ sym (slab_kept w u g refl refl (same_slabs g)))
@@ -555,52 +556,52 @@ module _ (opening : World) (s : State) (b : Beside) (system : System) (x : ℕ) 
       (λ g. (same_slabs g).listed ∙ resting.listed g ∙ ap (λ k. nat_lt 0 (times g (node_of s k))) (sym (same_slabs g).cache))
       own_ends names_are once words_are resting.no_zero
     where
-      names_are : (j : ℕ) → get_or (set s.board call.object None) j None ≡ named_in u (set system.locals x (rested m listed_it)) j
-      names_are j = elim (cases_eq j call.object) [
-        | inl e ↦ ap (λ o. get_or (set s.board call.object None) o None) e ∙ get_or-set_same s.board call.object None None has.on_board
-            ∙ sym (named_lost u system.locals x call.place (rested m listed_it) lost next.there has.place known_is refl is.held j (has.object ∙ sym e) (resting.once j))
-        | inr d ↦ get_or-set_other s.board call.object j None None d ∙ resting.named j ∙ sym (named_other u system.locals x call.place (rested m listed_it) lost worker_is known_is refl j (λ e. d (sym e ∙ has.object)))
+      names_are : (j : ℕ) → get_or (set s.board (call_object call) None) j None ≡ named_in u (set system.locals x (rested m listed_it)) j
+      names_are j = elim (cases_eq j (call_object call)) [
+        | inl e ↦ ap (λ o. get_or (set s.board (call_object call) None) o None) e ∙ get_or-set_same s.board (call_object call) None None has.on_board
+            ∙ sym (named_lost u system.locals x (call_place call) (rested m listed_it) lost next.there has.place known_is refl is.held j (has.object ∙ sym e) (resting.once j))
+        | inr d ↦ get_or-set_other s.board (call_object call) j None None d ∙ resting.named j ∙ sym (named_other u system.locals x (call_place call) (rested m listed_it) lost worker_is known_is refl j (λ e. d (sym e ∙ has.object)))
       ]
 
-      words_are : (j word : ℕ) (h : Held) → get_or (set s.board call.object None) j None ≡ Some h → KeepsWord s u h word
-      words_are j word h there plain inside = elim (cases_eq j call.object) [
-        | inl e ↦ absurd (let none = ap (λ o. get_or (set s.board call.object None) o None) e ∙ get_or-set_same s.board call.object None None has.on_board in cc (none, there))
+      words_are : (j word : ℕ) (h : Held) → get_or (set s.board (call_object call) None) j None ≡ Some h → KeepsWord s u h word
+      words_are j word h there plain inside = elim (cases_eq j (call_object call)) [
+        | inl e ↦ absurd (let none = ap (λ o. get_or (set s.board (call_object call) None) o None) e ∙ get_or-set_same s.board (call_object call) None None has.on_board in cc (none, there))
         | inr d ↦
-            let before : held_under s j ≡ Some h = sym (get_or-set_other s.board call.object j None None d) ∙ there in
-            update_other w.memory p value (word_at (layout_at s h.cache) h word) (word_apart s call.object held begin.consistent has.named j word h before d inside) ∙ resting.contents j word h before plain inside
+            let before : held_under s j ≡ Some h = sym (get_or-set_other s.board (call_object call) j None None d) ∙ there in
+            update_other w.memory p value (word_at (layout_at s h.cache) h word) (word_apart s (call_object call) held begin.consistent has.named j word h before d inside) ∙ resting.contents j word h before plain inside
       ]
 
   -- ---- on lists
 
   accounted : IsAccounted after
-  accounted = taken-accounted s call.object held begin.consistent has.named
+  accounted = taken-accounted s (call_object call) held begin.consistent has.named
 
   lengths : HasLengths after
   lengths = record {
     slabs = rest.lists.shaped.slabs;
     frees = length-set s.frees f (o.index ∷ own_free s f) ∙ rest.lists.shaped.frees;
-    cpu_lists = length-set s.cpu_lists (cpu_place s o.cache call.cpu) left ∙ rest.lists.shaped.cpu_lists;
+    cpu_lists = length-set s.cpu_lists (cpu_place s o.cache (call_cpu call)) left ∙ rest.lists.shaped.cpu_lists;
     nodes = rest.lists.shaped.nodes;
     checked = rest.lists.shaped.checked.numbers;
     memory = rest.lists.shaped.memory;
-    gone = length-set s.gone call.object (Some held) ∙ rest.lists.shaped.gone ∙ sym (length-set s.board call.object None);
+    gone = length-set s.gone (call_object call) (Some held) ∙ rest.lists.shaped.gone ∙ sym (length-set s.board (call_object call) None);
     live = length-set s.live o.cache (get_or s.live o.cache 0 - 1) ∙ rest.lists.shaped.live;
   }
 
   abbrev freed_state : State
-  freed_state = with_freed (with_taken s call.object o.cache) f o.index
+  freed_state = with_freed (with_taken s (call_object call) o.cache) f o.index
 
-  settles : (live : Cache) → cache_of s o.cache ≡ Some live → settled freed_state live.layout o.cache call.cpu f (own_free s f) ≡ with_lists freed_state o.cache call.cpu left
+  settles : (live : Cache) → cache_of s o.cache ≡ Some live → settled freed_state live.layout o.cache (call_cpu call) f (own_free s f) ≡ with_lists freed_state o.cache (call_cpu call) left
   settles live e =
-      ap (settled freed_state live.layout o.cache call.cpu f) full
-      ∙ cond-false {A = State} (is_frozen s f) freed_state (put_partial freed_state live.layout o.cache call.cpu f) unfrozen
-      ∙ put_with_room freed_state live.layout o.cache call.cpu f (subst (λ (y : Layout). (length lists.partial ≡ 0) ⊎ (length lists.partial < y.cpu_partial_slabs)) (layout_of s o.cache live e) room) place_below
+      ap (settled freed_state live.layout o.cache (call_cpu call) f) full
+      ∙ cond-false {A = State} (is_frozen s f) freed_state (put_partial freed_state live.layout o.cache (call_cpu call) f) unfrozen
+      ∙ put_with_room freed_state live.layout o.cache (call_cpu call) f (subst (λ (y : Layout). (length lists.partial ≡ 0) ⊎ (length lists.partial < y.cpu_partial_slabs)) (layout_of s o.cache live e) room) place_below
 
-  frees : Frees s call.cpu l.worker call.object reply after
-  frees = frees_held s call.cpu l.worker call.object o after has.named has.lives is.unchecked (λ live e. (
+  frees : Frees s (call_cpu call) l.worker (call_object call) reply after
+  frees = frees_held s (call_cpu call) l.worker (call_object call) o after has.named has.lives is.unchecked (λ live e. (
     ap (λ layout. Freed (address_of f o.index layout)) (layout_of s o.cache live e),
-    sym (ap (λ h. with_gone (cond {A = State} h (freed_here (with_taken s call.object o.cache) o.cache call.cpu o.index) (freed_there (with_taken s call.object o.cache) live.layout o.cache call.cpu f o.index)) call.object l.worker held) (not_current f (lists_of s o.cache call.cpu).current away)
-        ∙ ap (λ t. with_gone t call.object l.worker held) (settles live e)),
+    sym (ap (λ h. with_gone (cond {A = State} h (freed_here (with_taken s (call_object call) o.cache) o.cache (call_cpu call) o.index) (freed_there (with_taken s (call_object call) o.cache) live.layout o.cache (call_cpu call) f o.index)) (call_object call) l.worker held) (not_current f (lists_of s o.cache (call_cpu call)).current away)
+        ∙ ap (λ t. with_gone t (call_object call) l.worker held) (settles live e)),
   ))
 
   lists_it : FreesAlone opening s b system x call 8 b
@@ -608,15 +609,15 @@ module _ (opening : World) (s : State) (b : Beside) (system : System) (x : ℕ) 
     reply = reply;
     after = after;
     frees = frees;
-    known = known_ends s b system x 8 listed_it words system.value next.there whole refl ∙ knows_freed l.known call.place o.object call.object l.worker s after held has.named (eq-eqb l.worker l.worker refl) has.on_board refl has.object;
+    known = known_ends s b system x 8 listed_it words system.value next.there whole refl ∙ knows_freed l.known (call_place call) o.object (call_object call) l.worker s after held has.named (eq-eqb l.worker l.worker refl) has.on_board refl has.object;
     replies = replies_of opening s after b b system x 8 call reply listed_it words system.value next whole refl refl refl refl same
         (ends_ready opening u s after b b system (machine words system.value (set system.locals x (rested m listed_it))) rest same refl refl lengths accounted rest.beside.tids refl refl ended says ends
         (whole_list_word m words3 n longer refl small (omega (arith, small, table3.length)) fit_list (whole_link m words2 f lw.front refl begin.table.objects (whole_slab m words1 f v refl (omega (arith, table1.length, within.1)) fit (whole_memory m system.words p value refl begin.table.objects rest.whole)))));
   }
     where
       same : setup_of after b ≡ setup_of s b
-      same = setup_same s b w system.locals (set s.frees f (o.index ∷ own_free s f)) (set s.cpu_lists (cpu_place s o.cache call.cpu) left) s.memory (set s.board call.object None) (set s.gone call.object (Some held)) (set s.live o.cache (get_or s.live o.cache 0 - 1)) b.tids
-          w.cpu (update w.slab f v) (update w.memory p value) (set system.locals x (rested m listed_it)) (length-set s.board call.object None)
+      same = setup_same s b w system.locals (set s.frees f (o.index ∷ own_free s f)) (set s.cpu_lists (cpu_place s o.cache (call_cpu call)) left) s.memory (set s.board (call_object call) None) (set s.gone (call_object call) (Some held)) (set s.live o.cache (get_or s.live o.cache 0 - 1)) b.tids
+          w.cpu (update w.slab f v) (update w.memory p value) (set system.locals x (rested m listed_it)) (length-set s.board (call_object call) None)
 
 pub full_listed : FullSlabsAreListed
 full_listed opening s b system x call rest next is unfrozen full room = lists_it opening s b system x call rest next is unfrozen full room

@@ -51,6 +51,7 @@ use Rattle.slub_core.specs.declared.spot.TrimSpot.{TrimSpot}
 use Rattle.slub_core.specs.declared.spot.TrimSpot.TheVariants.{LockTrim, LoadScanned, GiveTrim, ScanNode, DropScanned}
 use Rattle.slub_core.specs.declared.spot.CheckedSpot.{CheckedSpot}
 use Rattle.slub_core.specs.declared.spot.CheckedSpot.TheVariants.{LockChecked, LockRun, GiveRun, GiveChecked, DoChecked, MoveRun, AddSlab}
+use Rattle.slub_core.specs.Calls.{call_offset}
 use Rattle.slub_core.specs.Setup.{Setup, pool_lock}
 use Rattle.slub_core.specs.Words.{board_in, cpu_in, slab_in, list_in}
 use Rattle.slub_core.specs.World.{LockValue, pool_in}
@@ -378,7 +379,7 @@ unstepped-if true r q a c = a
 unstepped-if false r q a c = c
 
 poked-stepped : (l : Local) (s : CheckedState) → unstepped Poke (poked_reply l s) ≡ false
-poked-stepped l s = unstepped-if (is_offset s.layout (call_of l).offset) _ _ (unstepped-if (nat_lt (here l).index (objects_in (slab_of s (here l).frame))) _ _ refl refl) refl
+poked-stepped l s = unstepped-if (is_offset s.layout (call_offset (call_of l))) _ _ (unstepped-if (nat_lt (here l).index (objects_in (slab_of s (here l).frame))) _ _ refl refl) refl
 
 do-goes : (m : Setup) (value : ℕ → LockValue) (l : Local) (kind : CallKind) (s : CheckedState) → l.spot ≡ InChecked DoChecked kind → Goes l (InChecked DoChecked kind) (do_checked m value l kind s).local (do_checked m value l kind s).reply
 do-goes m value l Alloc s is = gave-goes m value l (m.means.give s) (m.means.gave s)

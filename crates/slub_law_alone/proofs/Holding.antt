@@ -11,7 +11,8 @@ use Rattle.slub_lists.specs.State.{State}
 use Rattle.slub_lists.specs.Coherent.{held_under}
 use Rattle.slub_core.specs.declared.call.Call.{Call}
 use Rattle.slub_core.specs.declared.local.Known.{Known}
-use Rattle.slub_core.specs.Accounted.{place_of, known_of, AreDistinct, Fits}
+use Rattle.slub_core.specs.Calls.{call_kind, call_object}
+use Rattle.slub_core.specs.Accounted.{place_of, known_of, AreDistinct, CallFits}
 use Rattle.slub_core.specs.Local.{Local, nobody}
 use Rattle.slub_core.specs.Replies.{names_object}
 use Rattle.slub_core.specs.Run.{System, idle}
@@ -75,8 +76,8 @@ off_board (Some d) rest h held e = absurd (false≢true (ap (λ (h : Held). is_s
 
 -- ---- the object of a call
 
-pub holds_it : (opening : World) (s : State) (b : Beside) (system : System) (x : ℕ) (call : Call) (held : Held) → IsAtRest opening s b system → IsNext system x call → HasOwnNumber system x → names_object call.kind ≡ true
-    → held_under s call.object ≡ Some held → held.worker ≡ Some (worker_at system x).worker → (known_at (worker_at system x) call).held ≡ true
+pub holds_it : (opening : World) (s : State) (b : Beside) (system : System) (x : ℕ) (call : Call) (held : Held) → IsAtRest opening s b system → IsNext system x call → HasOwnNumber system x → names_object (call_kind call) ≡ true
+    → held_under s (call_object call) ≡ Some held → held.worker ≡ Some (worker_at system x).worker → (known_at (worker_at system x) call).held ≡ true
 holds_it opening s b system x call held rest next own names named mine =
     let m = setup_of s b in
     let w = world_of m system.value system.words in
@@ -84,10 +85,10 @@ holds_it opening s b system x call held rest next own names named mine =
     let begin : IsStart opening s b system x call = starts opening s b system x call rest next in
     let told = told-of opening w begin.front.worker begin.front.others begin.front.account in
     let distinct = subst (λ (l : Local). AreDistinct l.known) begin.front.local told.distinct in
-    let fits = All-head (Fits w.setup l.known) call next.calls (subst (All (Fits w.setup l.known)) next.todo (subst (λ (l : Local). All (Fits w.setup l.known) l.todo) begin.front.local told.fits)) in
-    let among = off_board (w.board call.object) (held_among system.locals call.object) held (ap is_some mine) (sym (rest.rests.rests.named call.object) ∙ named) in
-    let one = one_holds call.object system.locals held among in
+    let fits = All-head (CallFits w.setup l.known) call next.calls (subst (All (CallFits w.setup l.known)) next.todo (subst (λ (l : Local). All (CallFits w.setup l.known) l.todo) begin.front.local told.fits)) in
+    let among = off_board (w.board (call_object call)) (held_among system.locals (call_object call)) held (ap is_some mine) (sym (rest.rests.rests.named (call_object call)) ∙ named) in
+    let one = one_holds (call_object call) system.locals held among in
     let y = worker_at system one.0 in
-    let number = same_Some y.worker l.worker (sym (names_worker y.worker call.object y.known held one.2) ∙ mine) in
-    let itself = subst (λ z. held_in (worker_at system z).worker (worker_at system z).known call.object ≡ Some held) (own one.0 one.1 number) one.2 in
-    ap (λ p. (get_or l.known p nobody).held) (fits.place names) ∙ held_there l.worker call.object l.known held distinct itself
+    let number = same_Some y.worker l.worker (sym (names_worker y.worker (call_object call) y.known held one.2) ∙ mine) in
+    let itself = subst (λ z. held_in (worker_at system z).worker (worker_at system z).known (call_object call) ≡ Some held) (own one.0 one.1 number) one.2 in
+    ap (λ p. (get_or l.known p nobody).held) (fits.place names) ∙ held_there l.worker (call_object call) l.known held distinct itself

@@ -57,6 +57,7 @@ use Rattle.slub_law_opening.proofs.Words.{chain-some, chain-empty}
 use Rattle.slub_core.specs.Alloc.{node_of as node_in, with_node}
 use Rattle.slub_core.specs.declared.spot.DiscardSpot.TheVariants.{Unmake}
 use Rattle.slub_core.specs.declared.spot.Discard.TheVariants.{FromFree}
+use Rattle.slub_core.specs.Calls.{call_kind, call_cpu, call_object, call_place}
 use Rattle.slub_cache_create.specs.declared.caches.Cache.{Cache}
 use Rattle.slub_law_alone.specs.Alone.{AreWhole, own_pick, alone, worker_at, known_at, IsNext}
 use Rattle.slub_law_alone.specs.Ready.{IsReady}
@@ -135,7 +136,7 @@ stays_settled s layout k cpu f i below (partial some which) = go (own_free s f) 
     ]
 
 module _ (opening : World) (s : State) (b : Beside) (system : System) (x : ℕ) (call : Call) (rest : IsReady opening s b system x) (next : IsNext system x call) (is : IsFree s (worker_at system x) call)
-    (away : (lists_of s (known_at (worker_at system x) call).cache call.cpu).current ≢ Some (known_at (worker_at system x) call).frame) where
+    (away : (lists_of s (known_at (worker_at system x) call).cache (call_cpu call)).current ≢ Some (known_at (worker_at system x) call).frame) where
   abbrev m : Setup
   m = setup_of s b
 
@@ -152,7 +153,7 @@ module _ (opening : World) (s : State) (b : Beside) (system : System) (x : ℕ) 
   f = o.frame
 
   abbrev n : ℕ
-  n = cpu_number o.cache call.cpu
+  n = cpu_number o.cache (call_cpu call)
 
   abbrev c : CpuWord
   c = w.cpu n
@@ -166,7 +167,7 @@ module _ (opening : World) (s : State) (b : Beside) (system : System) (x : ℕ) 
   begin : IsReadyStart opening s b system x call
   begin = ready_starts opening s b system x call rest next
 
-  names : names_object call.kind ≡ true
+  names : names_object (call_kind call) ≡ true
   names = ap names_object is.kind
 
   has : HasObject s system x call
@@ -175,14 +176,14 @@ module _ (opening : World) (s : State) (b : Beside) (system : System) (x : ℕ) 
   resting : Rests s b w system.locals
   resting = rest.rests.rests
 
-  cpu : call.cpu < s.cpus
+  cpu : call_cpu call < s.cpus
   cpu = begin.may.cpu
 
   pub small : n < 512
   small = omega (arith, has.inside, cpu, begin.few)
 
-  pub cpu_is : IsCpuOf b w n (lists_of s o.cache call.cpu)
-  cpu_is = subst (IsCpuOf b w n) (cpu_here s o.cache call.cpu cpu begin.few) (resting.cpu n small)
+  pub cpu_is : IsCpuOf b w n (lists_of s o.cache (call_cpu call))
+  cpu_is = subst (IsCpuOf b w n) (cpu_here s o.cache (call_cpu call) cpu begin.few) (resting.cpu n small)
 
   pub within : (0 < f) × (f < s.frames)
   within = slab-inside s f has.slab.0 begin.consistent has.slab.1
@@ -228,7 +229,7 @@ module _ (opening : World) (s : State) (b : Beside) (system : System) (x : ℕ) 
   -- ---- the worker, and what it leaves
 
   abbrev asked : Local
-  asked = record l { spot = InFree LoadOwn; cache = o.cache; cpu = call.cpu; place = call.place; fast = false; turn = 0; count = 0 }
+  asked = record l { spot = InFree LoadOwn; cache = o.cache; cpu = call_cpu call; place = call_place call; fast = false; turn = 0; count = 0 }
 
   abbrev loaded : Local
   loaded = record asked { cpu_word = c; spot = InFree LoadSlab }
@@ -237,7 +238,7 @@ module _ (opening : World) (s : State) (b : Beside) (system : System) (x : ℕ) 
   lost = record o { held = false }
 
   abbrev freed_it : Local
-  freed_it = record loaded { slab_word = z; spot = Between; known = set l.known call.place lost }
+  freed_it = record loaded { slab_word = z; spot = Between; known = set l.known (call_place call) lost }
 
   abbrev reply : Reply
   reply = Freed (address_of f o.index (layout_at s o.cache))
@@ -287,19 +288,19 @@ module _ (opening : World) (s : State) (b : Beside) (system : System) (x : ℕ) 
 
   -- the lists with the object on its slab's freelist
   abbrev pub freed : State
-  freed = with_gone (with_freed (with_taken s call.object o.cache) f o.index) call.object l.worker held
+  freed = with_gone (with_freed (with_taken s (call_object call) o.cache) f o.index) (call_object call) l.worker held
 
   pub frees_below : f < length s.frees
   frees_below = omega (arith, within.1, rest.lists.shaped.frees)
 
   -- ---- the object is there, and the worker between two calls
 
-  module _ (end : Local) (known_is : end.known ≡ set l.known call.place lost) (worker_is : end.worker ≡ l.worker) (between : IsBetween w.setup end) (worded : IsWorded put) (once : (j : ℕ) → times_named put (set system.locals x end) j ≤ 1) (in_use : 1 ≤ z.inuse) where
+  module _ (end : Local) (known_is : end.known ≡ set l.known (call_place call) lost) (worker_is : end.worker ≡ l.worker) (between : IsBetween w.setup end) (worded : IsWorded put) (once : (j : ℕ) → times_named put (set system.locals x end) j ≤ 1) (in_use : 1 ≤ z.inuse) where
     free_is : get_or (set s.frees f (o.index ∷ own_free s f)) f [] ≡ o.index ∷ own_free s f
     free_is = get_or-set_same s.frees f (o.index ∷ own_free s f) [] frees_below
 
     stands : (g : ℕ) → IsChain (pointer put (w.slab g).cache g) (w.slab g).head (own_free s g)
-    stands g = own_stands s call.object held begin.consistent has.named p (pointer_own s call.object held begin.consistent has.named) b w system.locals resting w.cpu (update w.slab f v) value g
+    stands g = own_stands s (call_object call) held begin.consistent has.named p (pointer_own s (call_object call) held begin.consistent has.named) b w system.locals resting w.cpu (update w.slab f v) value g
 
     leads_back : pointer put z.cache f o.index ≡ z.head
     leads_back = ap (λ k. pointer put k f o.index) cache
@@ -323,47 +324,47 @@ module _ (opening : World) (s : State) (b : Beside) (system : System) (x : ℕ) 
         }
 
     pub freed_rests : Rests freed b put (set system.locals x end)
-    freed_rests = rests_changed s b w system.locals (set s.frees f (o.index ∷ own_free s f)) s.cpu_lists s.memory (set s.board call.object None) (set s.gone call.object (Some held)) (set s.live o.cache (get_or s.live o.cache 0 - 1)) b.tids
+    freed_rests = rests_changed s b w system.locals (set s.frees f (o.index ∷ own_free s f)) s.cpu_lists s.memory (set s.board (call_object call) None) (set s.gone (call_object call) (Some held)) (set s.live o.cache (get_or s.live o.cache 0 - 1)) b.tids
         w.cpu (update w.slab f v) (update w.memory p value) (set system.locals x end) resting
-        (length-set s.board call.object None)
+        (length-set s.board (call_object call) None)
         worded
         (All-set (IsBetween w.setup) system.locals x end between resting.workers)
         (λ n below. let c = resting.cpu n below in record {
           tid = c.tid;
           current = c.current;
-          free = cpu_stands s call.object held begin.consistent has.named p (pointer_own s call.object held begin.consistent has.named) b w system.locals resting w.cpu (update w.slab f v) value n below;
+          free = cpu_stands s (call_object call) held begin.consistent has.named p (pointer_own s (call_object call) held begin.consistent has.named) b w system.locals resting w.cpu (update w.slab f v) value n below;
           count = c.count;
           partial = c.partial;
         })
         (each_updated w.slab f v (λ g (c : SlabWord). SameSlab (w.slab g) c) (record { objects = refl; cache = refl; frozen = refl; listed = refl }) (λ g d. same_word (w.slab g)))
         own_ends names_are once words_are
       where
-        names_are : (j : ℕ) → get_or (set s.board call.object None) j None ≡ named_in put (set system.locals x end) j
-        names_are j = elim (cases_eq j call.object) [
-          | inl e ↦ ap (λ o. get_or (set s.board call.object None) o None) e ∙ get_or-set_same s.board call.object None None has.on_board
-              ∙ sym (named_lost put system.locals x call.place end lost next.there has.place known_is refl is.held j (has.object ∙ sym e) (resting.once j))
-          | inr d ↦ get_or-set_other s.board call.object j None None d ∙ resting.named j ∙ sym (named_other put system.locals x call.place end lost worker_is known_is refl j (λ e. d (sym e ∙ has.object)))
+        names_are : (j : ℕ) → get_or (set s.board (call_object call) None) j None ≡ named_in put (set system.locals x end) j
+        names_are j = elim (cases_eq j (call_object call)) [
+          | inl e ↦ ap (λ o. get_or (set s.board (call_object call) None) o None) e ∙ get_or-set_same s.board (call_object call) None None has.on_board
+              ∙ sym (named_lost put system.locals x (call_place call) end lost next.there has.place known_is refl is.held j (has.object ∙ sym e) (resting.once j))
+          | inr d ↦ get_or-set_other s.board (call_object call) j None None d ∙ resting.named j ∙ sym (named_other put system.locals x (call_place call) end lost worker_is known_is refl j (λ e. d (sym e ∙ has.object)))
         ]
 
-        words_are : (j word : ℕ) (h : Held) → get_or (set s.board call.object None) j None ≡ Some h → KeepsWord s put h word
-        words_are j word h there plain inside = elim (cases_eq j call.object) [
-          | inl e ↦ absurd (let none = ap (λ o. get_or (set s.board call.object None) o None) e ∙ get_or-set_same s.board call.object None None has.on_board in cc (none, there))
+        words_are : (j word : ℕ) (h : Held) → get_or (set s.board (call_object call) None) j None ≡ Some h → KeepsWord s put h word
+        words_are j word h there plain inside = elim (cases_eq j (call_object call)) [
+          | inl e ↦ absurd (let none = ap (λ o. get_or (set s.board (call_object call) None) o None) e ∙ get_or-set_same s.board (call_object call) None None has.on_board in cc (none, there))
           | inr d ↦
-              let before : held_under s j ≡ Some h = sym (get_or-set_other s.board call.object j None None d) ∙ there in
-              update_other w.memory p value (word_at (layout_at s h.cache) h word) (word_apart s call.object held begin.consistent has.named j word h before d inside) ∙ resting.contents j word h before plain inside
+              let before : held_under s j ≡ Some h = sym (get_or-set_other s.board (call_object call) j None None d) ∙ there in
+              update_other w.memory p value (word_at (layout_at s h.cache) h word) (word_apart s (call_object call) held begin.consistent has.named j word h before d inside) ∙ resting.contents j word h before plain inside
         ]
 
   -- ---- where such turns end
 
   module _ (turns : ℕ) (words : List ℕ) (whole : alone m x (suc turns) system ≡ machine words system.value (set system.locals x (rested m told))) (says : world_of m system.value words ≡ put) (are_whole : AreWhole m words) (in_use : 1 ≤ z.inuse)
-      (settles : (live : Cache) → cache_of s o.cache ≡ Some live → settled (with_freed (with_taken s call.object o.cache) f o.index) live.layout o.cache call.cpu f (own_free s f) ≡ with_freed (with_taken s call.object o.cache) f o.index) where
+      (settles : (live : Cache) → cache_of s o.cache ≡ Some live → settled (with_freed (with_taken s (call_object call) o.cache) f o.index) live.layout o.cache (call_cpu call) f (own_free s f) ≡ with_freed (with_taken s (call_object call) o.cache) f o.index) where
     ended : IsCoherentSystem m opening (machine words system.value (set system.locals x (rested m told)))
     ended = subst (IsCoherentSystem m opening) whole (along opening s b system x next.there rest turns)
 
     calls : IsWithCalls told (rested m told)
     calls = rested_calls m told refl
 
-    known_is : (rested m told).known ≡ set l.known call.place lost
+    known_is : (rested m told).known ≡ set l.known (call_place call) lost
     known_is = ap (λ (l : Local). l.known) calls.same
 
     worker_is : (rested m told).worker ≡ l.worker
@@ -379,9 +380,9 @@ module _ (opening : World) (s : State) (b : Beside) (system : System) (x : ℕ) 
       string = begin.between.string;
       run = begin.between.run;
       packed = record { cpu_word = resting.words.cpu n; slab_word = resting.words.slab f; list_word = begin.between.packed.list_word; next = begin.between.packed.next };
-      cpu = subst (λ (m : Setup). call.cpu < m.cpus) (sym resting.setup) begin.may.cpu;
-      numbers = All-set (λ (k : Known). k.object < w.setup.objects) l.known call.place lost (subst (λ (m : Setup). o.object < m.objects) (sym resting.setup) (omega (arith, has.object, has.on_board))) begin.between.numbers;
-      some = All-set (λ (k : Known). k.held ≡ true → 1 ≤ k.object) l.known call.place lost (λ e. absurd (false≢true e)) begin.between.some;
+      cpu = subst (λ (m : Setup). call_cpu call < m.cpus) (sym resting.setup) begin.may.cpu;
+      numbers = All-set (λ (k : Known). k.object < w.setup.objects) l.known (call_place call) lost (subst (λ (m : Setup). o.object < m.objects) (sym resting.setup) (omega (arith, has.object, has.on_board))) begin.between.numbers;
+      some = All-set (λ (k : Known). k.held ≡ true → 1 ≤ k.object) l.known (call_place call) lost (λ e. absurd (false≢true e)) begin.between.some;
     })
 
     ends : Rests freed b put (set system.locals x (rested m told))
@@ -392,7 +393,7 @@ module _ (opening : World) (s : State) (b : Beside) (system : System) (x : ℕ) 
     -- ---- on lists
 
     accounted : IsAccounted freed
-    accounted = taken-accounted s call.object held begin.consistent has.named
+    accounted = taken-accounted s (call_object call) held begin.consistent has.named
 
     lengths : HasLengths freed
     lengths = record {
@@ -402,15 +403,15 @@ module _ (opening : World) (s : State) (b : Beside) (system : System) (x : ℕ) 
       nodes = rest.lists.shaped.nodes;
       checked = rest.lists.shaped.checked.numbers;
       memory = rest.lists.shaped.memory;
-      gone = length-set s.gone call.object (Some held) ∙ rest.lists.shaped.gone ∙ sym (length-set s.board call.object None);
+      gone = length-set s.gone (call_object call) (Some held) ∙ rest.lists.shaped.gone ∙ sym (length-set s.board (call_object call) None);
       live = length-set s.live o.cache (get_or s.live o.cache 0 - 1) ∙ rest.lists.shaped.live;
     }
 
-    frees : Frees s call.cpu l.worker call.object reply freed
-    frees = frees_held s call.cpu l.worker call.object o freed has.named has.lives is.unchecked (λ live e. (
+    frees : Frees s (call_cpu call) l.worker (call_object call) reply freed
+    frees = frees_held s (call_cpu call) l.worker (call_object call) o freed has.named has.lives is.unchecked (λ live e. (
       ap (λ layout. Freed (address_of f o.index layout)) (layout_of s o.cache live e),
-      sym (ap (λ h. with_gone (cond {A = State} h (freed_here (with_taken s call.object o.cache) o.cache call.cpu o.index) (freed_there (with_taken s call.object o.cache) live.layout o.cache call.cpu f o.index)) call.object l.worker held) (not_current f (lists_of s o.cache call.cpu).current away)
-          ∙ ap (λ t. with_gone t call.object l.worker held) (settles live e)),
+      sym (ap (λ h. with_gone (cond {A = State} h (freed_here (with_taken s (call_object call) o.cache) o.cache (call_cpu call) o.index) (freed_there (with_taken s (call_object call) o.cache) live.layout o.cache (call_cpu call) f o.index)) (call_object call) l.worker held) (not_current f (lists_of s o.cache (call_cpu call)).current away)
+          ∙ ap (λ t. with_gone t (call_object call) l.worker held) (settles live e)),
     ))
 
     puts : FreesAlone opening s b system x call (suc turns) b
@@ -418,14 +419,14 @@ module _ (opening : World) (s : State) (b : Beside) (system : System) (x : ℕ) 
       reply = reply;
       after = freed;
       frees = frees;
-      known = known_ends s b system x (suc turns) told words system.value next.there whole refl ∙ knows_freed l.known call.place o.object call.object l.worker s freed held has.named (eq-eqb l.worker l.worker refl) has.on_board refl has.object;
+      known = known_ends s b system x (suc turns) told words system.value next.there whole refl ∙ knows_freed l.known (call_place call) o.object (call_object call) l.worker s freed held has.named (eq-eqb l.worker l.worker refl) has.on_board refl has.object;
       replies = replies_of opening s freed b b system x (suc turns) call reply told words system.value next whole refl refl refl refl same
           (ends_ready opening put s freed b b system (machine words system.value (set system.locals x (rested m told))) rest same refl refl lengths accounted rest.beside.tids refl refl ended says ends are_whole);
     }
       where
         same : setup_of freed b ≡ setup_of s b
-        same = setup_same s b w system.locals (set s.frees f (o.index ∷ own_free s f)) s.cpu_lists s.memory (set s.board call.object None) (set s.gone call.object (Some held)) (set s.live o.cache (get_or s.live o.cache 0 - 1)) b.tids
-            w.cpu (update w.slab f v) (update w.memory p value) (set system.locals x (rested m told)) (length-set s.board call.object None)
+        same = setup_same s b w system.locals (set s.frees f (o.index ∷ own_free s f)) s.cpu_lists s.memory (set s.board (call_object call) None) (set s.gone (call_object call) (Some held)) (set s.live o.cache (get_or s.live o.cache 0 - 1)) b.tids
+            w.cpu (update w.slab f v) (update w.memory p value) (set system.locals x (rested m told)) (length-set s.board (call_object call) None)
 
   -- ---- under no lock
 
@@ -516,16 +517,16 @@ module _ (opening : World) (s : State) (b : Beside) (system : System) (x : ℕ) 
     says = world_of-slab m system.value words1 f (slab_bits v) (record { length = length-set system.words (memory_base m + p) value ∙ begin.table.length; locks = refl; cpu_words = refl; frames = begin.table.frames; objects = begin.table.objects }) within.1
         ∙ ap (λ w. set_slab w f (slab_in (slab_bits v))) (world_of-memory m system.value system.words p value begin.table p_inside) ∙ ap (set_slab (set_memory w p value) f) (slab_in-bits v fit)
 
-    stays_taken : StaysThere (with_taken s call.object o.cache) o.cache f
+    stays_taken : StaysThere (with_taken s (call_object call) o.cache) o.cache f
     stays_taken = by stays_there
       where
-        by : StaysThere s o.cache f → StaysThere (with_taken s call.object o.cache) o.cache f
+        by : StaysThere s o.cache f → StaysThere (with_taken s (call_object call) o.cache) o.cache f
         by (frozen is) = frozen is
         by (partial free which) = partial free which
 
     put_in_place : FreesAlone opening s b system x call 4 b
     put_in_place = puts 3 words whole says (whole_slab m words1 f v refl (let long = length-set system.words (memory_base m + p) value in omega (arith, long, begin.table.length, within.1)) fit (whole_memory m system.words p value refl begin.table.objects rest.whole)) in_use
-        (λ live e. stays_settled (with_taken s call.object o.cache) live.layout o.cache call.cpu f o.index frees_below stays_taken)
+        (λ live e. stays_settled (with_taken s (call_object call) o.cache) live.layout o.cache (call_cpu call) f o.index frees_below stays_taken)
 
   -- ---- under the node lock
 
@@ -695,23 +696,23 @@ module _ (opening : World) (s : State) (b : Beside) (system : System) (x : ℕ) 
           with_locks : (ℕ → ℕ) → World
           with_locks g = record w { slab = update w.slab f v; memory = update w.memory p value; lock = g }
 
-      lock_settles : (live : Cache) → cache_of s o.cache ≡ Some live → settled (with_freed (with_taken s call.object o.cache) f o.index) live.layout o.cache call.cpu f (own_free s f) ≡ with_freed (with_taken s call.object o.cache) f o.index
+      lock_settles : (live : Cache) → cache_of s o.cache ≡ Some live → settled (with_freed (with_taken s (call_object call) o.cache) f o.index) live.layout o.cache (call_cpu call) f (own_free s f) ≡ with_freed (with_taken s (call_object call) o.cache) f o.index
       lock_settles live e = go (own_free s f) chain_some
         where
           min_is : live.layout.min_partial ≡ (layout_at s o.cache).min_partial
           min_is = ap (λ (y : Layout). y.min_partial) (sym (layout_of s o.cache live e))
 
-          spared : is_spare (with_freed (with_taken s call.object o.cache) f o.index) live.layout.min_partial o.cache f && nat_lt 0 (times f (node_of s o.cache)) ≡ false
-          spared = ap (λ h. h && nat_lt 0 (times f (node_of s o.cache))) (and_no (eqb (inuse_of (with_freed (with_taken s call.object o.cache) f o.index) f) 0) (elim (cases_Bool (nat_le live.layout.min_partial (length (node_of s o.cache)))) [
+          spared : is_spare (with_freed (with_taken s (call_object call) o.cache) f o.index) live.layout.min_partial o.cache f && nat_lt 0 (times f (node_of s o.cache)) ≡ false
+          spared = ap (λ h. h && nat_lt 0 (times f (node_of s o.cache))) (and_no (eqb (inuse_of (with_freed (with_taken s (call_object call) o.cache) f o.index) f) 0) (elim (cases_Bool (nat_le live.layout.min_partial (length (node_of s o.cache)))) [
             | inr no_more ↦ no_more
             | inl enough ↦ absurd (let le = leb-true live.layout.min_partial (length (node_of s o.cache)) enough in omega (arith, le, few_slabs, min_is))
           ]))
 
-          go : (free : List ℕ) → 0 < length free → settled (with_freed (with_taken s call.object o.cache) f o.index) live.layout o.cache call.cpu f free ≡ with_freed (with_taken s call.object o.cache) f o.index
+          go : (free : List ℕ) → 0 < length free → settled (with_freed (with_taken s (call_object call) o.cache) f o.index) live.layout o.cache (call_cpu call) f free ≡ with_freed (with_taken s (call_object call) o.cache) f o.index
           go [] none = absurd (omega arith)
           go (i ∷ free) more =
-              cond-false {A = State} (is_frozen s f) (with_freed (with_taken s call.object o.cache) f o.index) (without_spare (with_freed (with_taken s call.object o.cache) f o.index) live.layout.min_partial o.cache f) (frozen_is ∙ marks.1)
-              ∙ cond-false {A = State} (is_spare (with_freed (with_taken s call.object o.cache) f o.index) live.layout.min_partial o.cache f && nat_lt 0 (times f (node_of s o.cache))) (discarded (without_slab (with_freed (with_taken s call.object o.cache) f o.index) o.cache f) f) (with_freed (with_taken s call.object o.cache) f o.index) spared
+              cond-false {A = State} (is_frozen s f) (with_freed (with_taken s (call_object call) o.cache) f o.index) (without_spare (with_freed (with_taken s (call_object call) o.cache) f o.index) live.layout.min_partial o.cache f) (frozen_is ∙ marks.1)
+              ∙ cond-false {A = State} (is_spare (with_freed (with_taken s (call_object call) o.cache) f o.index) live.layout.min_partial o.cache f && nat_lt 0 (times f (node_of s o.cache))) (discarded (without_slab (with_freed (with_taken s (call_object call) o.cache) f o.index) o.cache f) f) (with_freed (with_taken s (call_object call) o.cache) f o.index) spared
 
       put_locked : FreesAlone opening s b system x call 7 b
       put_locked = puts 6 lock4 lock_whole lock_says
@@ -724,5 +725,5 @@ in_place opening s b system x call rest next is away stays = put_in_place openin
 pub last_kept : LastOfListedAreKept
 last_kept opening s b system x call rest next is on_node one few_slabs =
     let known = known_at (worker_at system x) call in
-    let away = node_away s known.cache known.cache call.cpu known.frame (ready_starts opening s b system x call rest next).consistent on_node in
+    let away = node_away s known.cache known.cache (call_cpu call) known.frame (ready_starts opening s b system x call rest next).consistent on_node in
     put_locked opening s b system x call rest next is away on_node one few_slabs

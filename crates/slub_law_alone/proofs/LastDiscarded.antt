@@ -37,6 +37,7 @@ use Rattle.slub_core.specs.declared.step.Answer.{Answer}
 use Rattle.slub_core.specs.declared.step.Answer.TheVariants.{Done, Won, Lost}
 use Rattle.slub_core.specs.declared.step.Op.TheVariants.{Store, Exchange}
 use Rattle.slub_core.specs.declared.step.Place.TheVariants.{SlabOf, LockOf}
+use Rattle.slub_core.specs.Calls.{call_kind, call_cpu, call_object, call_place}
 use Rattle.slub_core.specs.Setup.{Setup, cpu_number, node_lock, pool_lock, pointer_at, hardened}
 use Rattle.slub_core.specs.Words.{no_slab_word, slab_in, slab_base, memory_base}
 use Rattle.slub_core.specs.World.{World, LockValue, Node, Pool, update, set_lock, set_memory, set_slab, world_of, frames_in, pool_in, objects_in_values, one_if}
@@ -89,7 +90,7 @@ settle_tells_does m value later l next mid a reply leads does waits rests =
     by_turn t = end (settled m false (record { value = value; local = t.local; reply = t.reply }))
 
 module _ (opening : World) (s : State) (b : Beside) (system : System) (x : ℕ) (call : Call) (rest : IsReady opening s b system x) (next : IsNext system x call) (is : IsFree s (worker_at system x) call)
-    (away : (lists_of s (known_at (worker_at system x) call).cache call.cpu).current ≢ Some (known_at (worker_at system x) call).frame) (on_node : 1 ≤ times (known_at (worker_at system x) call).frame (node_of s (known_at (worker_at system x) call).cache))
+    (away : (lists_of s (known_at (worker_at system x) call).cache (call_cpu call)).current ≢ Some (known_at (worker_at system x) call).frame) (on_node : 1 ≤ times (known_at (worker_at system x) call).frame (node_of s (known_at (worker_at system x) call).cache))
     (one : inuse_of s (known_at (worker_at system x) call).frame ≡ 1) (enough : (layout_at s (known_at (worker_at system x) call).cache).min_partial ≤ length (node_of s (known_at (worker_at system x) call).cache)) where
   abbrev m : Setup
   m = setup_of s b
@@ -110,7 +111,7 @@ module _ (opening : World) (s : State) (b : Beside) (system : System) (x : ℕ) 
   f = o.frame
 
   abbrev n : ℕ
-  n = cpu_number k call.cpu
+  n = cpu_number k (call_cpu call)
 
   abbrev c : CpuWord
   c = w.cpu n
@@ -124,7 +125,7 @@ module _ (opening : World) (s : State) (b : Beside) (system : System) (x : ℕ) 
   begin : IsReadyStart opening s b system x call
   begin = ready_starts opening s b system x call rest next
 
-  names : names_object call.kind ≡ true
+  names : names_object (call_kind call) ≡ true
   names = ap names_object is.kind
 
   has : HasObject s system x call
@@ -191,7 +192,7 @@ module _ (opening : World) (s : State) (b : Beside) (system : System) (x : ℕ) 
   -- ---- the turns
 
   abbrev loaded : Local
-  loaded = record l { spot = InFree LoadSlab; cache = k; cpu = call.cpu; place = call.place; fast = false; turn = 0; count = 0; cpu_word = c }
+  loaded = record l { spot = InFree LoadSlab; cache = k; cpu = call_cpu call; place = call_place call; fast = false; turn = 0; count = 0; cpu_word = c }
 
   abbrev stored : Local
   stored = record loaded { slab_word = z; spot = InFree FreeLocked }
@@ -257,7 +258,7 @@ module _ (opening : World) (s : State) (b : Beside) (system : System) (x : ℕ) 
   slab_hit = place.slab_hit opening s b system x call rest next is away on_node one
 
   here_is : here taking ≡ lost
-  here_is = get_or-set_same l.known call.place lost nobody has.place
+  here_is = get_or-set_same l.known (call_place call) lost nobody has.place
 
   long : nat_le (layout_at s k).min_partial (length (node_in system.value taking)) ≡ true
   long = le-leb (layout_at s k).min_partial (length (node_in system.value taking)) (let e = ap (length {A = ℕ}) node_was in omega (arith, e, enough))
@@ -372,16 +373,16 @@ module _ (opening : World) (s : State) (b : Beside) (system : System) (x : ℕ) 
     string = begin.between.string;
     run = refl;
     packed = record { cpu_word = resting.words.cpu n; slab_word = resting.words.slab f; list_word = begin.between.packed.list_word; next = begin.between.packed.next };
-    cpu = subst (λ (m : Setup). call.cpu < m.cpus) (sym resting.setup) begin.may.cpu;
-    numbers = All-set (λ (k : Known). k.object < w.setup.objects) l.known call.place lost (subst (λ (m : Setup). o.object < m.objects) (sym resting.setup) (omega (arith, has.object, has.on_board))) begin.between.numbers;
-    some = All-set (λ (k : Known). k.held ≡ true → 1 ≤ k.object) l.known call.place lost (λ e. absurd (false≢true e)) begin.between.some;
+    cpu = subst (λ (m : Setup). call_cpu call < m.cpus) (sym resting.setup) begin.may.cpu;
+    numbers = All-set (λ (k : Known). k.object < w.setup.objects) l.known (call_place call) lost (subst (λ (m : Setup). o.object < m.objects) (sym resting.setup) (omega (arith, has.object, has.on_board))) begin.between.numbers;
+    some = All-set (λ (k : Known). k.held ≡ true → 1 ≤ k.object) l.known (call_place call) lost (λ e. absurd (false≢true e)) begin.between.some;
   })
 
   put_worded : IsWorded put
   put_worded = record { cpu = worded.cpu; slab = each_updated w.slab f v (λ _ (d : SlabWord). IsSlabFit d) fit (λ i d. resting.words.slab i); list = worded.list; link = worded.link; room = worded.room; remainder = worded.remainder }
 
   abbrev freed : State
-  freed = with_gone (with_freed (with_taken s call.object k) f o.index) call.object l.worker held
+  freed = with_gone (with_freed (with_taken s (call_object call) k) f o.index) (call_object call) l.worker held
 
   frees_below : f < length s.frees
   frees_below = place.frees_below opening s b system x call rest next is away
@@ -390,7 +391,7 @@ module _ (opening : World) (s : State) (b : Beside) (system : System) (x : ℕ) 
   freed_rests = place.freed_rests opening s b system x call rest next is away (rested m told) (ap (λ (l : Local). l.known) calls.same) (ap (λ (l : Local). l.worker) calls.same) worker_rests put_worded once (omega (arith, place.inuse_one opening s b system x call rest next is away on_node one))
 
   abbrev after : State
-  after = with_gone (discarded (without_slab (with_freed (with_taken s call.object k) f o.index) k f) f) call.object l.worker held
+  after = with_gone (discarded (without_slab (with_freed (with_taken s (call_object call) k) f o.index) k f) f) (call_object call) l.worker held
 
   -- no checked cache has the slab, and no other cache has it on its list
   unvalued : objects_in_values w.value w.setup.locks f ≡ 0
@@ -409,7 +410,7 @@ module _ (opening : World) (s : State) (b : Beside) (system : System) (x : ℕ) 
   -- ---- on lists
 
   accounted : IsAccounted after
-  accounted = taken-accounted s call.object held begin.consistent has.named
+  accounted = taken-accounted s (call_object call) held begin.consistent has.named
 
   lengths : HasLengths after
   lengths = record {
@@ -419,14 +420,14 @@ module _ (opening : World) (s : State) (b : Beside) (system : System) (x : ℕ) 
     nodes = length-set s.nodes k fs ∙ rest.lists.shaped.nodes;
     checked = rest.lists.shaped.checked.numbers;
     memory = rest.lists.shaped.memory;
-    gone = length-set s.gone call.object (Some held) ∙ rest.lists.shaped.gone ∙ sym (length-set s.board call.object None);
+    gone = length-set s.gone (call_object call) (Some held) ∙ rest.lists.shaped.gone ∙ sym (length-set s.board (call_object call) None);
     live = length-set s.live k (get_or s.live k 0 - 1) ∙ rest.lists.shaped.live;
   }
 
   abbrev bare : State
-  bare = with_freed (with_taken s call.object k) f o.index
+  bare = with_freed (with_taken s (call_object call) k) f o.index
 
-  settles : (live : Cache) → cache_of s k ≡ Some live → settled_at bare live.layout k call.cpu f (own_free s f) ≡ discarded (without_slab bare k f) f
+  settles : (live : Cache) → cache_of s k ≡ Some live → settled_at bare live.layout k (call_cpu call) f (own_free s f) ≡ discarded (without_slab bare k f) f
   settles live e = go (own_free s f) (place.chain_some opening s b system x call rest next is away on_node one)
     where
       min_is : live.layout.min_partial ≡ (layout_at s k).min_partial
@@ -438,17 +439,17 @@ module _ (opening : World) (s : State) (b : Beside) (system : System) (x : ℕ) 
       spare : is_spare bare live.layout.min_partial k f && nat_lt 0 (times f (node_of s k)) ≡ true
       spare = rw (eq-eqb (inuse_of bare f) 0 nothing, le-leb live.layout.min_partial (length (node_of s k)) (omega (arith, enough, min_is)), lt-ltb 0 (times f (node_of s k)) on_node) refl
 
-      go : (free : List ℕ) → 0 < length free → settled_at bare live.layout k call.cpu f free ≡ discarded (without_slab bare k f) f
+      go : (free : List ℕ) → 0 < length free → settled_at bare live.layout k (call_cpu call) f free ≡ discarded (without_slab bare k f) f
       go [] none = absurd (omega (arith, none))
       go (i ∷ free) more =
           cond-false {A = State} (is_frozen s f) bare (without_spare bare live.layout.min_partial k f) (place.frozen_is opening s b system x call rest next is away ∙ (place.marks opening s b system x call rest next is away on_node one).1)
           ∙ cond-true {A = State} (is_spare bare live.layout.min_partial k f && nat_lt 0 (times f (node_of s k))) (discarded (without_slab bare k f) f) bare spare
 
-  frees : Frees s call.cpu l.worker call.object reply after
-  frees = frees_held s call.cpu l.worker call.object o after has.named has.lives is.unchecked (λ live e. (
+  frees : Frees s (call_cpu call) l.worker (call_object call) reply after
+  frees = frees_held s (call_cpu call) l.worker (call_object call) o after has.named has.lives is.unchecked (λ live e. (
     ap (λ layout. Freed (address_of f o.index layout)) (layout_of s k live e),
-    sym (ap (λ h. with_gone (cond {A = State} h (freed_here (with_taken s call.object k) k call.cpu o.index) (freed_there (with_taken s call.object k) live.layout k call.cpu f o.index)) call.object l.worker held) (place.not_current f (lists_of s k call.cpu).current away)
-        ∙ ap (λ t. with_gone t call.object l.worker held) (settles live e)),
+    sym (ap (λ h. with_gone (cond {A = State} h (freed_here (with_taken s (call_object call) k) k (call_cpu call) o.index) (freed_there (with_taken s (call_object call) k) live.layout k (call_cpu call) f o.index)) (call_object call) l.worker held) (place.not_current f (lists_of s k (call_cpu call)).current away)
+        ∙ ap (λ t. with_gone t (call_object call) l.worker held) (settles live e)),
   ))
 
   discards : FreesAlone opening s b system x call 10 b
@@ -456,17 +457,17 @@ module _ (opening : World) (s : State) (b : Beside) (system : System) (x : ℕ) 
     reply = reply;
     after = after;
     frees = frees;
-    known = known_ends s b system x 10 told words later next.there whole refl ∙ knows_freed l.known call.place o.object call.object l.worker s after held has.named (eq-eqb l.worker l.worker refl) has.on_board refl has.object;
+    known = known_ends s b system x 10 told words later next.there whole refl ∙ knows_freed l.known (call_place call) o.object (call_object call) l.worker s after held has.named (eq-eqb l.worker l.worker refl) has.on_board refl has.object;
     replies = replies_of opening s after b b system x 10 call reply told words later next whole refl refl refl refl same
         (ends_ready opening u s after b b system end rest same refl refl lengths accounted rest.beside.tids refl refl ended says ends are_whole);
   }
     where
       same : setup_of after b ≡ setup_of s b
-      same = setup_same s b w system.locals after.frees s.cpu_lists s.memory (set s.board call.object None) (set s.gone call.object (Some held)) (set s.live k (get_or s.live k 0 - 1)) b.tids
-          w.cpu w.slab w.memory (set system.locals x (rested m told)) (length-set s.board call.object None)
+      same = setup_same s b w system.locals after.frees s.cpu_lists s.memory (set s.board (call_object call) None) (set s.gone (call_object call) (Some held)) (set s.live k (get_or s.live k 0 - 1)) b.tids
+          w.cpu w.slab w.memory (set system.locals x (rested m told)) (length-set s.board (call_object call) None)
 
 pub last_discarded : LastOfListedAreDiscarded
 last_discarded opening s b system x call rest next is on_node one enough =
     let known = known_at (worker_at system x) call in
-    let away = node_away s known.cache known.cache call.cpu known.frame (ready_starts opening s b system x call rest next).consistent on_node in
+    let away = node_away s known.cache known.cache (call_cpu call) known.frame (ready_starts opening s b system x call rest next).consistent on_node in
     discards opening s b system x call rest next is away on_node one enough

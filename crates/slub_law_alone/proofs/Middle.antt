@@ -16,6 +16,7 @@ use Rattle.slub_slabinfo_text.specs.Lawful.{Answers}
 use Rattle.slub_core.specs.declared.call.Call.{Call}
 use Rattle.slub_core.specs.declared.local.Answered.{Answered}
 use Rattle.slub_core.specs.declared.local.Known.{Known}
+use Rattle.slub_core.specs.Calls.{call_kind, call_place}
 use Rattle.slub_core.specs.Local.{Local, answered, nobody}
 use Rattle.slub_core.specs.Run.{System, idle}
 use Rattle.slub_core.specs.Setup.{Setup}
@@ -135,7 +136,7 @@ module _ (s0 : State) (b0 : Beside) (round : Round) (opening : World) where
     few-grown = grows-more (changes_of s0.table past) (changes_of s0.table (event ∷ past)) b0 d (λ n. omega (arith, more-grown n)) is.grown
 
     -- its reply takes no step: it has it already
-    pub at_once : (reply : Reply) → told_at_once m (get_or base.known call.place nobody) call call.kind ≡ Some reply → Answers s event event.act reply s → is_no_memory reply ≡ false → IsSameWritten (event ∷ past) s t → d ≡ beside_after s d event.worker event.cpu event.act reply → Stepped event events past told s d system
+    pub at_once : (reply : Reply) → told_at_once m (get_or base.known (call_place call) nobody) call (call_kind call) ≡ Some reply → Answers s event event.act reply s → is_no_memory reply ≡ false → IsSameWritten (event ∷ past) s t → d ≡ beside_after s d event.worker event.cpu event.act reply → Stepped event events past told s d system
     at_once reply some answers there_is same stays = record {
       turns = 0;
       reply = reply;
@@ -170,7 +171,7 @@ module _ (s0 : State) (b0 : Beside) (round : Round) (opening : World) where
         ]
 
     -- its call takes a step: it waits
-    module _ (none : told_at_once m (get_or base.known call.place nobody) call call.kind ≡ None) where
+    module _ (none : told_at_once m (get_or base.known (call_place call) nobody) call (call_kind call) ≡ None) where
       waits : worker_at system x ≡ base
       waits = mine.rested_is ∙ rested-step m base call (calls_for s0.table (rooms_for (events_by x round.events)) (events_by x events)) mine.between todo none
 

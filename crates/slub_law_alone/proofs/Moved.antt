@@ -34,6 +34,7 @@ use Rattle.slub_core.specs.declared.step.Answer.{Answer}
 use Rattle.slub_core.specs.declared.step.Answer.TheVariants.{Word, Done, Won, Lost}
 use Rattle.slub_core.specs.declared.step.Op.TheVariants.{Load, Store, Exchange}
 use Rattle.slub_core.specs.declared.step.Place.TheVariants.{ListOf, LinkOf, LockOf}
+use Rattle.slub_core.specs.Calls.{call_cpu, call_object, call_place}
 use Rattle.slub_core.specs.Setup.{Setup}
 use Rattle.slub_core.specs.Words.{list_base, link_base, list_in}
 use Rattle.slub_core.specs.World.{World, LockValue, update, set_list, set_link, world_of}
@@ -72,8 +73,8 @@ use Rattle.slub_law_alone.proofs.Turns.{machine, turn_goes, settle_goes, settle_
 use Rattle.slub_law_alone.proofs.Workers.{IsWithCalls, rested_calls}
 
 module _ (opening : World) (s : State) (b : Beside) (system : System) (x : ℕ) (call : Call) (rest : IsReady opening s b system x) (next : IsNext system x call) (is : IsFree s (worker_at system x) call)
-    (unfrozen : is_frozen s (known_at (worker_at system x) call).frame ≡ false) (full : own_free s (known_at (worker_at system x) call).frame ≡ []) (long : HasNoRoom s (known_at (worker_at system x) call).cache call.cpu)
-    (e : ℕ) (es : List ℕ) (front : (lists_of s (known_at (worker_at system x) call).cache call.cpu).partial ≡ e ∷ es) where
+    (unfrozen : is_frozen s (known_at (worker_at system x) call).frame ≡ false) (full : own_free s (known_at (worker_at system x) call).frame ≡ []) (long : HasNoRoom s (known_at (worker_at system x) call).cache (call_cpu call))
+    (e : ℕ) (es : List ℕ) (front : (lists_of s (known_at (worker_at system x) call).cache (call_cpu call)).partial ≡ e ∷ es) where
   abbrev m : Setup
   m = start.m opening s b system x call rest next is unfrozen full long e es front
 
@@ -140,7 +141,7 @@ module _ (opening : World) (s : State) (b : Beside) (system : System) (x : ℕ) 
   j_small : j < 33
   j_small = start.j_small opening s b system x call rest next is unfrozen full long e es front
 
-  lists_inside : cpu_place s o.cache call.cpu < length s.cpu_lists
+  lists_inside : cpu_place s o.cache (call_cpu call) < length s.cpu_lists
   lists_inside = start.lists_inside opening s b system x call rest next is unfrozen full long e es front
 
   abbrev quiet : Local
@@ -169,7 +170,7 @@ module _ (opening : World) (s : State) (b : Beside) (system : System) (x : ℕ) 
   free = given_back m j loop.after loop.guards
 
   lists_are : cpu_at left n ≡ start.emptied opening s b system x call rest next is unfrozen full long e es front
-  lists_are = cpu_changed s o.cache call.cpu (start.emptied opening s b system x call rest next is unfrozen full long e es front) begin.may.cpu begin.few lists_inside
+  lists_are = cpu_changed s o.cache (call_cpu call) (start.emptied opening s b system x call rest next is unfrozen full long e es front) begin.may.cpu begin.few lists_inside
 
   list_is : free.list n ≡ none
   list_is = let it = subst (IsCpuOf b free n) lists_are (under.rests.cpu n small) in λ i. record { front = it.partial i; count = it.count i }
@@ -288,19 +289,19 @@ module _ (opening : World) (s : State) (b : Beside) (system : System) (x : ℕ) 
   -- ---- the lists that they leave
 
   abbrev after : State
-  after = with_partial left o.cache call.cpu (f ∷ (lists_of left o.cache call.cpu).partial)
+  after = with_partial left o.cache (call_cpu call) (f ∷ (lists_of left o.cache (call_cpu call)).partial)
 
-  left_inside : cpu_place s o.cache call.cpu < length left.cpu_lists
-  left_inside = let same = length-set s.cpu_lists (cpu_place s o.cache call.cpu) (start.emptied opening s b system x call rest next is unfrozen full long e es front) in omega (arith, same, lists_inside)
+  left_inside : cpu_place s o.cache (call_cpu call) < length left.cpu_lists
+  left_inside = let same = length-set s.cpu_lists (cpu_place s o.cache (call_cpu call)) (start.emptied opening s b system x call rest next is unfrozen full long e es front) in omega (arith, same, lists_inside)
 
   off_lists : (i : ℕ) → times f (cpu_at left i).partial ≡ 0
   off_lists i = elim (cases_eq i n) [
     | inl q ↦ ap (λ (y : CpuLists). times f y.partial) (ap (cpu_at left) q ∙ lists_are)
-    | inr d ↦ ap (λ (y : CpuLists). times f y.partial) (cpu_other s o.cache call.cpu (start.emptied opening s b system x call rest next is unfrozen full long e es front) i begin.may.cpu begin.few d) ∙ start.off_lists opening s b system x call rest next is unfrozen full long e es front i
+    | inr d ↦ ap (λ (y : CpuLists). times f y.partial) (cpu_other s o.cache (call_cpu call) (start.emptied opening s b system x call rest next is unfrozen full long e es front) i begin.may.cpu begin.few d) ∙ start.off_lists opening s b system x call rest next is unfrozen full long e es front i
   ]
 
   quiet_rests : Rests after b pushed ends
-  quiet_rests = rests_pushed left b free ends o.cache call.cpu f 0 1 (ap (λ (y : ListWord). y.front) list_is) (ap (λ (y : ListWord). y.count + 1) list_is) under.rests worded begin.may.cpu begin.few left_inside off_lists
+  quiet_rests = rests_pushed left b free ends o.cache (call_cpu call) f 0 1 (ap (λ (y : ListWord). y.front) list_is) (ap (λ (y : ListWord). y.count + 1) list_is) under.rests worded begin.may.cpu begin.few left_inside off_lists
 
   calls : IsWithCalls told (rested m told)
   calls = rested_calls m told refl
@@ -318,7 +319,7 @@ module _ (opening : World) (s : State) (b : Beside) (system : System) (x : ℕ) 
         string = refl;
         run = refl;
         packed = record { cpu_word = rest.rests.rests.words.cpu n; slab_word = loop.fit; list_word = (omega arith, omega arith); next = begin.between.packed.next };
-        cpu = subst (λ (m : Setup). call.cpu < m.cpus) (sym (setup_is m vals loop.after)) begin.may.cpu;
+        cpu = subst (λ (m : Setup). call_cpu call < m.cpus) (sym (setup_is m vals loop.after)) begin.may.cpu;
         numbers = quiet.numbers;
         some = quiet.some;
       })
@@ -332,7 +333,7 @@ module _ (opening : World) (s : State) (b : Beside) (system : System) (x : ℕ) 
   lengths = let long = under.lengths in record {
     slabs = long.slabs;
     frees = long.frees;
-    cpu_lists = length-set left.cpu_lists (cpu_place s o.cache call.cpu) _ ∙ long.cpu_lists;
+    cpu_lists = length-set left.cpu_lists (cpu_place s o.cache (call_cpu call)) _ ∙ long.cpu_lists;
     nodes = long.nodes;
     checked = long.checked;
     memory = long.memory;
@@ -341,37 +342,37 @@ module _ (opening : World) (s : State) (b : Beside) (system : System) (x : ℕ) 
   }
 
   accounted : IsAccounted after
-  accounted = taken-accounted s call.object held begin.consistent has.named
+  accounted = taken-accounted s (call_object call) held begin.consistent has.named
 
   abbrev there : State
-  there = with_freed (with_taken s call.object o.cache) f o.index
+  there = with_freed (with_taken s (call_object call) o.cache) f o.index
 
-  settles : (live : Cache) → cache_of s o.cache ≡ Some live → with_gone (settled there live.layout o.cache call.cpu f (own_free s f)) call.object l.worker held ≡ after
+  settles : (live : Cache) → cache_of s o.cache ≡ Some live → with_gone (settled there live.layout o.cache (call_cpu call) f (own_free s f)) (call_object call) l.worker held ≡ after
   settles live same =
-      ap (λ fs. gone_by (settled there live.layout o.cache call.cpu f fs)) full
-      ∙ ap gone_by (cond-false {A = State} (is_frozen s f) there (put_partial there live.layout o.cache call.cpu f) unfrozen)
-      ∙ ap (λ h. gone_by (by_rest (cond {A = State} h (moved_all empty live.layout.min_partial o.cache (lists_of s o.cache call.cpu).partial) there))) enough
-      ∙ ap (λ (y : Layout). gone_by (by_rest (moved_all empty y.min_partial o.cache (lists_of s o.cache call.cpu).partial))) (sym (layout_of s o.cache live same))
+      ap (λ fs. gone_by (settled there live.layout o.cache (call_cpu call) f fs)) full
+      ∙ ap gone_by (cond-false {A = State} (is_frozen s f) there (put_partial there live.layout o.cache (call_cpu call) f) unfrozen)
+      ∙ ap (λ h. gone_by (by_rest (cond {A = State} h (moved_all empty live.layout.min_partial o.cache (lists_of s o.cache (call_cpu call)).partial) there))) enough
+      ∙ ap (λ (y : Layout). gone_by (by_rest (moved_all empty y.min_partial o.cache (lists_of s o.cache (call_cpu call)).partial))) (sym (layout_of s o.cache live same))
       ∙ ap (λ fs. gone_by (by_rest (moved_all empty min o.cache fs))) front
-      ∙ ap by_rest (gone_moved empty min o.cache fs call.object l.worker held)
+      ∙ ap by_rest (gone_moved empty min o.cache fs (call_object call) l.worker held)
       ∙ ap by_rest keeps.is
     where
       gone_by : State → State
-      gone_by t = with_gone t call.object l.worker held
+      gone_by t = with_gone t (call_object call) l.worker held
 
       by_rest : State → State
-      by_rest t = with_partial t o.cache call.cpu (f ∷ (lists_of t o.cache call.cpu).partial)
+      by_rest t = with_partial t o.cache (call_cpu call) (f ∷ (lists_of t o.cache (call_cpu call)).partial)
 
       empty : State
-      empty = with_partial there o.cache call.cpu []
+      empty = with_partial there o.cache (call_cpu call) []
 
-      enough : nat_le live.layout.cpu_partial_slabs (length (lists_of s o.cache call.cpu).partial) ≡ true
-      enough = le-leb live.layout.cpu_partial_slabs (length (lists_of s o.cache call.cpu).partial) (let most = ap (λ (y : Layout). y.cpu_partial_slabs) (layout_of s o.cache live same) in let full = long.full in omega (arith, most, full))
+      enough : nat_le live.layout.cpu_partial_slabs (length (lists_of s o.cache (call_cpu call)).partial) ≡ true
+      enough = le-leb live.layout.cpu_partial_slabs (length (lists_of s o.cache (call_cpu call)).partial) (let most = ap (λ (y : Layout). y.cpu_partial_slabs) (layout_of s o.cache live same) in let full = long.full in omega (arith, most, full))
 
-  frees : Frees s call.cpu l.worker call.object reply after
-  frees = frees_held s call.cpu l.worker call.object o after has.named has.lives is.unchecked (λ live same. (
+  frees : Frees s (call_cpu call) l.worker (call_object call) reply after
+  frees = frees_held s (call_cpu call) l.worker (call_object call) o after has.named has.lives is.unchecked (λ live same. (
     ap (λ layout. Freed (address_of f o.index layout)) (layout_of s o.cache live same),
-    sym (ap (λ h. with_gone (cond {A = State} h (freed_here (with_taken s call.object o.cache) o.cache call.cpu o.index) (freed_there (with_taken s call.object o.cache) live.layout o.cache call.cpu f o.index)) call.object l.worker held) (not_current f (lists_of s o.cache call.cpu).current (start.away opening s b system x call rest next is unfrozen full long e es front))
+    sym (ap (λ h. with_gone (cond {A = State} h (freed_here (with_taken s (call_object call) o.cache) o.cache (call_cpu call) o.index) (freed_there (with_taken s (call_object call) o.cache) live.layout o.cache (call_cpu call) f o.index)) (call_object call) l.worker held) (not_current f (lists_of s o.cache (call_cpu call)).current (start.away opening s b system x call rest next is unfrozen full long e es front))
         ∙ settles live same),
   ))
 
@@ -380,7 +381,7 @@ module _ (opening : World) (s : State) (b : Beside) (system : System) (x : ℕ) 
     reply = reply;
     after = after;
     frees = frees;
-    known = known_ends s b system x (suc turns) told words7 vals next.there whole refl ∙ knows_freed l.known call.place o.object call.object l.worker s after held has.named (eq-eqb l.worker l.worker refl) has.on_board refl has.object;
+    known = known_ends s b system x (suc turns) told words7 vals next.there whole refl ∙ knows_freed l.known (call_place call) o.object (call_object call) l.worker s after held has.named (eq-eqb l.worker l.worker refl) has.on_board refl has.object;
     replies = replies_of opening s after b b system x (suc turns) call reply told words7 vals next whole refl refl refl refl under.same
         (ends_ready opening pushed s after b b system end rest under.same refl refl lengths accounted rest.beside.tids refl refl ended says rests are_whole);
   }
@@ -389,8 +390,8 @@ module _ (opening : World) (s : State) (b : Beside) (system : System) (x : ℕ) 
   all_turns = (turns, moves_all)
 
 pub lists_moved : FullListsAreMoved
-lists_moved opening s b system x call rest next is unfrozen full long = by (lists_of s (known_at (worker_at system x) call).cache call.cpu).partial refl
+lists_moved opening s b system x call rest next is unfrozen full long = by (lists_of s (known_at (worker_at system x) call).cache (call_cpu call)).partial refl
   where
-    by : (fs : List ℕ) → (lists_of s (known_at (worker_at system x) call).cache call.cpu).partial ≡ fs → (turns : ℕ) × FreesAlone opening s b system x call (suc turns) b
+    by : (fs : List ℕ) → (lists_of s (known_at (worker_at system x) call).cache (call_cpu call)).partial ≡ fs → (turns : ℕ) × FreesAlone opening s b system x call (suc turns) b
     by [] empty = absurd (let some = long.some in let none = ap (length {A = ℕ}) empty in omega (arith, some, none))
     by (e ∷ es) front = all_turns opening s b system x call rest next is unfrozen full long e es front

@@ -67,11 +67,12 @@ use Rattle.slub_law_alone.proofs.Turns.{machine, turn_goes, settle_goes, settle_
 use Rattle.slub_core.specs.declared.spot.MoveSet.TheVariants.{ForFree}
 use Rattle.slub_core.specs.declared.spot.MoveSetSpot.TheVariants.{LockMove}
 use Rattle.slub_core.specs.declared.local.FrameRun.{FrameRun}
+use Rattle.slub_core.specs.Calls.{call_kind, call_cpu, call_object, call_place}
 use Rattle.slub_law_alone.proofs.MovedLists.{no_head, list_zero, rests_emptied}
 
 module _ (opening : World) (s : State) (b : Beside) (system : System) (x : ℕ) (call : Call) (rest : IsReady opening s b system x) (next : IsNext system x call) (is : IsFree s (worker_at system x) call)
-    (unfrozen : is_frozen s (known_at (worker_at system x) call).frame ≡ false) (full : own_free s (known_at (worker_at system x) call).frame ≡ []) (long : HasNoRoom s (known_at (worker_at system x) call).cache call.cpu)
-    (e : ℕ) (es : List ℕ) (front : (lists_of s (known_at (worker_at system x) call).cache call.cpu).partial ≡ e ∷ es) where
+    (unfrozen : is_frozen s (known_at (worker_at system x) call).frame ≡ false) (full : own_free s (known_at (worker_at system x) call).frame ≡ []) (long : HasNoRoom s (known_at (worker_at system x) call).cache (call_cpu call))
+    (e : ℕ) (es : List ℕ) (front : (lists_of s (known_at (worker_at system x) call).cache (call_cpu call)).partial ≡ e ∷ es) where
   abbrev pub m : Setup
   m = setup_of s b
 
@@ -88,7 +89,7 @@ module _ (opening : World) (s : State) (b : Beside) (system : System) (x : ℕ) 
   f = o.frame
 
   abbrev pub n : ℕ
-  n = cpu_number o.cache call.cpu
+  n = cpu_number o.cache (call_cpu call)
 
   abbrev pub c : CpuWord
   c = w.cpu n
@@ -108,7 +109,7 @@ module _ (opening : World) (s : State) (b : Beside) (system : System) (x : ℕ) 
   pub begin : IsReadyStart opening s b system x call
   begin = ready_starts opening s b system x call rest next
 
-  names : names_object call.kind ≡ true
+  names : names_object (call_kind call) ≡ true
   names = ap names_object is.kind
 
   pub has : HasObject s system x call
@@ -118,9 +119,9 @@ module _ (opening : World) (s : State) (b : Beside) (system : System) (x : ℕ) 
   resting = rest.rests.rests
 
   -- a slab that isn't frozen is current on no CPU
-  pub away : (lists_of s o.cache call.cpu).current ≢ Some f
+  pub away : (lists_of s o.cache (call_cpu call)).current ≢ Some f
   away current =
-      let at = current-is s o.cache call.cpu f begin.consistent begin.may.cpu current in
+      let at = current-is s o.cache (call_cpu call) f begin.consistent begin.may.cpu current in
       false≢true (sym unfrozen ∙ ap (λ y. option_map_or (λ (y : Slab). y.frozen) y false) at.there ∙ at.frozen)
 
   pub small : n < 512
@@ -183,7 +184,7 @@ module _ (opening : World) (s : State) (b : Beside) (system : System) (x : ℕ) 
   -- ---- the worker, turn by turn
 
   abbrev loaded : Local
-  loaded = record l { cache = o.cache; cpu = call.cpu; place = call.place; fast = false; turn = 0; count = 0; cpu_word = c; spot = InFree LoadSlab }
+  loaded = record l { cache = o.cache; cpu = call_cpu call; place = call_place call; fast = false; turn = 0; count = 0; cpu_word = c; spot = InFree LoadSlab }
 
   abbrev seen : Local
   seen = record loaded { slab_word = z; spot = InFree LinkSlab }
@@ -355,14 +356,14 @@ module _ (opening : World) (s : State) (b : Beside) (system : System) (x : ℕ) 
   freed = put_back.freed opening s b system x call rest next is away
 
   abbrev pub emptied : CpuLists
-  emptied = record (lists_of s o.cache call.cpu) { partial = [] }
+  emptied = record (lists_of s o.cache (call_cpu call)) { partial = [] }
 
   -- the object is freed, and the CPU's partial list taken
   abbrev pub bare : State
-  bare = record freed { cpu_lists = set s.cpu_lists (cpu_place s o.cache call.cpu) emptied }
+  bare = record freed { cpu_lists = set s.cpu_lists (cpu_place s o.cache (call_cpu call)) emptied }
 
-  pub lists_inside : cpu_place s o.cache call.cpu < length s.cpu_lists
-  lists_inside = place-inside s o.cache call.cpu rest.lists.shaped has.inside begin.may.cpu
+  pub lists_inside : cpu_place s o.cache (call_cpu call) < length s.cpu_lists
+  lists_inside = place-inside s o.cache (call_cpu call) rest.lists.shaped has.inside begin.may.cpu
 
   taken_says : world_of m system.value words3 ≡ set_list put n none
   taken_says = world_of-list m system.value words2 n 0 table2 small
@@ -377,21 +378,21 @@ module _ (opening : World) (s : State) (b : Beside) (system : System) (x : ℕ) 
   lengths = record {
     slabs = rest.lists.shaped.slabs;
     frees = length-set s.frees f (o.index ∷ own_free s f) ∙ rest.lists.shaped.frees;
-    cpu_lists = length-set s.cpu_lists (cpu_place s o.cache call.cpu) emptied ∙ rest.lists.shaped.cpu_lists;
+    cpu_lists = length-set s.cpu_lists (cpu_place s o.cache (call_cpu call)) emptied ∙ rest.lists.shaped.cpu_lists;
     nodes = rest.lists.shaped.nodes;
     checked = rest.lists.shaped.checked.numbers;
     memory = rest.lists.shaped.memory;
-    gone = length-set s.gone call.object (Some held) ∙ rest.lists.shaped.gone ∙ sym (length-set s.board call.object None);
+    gone = length-set s.gone (call_object call) (Some held) ∙ rest.lists.shaped.gone ∙ sym (length-set s.board (call_object call) None);
     live = length-set s.live o.cache (get_or s.live o.cache 0 - 1) ∙ rest.lists.shaped.live;
   }
 
   pub under : RestsUnder m b ends j bare words4 system.value
   under = under_locked m b ends j a bare words3 system.value j_small same lengths table3 are_whole
-      (subst (λ (w : World). Rests bare b w ends) (sym taken_says) (rests_emptied freed b put ends o.cache call.cpu (put_back.freed_rests opening s b system x call rest next is away in_use) begin.may.cpu begin.few lists_inside))
+      (subst (λ (w : World). Rests bare b w ends) (sym taken_says) (rests_emptied freed b put ends o.cache (call_cpu call) (put_back.freed_rests opening s b system x call rest next is away in_use) begin.may.cpu begin.few lists_inside))
     where
       same : setup_of bare b ≡ m
-      same = setup_same s b w system.locals (set s.frees f (o.index ∷ own_free s f)) (set s.cpu_lists (cpu_place s o.cache call.cpu) emptied) s.memory (set s.board call.object None) (set s.gone call.object (Some held)) (set s.live o.cache (get_or s.live o.cache 0 - 1)) b.tids
-          w.cpu (update w.slab f v) (update w.memory p value) ends (length-set s.board call.object None)
+      same = setup_same s b w system.locals (set s.frees f (o.index ∷ own_free s f)) (set s.cpu_lists (cpu_place s o.cache (call_cpu call)) emptied) s.memory (set s.board (call_object call) None) (set s.gone (call_object call) (Some held)) (set s.live o.cache (get_or s.live o.cache 0 - 1)) b.tids
+          w.cpu (update w.slab f v) (update w.memory p value) ends (length-set s.board (call_object call) None)
 
       are_whole : AreWhole m words3
       are_whole = whole_list m words2 n refl small (omega (arith, table2.length, small)) (whole_slab m words1 f v refl (omega (arith, table1.length, within.1)) (place.fit opening s b system x call rest next is away)
@@ -401,7 +402,7 @@ module _ (opening : World) (s : State) (b : Beside) (system : System) (x : ℕ) 
   linked_up = subst (λ (w : World). Links w.link g.front fs 0) (sym locked_says) string_is.2
 
   pub movable : AreMovable bare o.cache fs
-  movable = movable_in s bare o.cache fs refl refl refl values free (subst (AreMovable s o.cache) front (list_movable s o.cache call.cpu begin.consistent begin.may.cpu))
+  movable = movable_in s bare o.cache fs refl refl refl values free (subst (AreMovable s o.cache) front (list_movable s o.cache (call_cpu call) begin.consistent begin.may.cpu))
     where
       values : (n h : ℕ) → size_in (value_at bare n) h ≡ size_in (value_at s n) h
       values zero h = refl

@@ -12,7 +12,7 @@ use Rattle.slub_core.specs.declared.local.Known.{Known}
 use Rattle.slub_core.specs.Local.{Local, nobody}
 use Rattle.slub_core.specs.Run.{idle}
 use Rattle.slub_core.specs.World.{World, one_if}
-use Rattle.slub_law_opening.specs.Rests.{held_on, held_in, held_among, held_under, named, times_named}
+use Rattle.slub_law_opening.specs.Rests.{held_on, held_in, held_among, times_held, named, times_named}
 use Rattle.slub_law_opening.proofs.Names.{as_held, holds, held-named}
 
 and_no : (h : Bool) {e : Bool} → e ≡ false → h && e ≡ false
@@ -59,10 +59,10 @@ in-none worker o (k ∷ ks) z =
     none true e = absurd (omega arith)
     none false e = refl
 
-among-none : (o : ℕ) (ls : List Local) → sum_by (held_under o) ls ≡ 0 → held_among ls o ≡ None
+among-none : (o : ℕ) (ls : List Local) → sum_by (times_held o) ls ≡ 0 → held_among ls o ≡ None
 among-none o [] z = refl
 among-none o (l ∷ ls) z =
-    let c = sum_by-cons (held_under o) l ls in
+    let c = sum_by-cons (times_held o) l ls in
     ap (λ h. option_or h (held_among ls o)) (in-none l.worker o l.known (omega arith)) ∙ among-none o ls (omega arith)
 
 -- what nobody holds and is not on the board names nothing
@@ -78,9 +78,9 @@ pub named_lost : (w : World) (ls : List Local) (x p : ℕ) (l : Local) (k : Know
     → (o : ℕ) → (get_or (get_or ls x idle).known p nobody).object ≡ o → times_named w ls o ≤ 1 → named w (set ls x l) o ≡ None
 named_lost w ls x p l k below inside known free held o at once =
     let was = get_or ls x idle in
-    let a = sum_by-set (held_under o) ls x l idle below in
+    let a = sum_by-set (times_held o) ls x l idle below in
     let c = sum_by-set (holds o) was.known p k nobody inside in
-    let e : held_under o l ≡ sum_by (holds o) (set was.known p k) = ap (λ ks. sum_by (holds o) ks) known in
+    let e : times_held o l ≡ sum_by (holds o) (set was.known p k) = ap (λ ks. sum_by (holds o) ks) known in
     let y : holds o (get_or was.known p nobody) ≡ 1 = ap one_if (ap (λ h. h && eqb (get_or was.known p nobody).object o) held ∙ eq-eqb (get_or was.known p nobody).object o at) in
     let z : holds o k ≡ 0 = ap one_if (ap (λ h. h && eqb k.object o) free) in
     named_none w (set ls x l) o (omega arith)
@@ -90,9 +90,9 @@ pub named_new : (w : World) (ls : List Local) (x p : ℕ) (l : Local) (k : Known
     → (o : ℕ) → k.object ≡ o → times_named w (set ls x l) o ≤ 1 → named w ls o ≡ None
 named_new w ls x p l k below inside known held free o at once =
     let was = get_or ls x idle in
-    let a = sum_by-set (held_under o) ls x l idle below in
+    let a = sum_by-set (times_held o) ls x l idle below in
     let c = sum_by-set (holds o) was.known p k nobody inside in
-    let e : held_under o l ≡ sum_by (holds o) (set was.known p k) = ap (λ ks. sum_by (holds o) ks) known in
+    let e : times_held o l ≡ sum_by (holds o) (set was.known p k) = ap (λ ks. sum_by (holds o) ks) known in
     let y : holds o k ≡ 1 = ap one_if (ap (λ h. h && eqb k.object o) held ∙ eq-eqb k.object o at) in
     let z : holds o (get_or was.known p nobody) ≡ 0 = ap one_if (ap (λ h. h && eqb (get_or was.known p nobody).object o) free) in
     named_none w ls o (omega arith)

@@ -26,6 +26,7 @@ use Rattle.slub_core.specs.declared.step.Answer.{Answer}
 use Rattle.slub_core.specs.declared.step.Answer.TheVariants.{Done, Won, Lost}
 use Rattle.slub_core.specs.declared.step.Op.TheVariants.{Store, Exchange}
 use Rattle.slub_core.specs.declared.step.Place.TheVariants.{LockOf}
+use Rattle.slub_core.specs.Calls.{call_cpu, call_object}
 use Rattle.slub_core.specs.Setup.{Setup, cpu_number, node_lock, pool_lock, pool_after}
 use Rattle.slub_core.specs.World.{World, LockValue, Pool, update, set_value, world_of, frames_in, pool_in, objects_at, cache_at, order_at}
 use Rattle.slub_core.specs.Local.{Local, at, answered}
@@ -92,7 +93,7 @@ pool_slabs w before after was f =
     same = subst (λ u. HasSameSlabs u (Pool after)) (sym was) (record { size = λ f. refl; order = λ f. refl })
 
 module _ (opening : World) (s : State) (b : Beside) (system : System) (x : ℕ) (call : Call) (place k : ℕ) (rest : IsAtRest opening s b system) (next : IsNext system x call) (is : IsAlloc s call place k)
-    (ids : HasIds b (cpu_number k call.cpu) 1) (none : HasNoSlab s k call.cpu) (dry : HasNoBlock s.pool.free (layout_at s k).min_order) where
+    (ids : HasIds b (cpu_number k (call_cpu call)) 1) (none : HasNoSlab s k (call_cpu call)) (dry : HasNoBlock s.pool.free (layout_at s k).min_order) where
   abbrev m : Setup
   m = setup_of s b
 
@@ -103,13 +104,13 @@ module _ (opening : World) (s : State) (b : Beside) (system : System) (x : ℕ) 
   l = worker_at system x
 
   abbrev n : ℕ
-  n = cpu_number k call.cpu
+  n = cpu_number k (call_cpu call)
 
   abbrev c : CpuWord
   c = w.cpu n
 
   abbrev lists : CpuLists
-  lists = lists_of s k call.cpu
+  lists = lists_of s k (call_cpu call)
 
   begin : IsStart opening s b system x call
   begin = starts opening s b system x call rest next
@@ -127,7 +128,7 @@ module _ (opening : World) (s : State) (b : Beside) (system : System) (x : ℕ) 
   small = omega (arith, inside, begin.may.cpu, begin.few)
 
   here : cpu_at s n ≡ lists
-  here = cpu_here s k call.cpu begin.may.cpu begin.few
+  here = cpu_here s k (call_cpu call) begin.may.cpu begin.few
 
   empty : lists.free ≡ []
   empty = sym (ap (λ (x : CpuLists). x.free) here) ∙ cpu-bare s n begin.consistent (ap (λ (x : CpuLists). x.current) here ∙ none.current)
@@ -233,7 +234,7 @@ module _ (opening : World) (s : State) (b : Beside) (system : System) (x : ℕ) 
     string = refl;
     run = begin.between.run;
     packed = record { cpu_word = resting.words.cpu n; slab_word = begin.between.packed.slab_word; list_word = begin.between.packed.list_word; next = begin.between.packed.next };
-    cpu = subst (λ (m : Setup). call.cpu < m.cpus) (sym resting.setup) begin.may.cpu;
+    cpu = subst (λ (m : Setup). call_cpu call < m.cpus) (sym resting.setup) begin.may.cpu;
     numbers = begin.between.numbers;
     some = begin.between.some;
   })
@@ -276,20 +277,20 @@ module _ (opening : World) (s : State) (b : Beside) (system : System) (x : ℕ) 
     live = rest.lists.shaped.live;
   }
 
-  bare : (live : Cache) → cache_of s k ≡ Some live → AllocatesNew s live.layout k call.cpu l.worker call.object NoFrames after
-  bare live e = subst (λ layout. AllocatesNew s layout k call.cpu l.worker call.object NoFrames after) (layout_of s k live e)
+  bare : (live : Cache) → cache_of s k ≡ Some live → AllocatesNew s live.layout k (call_cpu call) l.worker (call_object call) NoFrames after
+  bare live e = subst (λ layout. AllocatesNew s layout k (call_cpu call) l.worker (call_object call) NoFrames after) (layout_of s k live e)
       (None, pool, ((refl, none_greater s.pool.free least (layout_at s k).order orders.1 dry), (refl, dry)), (refl, refl))
 
-  allocates : AllocatesNamed s place call.cpu l.worker call.object NoFrames after
-  allocates = subst (λ o. MatchOption o ((NoFrames ≡ NoSuchCache) × (after ≡ s)) (λ cache. MatchOption (cache_of s cache) ⊥ (λ live. AllocatesFrom s live.layout cache call.cpu l.worker call.object NoFrames after))) (sym is.named) (by (cache_of s k) refl lives)
+  allocates : AllocatesNamed s place (call_cpu call) l.worker (call_object call) NoFrames after
+  allocates = subst (λ o. MatchOption o ((NoFrames ≡ NoSuchCache) × (after ≡ s)) (λ cache. MatchOption (cache_of s cache) ⊥ (λ live. AllocatesFrom s live.layout cache (call_cpu call) l.worker (call_object call) NoFrames after))) (sym is.named) (by (cache_of s k) refl lives)
     where
-      by : (o : Option Cache) → cache_of s k ≡ o → is_some o ≡ true → MatchOption o ⊥ (λ live. AllocatesFrom s live.layout k call.cpu l.worker call.object NoFrames after)
+      by : (o : Option Cache) → cache_of s k ≡ o → is_some o ≡ true → MatchOption o ⊥ (λ live. AllocatesFrom s live.layout k (call_cpu call) l.worker (call_object call) NoFrames after)
       by None e live = false≢true live
       by (Some live) e has_it = from-unchecked (checked_of s k) _ _ is.unchecked
-          (subst (λ free. MatchResult (from_free s k call.cpu (batch_of live.layout) free) (λ stocked. Gives stocked live.layout k call.cpu l.worker call.object NoFrames after) (λ bare. AllocatesNew bare live.layout k call.cpu l.worker call.object NoFrames after)) (sym empty)
-          (subst (λ o. MatchResult (from_slabs s k call.cpu (batch_of live.layout) o) (λ stocked. Gives stocked live.layout k call.cpu l.worker call.object NoFrames after) (λ bare. AllocatesNew bare live.layout k call.cpu l.worker call.object NoFrames after)) (sym none.current)
-          (subst (λ fs. MatchResult (from_partial s k call.cpu (batch_of live.layout) fs) (λ stocked. Gives stocked live.layout k call.cpu l.worker call.object NoFrames after) (λ bare. AllocatesNew bare live.layout k call.cpu l.worker call.object NoFrames after)) (sym none.list)
-          (subst (λ fs. MatchResult (from_node s k call.cpu (batch_of live.layout) fs) (λ stocked. Gives stocked live.layout k call.cpu l.worker call.object NoFrames after) (λ bare. AllocatesNew bare live.layout k call.cpu l.worker call.object NoFrames after)) (sym none.node) (bare live e)))))
+          (subst (λ free. MatchResult (from_free s k (call_cpu call) (batch_of live.layout) free) (λ stocked. Gives stocked live.layout k (call_cpu call) l.worker (call_object call) NoFrames after) (λ bare. AllocatesNew bare live.layout k (call_cpu call) l.worker (call_object call) NoFrames after)) (sym empty)
+          (subst (λ o. MatchResult (from_slabs s k (call_cpu call) (batch_of live.layout) o) (λ stocked. Gives stocked live.layout k (call_cpu call) l.worker (call_object call) NoFrames after) (λ bare. AllocatesNew bare live.layout k (call_cpu call) l.worker (call_object call) NoFrames after)) (sym none.current)
+          (subst (λ fs. MatchResult (from_partial s k (call_cpu call) (batch_of live.layout) fs) (λ stocked. Gives stocked live.layout k (call_cpu call) l.worker (call_object call) NoFrames after) (λ bare. AllocatesNew bare live.layout k (call_cpu call) l.worker (call_object call) NoFrames after)) (sym none.list)
+          (subst (λ fs. MatchResult (from_node s k (call_cpu call) (batch_of live.layout) fs) (λ stocked. Gives stocked live.layout k (call_cpu call) l.worker (call_object call) NoFrames after) (λ bare. AllocatesNew bare live.layout k (call_cpu call) l.worker (call_object call) NoFrames after)) (sym none.node) (bare live e)))))
 
   pub tells : AllocatesAlone opening s b system x call place 6 b
   tells = record {

@@ -44,6 +44,7 @@ use Rattle.slub_core.specs.declared.step.Answer.{Answer}
 use Rattle.slub_core.specs.declared.step.Answer.TheVariants.{Done, Won, Lost}
 use Rattle.slub_core.specs.declared.step.Op.TheVariants.{Store, Exchange}
 use Rattle.slub_core.specs.declared.step.Place.TheVariants.{LockOf, SlabOf}
+use Rattle.slub_core.specs.Calls.{call_kind, call_cpu, call_object, call_place}
 use Rattle.slub_core.specs.Setup.{Setup, cpu_number, node_lock, pool_lock, pool_after, pointer_at, hardened}
 use Rattle.slub_core.specs.Words.{cpu_in, slab_in, cpu_base, slab_base, memory_base}
 use Rattle.slub_core.specs.World.{World, LockValue, Pool, update, set_cpu, set_slab, set_value, pointer, IsChain, world_from, world_of, frames_in, pool_in, objects_in_values, cache_in_values, order_in_values}
@@ -130,7 +131,7 @@ by_word-some : (w : World) (f : ℕ) (c : SlabWord) → 1 ≤ c.objects → by_w
 by_word-some w f c some = rw (lt-ltb 0 c.objects some) (cond-true {A = Option Slab} (nat_lt 0 c.objects) (Some (record { cache = c.cache; order = order_for (w.setup.layout c.cache) c.objects; objects = c.objects; frozen = c.frozen })) None (lt-ltb 0 c.objects some))
 
 module _ (opening : World) (s : State) (b : Beside) (system : System) (x : ℕ) (call : Call) (place k : ℕ) (run : Run) (pool : FreeFrames) (rest : IsAtRest opening s b system) (next : IsNext system x call) (is : IsAlloc s call place k)
-    (ids : HasIds b (cpu_number k call.cpu) 1) (none : HasNoSlab s k call.cpu) (finds : FindsRun s.pool (layout_at s k) (Some run) pool) where
+    (ids : HasIds b (cpu_number k (call_cpu call)) 1) (none : HasNoSlab s k (call_cpu call)) (finds : FindsRun s.pool (layout_at s k) (Some run) pool) where
   abbrev m : Setup
   m = setup_of s b
 
@@ -141,13 +142,13 @@ module _ (opening : World) (s : State) (b : Beside) (system : System) (x : ℕ) 
   l = worker_at system x
 
   abbrev n : ℕ
-  n = cpu_number k call.cpu
+  n = cpu_number k (call_cpu call)
 
   abbrev c : CpuWord
   c = w.cpu n
 
   abbrev lists : CpuLists
-  lists = lists_of s k call.cpu
+  lists = lists_of s k (call_cpu call)
 
   abbrev f : ℕ
   f = run.frame
@@ -167,14 +168,14 @@ module _ (opening : World) (s : State) (b : Beside) (system : System) (x : ℕ) 
   inside : k < 32
   inside = begin.setup.live k lives
 
-  cpu : call.cpu < s.cpus
+  cpu : call_cpu call < s.cpus
   cpu = begin.may.cpu
 
   small : n < 512
   small = omega (arith, inside, cpu, begin.few)
 
   here : cpu_at s n ≡ lists
-  here = cpu_here s k call.cpu cpu begin.few
+  here = cpu_here s k (call_cpu call) cpu begin.few
 
   cpu_is : IsCpuOf b w n lists
   cpu_is = subst (IsCpuOf b w n) here (resting.cpu n small)
@@ -185,7 +186,7 @@ module _ (opening : World) (s : State) (b : Beside) (system : System) (x : ℕ) 
   frame : c.frame ≡ 0
   frame = no_frame c.frame (sym cpu_is.current ∙ none.current)
 
-  names : names_object call.kind ≡ true
+  names : names_object (call_kind call) ≡ true
   names = ap names_object is.kind
 
   -- ---- the run
@@ -237,18 +238,18 @@ module _ (opening : World) (s : State) (b : Beside) (system : System) (x : ℕ) 
   slot = omega (arith, within, rest.lists.shaped.slabs)
 
   no_slab : slab_of s f ≡ None
-  no_slab = run-unused s k call.cpu pool run (run-for s.pool (layout_at s k) run pool finds).all_free consistent.framed slot
+  no_slab = run-unused s k (call_cpu call) pool run (run-for s.pool (layout_at s k) run pool finds).all_free consistent.framed slot
 
   -- ---- the lists with the slab
 
   abbrev made : State
-  made = with_new_slab s k call.cpu pool run
+  made = with_new_slab s k (call_cpu call) pool run
 
   abbrev slab : Slab
   slab = record { cache = k; order = run.order; objects = run.objects; frozen = true }
 
   made_consistent : IsConsistent made
-  made_consistent = with_new_slab-consistent s k (layout_at s k) consistent has_layout call.cpu run pool is.unchecked cpu none.current good_pool finds
+  made_consistent = with_new_slab-consistent s k (layout_at s k) consistent has_layout (call_cpu call) run pool is.unchecked cpu none.current good_pool finds
 
   slab_here : slab_of made f ≡ Some slab
   slab_here = get_or-set_same s.slabs f (Some slab) None slot
@@ -397,10 +398,10 @@ module _ (opening : World) (s : State) (b : Beside) (system : System) (x : ℕ) 
   words = set words3 (cpu_base + n) (cpu_bits v)
 
   abbrev known : Known
-  known = record { object = (get_or l.known call.place nobody).object; frame = f; index = 0; cache = k; held = true }
+  known = record { object = (get_or l.known (call_place call) nobody).object; frame = f; index = 0; cache = k; held = true }
 
   abbrev has : Local
-  has = record base { spot = Between; hands = l.hands; cpu_word = c; known = set l.known call.place known }
+  has = record base { spot = Between; hands = l.hands; cpu_word = c; known = set l.known (call_place call) known }
 
   abbrev reply : Reply
   reply = Given (address_of f 0 (layout_at s k))
@@ -450,7 +451,7 @@ module _ (opening : World) (s : State) (b : Beside) (system : System) (x : ℕ) 
   held = record { frame = f; index = 0; cache = k; worker = Some l.worker }
 
   abbrev after : State
-  after = record s { pool = pool; slabs = set s.slabs f (Some slab); cpu_lists = set s.cpu_lists (cpu_place s k call.cpu) left; board = set s.board call.object (Some held); live = set s.live k (get_or s.live k 0 + 1) }
+  after = record s { pool = pool; slabs = set s.slabs f (Some slab); cpu_lists = set s.cpu_lists (cpu_place s k (call_cpu call)) left; board = set s.board (call_object call) (Some held); live = set s.live k (get_or s.live k 0 + 1) }
 
   abbrev given : State
   given = record after { memory = memory_of (world_of m later words) (512 * s.frames) }
@@ -461,26 +462,26 @@ module _ (opening : World) (s : State) (b : Beside) (system : System) (x : ℕ) 
   calls : IsWithCalls told (rested m told)
   calls = rested_calls m told refl
 
-  known_is : (rested m told).known ≡ set l.known call.place known
+  known_is : (rested m told).known ≡ set l.known (call_place call) known
   known_is = ap (λ (l : Local). l.known) calls.same
 
   worker_is : (rested m told).worker ≡ l.worker
   worker_is = ap (λ (l : Local). l.worker) calls.same
 
-  object : known.object ≡ call.object
+  object : known.object ≡ call_object call
   object = begin.may.known names
 
-  on_board : call.object < length s.board
+  on_board : call_object call < length s.board
   on_board = (begin.may.object names).1
 
   once : (o : ℕ) → times_named u (set system.locals x (rested m told)) o ≤ 1
   once o = subst (λ w. times_named w (set system.locals x (rested m told)) o ≤ 1) says (once_named m opening (machine words later (set system.locals x (rested m told))) ended o)
 
-  unused : held_under s call.object ≡ None
-  unused = resting.named call.object ∙ named_new w system.locals x call.place (rested m told) known next.there (begin.may.place names) known_is refl (begin.may.new is.kind) call.object object (once call.object)
+  unused : held_under s (call_object call) ≡ None
+  unused = resting.named (call_object call) ∙ named_new w system.locals x (call_place call) (rested m told) known next.there (begin.may.place names) known_is refl (begin.may.new is.kind) (call_object call) object (once (call_object call))
 
-  place_below : cpu_place s k call.cpu < length s.cpu_lists
-  place_below = place-inside s k call.cpu rest.lists.shaped inside cpu
+  place_below : cpu_place s k (call_cpu call) < length s.cpu_lists
+  place_below = place-inside s k (call_cpu call) rest.lists.shaped inside cpu
 
   worker_rests : IsBetween w.setup (rested m told)
   worker_rests = subst (IsBetween w.setup) (sym calls.same) (record {
@@ -489,9 +490,9 @@ module _ (opening : World) (s : State) (b : Beside) (system : System) (x : ℕ) 
     string = refl;
     run = refl;
     packed = record { cpu_word = resting.words.cpu n; slab_word = begin.between.packed.slab_word; list_word = begin.between.packed.list_word; next = begin.between.packed.next };
-    cpu = subst (λ (m : Setup). call.cpu < m.cpus) (sym resting.setup) begin.may.cpu;
-    numbers = All-set (λ (k : Known). k.object < w.setup.objects) l.known call.place known (subst (λ (m : Setup). known.object < m.objects) (sym resting.setup) (omega (arith, object, on_board))) begin.between.numbers;
-    some = All-set (λ (k : Known). k.held ≡ true → 1 ≤ k.object) l.known call.place known (λ _. omega (arith, object, (begin.may.object names).0)) begin.between.some;
+    cpu = subst (λ (m : Setup). call_cpu call < m.cpus) (sym resting.setup) begin.may.cpu;
+    numbers = All-set (λ (k : Known). k.object < w.setup.objects) l.known (call_place call) known (subst (λ (m : Setup). known.object < m.objects) (sym resting.setup) (omega (arith, object, on_board))) begin.between.numbers;
+    some = All-set (λ (k : Known). k.held ≡ true → 1 ≤ k.object) l.known (call_place call) known (λ _. omega (arith, object, (begin.may.object names).0)) begin.between.some;
   })
 
   -- ---- chains
@@ -548,7 +549,7 @@ module _ (opening : World) (s : State) (b : Beside) (system : System) (x : ℕ) 
   cpu_ends : (j : ℕ) → j < 512 → IsCpuOf b1 u j (cpu_at given j)
   cpu_ends j below =
       let chain : IsChain (pointer filled_up k f) (0 + 1) (range_with_len 0 (suc few)) = rising_chain (pointer filled_up k f) run.objects few 0 (omega (arith, sum)) linked in
-      let r = cpus_changed s b w k call.cpu left v (tid_of b n + 1 * b.step) (update w.slab f e) mem cpu begin.few place_below (omega (arith, small, rest.beside.tids)) resting.cpu (omega (arith, cpu_is.tid))
+      let r = cpus_changed s b w k (call_cpu call) left v (tid_of b n + 1 * b.step) (update w.slab f e) mem cpu begin.few place_below (omega (arith, small, rest.beside.tids)) resting.cpu (omega (arith, cpu_is.tid))
       (sym (cond-false {A = Option ℕ} (eqb f 0) None (Some f) (ne_eqb f 0 (λ z. absurd (omega (arith, z, first))))))
       (subst (λ h. IsChain (pointer filled_up k f) h (range_with_len 1 few)) (sym follows_is) chain.1) refl (λ j below away. cpu_stands j below) j below in
       record { tid = r.tid; current = r.current; free = r.free; count = r.count; partial = r.partial }
@@ -565,11 +566,11 @@ module _ (opening : World) (s : State) (b : Beside) (system : System) (x : ℕ) 
       at_it = ap (by_word u f) (update_same w.slab f e) ∙ by_word-some u f e count.0
           ∙ ap (λ r. Some (record slab { order = r })) (ap (λ (m : Setup). order_for (m.layout k) run.objects) resting.setup ∙ sym (order-of-slab made f slab made_consistent slab_here))
 
-  names_are : (o : ℕ) → get_or (set s.board call.object (Some held)) o None ≡ named_in u (set system.locals x (rested m told)) o
-  names_are o = elim (cases_eq o call.object) [
-    | inl e ↦ ap (λ o. get_or (set s.board call.object (Some held)) o None) e ∙ get_or-set_same s.board call.object (Some held) None on_board ∙ ap (λ worker. Some (record { frame = f; index = 0; cache = k; worker = Some worker })) (sym worker_is)
-        ∙ sym (named_held u system.locals x call.place (rested m told) l.known known next.there (begin.may.place names) known_is refl (once known.object)) ∙ ap (named_in u (set system.locals x (rested m told))) (object ∙ sym e)
-    | inr away ↦ get_or-set_other s.board call.object o (Some held) None away ∙ resting.named o ∙ sym (named_other u system.locals x call.place (rested m told) known worker_is known_is refl o (λ e. away (sym e ∙ object)))
+  names_are : (o : ℕ) → get_or (set s.board (call_object call) (Some held)) o None ≡ named_in u (set system.locals x (rested m told)) o
+  names_are o = elim (cases_eq o (call_object call)) [
+    | inl e ↦ ap (λ o. get_or (set s.board (call_object call) (Some held)) o None) e ∙ get_or-set_same s.board (call_object call) (Some held) None on_board ∙ ap (λ worker. Some (record { frame = f; index = 0; cache = k; worker = Some worker })) (sym worker_is)
+        ∙ sym (named_held u system.locals x (call_place call) (rested m told) l.known known next.there (begin.may.place names) known_is refl (once known.object)) ∙ ap (named_in u (set system.locals x (rested m told))) (object ∙ sym e)
+    | inr away ↦ get_or-set_other s.board (call_object call) o (Some held) None away ∙ resting.named o ∙ sym (named_other u system.locals x (call_place call) (rested m told) known worker_is known_is refl o (λ e. away (sym e ∙ object)))
   ]
 
   values_are : (j : ℕ) → j < 33 → u.value j ≡ value_in given j
@@ -600,27 +601,27 @@ module _ (opening : World) (s : State) (b : Beside) (system : System) (x : ℕ) 
   }
     where
       same_setup : setup_of given b1 ≡ setup_of s b
-      same_setup = setup_same s b w system.locals s.frees (set s.cpu_lists (cpu_place s k call.cpu) left) given.memory (set s.board call.object (Some held)) s.gone (set s.live k (get_or s.live k 0 + 1)) (set b.tids n (tid_of b n + 1 * b.step))
-          (update w.cpu n v) (update w.slab f e) mem (set system.locals x (rested m told)) (length-set s.board call.object (Some held))
+      same_setup = setup_same s b w system.locals s.frees (set s.cpu_lists (cpu_place s k (call_cpu call)) left) given.memory (set s.board (call_object call) (Some held)) s.gone (set s.live k (get_or s.live k 0 + 1)) (set b.tids n (tid_of b n + 1 * b.step))
+          (update w.cpu n v) (update w.slab f e) mem (set system.locals x (rested m told)) (length-set s.board (call_object call) (Some held))
 
   -- ---- on lists
 
   accounted : IsAccounted given
-  accounted = accounted-with_held s call.object held (omega (arith, inside, rest.lists.shaped.live)) on_board unused rest.lists.accounted
+  accounted = accounted-with_held s (call_object call) held (omega (arith, inside, rest.lists.shaped.live)) on_board unused rest.lists.accounted
 
   lengths : HasLengths given
   lengths = record {
     slabs = length-set s.slabs f (Some slab) ∙ rest.lists.shaped.slabs;
     frees = rest.lists.shaped.frees;
-    cpu_lists = length-set s.cpu_lists (cpu_place s k call.cpu) left ∙ rest.lists.shaped.cpu_lists;
+    cpu_lists = length-set s.cpu_lists (cpu_place s k (call_cpu call)) left ∙ rest.lists.shaped.cpu_lists;
     nodes = rest.lists.shaped.nodes;
     checked = rest.lists.shaped.checked.numbers;
     memory = copied_length (world_of m later words) (512 * s.frames);
-    gone = rest.lists.shaped.gone ∙ sym (length-set s.board call.object (Some held));
+    gone = rest.lists.shaped.gone ∙ sym (length-set s.board (call_object call) (Some held));
     live = length-set s.live k (get_or s.live k 0 + 1) ∙ rest.lists.shaped.live;
   }
 
-  gives : Gives made (layout_at s k) k call.cpu l.worker call.object reply after
+  gives : Gives made (layout_at s k) k (call_cpu call) l.worker (call_object call) reply after
   gives = record {
     frame = f;
     index = 0;
@@ -629,29 +630,29 @@ module _ (opening : World) (s : State) (b : Beside) (system : System) (x : ℕ) 
     first = ap (λ (x : CpuLists). x.free) made_lists ∙ ap (range_with_len 0) (sym sum);
     unheld = let zero : has_object 0 (slab_of s f) ≡ 0 = ap (has_object 0) no_slab in omega (arith, consistent.placed f 0, zero);
     address = refl;
-    given = λ i. record s { pool = pool; slabs = set s.slabs f (Some slab); cpu_lists = cpus_are i; board = set s.board call.object (Some held); live = set s.live k (get_or s.live k 0 + 1) };
+    given = λ i. record s { pool = pool; slabs = set s.slabs f (Some slab); cpu_lists = cpus_are i; board = set s.board (call_object call) (Some held); live = set s.live k (get_or s.live k 0 + 1) };
   }
     where
-      made_lists : lists_of made k call.cpu ≡ record { current = Some f; free = range_with_len 0 run.objects; partial = lists.partial }
-      made_lists = get_or-set_same s.cpu_lists (cpu_place s k call.cpu) (record { current = Some f; free = range_with_len 0 run.objects; partial = lists.partial }) no_lists place_below
+      made_lists : lists_of made k (call_cpu call) ≡ record { current = Some f; free = range_with_len 0 run.objects; partial = lists.partial }
+      made_lists = get_or-set_same s.cpu_lists (cpu_place s k (call_cpu call)) (record { current = Some f; free = range_with_len 0 run.objects; partial = lists.partial }) no_lists place_below
 
-      cpus_are : set s.cpu_lists (cpu_place s k call.cpu) left ≡ set made.cpu_lists (cpu_place s k call.cpu) (record { current = Some f; free = range_with_len 1 few; partial = (lists_of made k call.cpu).partial })
-      cpus_are = sym (set-set s.cpu_lists (cpu_place s k call.cpu) (record { current = Some f; free = range_with_len 0 run.objects; partial = lists.partial }) left)
-          ∙ ap (λ fs. set made.cpu_lists (cpu_place s k call.cpu) (record { current = Some f; free = range_with_len 1 few; partial = fs })) (sym (ap (λ (x : CpuLists). x.partial) made_lists))
+      cpus_are : set s.cpu_lists (cpu_place s k (call_cpu call)) left ≡ set made.cpu_lists (cpu_place s k (call_cpu call)) (record { current = Some f; free = range_with_len 1 few; partial = (lists_of made k (call_cpu call)).partial })
+      cpus_are = sym (set-set s.cpu_lists (cpu_place s k (call_cpu call)) (record { current = Some f; free = range_with_len 0 run.objects; partial = lists.partial }) left)
+          ∙ ap (λ fs. set made.cpu_lists (cpu_place s k (call_cpu call)) (record { current = Some f; free = range_with_len 1 few; partial = fs })) (sym (ap (λ (x : CpuLists). x.partial) made_lists))
 
-  bare : (live : Cache) → cache_of s k ≡ Some live → AllocatesNew s live.layout k call.cpu l.worker call.object reply after
-  bare live e = subst (λ layout. AllocatesNew s layout k call.cpu l.worker call.object reply after) (layout_of s k live e) (Some run, pool, finds, gives)
+  bare : (live : Cache) → cache_of s k ≡ Some live → AllocatesNew s live.layout k (call_cpu call) l.worker (call_object call) reply after
+  bare live e = subst (λ layout. AllocatesNew s layout k (call_cpu call) l.worker (call_object call) reply after) (layout_of s k live e) (Some run, pool, finds, gives)
 
-  allocates : AllocatesNamed s place call.cpu l.worker call.object reply after
-  allocates = subst (λ o. MatchOption o ((reply ≡ NoSuchCache) × (after ≡ s)) (λ cache. MatchOption (cache_of s cache) ⊥ (λ live. AllocatesFrom s live.layout cache call.cpu l.worker call.object reply after))) (sym is.named) (by (cache_of s k) refl lives)
+  allocates : AllocatesNamed s place (call_cpu call) l.worker (call_object call) reply after
+  allocates = subst (λ o. MatchOption o ((reply ≡ NoSuchCache) × (after ≡ s)) (λ cache. MatchOption (cache_of s cache) ⊥ (λ live. AllocatesFrom s live.layout cache (call_cpu call) l.worker (call_object call) reply after))) (sym is.named) (by (cache_of s k) refl lives)
     where
-      by : (o : Option Cache) → cache_of s k ≡ o → is_some o ≡ true → MatchOption o ⊥ (λ live. AllocatesFrom s live.layout k call.cpu l.worker call.object reply after)
+      by : (o : Option Cache) → cache_of s k ≡ o → is_some o ≡ true → MatchOption o ⊥ (λ live. AllocatesFrom s live.layout k (call_cpu call) l.worker (call_object call) reply after)
       by None e live = false≢true live
       by (Some live) e has_it = from-unchecked (checked_of s k) _ _ is.unchecked
-          (subst (λ free. MatchResult (from_free s k call.cpu (batch_of live.layout) free) (λ stocked. Gives stocked live.layout k call.cpu l.worker call.object reply after) (λ bare. AllocatesNew bare live.layout k call.cpu l.worker call.object reply after)) (sym empty)
-          (subst (λ o. MatchResult (from_slabs s k call.cpu (batch_of live.layout) o) (λ stocked. Gives stocked live.layout k call.cpu l.worker call.object reply after) (λ bare. AllocatesNew bare live.layout k call.cpu l.worker call.object reply after)) (sym none.current)
-          (subst (λ fs. MatchResult (from_partial s k call.cpu (batch_of live.layout) fs) (λ stocked. Gives stocked live.layout k call.cpu l.worker call.object reply after) (λ bare. AllocatesNew bare live.layout k call.cpu l.worker call.object reply after)) (sym none.list)
-          (subst (λ fs. MatchResult (from_node s k call.cpu (batch_of live.layout) fs) (λ stocked. Gives stocked live.layout k call.cpu l.worker call.object reply after) (λ bare. AllocatesNew bare live.layout k call.cpu l.worker call.object reply after)) (sym none.node) (bare live e)))))
+          (subst (λ free. MatchResult (from_free s k (call_cpu call) (batch_of live.layout) free) (λ stocked. Gives stocked live.layout k (call_cpu call) l.worker (call_object call) reply after) (λ bare. AllocatesNew bare live.layout k (call_cpu call) l.worker (call_object call) reply after)) (sym empty)
+          (subst (λ o. MatchResult (from_slabs s k (call_cpu call) (batch_of live.layout) o) (λ stocked. Gives stocked live.layout k (call_cpu call) l.worker (call_object call) reply after) (λ bare. AllocatesNew bare live.layout k (call_cpu call) l.worker (call_object call) reply after)) (sym none.current)
+          (subst (λ fs. MatchResult (from_partial s k (call_cpu call) (batch_of live.layout) fs) (λ stocked. Gives stocked live.layout k (call_cpu call) l.worker (call_object call) reply after) (λ bare. AllocatesNew bare live.layout k (call_cpu call) l.worker (call_object call) reply after)) (sym none.list)
+          (subst (λ fs. MatchResult (from_node s k (call_cpu call) (batch_of live.layout) fs) (λ stocked. Gives stocked live.layout k (call_cpu call) l.worker (call_object call) reply after) (λ bare. AllocatesNew bare live.layout k (call_cpu call) l.worker (call_object call) reply after)) (sym none.node) (bare live e)))))
 
   pub makes_one : AllocatesAlone opening s b system x call place (10 + run.objects) b1
   makes_one = record {
@@ -663,20 +664,20 @@ module _ (opening : World) (s : State) (b : Beside) (system : System) (x : ℕ) 
       lists = refl;
       sized = copied_length (world_of m later words) (512 * s.frames) ∙ sym rest.lists.shaped.memory;
       words = λ other word h away there plain is_inside.
-          let before : held_under s other ≡ Some h = sym (get_or-set_other s.board call.object other (Some held) None away) ∙ there in
+          let before : held_under s other ≡ Some h = sym (get_or-set_other s.board (call_object call) other (Some held) None away) ∙ there in
           sym (words_copied (word_at (layout_at s h.cache) h word))
           ∙ fill_other m k f run.objects 0 (suc few) w.memory (word_at (layout_at s h.cache) h word) (λ i le lt same. word_away other word h before is_inside i (omega (arith, lt, sum)) same)
           ∙ resting.contents other word h before plain is_inside;
     };
-    known = known_ends s b system x (10 + run.objects) told words later next.there whole refl ∙ knows_given l.known call.place known.object call.object s.board held after refl on_board object;
+    known = known_ends s b system x (10 + run.objects) told words later next.there whole refl ∙ knows_given l.known (call_place call) known.object (call_object call) s.board held after refl on_board object;
     replies = replies_of opening s given b b1 system x (10 + run.objects) call reply told words later next whole refl refl refl refl same
         (ends_at_rest opening u s given b b1 system (machine words later (set system.locals x (rested m told))) rest same refl refl lengths accounted (length-set b.tids n (tid_of b n + 1 * b.step) ∙ rest.beside.tids) refl refl ended says ends
         (whole_cpu m words3 n (cpu_bits v) refl small (whole_slab m words2 f e refl (omega (arith, table2.length, within)) fit_e (filled_whole m k f run.objects 0 (suc few) system.words refl begin.table.objects rest.whole))));
   }
     where
       same : setup_of given b1 ≡ setup_of s b
-      same = setup_same s b w system.locals s.frees (set s.cpu_lists (cpu_place s k call.cpu) left) given.memory (set s.board call.object (Some held)) s.gone (set s.live k (get_or s.live k 0 + 1)) (set b.tids n (tid_of b n + 1 * b.step))
-          (update w.cpu n v) (update w.slab f e) mem (set system.locals x (rested m told)) (length-set s.board call.object (Some held))
+      same = setup_same s b w system.locals s.frees (set s.cpu_lists (cpu_place s k (call_cpu call)) left) given.memory (set s.board (call_object call) (Some held)) s.gone (set s.live k (get_or s.live k 0 + 1)) (set b.tids n (tid_of b n + 1 * b.step))
+          (update w.cpu n v) (update w.slab f e) mem (set system.locals x (rested m told)) (length-set s.board (call_object call) (Some held))
 
   pub makes_one_gives : is_given makes_one.reply ≡ true
   unfolding makes_one

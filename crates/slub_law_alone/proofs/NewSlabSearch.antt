@@ -18,6 +18,7 @@ use Rattle.slub_core.specs.declared.step.Answer.{Answer}
 use Rattle.slub_core.specs.declared.step.Answer.TheVariants.{Word, Done, Won, Lost}
 use Rattle.slub_core.specs.declared.step.Op.TheVariants.{Load, Store, Swap, Exchange}
 use Rattle.slub_core.specs.declared.step.Place.TheVariants.{CpuOf, ListOf, LockOf}
+use Rattle.slub_core.specs.Calls.{call_cpu, call_place}
 use Rattle.slub_core.specs.Setup.{Setup, cpu_number, node_lock}
 use Rattle.slub_core.specs.Words.{number_of, after_op, answer_of, no_list_word, cpu_in, list_in, cpu_base, list_base}
 use Rattle.slub_core.specs.World.{World, LockValue, pointer, Links, world_of, frames_in}
@@ -91,14 +92,14 @@ no_frame f none = elim (cases_eq f 0) [
 
 -- the worker before the pool's lock
 abbrev pub searched : Local → Call → ℕ → CpuWord → Local
-searched l call k c = record l { spot = InAlloc LockPool; cache = k; cpu = call.cpu; place = call.place; fast = false; turn = 0; count = 0; cpu_word = c; string = None; put = 0 }
+searched l call k c = record l { spot = InAlloc LockPool; cache = k; cpu = call_cpu call; place = call_place call; fast = false; turn = 0; count = 0; cpu_word = c; string = None; put = 0 }
 
 -- a lock that is taken and given back
 pub lock_back : (words : List ℕ) (j a : ℕ) → get_or words j 0 ≡ 0 → set (set words j a) j 0 ≡ words
 lock_back words j a free = set-set words j a 0 ∙ ap (set words j) (sym free) ∙ set-get_or words j 0
 
 module _ (opening : World) (s : State) (b : Beside) (system : System) (x : ℕ) (call : Call) (place k : ℕ) (rest : IsAtRest opening s b system) (next : IsNext system x call) (is : IsAlloc s call place k)
-    (ids : HasIds b (cpu_number k call.cpu) 1) (none : HasNoSlab s k call.cpu) where
+    (ids : HasIds b (cpu_number k (call_cpu call)) 1) (none : HasNoSlab s k (call_cpu call)) where
   abbrev m : Setup
   m = setup_of s b
 
@@ -109,13 +110,13 @@ module _ (opening : World) (s : State) (b : Beside) (system : System) (x : ℕ) 
   l = worker_at system x
 
   abbrev n : ℕ
-  n = cpu_number k call.cpu
+  n = cpu_number k (call_cpu call)
 
   abbrev c : CpuWord
   c = w.cpu n
 
   abbrev lists : CpuLists
-  lists = lists_of s k call.cpu
+  lists = lists_of s k (call_cpu call)
 
   begin : IsStart opening s b system x call
   begin = starts opening s b system x call rest next
@@ -129,14 +130,14 @@ module _ (opening : World) (s : State) (b : Beside) (system : System) (x : ℕ) 
   inside : k < 32
   inside = begin.setup.live k lives
 
-  cpu : call.cpu < s.cpus
+  cpu : call_cpu call < s.cpus
   cpu = begin.may.cpu
 
   small : n < 512
   small = omega (arith, inside, cpu, begin.few)
 
   here : cpu_at s n ≡ lists
-  here = cpu_here s k call.cpu cpu begin.few
+  here = cpu_here s k (call_cpu call) cpu begin.few
 
   cpu_is : IsCpuOf b w n lists
   cpu_is = subst (IsCpuOf b w n) here (resting.cpu n small)
@@ -198,7 +199,7 @@ module _ (opening : World) (s : State) (b : Beside) (system : System) (x : ℕ) 
   -- ---- the turns
 
   abbrev asked : Local
-  asked = record l { spot = InAlloc LoadCpu; cache = k; cpu = call.cpu; place = call.place; fast = false; turn = 0; count = 0 }
+  asked = record l { spot = InAlloc LoadCpu; cache = k; cpu = call_cpu call; place = call_place call; fast = false; turn = 0; count = 0 }
 
   abbrev loaded : Local
   loaded = record asked { cpu_word = c; spot = InAlloc TakeList }

@@ -10,6 +10,7 @@ use Rattle.slub_lists.specs.Coherent.{held_under}
 use Rattle.slub_core.specs.declared.call.Call.{Call}
 use Rattle.slub_core.specs.declared.call.CallKind.TheVariants.{Free}
 use Rattle.slub_core.specs.declared.local.Known.{Known}
+use Rattle.slub_core.specs.Calls.{call_kind, call_object}
 use Rattle.slub_core.specs.Local.{Local}
 use Rattle.slub_core.specs.Replies.{names_object}
 use Rattle.slub_core.specs.Run.{System}
@@ -57,7 +58,7 @@ on_board_it w ls o held named nobodys = by (w.board o) refl
     by (Some d) there = record { word = d; there = there; is = injected (sym (ap (λ d. option_or (option_map held_on d) (held_among ls o)) there) ∙ named) }
 
 -- who takes an object from the board doesn't hold it
-pub board_unheld : (opening : World) (s : State) (b : Beside) (system : System) (x : ℕ) (call : Call) (held : Held) → IsAtRest opening s b system → IsNext system x call → call.kind ≡ Free → held_under s call.object ≡ Some held → held.worker ≡ None → (known_at (worker_at system x) call).held ≡ false
+pub board_unheld : (opening : World) (s : State) (b : Beside) (system : System) (x : ℕ) (call : Call) (held : Held) → IsAtRest opening s b system → IsNext system x call → call_kind call ≡ Free → held_under s (call_object call) ≡ Some held → held.worker ≡ None → (known_at (worker_at system x) call).held ≡ false
 board_unheld opening s b system x call held rest next is named nobodys = elim (cases_Bool (known_at (worker_at system x) call).held) [
   | inr no_more ↦ no_more
   | inl has_it ↦ absurd (

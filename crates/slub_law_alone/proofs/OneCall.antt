@@ -11,6 +11,7 @@ use Rattle.slub_core.specs.declared.local.Answered.{Answered}
 use Rattle.slub_core.specs.declared.step.Answer.{Answer}
 use Rattle.slub_core.specs.declared.spot.Spot.{Spot}
 use Rattle.slub_core.specs.declared.spot.Spot.TheVariants.{Between}
+use Rattle.slub_core.specs.Calls.{call_kind}
 use Rattle.slub_core.specs.Setup.{Setup}
 use Rattle.slub_core.specs.Words.{number_of, answer_of}
 use Rattle.slub_core.specs.World.{LockValue}
@@ -101,13 +102,13 @@ turn-long m x system below = subst (λ n. x < n) (sym (length-set system.locals 
 
 -- it has no reply yet
 abbrev Waits : Local → Call → Local → Type 0
-Waits before call l = (doing l.spot ≡ Some call.kind) × (l.todo ≡ before.todo) × (l.done ≡ before.done)
+Waits before call l = (doing l.spot ≡ Some (call_kind call)) × (l.todo ≡ before.todo) × (l.done ≡ before.done)
 
 -- it has one, by a step
 pub record Has (before : Local) (call : Call) (l : Local) : Type 0 where
   pub after : doing l.spot ≡ None
   pub reply : Reply
-  pub stepped : unstepped call.kind reply ≡ false
+  pub stepped : unstepped (call_kind call) reply ≡ false
   pub done : l.done ≡ record { call = call; reply = reply } ∷ before.done
   pub todo : l.todo ≡ drop 1 before.todo
 
@@ -145,7 +146,7 @@ module _ (before : Local) (call : Call) (calls : List Call) (todo : before.todo 
   })
   by-reply l n s (Some reply) is leaves goes (inl w) =
       let tells : Tells s n.spot reply = goes.1 in
-      let kind : tells.kind ≡ call.kind = same_Some tells.kind call.kind (sym tells.was ∙ ap doing (sym is) ∙ w.0) in
+      let kind : tells.kind ≡ call_kind call = same_Some tells.kind (call_kind call) (sym tells.was ∙ ap doing (sym is) ∙ w.0) in
       inr (record {
         after = tells.after;
         reply = reply;
@@ -179,7 +180,7 @@ module _ (before : Local) (call : Call) (calls : List Call) (todo : before.todo 
       record { told = n; has = by at is.at; between = at; plain = is.plain; number = is.number; rests = e }
     where
       by : n.spot ≡ Between → Waits before call n ⊎ Has before call n → Has before call n
-      by at (inl w) = absurd (none-some call.kind (sym (ap doing at) ∙ w.0))
+      by at (inl w) = absurd (none-some (call_kind call) (sym (ap doing at) ∙ w.0))
       by at (inr h) = h
 
   goes-on : (m : Setup) (x turns : ℕ) (system : System) → x < length system.locals → Along before call (begun m false (worker_at system x)) → EndsCall m system x (suc turns) → Ends before call m (worker_at (alone m x (suc turns) system) x)
@@ -213,7 +214,7 @@ first-doing Flush checked held = refl
 
 begins : (m : Setup) (l : Local) (call : Call) (calls : List Call) → l.spot ≡ Between → l.todo ≡ call ∷ calls → Along l call (begun m false l)
 begins m l call calls is todo = subst (Along l call) (sym (ap (begun_at m false l) is ∙ ap (begun_with m false l) todo))
-    (record { plain = refl; number = refl; at = inl (first-doing call.kind _ _, refl, refl) })
+    (record { plain = refl; number = refl; at = inl (first-doing (call_kind call) _ _, refl, refl) })
 
 pub call-ends : (m : Setup) (system : System) (worker : ℕ) (call : Call) (calls : List Call) (turns : ℕ) → worker < length system.locals → IsBetweenCalls system worker → (worker_at system worker).todo ≡ call ∷ calls → EndsCall m system worker (suc turns)
     → Ends (worker_at system worker) call m (worker_at (alone m worker (suc turns) system) worker)

@@ -1,5 +1,5 @@
 -- A worker's turns alone add replies and take none back, and what it knows stays under the same numbers.
-use Rattle.std.proofs.Common.{◌≡◌, ℕ, zero, suc, ◌+◌, ◌<◌, ◌++◌, Bool, false, Option, Some, None, List, [], ◌∷◌, length, get_or, refl, sym, ap, ◌∙◌, subst}
+use Rattle.std.proofs.Common.{◌≡◌, ℕ, zero, suc, ◌<◌, ◌++◌, Bool, false, Option, Some, None, List, [], ◌∷◌, length, get_or, refl, sym, ap, ◌∙◌, subst}
 use Rattle.std.proofs.lemmas.List.{append_assoc}
 use Rattle.slub_trace.specs.declared.reply.Reply.{Reply}
 use Rattle.slub_core.specs.declared.call.Call.{Call}
@@ -7,6 +7,7 @@ use Rattle.slub_core.specs.declared.local.Known.{Known}
 use Rattle.slub_core.specs.declared.local.Answered.{Answered}
 use Rattle.slub_core.specs.declared.spot.Spot.{Spot}
 use Rattle.slub_core.specs.declared.spot.Spot.TheVariants.{Between}
+use Rattle.slub_core.specs.Calls.{call_kind, call_place}
 use Rattle.slub_core.specs.Setup.{Setup}
 use Rattle.slub_core.specs.Local.{Local, nobody, call_of, answered, noted}
 use Rattle.slub_core.specs.Steps.{told_at_once, or_step, rested, rested_with, rested_at, begun_at, begun_with}
@@ -29,7 +30,7 @@ noted-grown l n s (Some reply) leaves = (record { call = call_of n; reply = repl
 
 pub rested_with-grown : (m : Setup) (calls : List Call) (l : Local) → Grown l.done (rested_with m calls l).done
 rested_with-grown m [] l = ([], refl)
-rested_with-grown m (call ∷ calls) l = by (told_at_once m (get_or l.known call.place nobody) call call.kind) (λ reply. rested_with-grown m calls (answered l reply))
+rested_with-grown m (call ∷ calls) l = by (told_at_once m (get_or l.known (call_place call) nobody) call (call_kind call)) (λ reply. rested_with-grown m calls (answered l reply))
   where
     by : (r : Option Reply) → ((reply : Reply) → Grown (answered l reply).done (rested_with m calls (answered l reply)).done) → Grown l.done (or_step l (λ reply. rested_with m calls (answered l reply)) r).done
     by None more = ([], refl)

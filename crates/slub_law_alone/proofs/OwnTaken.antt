@@ -34,6 +34,7 @@ use Rattle.slub_core.specs.declared.step.Answer.{Answer}
 use Rattle.slub_core.specs.declared.step.Answer.TheVariants.{Word, Won, Lost}
 use Rattle.slub_core.specs.declared.step.Op.TheVariants.{Load, Exchange}
 use Rattle.slub_core.specs.declared.step.Place.TheVariants.{SlabOf}
+use Rattle.slub_core.specs.Calls.{call_kind, call_cpu, call_object, call_place}
 use Rattle.slub_core.specs.Setup.{Setup, cpu_number, pointer_at, hardened}
 use Rattle.slub_core.specs.Words.{cpu_in, slab_in, cpu_base, slab_base, memory_base}
 use Rattle.slub_core.specs.World.{World, update, set_cpu, set_slab, pointer, IsChain, world_from, world_of, one_if}
@@ -84,7 +85,7 @@ update_twice g n a b = λ i k. same k i
     ]
 
 module _ (opening : World) (s : State) (b : Beside) (system : System) (x : ℕ) (call : Call) (place k f : ℕ) (rest : IsAtRest opening s b system) (next : IsNext system x call) (is : IsAlloc s call place k)
-    (ids : HasIds b (cpu_number k call.cpu) 2) (empty : (lists_of s k call.cpu).free ≡ []) (current : (lists_of s k call.cpu).current ≡ Some f) (some : 0 < length (own_free s f)) where
+    (ids : HasIds b (cpu_number k (call_cpu call)) 2) (empty : (lists_of s k (call_cpu call)).free ≡ []) (current : (lists_of s k (call_cpu call)).current ≡ Some f) (some : 0 < length (own_free s f)) where
   abbrev m : Setup
   m = setup_of s b
 
@@ -95,7 +96,7 @@ module _ (opening : World) (s : State) (b : Beside) (system : System) (x : ℕ) 
   l = worker_at system x
 
   abbrev n : ℕ
-  n = cpu_number k call.cpu
+  n = cpu_number k (call_cpu call)
 
   abbrev c : CpuWord
   c = w.cpu n
@@ -104,7 +105,7 @@ module _ (opening : World) (s : State) (b : Beside) (system : System) (x : ℕ) 
   z = w.slab f
 
   abbrev lists : CpuLists
-  lists = lists_of s k call.cpu
+  lists = lists_of s k (call_cpu call)
 
   begin : IsStart opening s b system x call
   begin = starts opening s b system x call rest next
@@ -121,7 +122,7 @@ module _ (opening : World) (s : State) (b : Beside) (system : System) (x : ℕ) 
   inside : k < 32
   inside = begin.setup.live k lives
 
-  cpu : call.cpu < s.cpus
+  cpu : call_cpu call < s.cpus
   cpu = begin.may.cpu
 
   small : n < 512
@@ -131,12 +132,12 @@ module _ (opening : World) (s : State) (b : Beside) (system : System) (x : ℕ) 
   number = omega (arith, cpu, begin.few)
 
   here : cpu_at s n ≡ lists
-  here = cpu_here s k call.cpu cpu begin.few
+  here = cpu_here s k (call_cpu call) cpu begin.few
 
   cpu_is : IsCpuOf b w n lists
   cpu_is = subst (IsCpuOf b w n) here (resting.cpu n small)
 
-  names : names_object call.kind ≡ true
+  names : names_object (call_kind call) ≡ true
   names = ap names_object is.kind
 
   current_at : (cpu_at s n).current ≡ Some f
@@ -209,7 +210,7 @@ module _ (opening : World) (s : State) (b : Beside) (system : System) (x : ℕ) 
   -- ---- the turns
 
   abbrev asked : Local
-  asked = record l { spot = InAlloc LoadCpu; cache = k; cpu = call.cpu; place = call.place; fast = false; turn = 0; count = 0 }
+  asked = record l { spot = InAlloc LoadCpu; cache = k; cpu = call_cpu call; place = call_place call; fast = false; turn = 0; count = 0 }
 
   abbrev loaded : Local
   loaded = record asked { cpu_word = c; spot = InAlloc Detach }
@@ -297,10 +298,10 @@ module _ (opening : World) (s : State) (b : Beside) (system : System) (x : ℕ) 
   words = set words2 (cpu_base + n) (cpu_bits v)
 
   abbrev known : Known
-  known = record { object = (get_or l.known call.place nobody).object; frame = c.frame; index = z.head - 1; cache = k; held = true }
+  known = record { object = (get_or l.known (call_place call) nobody).object; frame = c.frame; index = z.head - 1; cache = k; held = true }
 
   abbrev has : Local
-  has = record base { spot = Between; hands = l.hands; cpu_word = d; known = set l.known call.place known }
+  has = record base { spot = Between; hands = l.hands; cpu_word = d; known = set l.known (call_place call) known }
 
   abbrev reply : Reply
   reply = Given (address_of c.frame (z.head - 1) (layout_at s k))
@@ -358,7 +359,7 @@ module _ (opening : World) (s : State) (b : Beside) (system : System) (x : ℕ) 
   held = record { frame = c.frame; index = z.head - 1; cache = k; worker = Some l.worker }
 
   abbrev after : State
-  after = record s { frees = set s.frees f []; cpu_lists = set s.cpu_lists (cpu_place s k call.cpu) left; board = set s.board call.object (Some held); live = set s.live k (get_or s.live k 0 + 1) }
+  after = record s { frees = set s.frees f []; cpu_lists = set s.cpu_lists (cpu_place s k (call_cpu call)) left; board = set s.board (call_object call) (Some held); live = set s.live k (get_or s.live k 0 + 1) }
 
   abbrev given : State
   given = record after { memory = memory_of w (512 * s.frames) }
@@ -369,26 +370,26 @@ module _ (opening : World) (s : State) (b : Beside) (system : System) (x : ℕ) 
   calls : IsWithCalls told (rested m told)
   calls = rested_calls m told refl
 
-  known_is : (rested m told).known ≡ set l.known call.place known
+  known_is : (rested m told).known ≡ set l.known (call_place call) known
   known_is = ap (λ (l : Local). l.known) calls.same
 
   worker_is : (rested m told).worker ≡ l.worker
   worker_is = ap (λ (l : Local). l.worker) calls.same
 
-  object : known.object ≡ call.object
+  object : known.object ≡ call_object call
   object = begin.may.known names
 
-  on_board : call.object < length s.board
+  on_board : call_object call < length s.board
   on_board = (begin.may.object names).1
 
   once : (o : ℕ) → times_named u (set system.locals x (rested m told)) o ≤ 1
   once o = subst (λ w. times_named w (set system.locals x (rested m told)) o ≤ 1) says (once_named m opening (machine words system.value (set system.locals x (rested m told))) ended o)
 
-  unused : held_under s call.object ≡ None
-  unused = resting.named call.object ∙ named_new w system.locals x call.place (rested m told) known next.there (begin.may.place names) known_is refl (begin.may.new is.kind) call.object object (once call.object)
+  unused : held_under s (call_object call) ≡ None
+  unused = resting.named (call_object call) ∙ named_new w system.locals x (call_place call) (rested m told) known next.there (begin.may.place names) known_is refl (begin.may.new is.kind) (call_object call) object (once (call_object call))
 
-  place_below : cpu_place s k call.cpu < length s.cpu_lists
-  place_below = place-inside s k call.cpu rest.lists.shaped inside cpu
+  place_below : cpu_place s k (call_cpu call) < length s.cpu_lists
+  place_below = place-inside s k (call_cpu call) rest.lists.shaped inside cpu
 
   frees_below : f < length s.frees
   frees_below = omega (arith, within.1, rest.lists.shaped.frees)
@@ -400,9 +401,9 @@ module _ (opening : World) (s : State) (b : Beside) (system : System) (x : ℕ) 
     string = begin.between.string;
     run = begin.between.run;
     packed = record { cpu_word = fit_d; slab_word = resting.words.slab f; list_word = begin.between.packed.list_word; next = begin.between.packed.next };
-    cpu = subst (λ (m : Setup). call.cpu < m.cpus) (sym resting.setup) begin.may.cpu;
-    numbers = All-set (λ (k : Known). k.object < w.setup.objects) l.known call.place known (subst (λ (m : Setup). known.object < m.objects) (sym resting.setup) (omega (arith, object, on_board))) begin.between.numbers;
-    some = All-set (λ (k : Known). k.held ≡ true → 1 ≤ k.object) l.known call.place known (λ _. omega (arith, object, (begin.may.object names).0)) begin.between.some;
+    cpu = subst (λ (m : Setup). call_cpu call < m.cpus) (sym resting.setup) begin.may.cpu;
+    numbers = All-set (λ (k : Known). k.object < w.setup.objects) l.known (call_place call) known (subst (λ (m : Setup). known.object < m.objects) (sym resting.setup) (omega (arith, object, on_board))) begin.between.numbers;
+    some = All-set (λ (k : Known). k.held ≡ true → 1 ≤ k.object) l.known (call_place call) known (λ _. omega (arith, object, (begin.may.object names).0)) begin.between.some;
   })
 
   own_ends : (g : ℕ) → IsFreelistOf u g (get_or (set s.frees f []) g [])
@@ -418,45 +419,45 @@ module _ (opening : World) (s : State) (b : Beside) (system : System) (x : ℕ) 
   ]
 
   ends : Rests given b2 u (set system.locals x (rested m told))
-  ends = rests_changed s b w system.locals (set s.frees f []) (set s.cpu_lists (cpu_place s k call.cpu) left) (memory_of w (512 * s.frames)) (set s.board call.object (Some held)) s.gone (set s.live k (get_or s.live k 0 + 1)) (set b.tids n (tid_of b n + 2 * b.step))
+  ends = rests_changed s b w system.locals (set s.frees f []) (set s.cpu_lists (cpu_place s k (call_cpu call)) left) (memory_of w (512 * s.frames)) (set s.board (call_object call) (Some held)) s.gone (set s.live k (get_or s.live k 0 + 1)) (set b.tids n (tid_of b n + 2 * b.step))
       (update w.cpu n v) (update w.slab f e) w.memory (set system.locals x (rested m told)) resting
-      (length-set s.board call.object (Some held))
+      (length-set s.board (call_object call) (Some held))
       (let front = at_front m opening (machine words system.value (set system.locals x (rested m told))) x (omega (arith, next.there, length-set system.locals x (rested m told))) ended in subst IsWorded says front.stands.fresh.worded)
       (All-set (IsBetween w.setup) system.locals x (rested m told) worker_rests resting.workers)
-      (cpus_changed s b w k call.cpu left v (tid_of b n + 2 * b.step) (update w.slab f e) w.memory cpu begin.few place_below (omega (arith, small, rest.beside.tids)) resting.cpu (omega (arith, cpu_is.tid)) (sym current ∙ cpu_is.current)
+      (cpus_changed s b w k (call_cpu call) left v (tid_of b n + 2 * b.step) (update w.slab f e) w.memory cpu begin.few place_below (omega (arith, small, rest.beside.tids)) resting.cpu (omega (arith, cpu_is.tid)) (sym current ∙ cpu_is.current)
       (subst (λ h. IsChain (pointer w k c.frame) h first.0) (sym follows_is) (subst (λ g. IsChain (pointer w k g) (pointer w k f (z.head - 1)) first.0) (sym frame) first.2)) refl (λ n below away. (resting.cpu n below).free))
       (each_updated w.slab f e (λ g (c : SlabWord). SameSlab (w.slab g) c) (record { objects = refl; cache = refl; frozen = refl; listed = refl }) (λ g d. same_word (w.slab g)))
       own_ends names_are once (λ o word h there plain is_word. copied m system.value system.words _)
     where
-      names_are : (o : ℕ) → get_or (set s.board call.object (Some held)) o None ≡ named_in u (set system.locals x (rested m told)) o
-      names_are o = elim (cases_eq o call.object) [
-        | inl e ↦ ap (λ o. get_or (set s.board call.object (Some held)) o None) e ∙ get_or-set_same s.board call.object (Some held) None on_board ∙ ap (λ worker. Some (record { frame = c.frame; index = z.head - 1; cache = k; worker = Some worker })) (sym worker_is)
-            ∙ sym (named_held u system.locals x call.place (rested m told) l.known known next.there (begin.may.place names) known_is refl (once known.object)) ∙ ap (named_in u (set system.locals x (rested m told))) (object ∙ sym e)
-        | inr away ↦ get_or-set_other s.board call.object o (Some held) None away ∙ resting.named o ∙ sym (named_other u system.locals x call.place (rested m told) known worker_is known_is refl o (λ e. away (sym e ∙ object)))
+      names_are : (o : ℕ) → get_or (set s.board (call_object call) (Some held)) o None ≡ named_in u (set system.locals x (rested m told)) o
+      names_are o = elim (cases_eq o (call_object call)) [
+        | inl e ↦ ap (λ o. get_or (set s.board (call_object call) (Some held)) o None) e ∙ get_or-set_same s.board (call_object call) (Some held) None on_board ∙ ap (λ worker. Some (record { frame = c.frame; index = z.head - 1; cache = k; worker = Some worker })) (sym worker_is)
+            ∙ sym (named_held u system.locals x (call_place call) (rested m told) l.known known next.there (begin.may.place names) known_is refl (once known.object)) ∙ ap (named_in u (set system.locals x (rested m told))) (object ∙ sym e)
+        | inr away ↦ get_or-set_other s.board (call_object call) o (Some held) None away ∙ resting.named o ∙ sym (named_other u system.locals x (call_place call) (rested m told) known worker_is known_is refl o (λ e. away (sym e ∙ object)))
       ]
 
   -- ---- on lists
 
   accounted : IsAccounted given
-  accounted = accounted-with_held s call.object held (omega (arith, inside, rest.lists.shaped.live)) on_board unused rest.lists.accounted
+  accounted = accounted-with_held s (call_object call) held (omega (arith, inside, rest.lists.shaped.live)) on_board unused rest.lists.accounted
 
   lengths : HasLengths given
   lengths = record {
     slabs = rest.lists.shaped.slabs;
     frees = length-set s.frees f [] ∙ rest.lists.shaped.frees;
-    cpu_lists = length-set s.cpu_lists (cpu_place s k call.cpu) left ∙ rest.lists.shaped.cpu_lists;
+    cpu_lists = length-set s.cpu_lists (cpu_place s k (call_cpu call)) left ∙ rest.lists.shaped.cpu_lists;
     nodes = rest.lists.shaped.nodes;
     checked = rest.lists.shaped.checked.numbers;
     memory = copied_length w (512 * s.frames);
-    gone = rest.lists.shaped.gone ∙ sym (length-set s.board call.object (Some held));
+    gone = rest.lists.shaped.gone ∙ sym (length-set s.board (call_object call) (Some held));
     live = length-set s.live k (get_or s.live k 0 + 1) ∙ rest.lists.shaped.live;
   }
 
   abbrev stock : State
-  stock = taken_up s k call.cpu f lists.partial
+  stock = taken_up s k (call_cpu call) f lists.partial
 
-  stock_lists : lists_of stock k call.cpu ≡ record { current = Some f; free = own_free s f; partial = lists.partial }
-  stock_lists = get_or-set_same s.cpu_lists (cpu_place s k call.cpu) (record { current = Some f; free = own_free s f; partial = lists.partial }) no_lists place_below
+  stock_lists : lists_of stock k (call_cpu call) ≡ record { current = Some f; free = own_free s f; partial = lists.partial }
+  stock_lists = get_or-set_same s.cpu_lists (cpu_place s k (call_cpu call)) (record { current = Some f; free = own_free s f; partial = lists.partial }) no_lists place_below
 
   frozen_still : set s.slabs f (option_map (marked true) (slab_of s f)) ≡ s.slabs
   frozen_still = ap (set s.slabs f) (ap (option_map (marked true)) at_cpu.there ∙ ap Some mark ∙ sym at_cpu.there) ∙ set-get_or s.slabs f None
@@ -464,7 +465,7 @@ module _ (opening : World) (s : State) (b : Beside) (system : System) (x : ℕ) 
       mark : marked true at_cpu.slab ≡ at_cpu.slab
       mark = λ i. record at_cpu.slab { frozen = sym at_cpu.frozen i }
 
-  gives : (live : Cache) → cache_of s k ≡ Some live → Gives stock live.layout k call.cpu l.worker call.object reply after
+  gives : (live : Cache) → cache_of s k ≡ Some live → Gives stock live.layout k (call_cpu call) l.worker (call_object call) reply after
   gives live e = record {
     frame = f;
     index = z.head - 1;
@@ -477,24 +478,24 @@ module _ (opening : World) (s : State) (b : Beside) (system : System) (x : ℕ) 
       slabs = sym frozen_still i;
       frees = set s.frees f [];
       cpu_lists = cpus_are i;
-      board = set s.board call.object (Some (record { frame = frame i; index = z.head - 1; cache = k; worker = Some l.worker }));
+      board = set s.board (call_object call) (Some (record { frame = frame i; index = z.head - 1; cache = k; worker = Some l.worker }));
       live = set s.live k (get_or s.live k 0 + 1);
     };
   }
     where
-      cpus_are : set s.cpu_lists (cpu_place s k call.cpu) left ≡ set stock.cpu_lists (cpu_place s k call.cpu) (record { current = Some f; free = first.0; partial = (lists_of stock k call.cpu).partial })
-      cpus_are = sym (set-set s.cpu_lists (cpu_place s k call.cpu) (record { current = Some f; free = own_free s f; partial = lists.partial }) left)
-          ∙ ap (λ fs. set stock.cpu_lists (cpu_place s k call.cpu) (record { current = Some f; free = first.0; partial = fs })) (sym (ap (λ (x : CpuLists). x.partial) stock_lists))
+      cpus_are : set s.cpu_lists (cpu_place s k (call_cpu call)) left ≡ set stock.cpu_lists (cpu_place s k (call_cpu call)) (record { current = Some f; free = first.0; partial = (lists_of stock k (call_cpu call)).partial })
+      cpus_are = sym (set-set s.cpu_lists (cpu_place s k (call_cpu call)) (record { current = Some f; free = own_free s f; partial = lists.partial }) left)
+          ∙ ap (λ fs. set stock.cpu_lists (cpu_place s k (call_cpu call)) (record { current = Some f; free = first.0; partial = fs })) (sym (ap (λ (x : CpuLists). x.partial) stock_lists))
 
-  allocates : AllocatesNamed s place call.cpu l.worker call.object reply after
-  allocates = subst (λ o. MatchOption o ((reply ≡ NoSuchCache) × (after ≡ s)) (λ cache. MatchOption (cache_of s cache) ⊥ (λ live. AllocatesFrom s live.layout cache call.cpu l.worker call.object reply after))) (sym is.named) (by (cache_of s k) refl lives)
+  allocates : AllocatesNamed s place (call_cpu call) l.worker (call_object call) reply after
+  allocates = subst (λ o. MatchOption o ((reply ≡ NoSuchCache) × (after ≡ s)) (λ cache. MatchOption (cache_of s cache) ⊥ (λ live. AllocatesFrom s live.layout cache (call_cpu call) l.worker (call_object call) reply after))) (sym is.named) (by (cache_of s k) refl lives)
     where
-      by : (o : Option Cache) → cache_of s k ≡ o → is_some o ≡ true → MatchOption o ⊥ (λ live. AllocatesFrom s live.layout k call.cpu l.worker call.object reply after)
+      by : (o : Option Cache) → cache_of s k ≡ o → is_some o ≡ true → MatchOption o ⊥ (λ live. AllocatesFrom s live.layout k (call_cpu call) l.worker (call_object call) reply after)
       by None e live = false≢true live
       by (Some live) e has_it = from-unchecked (checked_of s k) _ _ is.unchecked
-          (subst (λ free. MatchResult (from_free s k call.cpu (batch_of live.layout) free) (λ stocked. Gives stocked live.layout k call.cpu l.worker call.object reply after) (λ bare. AllocatesNew bare live.layout k call.cpu l.worker call.object reply after)) (sym empty)
-          (subst (λ o. MatchResult (from_slabs s k call.cpu (batch_of live.layout) o) (λ stocked. Gives stocked live.layout k call.cpu l.worker call.object reply after) (λ bare. AllocatesNew bare live.layout k call.cpu l.worker call.object reply after)) (sym current)
-          (subst (λ free. MatchResult (from_current s k call.cpu (batch_of live.layout) f free) (λ stocked. Gives stocked live.layout k call.cpu l.worker call.object reply after) (λ bare. AllocatesNew bare live.layout k call.cpu l.worker call.object reply after)) (sym first.1) (gives live e))))
+          (subst (λ free. MatchResult (from_free s k (call_cpu call) (batch_of live.layout) free) (λ stocked. Gives stocked live.layout k (call_cpu call) l.worker (call_object call) reply after) (λ bare. AllocatesNew bare live.layout k (call_cpu call) l.worker (call_object call) reply after)) (sym empty)
+          (subst (λ o. MatchResult (from_slabs s k (call_cpu call) (batch_of live.layout) o) (λ stocked. Gives stocked live.layout k (call_cpu call) l.worker (call_object call) reply after) (λ bare. AllocatesNew bare live.layout k (call_cpu call) l.worker (call_object call) reply after)) (sym current)
+          (subst (λ free. MatchResult (from_current s k (call_cpu call) (batch_of live.layout) f free) (λ stocked. Gives stocked live.layout k (call_cpu call) l.worker (call_object call) reply after) (λ bare. AllocatesNew bare live.layout k (call_cpu call) l.worker (call_object call) reply after)) (sym first.1) (gives live e))))
 
   pub takes : AllocatesAlone opening s b system x call place 7 b2
   takes = record {
@@ -505,17 +506,17 @@ module _ (opening : World) (s : State) (b : Beside) (system : System) (x : ℕ) 
     words = record {
       lists = refl;
       sized = copied_length w (512 * s.frames) ∙ sym rest.lists.shaped.memory;
-      words = λ other word h away there plain is_word. sym (copied m system.value system.words _) ∙ resting.contents other word h (sym (get_or-set_other s.board call.object other (Some held) None away) ∙ there) plain is_word;
+      words = λ other word h away there plain is_word. sym (copied m system.value system.words _) ∙ resting.contents other word h (sym (get_or-set_other s.board (call_object call) other (Some held) None away) ∙ there) plain is_word;
     };
-    known = known_ends s b system x 7 told words system.value next.there whole refl ∙ knows_given l.known call.place known.object call.object s.board held after refl on_board object;
+    known = known_ends s b system x 7 told words system.value next.there whole refl ∙ knows_given l.known (call_place call) known.object (call_object call) s.board held after refl on_board object;
     replies = replies_of opening s given b b2 system x 7 call reply told words system.value next whole refl refl refl refl same
         (ends_at_rest opening u s given b b2 system (machine words system.value (set system.locals x (rested m told))) rest same refl refl lengths accounted (length-set b.tids n (tid_of b n + 2 * b.step) ∙ rest.beside.tids) refl refl ended says ends
         (whole_cpu m words2 n (cpu_bits v) refl small (whole_slab m words1 f e refl (omega (arith, table1.length, within.1)) fit_e (whole_cpu m system.words n (cpu_bits d) refl small rest.whole))));
   }
     where
       same : setup_of given b2 ≡ setup_of s b
-      same = setup_same s b w system.locals (set s.frees f []) (set s.cpu_lists (cpu_place s k call.cpu) left) (memory_of w (512 * s.frames)) (set s.board call.object (Some held)) s.gone (set s.live k (get_or s.live k 0 + 1)) (set b.tids n (tid_of b n + 2 * b.step))
-          (update w.cpu n v) (update w.slab f e) w.memory (set system.locals x (rested m told)) (length-set s.board call.object (Some held))
+      same = setup_same s b w system.locals (set s.frees f []) (set s.cpu_lists (cpu_place s k (call_cpu call)) left) (memory_of w (512 * s.frames)) (set s.board (call_object call) (Some held)) s.gone (set s.live k (get_or s.live k 0 + 1)) (set b.tids n (tid_of b n + 2 * b.step))
+          (update w.cpu n v) (update w.slab f e) w.memory (set system.locals x (rested m told)) (length-set s.board (call_object call) (Some held))
 
   pub takes_gives : is_given takes.reply ≡ true
   unfolding takes

@@ -19,6 +19,7 @@ use Rattle.slub_lists.specs.Words.{Pokes, PokesChecked, freed_by, known_to}
 use Rattle.slub_lists.specs.Words.PokesChecked.{inside, outside}
 use Rattle.slub_lists.proofs.Kept.{consistent-of}
 use Rattle.slub_core.specs.declared.local.Known.{Known}
+use Rattle.slub_core.specs.Calls.{call_place}
 use Rattle.slub_core.specs.Local.{nobody}
 use Rattle.slub_core.specs.Run.{System}
 use Rattle.slub_core.specs.Steps.{told_of_poke}
@@ -146,7 +147,7 @@ module _ (s0 : State) (b0 : Beside) (round : Round) (opening : World) (line work
     own-number = number s0 b0 round opening pokes events past told s t d system is below object
 
     at-place : known_at (worker_at system worker) (call_of s0.table round pokes) ≡ k
-    at-place = ap (λ ks. get_or ks (call_of s0.table round pokes).place nobody) (script-same (m s0 b0 round opening) s0.table round worker (pokes ∷ events) (told worker) (worker_at system worker) (mine s0 b0 round opening pokes events past told s t d system is below))
+    at-place = ap (λ ks. get_or ks (call_place (call_of s0.table round pokes)) nobody) (script-same (m s0 b0 round opening) s0.table round worker (pokes ∷ events) (told worker) (worker_at system worker) (mine s0 b0 round opening pokes events past told s t d system is below))
 
     holds-there : known_to t (worker_at system worker).worker object ≡ Some (held_known (worker_at system worker).worker (known_at (worker_at system worker) (call_of s0.table round pokes)))
     holds-there =

@@ -12,6 +12,7 @@ use Rattle.slub_core.specs.declared.call.CallKind.{CallKind}
 use Rattle.slub_core.specs.declared.call.CallKind.TheVariants.{Alloc, Free, Write, Read, Poke, Trim, Flush}
 use Rattle.slub_core.specs.declared.spot.Spot.{Spot}
 use Rattle.slub_core.specs.declared.spot.Spot.TheVariants.{Between}
+use Rattle.slub_core.specs.Calls.{call_kind, call_cache, call_place}
 use Rattle.slub_core.specs.Setup.{Setup, IsSetup}
 use Rattle.slub_core.specs.Words.{number_of, after_op, answer_of}
 use Rattle.slub_core.specs.World.{World, LockValue, world_from, world_of}
@@ -65,7 +66,7 @@ begun_twice m l = by_spot l.spot refl
   where
     by_todo : (calls : List Call) → l.todo ≡ calls → l.spot ≡ Between → begun m false (begun_with m false l calls) ≡ begun_with m false l calls
     by_todo [] todo is = ap (begun_at m false l) is ∙ ap (begun_with m false l) todo
-    by_todo (call ∷ calls) todo is = let k = get_or l.known call.place nobody in (begun_in m (begun_call m false l call) call.kind (m.checks (cache_for m k call.cache call.kind)) k.held).0
+    by_todo (call ∷ calls) todo is = let k = get_or l.known (call_place call) nobody in (begun_in m (begun_call m false l call) (call_kind call) (m.checks (cache_for m k (call_cache call) (call_kind call))) k.held).0
 
     by_spot : (spot : Spot) → l.spot ≡ spot → begun m false (begun_at m false l spot) ≡ begun_at m false l spot
     by_spot Between is = by_todo l.todo refl is
@@ -137,14 +138,14 @@ rests_ready opening s b system x call rest next =
     let w = world_of m system.value system.words in
     let l = worker_at system x in
     let between = (All-get_or (IsBetween w.setup) system.locals x idle next.there rest.rests.rests.workers).between in
-    let k = get_or l.known call.place nobody in
-    let busy : doing (begun m false l).spot ≡ Some call.kind = ap (λ (l : Local). doing l.spot) (begun_next m l call next.calls between next.todo) ∙ (begun_in m l call.kind (m.checks (cache_for m k call.cache call.kind)) k.held).1 in
+    let k = get_or l.known (call_place call) nobody in
+    let busy : doing (begun m false l).spot ≡ Some (call_kind call) = ap (λ (l : Local). doing l.spot) (begun_next m l call next.calls between next.todo) ∙ (begun_in m l (call_kind call) (m.checks (cache_for m k (call_cache call) (call_kind call))) k.held).1 in
     record {
       lists = rest.lists;
       beside = rest.beside;
       rests = rest.rests;
       whole = rest.whole;
-      coherent = replaced m opening system x (begun m false l) next.there rest.coherent (λ e. absurd (none-some call.kind (sym (ap doing e) ∙ busy)))
+      coherent = replaced m opening system x (begun m false l) next.there rest.coherent (λ e. absurd (none-some (call_kind call) (sym (ap doing e) ∙ busy)))
           (λ y others mine stands account.
           let takes = subst (λ l. IsRested m l) (sym mine) (rest.coherent.rested x idle next.there) in
           subst (λ l. Comes opening w others (begun m false l)) mine (begin false w y others stands (λ is. may_begin opening w y others account) takes, told_begin false opening w y others takes account));
@@ -188,7 +189,7 @@ ready_starts opening s b system x call ready next =
       consistent = consistent-of s ready.lists;
     }
 
-pub ready_object : (opening : World) (s : State) (b : Beside) (system : System) (x : ℕ) (call : Call) → IsReady opening s b system x → IsNext system x call → names_object call.kind ≡ true → (known_at (worker_at system x) call).held ≡ true → HasObject s system x call
+pub ready_object : (opening : World) (s : State) (b : Beside) (system : System) (x : ℕ) (call : Call) → IsReady opening s b system x → IsNext system x call → names_object (call_kind call) ≡ true → (known_at (worker_at system x) call).held ≡ true → HasObject s system x call
 ready_object opening s b system x call ready next names held =
     let begin = ready_starts opening s b system x call ready next in
     object_of s b system x call ready.lists ready.rests.rests next.there begin.may begin.setup names held

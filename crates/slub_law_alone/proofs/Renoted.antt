@@ -50,6 +50,7 @@ use Rattle.slub_core.specs.declared.spot.TrimSpot.{TrimSpot}
 use Rattle.slub_core.specs.declared.spot.TrimSpot.TheVariants.{LockTrim, LoadScanned, GiveTrim, ScanNode, DropScanned}
 use Rattle.slub_core.specs.declared.spot.CheckedSpot.{CheckedSpot}
 use Rattle.slub_core.specs.declared.spot.CheckedSpot.TheVariants.{LockChecked, LockRun, GiveRun, GiveChecked, DoChecked, MoveRun, AddSlab}
+use Rattle.slub_core.specs.Calls.{call_kind, call_cache, call_place}
 use Rattle.slub_core.specs.Setup.{Setup, pool_lock}
 use Rattle.slub_core.specs.Words.{slab_in, board_in, list_in}
 use Rattle.slub_core.specs.World.{LockValue, pool_in}
@@ -370,7 +371,7 @@ noted_alike c l (Some reply) = (refl, refl)
 
 with_alike : (m : Setup) (c : CpuWord) (calls : List Call) (l : Local) → (rested_with m calls (renoted c l) ≡ renoted c (rested_with m calls l)) × ((rested_with m calls l).spot ≡ l.spot)
 with_alike m c [] l = (refl, refl)
-with_alike m c (call ∷ calls) l = by (told_at_once m (get_or l.known call.place nobody) call call.kind) (λ reply. with_alike m c calls (answered l reply))
+with_alike m c (call ∷ calls) l = by (told_at_once m (get_or l.known (call_place call) nobody) call (call_kind call)) (λ reply. with_alike m c calls (answered l reply))
   where
     by : (r : Option Reply) → ((reply : Reply) → (rested_with m calls (answered (renoted c l) reply) ≡ renoted c (rested_with m calls (answered l reply))) × ((rested_with m calls (answered l reply)).spot ≡ l.spot))
         → (or_step (renoted c l) (λ reply. rested_with m calls (answered (renoted c l) reply)) r ≡ renoted c (or_step l (λ reply. rested_with m calls (answered l reply)) r)) × ((or_step l (λ reply. rested_with m calls (answered l reply)) r).spot ≡ l.spot)
@@ -423,7 +424,7 @@ module _ (m : Setup) (c : CpuWord) where
     where
       by_todo : (calls : List Call) → (begun_with m false (renoted c l) calls ≡ renoted c (begun_with m false l calls)) × (notes_cpu (begun_with m false l calls).spot ≡ false)
       by_todo [] = (refl, quiet)
-      by_todo (call ∷ calls) = let known = get_or l.known call.place nobody in (refl, way_first call.kind (m.checks (cache_for m known call.cache call.kind)) known.held)
+      by_todo (call ∷ calls) = let known = get_or l.known (call_place call) nobody in (refl, way_first (call_kind call) (m.checks (cache_for m known (call_cache call) (call_kind call))) known.held)
 
       by_spot : (s : Spot) → (begun_at m false (renoted c l) s ≡ renoted c (begun_at m false l s)) × (notes_cpu (begun_at m false l s).spot ≡ false)
       by_spot Between = by_todo l.todo

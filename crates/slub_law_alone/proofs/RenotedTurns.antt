@@ -16,7 +16,7 @@ use Rattle.slub_core.specs.Spots.{notes_cpu}
 use Rattle.slub_core.specs.Steps.{begun, step_of, advance_of}
 use Rattle.slub_core.specs.Run.{System, idle, after_step, turn}
 use Rattle.slub_law_opening.specs.Opening.{Beside}
-use Rattle.slub_law_opening.specs.Rests.{IsBetween, Rests, held_on, held_in, held_under, named, times_named}
+use Rattle.slub_law_opening.specs.Rests.{IsBetween, Rests, held_on, held_in, times_held, named, times_named}
 use Rattle.slub_law_opening.proofs.Names.{holds}
 use Rattle.slub_law_alone.specs.Alone.{own_pick, alone, worker_at}
 use Rattle.slub_law_alone.proofs.Names.{among_same}
@@ -86,8 +86,8 @@ named_same w ls x l worker known o =
 
 pub times_same : (w : World) (ls : List Local) (x : ℕ) (l : Local) → x < length ls → l.known ≡ (get_or ls x idle).known → (o : ℕ) → times_named w (set ls x l) o ≡ times_named w ls o
 times_same w ls x l below known o =
-    let a = sum_by-set (held_under o) ls x l idle below in
-    let e : held_under o l ≡ held_under o (get_or ls x idle) = ap (λ ks. sum_by (holds o) ks) known in
+    let a = sum_by-set (times_held o) ls x l idle below in
+    let e : times_held o l ≡ times_held o (get_or ls x idle) = ap (λ ks. sum_by (holds o) ks) known in
     omega (arith, a, e)
 
 -- a machine rests in its lists whatever CPU word a worker has noted

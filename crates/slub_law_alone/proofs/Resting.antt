@@ -8,7 +8,7 @@ use Rattle.slub_core.specs.Local.{Local}
 use Rattle.slub_core.specs.Run.{idle}
 use Rattle.slub_core.specs.World.{World}
 use Rattle.slub_law_opening.specs.Opening.{Beside}
-use Rattle.slub_law_opening.specs.Rests.{IsBetween, Rests, held_in, held_on, held_under, named, times_named}
+use Rattle.slub_law_opening.specs.Rests.{IsBetween, Rests, held_in, held_on, times_held, named, times_named}
 use Rattle.slub_law_opening.proofs.Names.{holds}
 use Rattle.slub_law_alone.proofs.Names.{among_same}
 
@@ -37,7 +37,7 @@ rests_with s b w ls x l rests there between worker known = record {
 
     once : (o : ℕ) → times_named w (set ls x l) o ≤ 1
     once o =
-        let c = sum_by-set (held_under o) ls x l idle there in
+        let c = sum_by-set (times_held o) ls x l idle there in
         let was = rests.once o in
-        let same : held_under o l ≡ held_under o (get_or ls x idle) = ap (sum_by (holds o)) known in
+        let same : times_held o l ≡ times_held o (get_or ls x idle) = ap (sum_by (holds o)) known in
         omega (arith, c, was, same)

@@ -10,6 +10,7 @@ use Rattle.slub_core.specs.declared.local.Answered.{Answered}
 use Rattle.slub_core.specs.declared.local.Known.{Known}
 use Rattle.slub_core.specs.declared.spot.Spot.{Spot}
 use Rattle.slub_core.specs.declared.spot.Spot.TheVariants.{Between}
+use Rattle.slub_core.specs.Calls.{call_kind, call_place}
 use Rattle.slub_core.specs.Accounted.{known_of, place_of}
 use Rattle.slub_core.specs.Local.{Local, answered, nobody}
 use Rattle.slub_core.specs.Setup.{Setup}
@@ -24,7 +25,7 @@ use Rattle.slub_law_alone.proofs.SerialTurns.{rested-keeps}
 module _ (m : Setup) where
   with-spot : (calls : List Call) (l : Local) → (rested_with m calls l).spot ≡ l.spot
   with-spot [] l = refl
-  with-spot (call ∷ calls) l = by (told_at_once m (get_or l.known call.place nobody) call call.kind) (λ reply. with-spot calls (answered l reply))
+  with-spot (call ∷ calls) l = by (told_at_once m (get_or l.known (call_place call) nobody) call (call_kind call)) (λ reply. with-spot calls (answered l reply))
     where
       by : (r : Option Reply) → ((reply : Reply) → (rested_with m calls (answered l reply)).spot ≡ l.spot) → (or_step l (λ reply. rested_with m calls (answered l reply)) r).spot ≡ l.spot
       by None more = refl
@@ -39,7 +40,7 @@ module _ (m : Setup) where
 
   with-few : (calls : List Call) (l : Local) → length (rested_with m calls l).todo ≤ length l.todo
   with-few [] l = omega arith
-  with-few (call ∷ calls) l = by (told_at_once m (get_or l.known call.place nobody) call call.kind) (λ reply. with-few calls (answered l reply))
+  with-few (call ∷ calls) l = by (told_at_once m (get_or l.known (call_place call) nobody) call (call_kind call)) (λ reply. with-few calls (answered l reply))
     where
       one-less : (xs : List Call) → length (drop 1 xs) ≤ length xs
       one-less [] = omega arith
@@ -62,11 +63,11 @@ module _ (m : Setup) where
     first = ap (rested_at m l) between ∙ ap (λ calls. rested_with m calls l) todo
 
     -- a call that takes a step waits
-    pub rested-step : told_at_once m (get_or l.known call.place nobody) call call.kind ≡ None → rested m l ≡ l
+    pub rested-step : told_at_once m (get_or l.known (call_place call) nobody) call (call_kind call) ≡ None → rested m l ≡ l
     rested-step none = first ∙ ap (or_step l (λ reply. rested_with m calls (answered l reply))) none
 
     -- one that takes none has its reply
-    pub rested-on : (reply : Reply) → told_at_once m (get_or l.known call.place nobody) call call.kind ≡ Some reply → rested m l ≡ rested m (answered l reply)
+    pub rested-on : (reply : Reply) → told_at_once m (get_or l.known (call_place call) nobody) call (call_kind call) ≡ Some reply → rested m l ≡ rested m (answered l reply)
     rested-on reply some =
         first ∙ ap (or_step l (λ reply. rested_with m calls (answered l reply))) some
         ∙ sym (ap (rested_at m (answered l reply)) between ∙ ap (λ todo. rested_with m (drop 1 todo) (answered l reply)) todo)

@@ -6,6 +6,7 @@ use Rattle.slub_core.specs.declared.call.Call.{Call}
 use Rattle.slub_core.specs.declared.spot.Spot.{Spot}
 use Rattle.slub_core.specs.declared.spot.Spot.TheVariants.{Between}
 use Rattle.slub_core.specs.declared.step.Answer.{Answer}
+use Rattle.slub_core.specs.Calls.{call_kind, call_place}
 use Rattle.slub_core.specs.Setup.{Setup}
 use Rattle.slub_core.specs.Words.{number_of, answer_of}
 use Rattle.slub_core.specs.World.{LockValue}
@@ -36,7 +37,7 @@ or-keeps l more (Some reply) d = d reply
 with-keeps : (m : Setup) (calls : List Call) (l : Local) → Keeps l (rested_with m calls l)
 with-keeps m [] l = (refl, refl)
 with-keeps m (call ∷ calls) l =
-    or-keeps l (λ reply. rested_with m calls (answered l reply)) (told_at_once m (get_or l.known call.place nobody) call call.kind)
+    or-keeps l (λ reply. rested_with m calls (answered l reply)) (told_at_once m (get_or l.known (call_place call) nobody) call (call_kind call))
     (λ reply. with-keeps m calls (answered l reply))
 
 at-keeps : (m : Setup) (l : Local) (spot : Spot) → Keeps l (rested_at m l spot)

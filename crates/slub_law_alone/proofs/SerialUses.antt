@@ -17,6 +17,7 @@ use Rattle.slub_lists.specs.Words.{Reads, ReadsHeld, Writes, WritesHeld, held_by
 use Rattle.slub_lists.proofs.ObjectWords.{held-cache}
 use Rattle.slub_core.specs.declared.call.Call.{Call}
 use Rattle.slub_core.specs.declared.local.Known.{Known}
+use Rattle.slub_core.specs.Calls.{call_word}
 use Rattle.slub_core.specs.Accounted.{known_of, place_of}
 use Rattle.slub_core.specs.Local.{nobody}
 use Rattle.slub_core.specs.Run.{System}
@@ -100,15 +101,15 @@ module _ (s0 : State) (b0 : Beside) (round : Round) (opening : World) (event : E
     lives : is_some (cache_of s known.cache) ≡ true
     lives = ap (λ (t : State). is_some (cache_of t known.cache)) (sym is.same.lists) ∙ held-cache t (as_held x known) (record { object = object; here = under }) is.rest.lists
 
-  pub use_of : (call : Call) → IsUse s x object call.word (told_of_use (m s0 b0 round opening) known call)
+  pub use_of : (call : Call) → IsUse s x object (call_word call) (told_of_use (m s0 b0 round opening) known (call_word call))
   use_of call = elim (cases_Bool known.held) [
-    | inr free ↦ unheld (ap (λ b. cond {A = Option Reply} (not b) (Some NotHeld) (cond {A = Option Reply} (is_outside (layout_at s0 known.cache) call) (Some OutOfObject) None)) free) (no-more free)
+    | inr free ↦ unheld (ap (λ b. cond {A = Option Reply} (not b) (Some NotHeld) (cond {A = Option Reply} (is_outside (layout_at s0 known.cache) (call_word call)) (Some OutOfObject) None)) free) (no-more free)
     | inl held ↦
-        let first : told_of_use (m s0 b0 round opening) known call ≡ cond {A = Option Reply} (is_outside (layout_at s0 known.cache) call) (Some OutOfObject) None
-        = ap (λ b. cond {A = Option Reply} (not b) (Some NotHeld) (cond {A = Option Reply} (is_outside (layout_at s0 known.cache) call) (Some OutOfObject) None)) held in
-        elim (cases_Bool (is_outside (layout_at s0 known.cache) call)) [
+        let first : told_of_use (m s0 b0 round opening) known (call_word call) ≡ cond {A = Option Reply} (is_outside (layout_at s0 known.cache) (call_word call)) (Some OutOfObject) None
+        = ap (λ b. cond {A = Option Reply} (not b) (Some NotHeld) (cond {A = Option Reply} (is_outside (layout_at s0 known.cache) (call_word call)) (Some OutOfObject) None)) held in
+        elim (cases_Bool (is_outside (layout_at s0 known.cache) (call_word call))) [
           | inl out ↦ outside (as_held x known) (first ∙ ap (λ b. cond {A = Option Reply} b (Some OutOfObject) None) out) (its held) (lives held)
-              (ap (λ layout. is_word layout call.word) (sym (layouts s0 b0 round opening event events past told s t d system is below known.cache)) ∙ not-true (is_word (layout_at s0 known.cache) call.word) out)
+              (ap (λ layout. is_word layout (call_word call)) (sym (layouts s0 b0 round opening event events past told s t d system is below known.cache)) ∙ not-true (is_word (layout_at s0 known.cache) (call_word call)) out)
           | inr inside ↦ steps (first ∙ ap (λ b. cond {A = Option Reply} b (Some OutOfObject) None) inside)
         ]
   ]

@@ -28,6 +28,7 @@ use Rattle.slub_core.specs.declared.step.Answer.{Answer}
 use Rattle.slub_core.specs.declared.step.Answer.TheVariants.{Word, Won, Lost}
 use Rattle.slub_core.specs.declared.step.Op.TheVariants.{Load, Exchange}
 use Rattle.slub_core.specs.declared.step.Place.TheVariants.{CpuOf, SlabOf}
+use Rattle.slub_core.specs.Calls.{call_cpu, call_object, call_place}
 use Rattle.slub_core.specs.Setup.{Setup, cpu_number}
 use Rattle.slub_core.specs.Words.{cpu_in, slab_in, cpu_base, slab_base}
 use Rattle.slub_core.specs.World.{World, update, set_cpu, set_slab, pointer, IsChain, world_of, objects_at, cache_at, order_at}
@@ -83,7 +84,7 @@ slab_marked z w u f setup value objects cache frozen =
     by false = refl
 
 module _ (opening : World) (s : State) (b : Beside) (system : System) (x : ℕ) (call : Call) (place k f : ℕ) (rest : IsAtRest opening s b system) (next : IsNext system x call) (is : IsAlloc s call place k)
-    (ids : HasIds b (cpu_number k call.cpu) 2) (empty : (lists_of s k call.cpu).free ≡ []) (current : (lists_of s k call.cpu).current ≡ Some f) (none : own_free s f ≡ []) where
+    (ids : HasIds b (cpu_number k (call_cpu call)) 2) (empty : (lists_of s k (call_cpu call)).free ≡ []) (current : (lists_of s k (call_cpu call)).current ≡ Some f) (none : own_free s f ≡ []) where
   abbrev m : Setup
   m = setup_of s b
 
@@ -94,7 +95,7 @@ module _ (opening : World) (s : State) (b : Beside) (system : System) (x : ℕ) 
   l = worker_at system x
 
   abbrev n : ℕ
-  n = cpu_number k call.cpu
+  n = cpu_number k (call_cpu call)
 
   abbrev c : CpuWord
   c = w.cpu n
@@ -103,7 +104,7 @@ module _ (opening : World) (s : State) (b : Beside) (system : System) (x : ℕ) 
   z = w.slab f
 
   abbrev lists : CpuLists
-  lists = lists_of s k call.cpu
+  lists = lists_of s k (call_cpu call)
 
   begin : IsStart opening s b system x call
   begin = starts opening s b system x call rest next
@@ -120,7 +121,7 @@ module _ (opening : World) (s : State) (b : Beside) (system : System) (x : ℕ) 
   inside : k < 32
   inside = begin.setup.live k lives
 
-  cpu : call.cpu < s.cpus
+  cpu : call_cpu call < s.cpus
   cpu = begin.may.cpu
 
   small : n < 512
@@ -130,7 +131,7 @@ module _ (opening : World) (s : State) (b : Beside) (system : System) (x : ℕ) 
   number = omega (arith, cpu, begin.few)
 
   here : cpu_at s n ≡ lists
-  here = cpu_here s k call.cpu cpu begin.few
+  here = cpu_here s k (call_cpu call) cpu begin.few
 
   cpu_is : IsCpuOf b w n lists
   cpu_is = subst (IsCpuOf b w n) here (resting.cpu n small)
@@ -155,7 +156,7 @@ module _ (opening : World) (s : State) (b : Beside) (system : System) (x : ℕ) 
   -- ---- the turns
 
   abbrev asked : Local
-  asked = record l { spot = InAlloc LoadCpu; cache = k; cpu = call.cpu; place = call.place; fast = false; turn = 0; count = 0 }
+  asked = record l { spot = InAlloc LoadCpu; cache = k; cpu = call_cpu call; place = call_place call; fast = false; turn = 0; count = 0 }
 
   abbrev loaded : Local
   loaded = record asked { cpu_word = c; spot = InAlloc Detach }
@@ -244,7 +245,7 @@ module _ (opening : World) (s : State) (b : Beside) (system : System) (x : ℕ) 
 
   -- its next call takes a step
   takes_step : IsRested m waits
-  takes_step _ = subst (TakesStep m waits) (sym next.todo) (ap (told_at_once m (get_or l.known call.place nobody) call) is.kind ∙ ap told_of_alloc is.asks)
+  takes_step _ = subst (TakesStep m waits) (sym next.todo) (ap (told_at_once m (get_or l.known (call_place call) nobody) call) is.kind ∙ ap told_of_alloc is.asks)
 
   coherent : IsCoherentSystem m opening taken
   coherent = recalled_coherent m opening words2 system.value system.locals x searches next.there refl takes_step coherent_far
@@ -271,13 +272,13 @@ module _ (opening : World) (s : State) (b : Beside) (system : System) (x : ℕ) 
   left = record { current = None; free = []; partial = lists.partial }
 
   abbrev t : State
-  t = retired s k call.cpu f
+  t = retired s k (call_cpu call) f
 
   abbrev b1 : Beside
   b1 = grown b n 1
 
-  place_below : cpu_place s k call.cpu < length s.cpu_lists
-  place_below = place-inside s k call.cpu rest.lists.shaped inside cpu
+  place_below : cpu_place s k (call_cpu call) < length s.cpu_lists
+  place_below = place-inside s k (call_cpu call) rest.lists.shaped inside cpu
 
   worker_rests : IsBetween w.setup waits
   worker_rests = record {
@@ -286,7 +287,7 @@ module _ (opening : World) (s : State) (b : Beside) (system : System) (x : ℕ) 
     string = begin.between.string;
     run = begin.between.run;
     packed = record { cpu_word = resting.words.cpu n; slab_word = resting.words.slab f; list_word = begin.between.packed.list_word; next = begin.between.packed.next };
-    cpu = subst (λ (m : Setup). call.cpu < m.cpus) (sym resting.setup) begin.may.cpu;
+    cpu = subst (λ (m : Setup). call_cpu call < m.cpus) (sym resting.setup) begin.may.cpu;
     numbers = begin.between.numbers;
     some = begin.between.some;
   }
@@ -308,12 +309,12 @@ module _ (opening : World) (s : State) (b : Beside) (system : System) (x : ℕ) 
   ]
 
   ends : Rests t b1 u (set system.locals x waits)
-  ends = rests_relisted s b w system.locals (set s.slabs f (option_map (marked false) (slab_of s f))) s.frees (set s.cpu_lists (cpu_place s k call.cpu) left) s.memory s.board s.gone s.live (set b.tids n (tid_of b n + 1 * b.step))
+  ends = rests_relisted s b w system.locals (set s.slabs f (option_map (marked false) (slab_of s f))) s.frees (set s.cpu_lists (cpu_place s k (call_cpu call)) left) s.memory s.board s.gone s.live (set b.tids n (tid_of b n + 1 * b.step))
       (update w.cpu n d) w.list (update w.slab f e) w.link w.board w.memory (set system.locals x waits) resting
       refl
       (let front = at_front m opening taken x (omega (arith, next.there, length-set system.locals x waits)) coherent in subst IsWorded says front.stands.fresh.worded)
       (All-set (IsBetween w.setup) system.locals x waits worker_rests resting.workers)
-      (cpus_changed s b w k call.cpu left d (tid_of b n + 1 * b.step) (update w.slab f e) w.memory cpu begin.few place_below (omega (arith, small, rest.beside.tids)) resting.cpu (omega (arith, cpu_is.tid)) refl refl refl (λ n below away. (resting.cpu n below).free))
+      (cpus_changed s b w k (call_cpu call) left d (tid_of b n + 1 * b.step) (update w.slab f e) w.memory cpu begin.few place_below (omega (arith, small, rest.beside.tids)) resting.cpu (omega (arith, cpu_is.tid)) refl refl refl (λ n below away. (resting.cpu n below).free))
       slabs_are
       (at_word (λ g (c : SlabWord). 1 ≤ c.objects → checked_of s c.cache ≡ None) (resting.unchecked f) (λ g. resting.unchecked g))
       (at_word (λ g (c : SlabWord). c.objects ≡ 0 → c.frozen ≡ false) (λ _. refl) (λ g. resting.unslabbed g))
@@ -327,7 +328,7 @@ module _ (opening : World) (s : State) (b : Beside) (system : System) (x : ℕ) 
   lengths = record {
     slabs = length-set s.slabs f (option_map (marked false) (slab_of s f)) ∙ rest.lists.shaped.slabs;
     frees = rest.lists.shaped.frees;
-    cpu_lists = length-set s.cpu_lists (cpu_place s k call.cpu) left ∙ rest.lists.shaped.cpu_lists;
+    cpu_lists = length-set s.cpu_lists (cpu_place s k (call_cpu call)) left ∙ rest.lists.shaped.cpu_lists;
     nodes = rest.lists.shaped.nodes;
     checked = rest.lists.shaped.checked.numbers;
     memory = rest.lists.shaped.memory;
@@ -426,7 +427,7 @@ module _ (opening : World) (s : State) (b : Beside) (system : System) (x : ℕ) 
     todo = allocates.replies.replied.todo ∙ ap (λ (l : Local). drop 1 l.todo) same_worker
 
     abbrev known_by : List Known → List Known
-    known_by ks = if is_given allocates.reply then set ks call.place (known_under allocates.after call.object) else ks
+    known_by ks = if is_given allocates.reply then set ks (call_place call) (known_under allocates.after (call_object call)) else ks
 
     known : (worker_at end x).known ≡ known_by l.known
     known = subst (λ (r : System). (worker_at r x).known ≡ known_by (worker_at taken x).known) ran allocates.known ∙ ap (λ (l : Local). known_by l.known) same_worker
@@ -441,8 +442,8 @@ module _ (opening : World) (s : State) (b : Beside) (system : System) (x : ℕ) 
           record {
             reply = allocates.reply;
             after = allocates.after;
-            allocates = allocated s k call.cpu f consistent inside cpu empty current none place l.worker call.object allocates.reply allocates.after is.named is.unchecked
-                (subst (λ (l : Local). AllocatesNamed t place call.cpu l.worker call.object allocates.reply allocates.after) same_worker allocates.allocates);
+            allocates = allocated s k (call_cpu call) f consistent inside cpu empty current none place l.worker (call_object call) allocates.reply allocates.after is.named is.unchecked
+                (subst (λ (l : Local). AllocatesNamed t place (call_cpu call) l.worker (call_object call) allocates.reply allocates.after) same_worker allocates.allocates);
             given = allocates.given;
             words = allocates.words;
             replies = record {
@@ -496,7 +497,7 @@ module _ (opening : World) (s : State) (b : Beside) (system : System) (x : ℕ) 
     others = ap (set system.locals x) (sym same_worker);
     alloc = record { kind = is.kind; named = is.named; asks = is.asks; unchecked = is.unchecked };
     ids = has_id;
-    lists = lists_off s k call.cpu f consistent inside cpu empty current none;
+    lists = lists_off s k (call_cpu call) f consistent inside cpu empty current none;
     goes_on = goes_on;
   }
     where

@@ -15,6 +15,7 @@ use Rattle.slub_core.specs.declared.call.Call.{Call}
 use Rattle.slub_core.specs.declared.call.CallKind.{CallKind}
 use Rattle.slub_core.specs.declared.spot.Spot.{Spot}
 use Rattle.slub_core.specs.declared.spot.Spot.TheVariants.{Between}
+use Rattle.slub_core.specs.Calls.{call_kind, call_cpu, call_cache, call_object, call_place}
 use Rattle.slub_core.specs.Setup.{Setup, IsSetup}
 use Rattle.slub_core.specs.Local.{Local, nobody}
 use Rattle.slub_core.specs.Replies.{names_object}
@@ -56,18 +57,18 @@ starts opening s b system x call rest next =
 
 -- the object of the call, which the worker holds
 pub record HasObject (s : State) (system : System) (x : ℕ) (call : Call) : Type 0 where
-  pub place : call.place < length (worker_at system x).known
-  pub object : (known_at (worker_at system x) call).object ≡ call.object
-  pub some : 1 ≤ call.object
-  pub on_board : call.object < length s.board
-  pub named : held_under s call.object ≡ Some (as_held (worker_at system x).worker (known_at (worker_at system x) call))
+  pub place : call_place call < length (worker_at system x).known
+  pub object : (known_at (worker_at system x) call).object ≡ call_object call
+  pub some : 1 ≤ call_object call
+  pub on_board : call_object call < length s.board
+  pub named : held_under s (call_object call) ≡ Some (as_held (worker_at system x).worker (known_at (worker_at system x) call))
   pub slab : (slab : Slab) × (slab_of s (known_at (worker_at system x) call).frame ≡ Some slab) × (slab.cache ≡ (known_at (worker_at system x) call).cache) × ((known_at (worker_at system x) call).index < slab.objects)
   pub lives : is_some (cache_of s (known_at (worker_at system x) call).cache) ≡ true
   pub inside : (known_at (worker_at system x) call).cache < 32
   pub pointer : pointer_at (layout_at s (known_at (worker_at system x) call).cache) (known_at (worker_at system x) call).frame (known_at (worker_at system x) call).index < 512 * s.frames
 
 pub object_of : (s : State) (b : Beside) (system : System) (x : ℕ) (call : Call) → IsCoherent s → Rests s b (world_of (setup_of s b) system.value system.words) system.locals → x < length system.locals → MayBegin (setup_of s b) (worker_at system x) call → IsSetup (setup_of s b)
-    → names_object call.kind ≡ true → (known_at (worker_at system x) call).held ≡ true → HasObject s system x call
+    → names_object (call_kind call) ≡ true → (known_at (worker_at system x) call).held ≡ true → HasObject s system x call
 object_of s b system x call lists rests there may setup names held =
     let w = world_of (setup_of s b) system.value system.words in
     let l = worker_at system x in
@@ -75,10 +76,10 @@ object_of s b system x call lists rests there may setup names held =
     let consistent = consistent-of s lists in
     let place = may.place names in
     let object = may.known names in
-    let named : held_under s call.object ≡ Some (as_held l.worker k) = ap (held_under s) (sym object) ∙ rests.named k.object
-    ∙ held-named w system.locals l k (All-contains_itself system.locals x idle there) (All-contains_itself l.known call.place nobody place) held (rests.once k.object) in
-    let slab = held-slab s call.object (as_held l.worker k) named consistent in
-    let lives = held-cache s (as_held l.worker k) (record { object = call.object; here = named }) lists in
+    let named : held_under s (call_object call) ≡ Some (as_held l.worker k) = ap (held_under s) (sym object) ∙ rests.named k.object
+    ∙ held-named w system.locals l k (All-contains_itself system.locals x idle there) (All-contains_itself l.known (call_place call) nobody place) held (rests.once k.object) in
+    let slab = held-slab s (call_object call) (as_held l.worker k) named consistent in
+    let lives = held-cache s (as_held l.worker k) (record { object = call_object call; here = named }) lists in
     record {
       place = place;
       object = object;
@@ -91,22 +92,22 @@ object_of s b system x call lists rests there may setup names held =
       pointer = subst (λ c. pointer_at (layout_at s c) k.frame k.index < 512 * s.frames) slab.2 (omega (arith, pointer-inside s k.frame k.index slab.0 consistent slab.1 slab.3, lists.shaped.memory));
     }
 
-pub has_object : (opening : World) (s : State) (b : Beside) (system : System) (x : ℕ) (call : Call) → IsAtRest opening s b system → IsNext system x call → names_object call.kind ≡ true → (known_at (worker_at system x) call).held ≡ true → HasObject s system x call
+pub has_object : (opening : World) (s : State) (b : Beside) (system : System) (x : ℕ) (call : Call) → IsAtRest opening s b system → IsNext system x call → names_object (call_kind call) ≡ true → (known_at (worker_at system x) call).held ≡ true → HasObject s system x call
 has_object opening s b system x call rest next names held =
     let begin = starts opening s b system x call rest next in
     object_of s b system x call rest.lists rest.rests.rests next.there begin.may begin.setup names held
 
 -- the worker begins a call of an object of an unchecked cache that it holds
-pub begin_held : (m : Setup) (l : Local) (call : Call) (calls : List Call) (kind : CallKind) (spot : Spot) → l.spot ≡ Between → l.todo ≡ call ∷ calls → call.kind ≡ kind → cache_for m (known_at l call) call.cache kind ≡ (known_at l call).cache → first_cpu kind call.cpu ≡ call.cpu
-    → m.checks (known_at l call).cache ≡ false → (known_at l call).held ≡ true → first_spot kind false true ≡ spot → begun m false l ≡ record l { spot = spot; cache = (known_at l call).cache; cpu = call.cpu; place = call.place; fast = false; turn = 0; count = 0 }
+pub begin_held : (m : Setup) (l : Local) (call : Call) (calls : List Call) (kind : CallKind) (spot : Spot) → l.spot ≡ Between → l.todo ≡ call ∷ calls → call_kind call ≡ kind → cache_for m (known_at l call) (call_cache call) kind ≡ (known_at l call).cache → first_cpu kind (call_cpu call) ≡ call_cpu call
+    → m.checks (known_at l call).cache ≡ false → (known_at l call).held ≡ true → first_spot kind false true ≡ spot → begun m false l ≡ record l { spot = spot; cache = (known_at l call).cache; cpu = call_cpu call; place = call_place call; fast = false; turn = 0; count = 0 }
 begin_held m l call calls kind spot between todo is cache cpu plain held at_spot =
     ap (begun_at m false l) between ∙ ap (begun_with m false l) todo
-    ∙ ap (λ kind. by (first_spot kind (m.checks (cache_for m (known_at l call) call.cache kind)) (known_at l call).held) (cache_for m (known_at l call) call.cache kind) (first_cpu kind call.cpu)) is
-    ∙ ap (λ k. by (first_spot kind (m.checks k) (known_at l call).held) k (first_cpu kind call.cpu)) cache
+    ∙ ap (λ kind. by (first_spot kind (m.checks (cache_for m (known_at l call) (call_cache call) kind)) (known_at l call).held) (cache_for m (known_at l call) (call_cache call) kind) (first_cpu kind (call_cpu call))) is
+    ∙ ap (λ k. by (first_spot kind (m.checks k) (known_at l call).held) k (first_cpu kind (call_cpu call))) cache
     ∙ ap (by (first_spot kind (m.checks (known_at l call).cache) (known_at l call).held) (known_at l call).cache) cpu
-    ∙ ap (λ z. by (first_spot kind z (known_at l call).held) (known_at l call).cache call.cpu) plain
-    ∙ ap (λ z. by (first_spot kind false z) (known_at l call).cache call.cpu) held
-    ∙ ap (λ spot. by spot (known_at l call).cache call.cpu) at_spot
+    ∙ ap (λ z. by (first_spot kind z (known_at l call).held) (known_at l call).cache (call_cpu call)) plain
+    ∙ ap (λ z. by (first_spot kind false z) (known_at l call).cache (call_cpu call)) held
+    ∙ ap (λ spot. by spot (known_at l call).cache (call_cpu call)) at_spot
   where
     by : Spot → ℕ → ℕ → Local
-    by spot cache cpu = record l { spot = spot; cache = cache; cpu = cpu; place = call.place; fast = false; turn = 0; count = 0 }
+    by spot cache cpu = record l { spot = spot; cache = cache; cpu = cpu; place = call_place call; fast = false; turn = 0; count = 0 }

@@ -7,6 +7,7 @@ use Rattle.slub_core.specs.declared.call.Call.{Call}
 use Rattle.slub_core.specs.declared.spot.Spot.TheVariants.{Between, InOffline}
 use Rattle.slub_core.specs.declared.spot.Sweep.{Sweep}
 use Rattle.slub_core.specs.declared.spot.OfflineSpot.TheVariants.{LoadCurrent}
+use Rattle.slub_core.specs.Calls.{call_place}
 use Rattle.slub_core.specs.Setup.{Setup}
 use Rattle.slub_core.specs.Words.{number_of, after_op, answer_of}
 use Rattle.slub_core.specs.World.{World, world_from, world_of}
@@ -79,7 +80,7 @@ module _ (opening : World) (s : State) (b : Beside) (system : System) (x : ℕ) 
 
   -- where it stands as the call begins
   abbrev pub stood : Local
-  stood = record l { spot = InOffline LoadCurrent sweep; cache = k; cpu = c; place = call.place; fast = false; turn = 0; count = 0 }
+  stood = record l { spot = InOffline LoadCurrent sweep; cache = k; cpu = c; place = call_place call; fast = false; turn = 0; count = 0 }
 
   abbrev pub began : System
   began = record system { locals = set system.locals x stood }

@@ -15,6 +15,7 @@ use Rattle.slub_core.specs.declared.spot.Sweep.{Sweep}
 use Rattle.slub_core.specs.declared.spot.Sweep.TheVariants.{Trimming, Flushing}
 use Rattle.slub_core.specs.declared.spot.OfflineSpot.TheVariants.{LoadCurrent, TakeCurrent}
 use Rattle.slub_core.specs.declared.spot.TrimSpot.TheVariants.{LockTrim}
+use Rattle.slub_core.specs.Calls.{call_kind, call_place}
 use Rattle.slub_core.specs.Setup.{Setup, IsPlain}
 use Rattle.slub_core.specs.World.{World, LockValue, world_of}
 use Rattle.slub_core.specs.Local.{Local, Worker, at, nobody}
@@ -107,7 +108,7 @@ quiet_coherent m opening words value ls x l q below is rested coherent =
 -- a worker that knows the same has a next call that takes a step
 pub takes_alike : (m : Setup) (l n : Local) (calls : List Call) → n.known ≡ l.known → TakesStep m l calls → TakesStep m n calls
 takes_alike m l n [] known is = is
-takes_alike m l n (call ∷ calls) known is = subst (λ ks. told_at_once m (get_or ks call.place nobody) call call.kind ≡ None) (sym known) is
+takes_alike m l n (call ∷ calls) known is = subst (λ ks. told_at_once m (get_or ks (call_place call) nobody) call (call_kind call) ≡ None) (sym known) is
 
 -- ---- where it begins
 

@@ -30,6 +30,7 @@ use Rattle.slub_core.specs.declared.spot.Spot.TheVariants.{Between, InOffline, I
 use Rattle.slub_core.specs.declared.spot.Sweep.TheVariants.{Trimming}
 use Rattle.slub_core.specs.declared.spot.OfflineSpot.TheVariants.{LoadCurrent}
 use Rattle.slub_core.specs.declared.spot.TrimSpot.TheVariants.{LockTrim}
+use Rattle.slub_core.specs.Calls.{call_kind, call_cpu, call_cache, call_place}
 use Rattle.slub_core.specs.Setup.{Setup, cpu_number}
 use Rattle.slub_core.specs.World.{World}
 use Rattle.slub_core.specs.Local.{Local, at, no_call, nobody}
@@ -48,16 +49,16 @@ use Rattle.slub_law_alone.proofs.TrimCpus.{CpusEnd, cpus_emptied}
 use Rattle.slub_law_alone.proofs.Workers.{rested_calls}
 use Rattle.slub_calls.proofs.ChangeNumbers.{cpu_here}
 
-begin_trim : (m : Setup) (l : Local) (call : Call) (calls : List Call) (k : ℕ) → l.spot ≡ Between → l.todo ≡ call ∷ calls → call.kind ≡ Trim → call.cache ≡ Some k
-    → begun m false l ≡ record l { spot = InOffline LoadCurrent Trimming; cache = k; cpu = 0; place = call.place; fast = false; turn = 0; count = 0 }
+begin_trim : (m : Setup) (l : Local) (call : Call) (calls : List Call) (k : ℕ) → l.spot ≡ Between → l.todo ≡ call ∷ calls → call_kind call ≡ Trim → call_cache call ≡ Some k
+    → begun m false l ≡ record l { spot = InOffline LoadCurrent Trimming; cache = k; cpu = 0; place = call_place call; fast = false; turn = 0; count = 0 }
 begin_trim m l call calls k between todo kind asks =
-    ap (begun_at m false l) between ∙ ap (begun_with m false l) todo ∙ ap (λ kind. by kind call.cache) kind ∙ ap (by Trim) asks
+    ap (begun_at m false l) between ∙ ap (begun_with m false l) todo ∙ ap (λ kind. by kind (call_cache call)) kind ∙ ap (by Trim) asks
   where
     by : CallKind → Option ℕ → Local
     by kind named =
-        let known = get_or l.known call.place nobody in
+        let known = get_or l.known (call_place call) nobody in
         let cache = cache_for m known named kind in
-        record l { spot = first_spot kind (m.checks cache) known.held; cache = cache; cpu = first_cpu kind call.cpu; place = call.place; fast = false; turn = 0; count = 0 }
+        record l { spot = first_spot kind (m.checks cache) known.held; cache = cache; cpu = first_cpu kind (call_cpu call); place = call_place call; fast = false; turn = 0; count = 0 }
 
 -- a live cache without checks is shrunk
 shrinks_by : (s : State) (k : ℕ) (after : State) → is_some (cache_of s k) ≡ true → checked_of s k ≡ None → ShrinksUnchecked s (min_partial_of s k) k after → ShrinksByKind s k after
@@ -68,7 +69,7 @@ shrinks_by s k after lives plain shrinks = by (cache_of s k) lives shrinks
     by None some shrinks = absurd (let e = some in cc e)
     by (Some live) some shrinks = subst (λ (c : Option CheckedState). MatchOption c (ShrinksUnchecked s live.layout.min_partial k after) (λ slabs. ShrinksChecked s k slabs after)) (sym plain) shrinks
 
-module _ (opening : World) (s : State) (b : Beside) (system : System) (x : ℕ) (call : Call) (place k : ℕ) (rest : IsAtRest opening s b system) (next : IsNext system x call) (kind : call.kind ≡ Trim) (names : named s place ≡ Some k) (asks : call.cache ≡ Some k) where
+module _ (opening : World) (s : State) (b : Beside) (system : System) (x : ℕ) (call : Call) (place k : ℕ) (rest : IsAtRest opening s b system) (next : IsNext system x call) (kind : call_kind call ≡ Trim) (names : named s place ≡ Some k) (asks : call_cache call ≡ Some k) where
   abbrev m : Setup
   m = setup_of s b
 
@@ -83,7 +84,7 @@ module _ (opening : World) (s : State) (b : Beside) (system : System) (x : ℕ) 
   plain = none_of (checked_of s k) (by (m.checks k) takes)
     where
       takes : cond {A = Option Reply} (m.checks k) (Some Checked) None ≡ None
-      takes = ap (told_of_trim m) (sym asks) ∙ ap (told_at_once m (get_or l.known call.place nobody) call) (sym kind) ∙ subst (TakesStep m l) next.todo (All-get_or (IsRested m) system.locals x idle next.there rest.coherent.rested begin.between.between)
+      takes = ap (told_of_trim m) (sym asks) ∙ ap (told_at_once m (get_or l.known (call_place call) nobody) call) (sym kind) ∙ subst (TakesStep m l) next.todo (All-get_or (IsRested m) system.locals x idle next.there rest.coherent.rested begin.between.between)
 
       by : (z : Bool) → cond {A = Option Reply} z (Some Checked) None ≡ None → z ≡ false
       by true e = absurd (let z = e in cc z)

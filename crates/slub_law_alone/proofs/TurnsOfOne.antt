@@ -1,11 +1,12 @@
 -- Turns of a worker alone after which it has one reply by a step are those of one call.
-use Rattle.std.proofs.Common.{◌≡◌, ℕ, zero, suc, ◌+◌, ◌-◌, ◌<◌, ◌≤◌, ◌++◌, ◌==◌, false, List, [], ◌∷◌, length, get_or, drop, set, refl, sym, ap, ◌∙◌, subst, arith}
+use Rattle.std.proofs.Common.{◌≡◌, ℕ, zero, suc, ◌-◌, ◌<◌, ◌≤◌, ◌++◌, ◌==◌, false, List, [], ◌∷◌, length, get_or, drop, set, refl, sym, ap, ◌∙◌, subst, arith}
 use Rattle.std.proofs.lemmas.List.Elements.{All-get_or}
 use Rattle.slub_trace.specs.declared.reply.Reply.{Reply}
 use Rattle.slub_lists.specs.State.{State}
 use Rattle.slub_core.specs.declared.call.Call.{Call}
 use Rattle.slub_core.specs.declared.local.Known.{Known}
 use Rattle.slub_core.specs.declared.spot.Spot.TheVariants.{Between}
+use Rattle.slub_core.specs.Calls.{call_kind, call_place}
 use Rattle.slub_core.specs.Setup.{Setup}
 use Rattle.slub_core.specs.World.{World, world_of}
 use Rattle.slub_core.specs.Local.{Local, nobody}
@@ -60,10 +61,10 @@ module _ (m : Setup) (opening : World) (x : ℕ) (before : Local) (call asked : 
       let v-known : n.known ≡ v.known = ap (λ (l : Local). l.known) replied.rested ∙ rested-known m v in
       let mid-plain : l.fast ≡ false = ap (λ (l : Local). l.fast) first.rests ∙ rested-fast m u ∙ first.plain in
       let all = turns-later m x (suc turns) mid below mid-plain in
-      no_reply_at_once m (get_or u.known next.place nobody) (get_or v.known next.place nobody) next next.kind other.has.reply
-      (λ poke. subst (λ (ks : List Known). ((get_or ks next.place nobody).frame == 0) ≡ false) v-known
+      no_reply_at_once m (get_or u.known (call_place next) nobody) (get_or v.known (call_place next) nobody) next (call_kind next) other.has.reply
+      (λ poke. subst (λ (ks : List Known). ((get_or ks (call_place next) nobody).frame == 0) ≡ false) v-known
       (stays_known m opening mid last x next more below (alone-long m x (suc turns) mid below) coherent (alone_keeps m opening x (suc turns) mid coherent) at todo poke
-      (ap (λ (ks : List Known). told_at_once m (get_or ks next.place nobody) next next.kind) u-known ∙ both.0) all.known all.done))
+      (ap (λ (ks : List Known). told_at_once m (get_or ks (call_place next) nobody) next (call_kind next)) u-known ∙ both.0) all.known all.done))
       other.has.stepped both.0 both.1
 
   -- the turns after the end of the call change nothing

@@ -22,6 +22,7 @@ use Rattle.slub_core.specs.declared.spot.FreeSpot.TheVariants.{TakeBoard}
 use Rattle.slub_core.specs.declared.step.Answer.TheVariants.{Word}
 use Rattle.slub_core.specs.declared.step.Op.TheVariants.{Swap}
 use Rattle.slub_core.specs.declared.step.Place.TheVariants.{BoardOf}
+use Rattle.slub_core.specs.Calls.{call_kind, call_cpu, call_cache, call_object, call_place}
 use Rattle.slub_core.specs.Setup.{Setup}
 use Rattle.slub_core.specs.Words.{board_base, board_in}
 use Rattle.slub_core.specs.World.{World, update, world_of}
@@ -62,18 +63,18 @@ on_board : (z : Bool) → first_spot Free z false ≡ InFree TakeBoard
 on_board true = refl
 on_board false = refl
 
-pub begin_board : (m : Setup) (l : Local) (call : Call) (calls : List Call) → l.spot ≡ Between → l.todo ≡ call ∷ calls → call.kind ≡ Free → (known_at l call).held ≡ false
-    → begun m false l ≡ record l { spot = InFree TakeBoard; cache = (known_at l call).cache; cpu = call.cpu; place = call.place; fast = false; turn = 0; count = 0 }
+pub begin_board : (m : Setup) (l : Local) (call : Call) (calls : List Call) → l.spot ≡ Between → l.todo ≡ call ∷ calls → call_kind call ≡ Free → (known_at l call).held ≡ false
+    → begun m false l ≡ record l { spot = InFree TakeBoard; cache = (known_at l call).cache; cpu = call_cpu call; place = call_place call; fast = false; turn = 0; count = 0 }
 begin_board m l call calls between todo is held =
     ap (begun_at m false l) between ∙ ap (begun_with m false l) todo ∙ ap (λ kind. by kind (known_at l call).held) is ∙ ap (by Free) held ∙ ap last (on_board (m.checks (known_at l call).cache))
   where
     by : CallKind → Bool → Local
     by kind held =
-        let cache = cache_for m (known_at l call) call.cache kind in
-        record l { spot = first_spot kind (m.checks cache) held; cache = cache; cpu = first_cpu kind call.cpu; place = call.place; fast = false; turn = 0; count = 0 }
+        let cache = cache_for m (known_at l call) (call_cache call) kind in
+        record l { spot = first_spot kind (m.checks cache) held; cache = cache; cpu = first_cpu kind (call_cpu call); place = call_place call; fast = false; turn = 0; count = 0 }
 
     last : Spot → Local
-    last spot = record l { spot = spot; cache = (known_at l call).cache; cpu = call.cpu; place = call.place; fast = false; turn = 0; count = 0 }
+    last spot = record l { spot = spot; cache = (known_at l call).cache; cpu = call_cpu call; place = call_place call; fast = false; turn = 0; count = 0 }
 
 unheld_frees : (s : State) (cpu worker object : ℕ) → IsUnheld s worker object → Frees s cpu worker object NotHeld s
 unheld_frees s cpu worker object unheld = by (held_under s object) unheld
@@ -83,7 +84,7 @@ unheld_frees s cpu worker object unheld = by (held_under s object) unheld
     by None none = (refl, refl)
     by (Some held) other = subst (λ z. MatchBool z (FreesHeld s cpu worker object held NotHeld s) ((NotHeld ≡ NotHeld) × (s ≡ s))) (sym other) (refl, refl)
 
-module _ (opening : World) (s : State) (b : Beside) (system : System) (x : ℕ) (call : Call) (rest : IsAtRest opening s b system) (next : IsNext system x call) (is : call.kind ≡ Free) (unheld : IsUnheld s (worker_at system x).worker call.object) where
+module _ (opening : World) (s : State) (b : Beside) (system : System) (x : ℕ) (call : Call) (rest : IsAtRest opening s b system) (next : IsNext system x call) (is : call_kind call ≡ Free) (unheld : IsUnheld s (worker_at system x).worker (call_object call)) where
   abbrev m : Setup
   m = setup_of s b
 
@@ -102,13 +103,13 @@ module _ (opening : World) (s : State) (b : Beside) (system : System) (x : ℕ) 
   resting : Rests s b w system.locals
   resting = rest.rests.rests
 
-  names : names_object call.kind ≡ true
+  names : names_object (call_kind call) ≡ true
   names = ap names_object is
 
-  object : o.object ≡ call.object
+  object : o.object ≡ call_object call
   object = begin.may.known names
 
-  other : (h : Held) → held_under s call.object ≡ Some h → is_freeable l.worker h.worker ≡ false
+  other : (h : Held) → held_under s (call_object call) ≡ Some h → is_freeable l.worker h.worker ≡ false
   other h there = subst (λ o. IfSome o (λ held. is_freeable l.worker held.worker ≡ false)) there unheld
 
   -- the worker doesn't hold it, and it isn't on the board
@@ -132,7 +133,7 @@ module _ (opening : World) (s : State) (b : Beside) (system : System) (x : ℕ) 
   below = omega (arith, object, (begin.may.object names).1)
 
   abbrev asked : Local
-  asked = record l { spot = InFree TakeBoard; cache = o.cache; cpu = call.cpu; place = call.place; fast = false; turn = 0; count = 0 }
+  asked = record l { spot = InFree TakeBoard; cache = o.cache; cpu = call_cpu call; place = call_place call; fast = false; turn = 0; count = 0 }
 
   abbrev told : Local
   told = answered (at asked Between) NotHeld
@@ -170,7 +171,7 @@ module _ (opening : World) (s : State) (b : Beside) (system : System) (x : ℕ) 
     string = begin.between.string;
     run = begin.between.run;
     packed = record { cpu_word = begin.between.packed.cpu_word; slab_word = begin.between.packed.slab_word; list_word = begin.between.packed.list_word; next = begin.between.packed.next };
-    cpu = subst (λ (m : Setup). call.cpu < m.cpus) (sym resting.setup) begin.may.cpu;
+    cpu = subst (λ (m : Setup). call_cpu call < m.cpus) (sym resting.setup) begin.may.cpu;
     numbers = begin.between.numbers;
     some = begin.between.some;
   })
@@ -198,8 +199,8 @@ module _ (opening : World) (s : State) (b : Beside) (system : System) (x : ℕ) 
   nothing = record {
     reply = NotHeld;
     after = s;
-    frees = unheld_frees s call.cpu l.worker call.object unheld;
-    known = known_ends s b system x 1 told words system.value next.there whole refl ∙ knows_unheld l.known _ s l.worker call.object unheld;
+    frees = unheld_frees s (call_cpu call) l.worker (call_object call) unheld;
+    known = known_ends s b system x 1 told words system.value next.there whole refl ∙ knows_unheld l.known _ s l.worker (call_object call) unheld;
     replies = replies_of opening s s b b system x 1 call NotHeld told words system.value next whole refl refl refl refl refl
         (ends_at_rest opening w s s b b system (machine words system.value (set system.locals x (rested m told))) rest refl refl refl lengths rest.lists.accounted rest.beside.tids refl refl ended says ends (whole_board m system.words o.object 0 refl some rest.whole));
   }

@@ -1,5 +1,5 @@
 -- A reply by a step to a call that takes one is not a reply that takes no step.
-use Rattle.std.proofs.Common.{◌≡◌, ◌≢◌, suc, ◌+◌, ◌≤◌, ◌++◌, ◌==◌, Bool, true, false, not, if◌then◌else◌, Option, Some, None, List, [], ◌∷◌, length, get_or, drop, refl, sym, ap, ◌∙◌, subst, arith}
+use Rattle.std.proofs.Common.{◌≡◌, suc, ◌≤◌, ◌++◌, ◌==◌, Bool, true, false, not, if◌then◌else◌, Option, Some, None, List, [], ◌∷◌, length, get_or, drop, refl, sym, ap, ◌∙◌, subst, arith}
 use Rattle.std.proofs.lemmas.Bool.{false≢true}
 use Rattle.std.proofs.lemmas.Option.{none-some, same_Some}
 use Rattle.std.proofs.lemmas.List.{length-append}
@@ -10,6 +10,7 @@ use Rattle.slub_core.specs.declared.call.CallKind.{CallKind}
 use Rattle.slub_core.specs.declared.call.CallKind.TheVariants.{Alloc, Free, Write, Read, Poke, Trim, Flush}
 use Rattle.slub_core.specs.declared.local.Known.{Known}
 use Rattle.slub_core.specs.declared.local.Answered.{Answered}
+use Rattle.slub_core.specs.Calls.{call_kind, call_place, call_word}
 use Rattle.slub_core.specs.Setup.{Setup}
 use Rattle.slub_core.specs.Local.{Local, nobody, call_of, answered}
 use Rattle.slub_core.specs.Steps.{told_at_once, is_outside, or_step, rested_with}
@@ -32,8 +33,8 @@ poke_unstepped false false r there is = absurd (none-some r is)
 pub no_reply_at_once : (m : Setup) (k q : Known) (call : Call) (kind : CallKind) (r : Reply) → (kind ≡ Poke → (q.frame == 0) ≡ false) → unstepped kind r ≡ false → told_at_once m k call kind ≡ None → told_at_once m q call kind ≡ Some r → ⊥
 no_reply_at_once m k q call Alloc r there stepped none some = none-some r (sym none ∙ some)
 no_reply_at_once m k q call Free r there stepped none some = none-some r some
-no_reply_at_once m k q call Write r there stepped none some = false≢true (sym stepped ∙ use_unstepped (not q.held) (is_outside (m.layout q.cache) call) r Write refl refl some)
-no_reply_at_once m k q call Read r there stepped none some = false≢true (sym stepped ∙ use_unstepped (not q.held) (is_outside (m.layout q.cache) call) r Read refl refl some)
+no_reply_at_once m k q call Write r there stepped none some = false≢true (sym stepped ∙ use_unstepped (not q.held) (is_outside (m.layout q.cache) (call_word call)) r Write refl refl some)
+no_reply_at_once m k q call Read r there stepped none some = false≢true (sym stepped ∙ use_unstepped (not q.held) (is_outside (m.layout q.cache) (call_word call)) r Read refl refl some)
 no_reply_at_once m k q call Poke r there stepped none some = false≢true (sym stepped ∙ poke_unstepped (q.frame == 0) (not (m.checks q.cache)) r (there refl) some)
 no_reply_at_once m k q call Trim r there stepped none some = none-some r (sym none ∙ some)
 no_reply_at_once m k q call Flush r there stepped none some = none-some r (sym none ∙ some)
@@ -63,16 +64,16 @@ answer call reply = record { call = call; reply = reply }
 
 -- the first has a call left, of which the second had this reply without a step
 abbrev pub Without : Setup → Local → Local → Call → Reply → Type 0
-Without m u v call r = (told_at_once m (get_or u.known call.place nobody) call call.kind ≡ None) × (told_at_once m (get_or v.known call.place nobody) call call.kind ≡ Some r)
+Without m u v call r = (told_at_once m (get_or u.known (call_place call) nobody) call (call_kind call) ≡ None) × (told_at_once m (get_or v.known (call_place call) nobody) call (call_kind call) ≡ Some r)
 
 pub compared : (m : Setup) (calls : List Call) (u v : Local) (call : Call) (more : List Call) (r : Reply) (extra : List Answered) → u.todo ≡ calls → v.todo ≡ calls → length u.done ≡ length v.done
     → (rested_with m calls u).todo ≡ call ∷ more → (rested_with m calls v).done ≡ extra ++ answer call r ∷ (rested_with m calls u).done → Without m u v call r
 compared m [] u v call more r extra us vs long todo done = absurd (cons-nil call more (sym us ∙ todo))
 compared m (c ∷ cs) u v call more r extra us vs long todo done =
-    by (told_at_once m (get_or u.known c.place nobody) c c.kind) (told_at_once m (get_or v.known c.place nobody) c c.kind) refl refl
+    by (told_at_once m (get_or u.known (call_place c) nobody) c (call_kind c)) (told_at_once m (get_or v.known (call_place c) nobody) c (call_kind c)) refl refl
     (λ p q. compared m cs (answered u p) (answered v q) call more r extra (ap (drop 1) us) (ap (drop 1) vs) (ap suc long)) todo done
   where
-    by : (a b : Option Reply) → told_at_once m (get_or u.known c.place nobody) c c.kind ≡ a → told_at_once m (get_or v.known c.place nobody) c c.kind ≡ b
+    by : (a b : Option Reply) → told_at_once m (get_or u.known (call_place c) nobody) c (call_kind c) ≡ a → told_at_once m (get_or v.known (call_place c) nobody) c (call_kind c) ≡ b
         → ((p q : Reply) → (rested_with m cs (answered u p)).todo ≡ call ∷ more → (rested_with m cs (answered v q)).done ≡ extra ++ answer call r ∷ (rested_with m cs (answered u p)).done → Without m u v call r)
         → (or_step u (λ p. rested_with m cs (answered u p)) a).todo ≡ call ∷ more → (or_step v (λ q. rested_with m cs (answered v q)) b).done ≡ extra ++ answer call r ∷ (or_step u (λ p. rested_with m cs (answered u p)) a).done → Without m u v call r
     by None None ua vb go todo done = absurd (let n = ap length done in let k = length-append extra (answer call r ∷ u.done) in omega arith)
@@ -80,8 +81,8 @@ compared m (c ∷ cs) u v call more r extra us vs long todo done =
         let same : c ≡ call = (first-same c call cs more (sym us ∙ todo)).0 in
         let grown = rested_with-grown m cs (answered v q) in
         let one : answer (call_of v) q ≡ answer call r = before-ends grown.0 extra (answer (call_of v) q) (answer call r) v.done u.done (sym long) (sym grown.1 ∙ done) in (
-          subst (λ (c : Call). told_at_once m (get_or u.known c.place nobody) c c.kind ≡ None) same ua,
-          subst (λ (c : Call). told_at_once m (get_or v.known c.place nobody) c c.kind ≡ Some r) same (vb ∙ ap (λ (d : Answered). Some d.reply) one),
+          subst (λ (c : Call). told_at_once m (get_or u.known (call_place c) nobody) c (call_kind c) ≡ None) same ua,
+          subst (λ (c : Call). told_at_once m (get_or v.known (call_place c) nobody) c (call_kind c) ≡ Some r) same (vb ∙ ap (λ (d : Answered). Some d.reply) one),
         )
     by (Some p) None ua vb go todo done =
         let grown = grown-long (answered u p).done (rested_with m cs (answered u p)).done (rested_with-grown m cs (answered u p)) in

@@ -22,6 +22,7 @@ use Rattle.slub_core.specs.declared.spot.Spot.TheVariants.{Between, WriteWord, R
 use Rattle.slub_core.specs.declared.step.Answer.TheVariants.{Word, Done}
 use Rattle.slub_core.specs.declared.step.Op.TheVariants.{Load, Store}
 use Rattle.slub_core.specs.declared.step.Place.TheVariants.{MemoryOf}
+use Rattle.slub_core.specs.Calls.{call_kind, call_cpu, call_object, call_place, call_word, call_value}
 use Rattle.slub_core.specs.Setup.{Setup}
 use Rattle.slub_core.specs.Words.{memory_base}
 use Rattle.slub_core.specs.World.{World, update, set_memory, world_of}
@@ -57,7 +58,7 @@ use_told true true e = absurd (cc e)
 use_told true false e = (refl, refl)
 use_told false z e = absurd (cc e)
 
-pub takes : (opening : World) (s : State) (b : Beside) (system : System) (x : ℕ) (call : Call) → IsAtRest opening s b system → IsNext system x call → told_at_once (setup_of s b) (known_at (worker_at system x) call) call call.kind ≡ None
+pub takes : (opening : World) (s : State) (b : Beside) (system : System) (x : ℕ) (call : Call) → IsAtRest opening s b system → IsNext system x call → told_at_once (setup_of s b) (known_at (worker_at system x) call) call (call_kind call) ≡ None
 takes opening s b system x call rest next =
     let m = setup_of s b in
     let l = worker_at system x in
@@ -65,11 +66,11 @@ takes opening s b system x call rest next =
     let rested = All-get_or (IsRested m) system.locals x idle next.there rest.coherent.rested in
     subst (TakesStep m l) next.todo (rested begin.between.between)
 
-pub used : (opening : World) (s : State) (b : Beside) (system : System) (x : ℕ) (call : Call) → IsAtRest opening s b system → IsNext system x call → told_at_once (setup_of s b) (known_at (worker_at system x) call) call call.kind ≡ told_of_use (setup_of s b) (known_at (worker_at system x) call) call
-    → ((known_at (worker_at system x) call).held ≡ true) × (is_word (layout_at s (known_at (worker_at system x) call).cache) call.word ≡ true)
+pub used : (opening : World) (s : State) (b : Beside) (system : System) (x : ℕ) (call : Call) → IsAtRest opening s b system → IsNext system x call → told_at_once (setup_of s b) (known_at (worker_at system x) call) call (call_kind call) ≡ told_of_use (setup_of s b) (known_at (worker_at system x) call) (call_word call)
+    → ((known_at (worker_at system x) call).held ≡ true) × (is_word (layout_at s (known_at (worker_at system x) call).cache) (call_word call) ≡ true)
 used opening s b system x call rest next is =
     let k = known_at (worker_at system x) call in
-    let r = use_told k.held (is_outside (layout_at s k.cache) call) (sym is ∙ takes opening s b system x call rest next) in
+    let r = use_told k.held (is_outside (layout_at s k.cache) (call_word call)) (sym is ∙ takes opening s b system x call rest next) in
     (r.0, not-false _ r.1)
 
 -- what the number names is the worker's
@@ -84,8 +85,8 @@ live_match s k P lives there = by (cache_of s k) refl lives
     by (Some live) e has_it = there live e
 
 -- what ends a use
-module _ (opening : World) (s : State) (b : Beside) (system : System) (x : ℕ) (call : Call) (rest : IsAtRest opening s b system) (next : IsNext system x call) (held_it : (known_at (worker_at system x) call).held ≡ true) (names : names_object call.kind ≡ true)
-    (plain : checked_of s (known_at (worker_at system x) call).cache ≡ None) (inside : is_word (layout_at s (known_at (worker_at system x) call).cache) call.word ≡ true) where
+module _ (opening : World) (s : State) (b : Beside) (system : System) (x : ℕ) (call : Call) (rest : IsAtRest opening s b system) (next : IsNext system x call) (held_it : (known_at (worker_at system x) call).held ≡ true) (names : names_object (call_kind call) ≡ true)
+    (plain : checked_of s (known_at (worker_at system x) call).cache ≡ None) (inside : is_word (layout_at s (known_at (worker_at system x) call).cache) (call_word call) ≡ true) where
   abbrev m : Setup
   m = setup_of s b
 
@@ -111,10 +112,10 @@ module _ (opening : World) (s : State) (b : Beside) (system : System) (x : ℕ) 
   resting = rest.rests.rests
 
   abbrev p : ℕ
-  p = word_at (layout_at s o.cache) held call.word
+  p = word_at (layout_at s o.cache) held (call_word call)
 
   p_inside : p < 512 * s.frames
-  p_inside = word_inside s call.object call.word held begin.consistent has.named inside
+  p_inside = word_inside s (call_object call) (call_word call) held begin.consistent has.named inside
 
   call_is : call_of l ≡ call
   call_is = ap (λ todo. get_or todo 0 no_call) next.todo
@@ -155,26 +156,26 @@ module _ (opening : World) (s : State) (b : Beside) (system : System) (x : ℕ) 
   -- ---- a write
 
   abbrev asked : Local
-  asked = record l { spot = WriteWord; cache = o.cache; cpu = call.cpu; place = call.place; fast = false; turn = 0; count = 0 }
+  asked = record l { spot = WriteWord; cache = o.cache; cpu = call_cpu call; place = call_place call; fast = false; turn = 0; count = 0 }
 
   abbrev wrote : Local
   wrote = answered (at asked Between) Wrote
 
   abbrev words : List ℕ
-  words = set system.words (memory_base m + p) call.value
+  words = set system.words (memory_base m + p) (call_value call)
 
   abbrev after : State
-  after = record s { memory = set s.memory p call.value }
+  after = record s { memory = set s.memory p (call_value call) }
 
-  stored : call.kind ≡ Write → alone m x 1 system ≡ machine words system.value (set system.locals x (rested m wrote))
+  stored : call_kind call ≡ Write → alone m x 1 system ≡ machine words system.value (set system.locals x (rested m wrote))
   stored is = ap (alone m x 1) (ap (machine system.words system.value) (sym (set-get_or system.locals x idle)))
       ∙ then_turn m x 0 (machine system.words system.value (set system.locals x l)) (machine words system.value (set system.locals x (rested m wrote))) (machine words system.value (set system.locals x (rested m wrote)))
-      (turn_goes m system.words words system.value system.locals x l asked (rested m wrote) (record { place = MemoryOf p; op = Store call.value }) Done next.there
-      (begin_held m l call next.calls Write WriteWord begin.between.between next.todo is refl refl (ap is_some plain) held_it refl) (ap (λ (c : Call). store_word m asked c.word c.value) call_is) refl refl
+      (turn_goes m system.words words system.value system.locals x l asked (rested m wrote) (record { place = MemoryOf p; op = Store (call_value call) }) Done next.there
+      (begin_held m l call next.calls Write WriteWord begin.between.between next.todo is refl refl (ap is_some plain) held_it refl) (ap (λ (c : Call). store_word m asked (call_word c) (call_value c)) call_is) refl refl
       (settle_tells m system.value asked (at asked Between) Done Wrote refl refl)) refl
 
-  says : world_of m system.value words ≡ set_memory w p call.value
-  says = world_of-memory m system.value system.words p call.value begin.table p_inside
+  says : world_of m system.value words ≡ set_memory w p (call_value call)
+  says = world_of-memory m system.value system.words p (call_value call) begin.table p_inside
 
   goes_on : IsBetween w.setup wrote
   goes_on = record {
@@ -183,36 +184,36 @@ module _ (opening : World) (s : State) (b : Beside) (system : System) (x : ℕ) 
     string = begin.between.string;
     run = begin.between.run;
     packed = record { cpu_word = begin.between.packed.cpu_word; slab_word = begin.between.packed.slab_word; list_word = begin.between.packed.list_word; next = begin.between.packed.next };
-    cpu = subst (λ (m : Setup). call.cpu < m.cpus) (sym resting.setup) begin.may.cpu;
+    cpu = subst (λ (m : Setup). call_cpu call < m.cpus) (sym resting.setup) begin.may.cpu;
     numbers = begin.between.numbers;
     some = begin.between.some;
   }
 
-  write_ends : IsCoherentSystem m opening (machine words system.value (set system.locals x (rested m wrote))) → Rests after b (set_memory w p call.value) (set system.locals x (rested m wrote))
-  write_ends ended = rests_changed s b w system.locals s.frees s.cpu_lists (set s.memory p call.value) s.board s.gone s.live b.tids w.cpu w.slab (update w.memory p call.value) (set system.locals x (rested m wrote)) resting refl
+  write_ends : IsCoherentSystem m opening (machine words system.value (set system.locals x (rested m wrote))) → Rests after b (set_memory w p (call_value call)) (set system.locals x (rested m wrote))
+  write_ends ended = rests_changed s b w system.locals s.frees s.cpu_lists (set s.memory p (call_value call)) s.board s.gone s.live b.tids w.cpu w.slab (update w.memory p (call_value call)) (set system.locals x (rested m wrote)) resting refl
       (let f = at_front m opening (machine words system.value (set system.locals x (rested m wrote))) x (omega (arith, next.there, length-set system.locals x (rested m wrote))) ended in subst IsWorded says f.stands.fresh.worded)
       (All-set (IsBetween w.setup) system.locals x (rested m wrote) (worker_rests wrote refl refl refl goes_on) resting.workers)
-      (λ n below. let c = resting.cpu n below in record { tid = c.tid; current = c.current; free = cpu_stands s call.object held begin.consistent has.named p mine b w system.locals resting w.cpu w.slab call.value n below; count = c.count; partial = c.partial })
-      (λ f. same_word (w.slab f)) (λ f. record { chain = own_stands s call.object held begin.consistent has.named p mine b w system.locals resting w.cpu w.slab call.value f; in_use = (resting.own f).in_use })
+      (λ n below. let c = resting.cpu n below in record { tid = c.tid; current = c.current; free = cpu_stands s (call_object call) held begin.consistent has.named p mine b w system.locals resting w.cpu w.slab (call_value call) n below; count = c.count; partial = c.partial })
+      (λ f. same_word (w.slab f)) (λ f. record { chain = own_stands s (call_object call) held begin.consistent has.named p mine b w system.locals resting w.cpu w.slab (call_value call) f; in_use = (resting.own f).in_use })
       (names_are wrote refl refl refl goes_on) (λ j. subst (λ w. times_named w (set system.locals x (rested m wrote)) j ≤ 1) says (once_named m opening (machine words system.value (set system.locals x (rested m wrote))) ended j))
       words_are
     where
       mine : IsOwn s held p
-      mine = word_own s call.object call.word held begin.consistent has.named inside
+      mine = word_own s (call_object call) (call_word call) held begin.consistent has.named inside
 
-      words_are : (j word : ℕ) (h : Held) → held_under s j ≡ Some h → KeepsWord after (set_memory w p call.value) h word
+      words_are : (j word : ℕ) (h : Held) → held_under s j ≡ Some h → KeepsWord after (set_memory w p (call_value call)) h word
       words_are j word h there unchecked is_inside = elim (cases_eq (word_at (layout_at s h.cache) h word) p) [
-        | inl e ↦ update_at w.memory p call.value (word_at (layout_at s h.cache) h word) e ∙ sym (ap (λ q. get_or (set s.memory p call.value) q 0) e ∙ get_or-set_same s.memory p call.value 0 (omega (arith, p_inside, rest.lists.shaped.memory)))
-        | inr away ↦ update_other w.memory p call.value (word_at (layout_at s h.cache) h word) away ∙ resting.contents j word h there unchecked is_inside ∙ sym (get_or-set_other s.memory p (word_at (layout_at s h.cache) h word) call.value 0 away)
+        | inl e ↦ update_at w.memory p (call_value call) (word_at (layout_at s h.cache) h word) e ∙ sym (ap (λ q. get_or (set s.memory p (call_value call)) q 0) e ∙ get_or-set_same s.memory p (call_value call) 0 (omega (arith, p_inside, rest.lists.shaped.memory)))
+        | inr away ↦ update_other w.memory p (call_value call) (word_at (layout_at s h.cache) h word) away ∙ resting.contents j word h there unchecked is_inside ∙ sym (get_or-set_other s.memory p (word_at (layout_at s h.cache) h word) (call_value call) 0 away)
       ]
 
-  writes : Writes s l.worker call.object call.word call.value Wrote after
-  writes = subst (λ o. MatchOption o ((Wrote ≡ NotHeld) × (after ≡ s)) (λ (held : Held). MatchOption (cache_of s held.cache) ⊥ (λ live. WritesHeld s live.layout held call.word call.value Wrote after))) (sym (held-by s l.worker call.object o has.named))
-      (live_match s o.cache (λ live. WritesHeld s live.layout held call.word call.value Wrote after) has.lives (λ live e.
-      subst (λ z. MatchBool z ((Wrote ≡ Wrote) × (after ≡ with_word s live.layout held call.word call.value)) ((Wrote ≡ OutOfObject) × (after ≡ s))) (sym (ap (λ layout. is_word layout call.word) (sym (layout_of s o.cache live e)) ∙ inside))
-      (refl, memory-written s (layout_at s o.cache) held call.word call.value plain ∙ ap (λ layout. with_word s layout held call.word call.value) (layout_of s o.cache live e))))
+  writes : Writes s l.worker (call_object call) (call_word call) (call_value call) Wrote after
+  writes = subst (λ o. MatchOption o ((Wrote ≡ NotHeld) × (after ≡ s)) (λ (held : Held). MatchOption (cache_of s held.cache) ⊥ (λ live. WritesHeld s live.layout held (call_word call) (call_value call) Wrote after))) (sym (held-by s l.worker (call_object call) o has.named))
+      (live_match s o.cache (λ live. WritesHeld s live.layout held (call_word call) (call_value call) Wrote after) has.lives (λ live e.
+      subst (λ z. MatchBool z ((Wrote ≡ Wrote) × (after ≡ with_word s live.layout held (call_word call) (call_value call))) ((Wrote ≡ OutOfObject) × (after ≡ s))) (sym (ap (λ layout. is_word layout (call_word call)) (sym (layout_of s o.cache live e)) ∙ inside))
+      (refl, memory-written s (layout_at s o.cache) held (call_word call) (call_value call) plain ∙ ap (λ layout. with_word s layout held (call_word call) (call_value call)) (layout_of s o.cache live e))))
 
-  write_alone : call.kind ≡ Write → WritesAlone opening s b system x call 1
+  write_alone : call_kind call ≡ Write → WritesAlone opening s b system x call 1
   write_alone is =
       let whole = stored is in
       let ended = subst (IsCoherentSystem m opening) whole (alone_keeps m opening x 1 system rest.coherent) in
@@ -222,14 +223,14 @@ module _ (opening : World) (s : State) (b : Beside) (system : System) (x : ℕ) 
         writes = writes;
         known = known_ends s b system x 1 wrote words system.value next.there whole refl;
         replies = replies_of opening s after b b system x 1 call Wrote wrote words system.value next whole refl refl refl refl refl
-            (ends_at_rest opening (set_memory w p call.value) s after b b system (machine words system.value (set system.locals x (rested m wrote))) rest refl refl refl (lengths (set s.memory p call.value) (length-set s.memory p call.value ∙ rest.lists.shaped.memory)) rest.lists.accounted rest.beside.tids refl refl ended says (write_ends ended)
-            (whole_memory m system.words p call.value refl begin.table.objects rest.whole));
+            (ends_at_rest opening (set_memory w p (call_value call)) s after b b system (machine words system.value (set system.locals x (rested m wrote))) rest refl refl refl (lengths (set s.memory p (call_value call)) (length-set s.memory p (call_value call) ∙ rest.lists.shaped.memory)) rest.lists.accounted rest.beside.tids refl refl ended says (write_ends ended)
+            (whole_memory m system.words p (call_value call) refl begin.table.objects rest.whole));
       }
 
   -- ---- a read
 
   abbrev asks : Local
-  asks = record l { spot = ReadWord; cache = o.cache; cpu = call.cpu; place = call.place; fast = false; turn = 0; count = 0 }
+  asks = record l { spot = ReadWord; cache = o.cache; cpu = call_cpu call; place = call_place call; fast = false; turn = 0; count = 0 }
 
   abbrev found : ℕ
   found = get_or system.words (memory_base m + p) 0
@@ -237,11 +238,11 @@ module _ (opening : World) (s : State) (b : Beside) (system : System) (x : ℕ) 
   abbrev read_it : Local
   read_it = answered (at asks Between) (Value found)
 
-  loaded : call.kind ≡ Read → alone m x 1 system ≡ machine system.words system.value (set system.locals x (rested m read_it))
+  loaded : call_kind call ≡ Read → alone m x 1 system ≡ machine system.words system.value (set system.locals x (rested m read_it))
   loaded is = ap (alone m x 1) (ap (machine system.words system.value) (sym (set-get_or system.locals x idle)))
       ∙ then_turn m x 0 (machine system.words system.value (set system.locals x l)) (machine system.words system.value (set system.locals x (rested m read_it))) (machine system.words system.value (set system.locals x (rested m read_it)))
       (turn_goes m system.words system.words system.value system.locals x l asks (rested m read_it) (record { place = MemoryOf p; op = Load }) (Word found) next.there
-      (begin_held m l call next.calls Read ReadWord begin.between.between next.todo is refl refl (ap is_some plain) held_it refl) (ap (λ (c : Call). load_word m asks c.word) call_is) (set-get_or system.words (memory_base m + p) 0) refl
+      (begin_held m l call next.calls Read ReadWord begin.between.between next.todo is refl refl (ap is_some plain) held_it refl) (ap (λ (c : Call). load_word m asks (call_word c)) call_is) (set-get_or system.words (memory_base m + p) 0) refl
       (settle_tells m system.value asks (at asks Between) (Word found) (Value found) refl refl)) refl
 
   reads_on : IsBetween w.setup read_it
@@ -251,7 +252,7 @@ module _ (opening : World) (s : State) (b : Beside) (system : System) (x : ℕ) 
     string = begin.between.string;
     run = begin.between.run;
     packed = record { cpu_word = begin.between.packed.cpu_word; slab_word = begin.between.packed.slab_word; list_word = begin.between.packed.list_word; next = begin.between.packed.next };
-    cpu = subst (λ (m : Setup). call.cpu < m.cpus) (sym resting.setup) begin.may.cpu;
+    cpu = subst (λ (m : Setup). call_cpu call < m.cpus) (sym resting.setup) begin.may.cpu;
     numbers = begin.between.numbers;
     some = begin.between.some;
   }
@@ -262,16 +263,16 @@ module _ (opening : World) (s : State) (b : Beside) (system : System) (x : ℕ) 
       resting.cpu (λ f. same_word (w.slab f)) resting.own
       (names_are read_it refl refl refl reads_on) (once_named m opening (machine system.words system.value (set system.locals x (rested m read_it))) ended) resting.contents
 
-  found_is : found ≡ word_of s (layout_at s o.cache) held call.word
-  found_is = sym (word-read m system.value system.words p p_inside) ∙ resting.contents call.object call.word held has.named plain inside ∙ memory-read s (layout_at s o.cache) held call.word plain
+  found_is : found ≡ word_of s (layout_at s o.cache) held (call_word call)
+  found_is = sym (word-read m system.value system.words p p_inside) ∙ resting.contents (call_object call) (call_word call) held has.named plain inside ∙ memory-read s (layout_at s o.cache) held (call_word call) plain
 
-  reads : Reads s l.worker call.object call.word (Value found)
-  reads = subst (λ o. MatchOption o (Value found ≡ NotHeld) (λ (held : Held). MatchOption (cache_of s held.cache) ⊥ (λ live. ReadsHeld s live.layout held call.word (Value found)))) (sym (held-by s l.worker call.object o has.named))
-      (live_match s o.cache (λ live. ReadsHeld s live.layout held call.word (Value found)) has.lives (λ live e.
-      subst (λ z. MatchBool z (Value found ≡ Value (word_of s live.layout held call.word)) (Value found ≡ OutOfObject)) (sym (ap (λ layout. is_word layout call.word) (sym (layout_of s o.cache live e)) ∙ inside))
-      (ap Value found_is ∙ ap (λ layout. Value (word_of s layout held call.word)) (layout_of s o.cache live e))))
+  reads : Reads s l.worker (call_object call) (call_word call) (Value found)
+  reads = subst (λ o. MatchOption o (Value found ≡ NotHeld) (λ (held : Held). MatchOption (cache_of s held.cache) ⊥ (λ live. ReadsHeld s live.layout held (call_word call) (Value found)))) (sym (held-by s l.worker (call_object call) o has.named))
+      (live_match s o.cache (λ live. ReadsHeld s live.layout held (call_word call) (Value found)) has.lives (λ live e.
+      subst (λ z. MatchBool z (Value found ≡ Value (word_of s live.layout held (call_word call))) (Value found ≡ OutOfObject)) (sym (ap (λ layout. is_word layout (call_word call)) (sym (layout_of s o.cache live e)) ∙ inside))
+      (ap Value found_is ∙ ap (λ layout. Value (word_of s layout held (call_word call))) (layout_of s o.cache live e))))
 
-  read_alone : call.kind ≡ Read → ReadsAlone opening s b system x call 1
+  read_alone : call_kind call ≡ Read → ReadsAlone opening s b system x call 1
   read_alone is =
       let whole = loaded is in
       let ended = subst (IsCoherentSystem m opening) whole (alone_keeps m opening x 1 system rest.coherent) in

@@ -5,6 +5,7 @@ use Rattle.slub_trace.specs.declared.reply.Reply.{Reply}
 use Rattle.slub_core.specs.declared.call.Call.{Call}
 use Rattle.slub_core.specs.declared.local.Answered.{Answered}
 use Rattle.slub_core.specs.declared.spot.Spot.TheVariants.{Between}
+use Rattle.slub_core.specs.Calls.{call_kind, call_place}
 use Rattle.slub_core.specs.Setup.{Setup}
 use Rattle.slub_core.specs.World.{World, world_from, world_of}
 use Rattle.slub_core.specs.Local.{Local, Worker, nobody, answered}
@@ -73,7 +74,7 @@ pub record IsWithCalls (l end : Local) : Type 0 where
 
 calls_with : (m : Setup) (calls : List Call) (l : Local) → IsWithCalls l (rested_with m calls l)
 calls_with m [] l = record { todo = l.todo; done = l.done; same = refl }
-calls_with m (call ∷ calls) l = by (told_at_once m (get_or l.known call.place nobody) call call.kind) (λ reply. calls_with m calls (answered l reply))
+calls_with m (call ∷ calls) l = by (told_at_once m (get_or l.known (call_place call) nobody) call (call_kind call)) (λ reply. calls_with m calls (answered l reply))
   where
     by : (r : Option Reply) → ((reply : Reply) → IsWithCalls (answered l reply) (rested_with m calls (answered l reply))) → IsWithCalls l (or_step l (λ reply. rested_with m calls (answered l reply)) r)
     by None more = record { todo = l.todo; done = l.done; same = refl }

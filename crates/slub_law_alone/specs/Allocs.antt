@@ -4,6 +4,7 @@ use Rattle.slub_trace.specs.declared.reply.Reply.TheVariants.{NoFrames}
 use Rattle.slub_trace.specs.Kinds.{is_given}
 use Rattle.slub_lists.specs.State.{State}
 use Rattle.slub_core.specs.declared.call.Call.{Call}
+use Rattle.slub_core.specs.Calls.{call_cpu}
 use Rattle.slub_core.specs.Setup.{cpu_number}
 use Rattle.slub_core.specs.World.{World}
 use Rattle.slub_core.specs.Run.{System}
@@ -19,7 +20,7 @@ pub record AllocatesSome (opening : World) (s : State) (b : Beside) (system : Sy
   pub turns : ℕ
   pub given : Bool
   pub allocates : AllocatesAlone opening s b system worker call place (1 + turns)
-      (grown b (cpu_number cache call.cpu) (changes_of_alloc s cache call.cpu given))
+      (grown b (cpu_number cache (call_cpu call)) (changes_of_alloc s cache (call_cpu call) given))
   -- an object was given, or no run of frames was there. Memory is never refused
   pub gives : is_given allocates.reply ≡ given
   pub lacks : given ≡ false → allocates.reply ≡ NoFrames
@@ -31,5 +32,6 @@ AllocationsAreThoseOfLists =
     (opening : World) (s : State) (b : Beside) (system : System) (worker : ℕ) (call : Call)
     (place cache : ℕ) → IsAtRest opening s b system → IsNext system worker call
     → IsAlloc s call place cache
-    → HasIds b (cpu_number cache call.cpu) (1 + changes_before_giving s cache call.cpu)
+    → HasIds b (cpu_number cache (call_cpu call))
+    (1 + changes_before_giving s cache (call_cpu call))
     → AllocatesSome opening s b system worker call place cache

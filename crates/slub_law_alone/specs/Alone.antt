@@ -12,6 +12,7 @@ use Rattle.slub_lists.specs.Words.{is_word, word_at}
 use Rattle.slub_core.specs.declared.call.Call.{Call}
 use Rattle.slub_core.specs.declared.local.Known.{Known}
 use Rattle.slub_core.specs.declared.spot.Spot.TheVariants.{Between}
+use Rattle.slub_core.specs.Calls.{call_place}
 use Rattle.slub_core.specs.Setup.{Setup}
 use Rattle.slub_words.specs.Words.{slab_bits}
 use Rattle.slub_cpu_partial.specs.Strings.{list_bits}
@@ -38,7 +39,7 @@ worker_at system worker = slice_index_or system.locals worker idle
 
 -- what the worker knows at the place that the call names: the object that it is given or holds
 abbrev pub known_at : Local → Call → Known
-known_at l call = slice_index_or l.known call.place nobody
+known_at l call = slice_index_or l.known (call_place call) nobody
 
 -- what the worker knows after so many turns alone
 abbrev pub known_after : Setup → System → ℕ → ℕ → List Known

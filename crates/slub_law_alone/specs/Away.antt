@@ -15,6 +15,7 @@ use Rattle.slub_core.specs.declared.call.CallKind.TheVariants.{Flush, Trim}
 use Rattle.slub_core.specs.declared.spot.Spot.TheVariants.{InOffline}
 use Rattle.slub_core.specs.declared.spot.Sweep.{Sweep}
 use Rattle.slub_core.specs.declared.spot.OfflineSpot.TheVariants.{LoadCurrent, TakeCurrent}
+use Rattle.slub_core.specs.Calls.{call_kind, call_cpu, call_cache}
 use Rattle.slub_core.specs.Setup.{cpu_number}
 use Rattle.slub_core.specs.World.{World}
 use Rattle.slub_core.specs.Local.{Local, answered, at, goes, tells}
@@ -157,9 +158,9 @@ pub record FlushesAlone (opening : World) (s : State) (b : Beside) (system : Sys
   pub turns : ℕ
   pub reply : Reply
   pub after : State
-  pub flushes : Flushes s call.cpu reply after
+  pub flushes : Flushes s (call_cpu call) reply after
   pub beside : Beside
-  pub changes : AreChangedOnce (has_slab_on s call.cpu) b beside
+  pub changes : AreChangedOnce (has_slab_on s (call_cpu call)) b beside
   pub replies : Replies opening s b system worker call (suc turns) reply after beside
   -- it knows what it knew
   pub known : known_after (setup_of s b) system worker (suc turns)
@@ -170,7 +171,7 @@ pub record FlushesAlone (opening : World) (s : State) (b : Beside) (system : Sys
 abbrev pub FlushesAreThoseOfLists : Type 0
 FlushesAreThoseOfLists =
     (opening : World) (s : State) (b : Beside) (system : System) (worker : ℕ) (call : Call)
-    → IsAtRest opening s b system → IsNext system worker call → call.kind ≡ Flush
+    → IsAtRest opening s b system → IsNext system worker call → call_kind call ≡ Flush
     → FlushesAlone opening s b system worker call
 
 -- ---- a trim
@@ -196,5 +197,5 @@ abbrev pub TrimsAreThoseOfLists : Type 0
 TrimsAreThoseOfLists =
     (opening : World) (s : State) (b : Beside) (system : System) (worker : ℕ) (call : Call)
     (place cache : ℕ) → IsAtRest opening s b system → IsNext system worker call
-    → call.kind ≡ Trim → named s place ≡ Some cache → call.cache ≡ Some cache
+    → call_kind call ≡ Trim → named s place ≡ Some cache → call_cache call ≡ Some cache
     → TrimsAlone opening s b system worker call place cache

@@ -6,6 +6,7 @@ use Rattle.slub_lists.specs.Checked.{kept_by as held_by}
 use Rattle.slub_lists.specs.Coherent.{held_under}
 use Rattle.slub_core.specs.declared.call.Call.{Call}
 use Rattle.slub_core.specs.declared.call.CallKind.TheVariants.{Free}
+use Rattle.slub_core.specs.Calls.{call_kind, call_object, call_place}
 use Rattle.slub_core.specs.World.{World}
 use Rattle.slub_core.specs.Run.{System}
 use Rattle.slub_law_opening.specs.Opening.{Beside, setup_of}
@@ -26,13 +27,14 @@ pub record TakesFromBoard (opening : World) (s : State) (b : Beside) (system : S
     (worker : ℕ) (call : Call) (held : Held) : Type 0 where
   -- the machine in which the worker holds the object, and has the same calls to make
   pub taken : System
-  pub ready : IsReady opening (held_by s call.object (worker_at system worker).worker held) b
+  pub ready : IsReady opening (held_by s (call_object call) (worker_at system worker).worker held) b
       taken worker
   pub next : IsNext taken worker call
-  pub holds : known_at (worker_at taken worker) call ≡ known_as call.object held
+  pub holds : known_at (worker_at taken worker) call ≡ known_as (call_object call) held
   -- nothing else of it has changed, and no other worker
   pub known : (worker_at taken worker).known
-      ≡ slice_set (worker_at system worker).known call.place (known_as call.object held)
+      ≡ slice_set (worker_at system worker).known (call_place call)
+      (known_as (call_object call) held)
   pub number : (worker_at taken worker).worker ≡ (worker_at system worker).worker
   pub done : (worker_at taken worker).done ≡ (worker_at system worker).done
   pub todo : (worker_at taken worker).todo ≡ (worker_at system worker).todo
@@ -45,8 +47,8 @@ pub record TakesFromBoard (opening : World) (s : State) (b : Beside) (system : S
 abbrev pub BoardObjectsAreTaken : Type 0
 BoardObjectsAreTaken =
     (opening : World) (s : State) (b : Beside) (system : System) (worker : ℕ) (call : Call)
-    (held : Held) → IsAtRest opening s b system → IsNext system worker call → call.kind ≡ Free
-    → held_under s call.object ≡ Some held → held.worker ≡ None
+    (held : Held) → IsAtRest opening s b system → IsNext system worker call → call_kind call ≡ Free
+    → held_under s (call_object call) ≡ Some held → held.worker ≡ None
     → TakesFromBoard opening s b system worker call held
 
 -- what the free of the held object leaves, that of the object on the board leaves a turn later. So
@@ -55,9 +57,9 @@ BoardObjectsAreTaken =
 abbrev pub BoardFreesAreFrees : Type 0
 BoardFreesAreFrees =
     (opening : World) (s : State) (b : Beside) (system : System) (worker : ℕ) (call : Call)
-    (held : Held) → IsAtRest opening s b system → IsNext system worker call → call.kind ≡ Free
-    → held_under s call.object ≡ Some held → held.worker ≡ None
+    (held : Held) → IsAtRest opening s b system → IsNext system worker call → call_kind call ≡ Free
+    → held_under s (call_object call) ≡ Some held → held.worker ≡ None
     → (takes : TakesFromBoard opening s b system worker call held) (turns : ℕ) (d : Beside)
-    → FreesAlone opening (held_by s call.object (worker_at system worker).worker held) b takes.taken
-    worker call (suc turns) d
+    → FreesAlone opening (held_by s (call_object call) (worker_at system worker).worker held) b
+    takes.taken worker call (suc turns) d
     → FreesAlone opening s b system worker call (suc (suc turns)) d

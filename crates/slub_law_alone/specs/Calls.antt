@@ -5,6 +5,7 @@ use Rattle.slub_lists.specs.Alloc.{checked_of, named}
 use Rattle.slub_lists.specs.Coherent.{held_under}
 use Rattle.slub_core.specs.declared.call.Call.{Call}
 use Rattle.slub_core.specs.declared.call.CallKind.TheVariants.{Alloc, Free, Write, Read}
+use Rattle.slub_core.specs.Calls.{call_kind, call_cpu, call_cache, call_object}
 use Rattle.slub_core.specs.Setup.{cpu_number}
 use Rattle.slub_core.specs.World.{World}
 use Rattle.slub_core.specs.Run.{System}
@@ -25,9 +26,9 @@ HasIdsFor s b cache cpu times =
 
 -- the call allocates from the cache that the name at this place names
 pub record IsAllocOf (s : State) (call : Call) (place cache : ℕ) : Type 0 where
-  pub kind : call.kind ≡ Alloc
+  pub kind : call_kind call ≡ Alloc
   pub named : named s place ≡ Some cache
-  pub asks : call.cache ≡ Some cache
+  pub asks : call_cache call ≡ Some cache
 
 -- every allocation is that of the lists
 abbrev pub AllAllocationsAreThoseOfLists : Type 0
@@ -35,7 +36,7 @@ AllAllocationsAreThoseOfLists =
     (opening : World) (s : State) (b : Beside) (system : System) (worker : ℕ) (call : Call)
     (place cache : ℕ) → IsAtRest opening s b system → IsNext system worker call
     → IsAllocOf s call place cache
-    → HasIdsFor s b cache call.cpu (1 + changes_before_giving s cache call.cpu)
+    → HasIdsFor s b cache (call_cpu call) (1 + changes_before_giving s cache (call_cpu call))
     → AllocatesSome opening s b system worker call place cache
 
 -- ---- frees
@@ -45,8 +46,8 @@ abbrev pub AllFreesAreThoseOfLists : Type 0
 AllFreesAreThoseOfLists =
     (opening : World) (s : State) (b : Beside) (system : System) (worker : ℕ) (call : Call)
     → IsAtRest opening s b system → IsNext system worker call → HasOwnNumber system worker
-    → call.kind ≡ Free
-    → IfSome (held_under s call.object) (λ held. HasIdsFor s b held.cache call.cpu 1)
+    → call_kind call ≡ Free
+    → IfSome (held_under s (call_object call)) (λ held. HasIdsFor s b held.cache (call_cpu call) 1)
     → FreesSome opening s b system worker call
 
 -- ---- words of objects
@@ -60,7 +61,7 @@ turns_of_use s cache = if is_some (checked_of s cache) then 2 else 1
 abbrev pub WritesAreThoseOfLists : Type 0
 WritesAreThoseOfLists =
     (opening : World) (s : State) (b : Beside) (system : System) (worker : ℕ) (call : Call)
-    → IsAtRest opening s b system → IsNext system worker call → call.kind ≡ Write
+    → IsAtRest opening s b system → IsNext system worker call → call_kind call ≡ Write
     → WritesAlone opening s b system worker call
     (turns_of_use s (known_at (worker_at system worker) call).cache)
 
@@ -68,6 +69,6 @@ WritesAreThoseOfLists =
 abbrev pub ReadsAreThoseOfLists : Type 0
 ReadsAreThoseOfLists =
     (opening : World) (s : State) (b : Beside) (system : System) (worker : ℕ) (call : Call)
-    → IsAtRest opening s b system → IsNext system worker call → call.kind ≡ Read
+    → IsAtRest opening s b system → IsNext system worker call → call_kind call ≡ Read
     → ReadsAlone opening s b system worker call
     (turns_of_use s (known_at (worker_at system worker) call).cache)

@@ -7,6 +7,7 @@ use Rattle.slub_lists.specs.Alloc.{checked_of}
 use Rattle.slub_lists.specs.Coherent.{held_under}
 use Rattle.slub_core.specs.declared.call.Call.{Call}
 use Rattle.slub_core.specs.declared.call.CallKind.TheVariants.{Free}
+use Rattle.slub_core.specs.Calls.{call_kind, call_object}
 use Rattle.slub_core.specs.World.{World}
 use Rattle.slub_core.specs.Run.{System}
 use Rattle.slub_law_opening.specs.Opening.{Beside}
@@ -46,6 +47,7 @@ abbrev pub CheckedBoardFreesAreThoseOfLists : Type 0
 CheckedBoardFreesAreThoseOfLists =
     (opening : World) (s : State) (b : Beside) (system : System) (worker : ℕ) (call : Call)
     (held : Held) (slabs : CheckedState) → IsAtRest opening s b system
-    → IsNext system worker call → call.kind ≡ Free → held_under s call.object ≡ Some held
+    → IsNext system worker call → call_kind call ≡ Free
+    → held_under s (call_object call) ≡ Some held
     → held.worker ≡ None → checked_of s held.cache ≡ Some slabs
     → FreesLocked opening s b system worker call

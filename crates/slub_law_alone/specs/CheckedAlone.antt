@@ -20,6 +20,7 @@ use Rattle.slub_lists.specs.Words.{Pokes, known_to}
 use Rattle.slub_core.specs.declared.call.Call.{Call}
 use Rattle.slub_core.specs.declared.call.CallKind.TheVariants.{Alloc, Free, Write, Read, Poke}
 use Rattle.slub_core.specs.declared.local.Known.{Known}
+use Rattle.slub_core.specs.Calls.{call_kind, call_cache, call_object, call_offset, call_byte}
 use Rattle.slub_core.specs.World.{World}
 use Rattle.slub_core.specs.Local.{Local}
 use Rattle.slub_core.specs.Run.{System}
@@ -35,7 +36,7 @@ use Rattle.slub_law_alone.specs.Laws.{AllocatesAlone, FreesAlone, WritesAlone, R
 abbrev pub CheckedWritesAreStores : Type 0
 CheckedWritesAreStores =
     (opening : World) (s : State) (b : Beside) (system : System) (worker : ℕ) (call : Call)
-    → IsAtRest opening s b system → IsNext system worker call → call.kind ≡ Write
+    → IsAtRest opening s b system → IsNext system worker call → call_kind call ≡ Write
     → IsSome (checked_of s (known_at (worker_at system worker) call).cache)
     → WritesAlone opening s b system worker call 2
 
@@ -43,7 +44,7 @@ CheckedWritesAreStores =
 abbrev pub CheckedReadsAreLoads : Type 0
 CheckedReadsAreLoads =
     (opening : World) (s : State) (b : Beside) (system : System) (worker : ℕ) (call : Call)
-    → IsAtRest opening s b system → IsNext system worker call → call.kind ≡ Read
+    → IsAtRest opening s b system → IsNext system worker call → call_kind call ≡ Read
     → IsSome (checked_of s (known_at (worker_at system worker) call).cache)
     → ReadsAlone opening s b system worker call 2
 
@@ -54,8 +55,8 @@ pub record PokesAlone (opening : World) (s : State) (b : Beside) (system : Syste
     (worker : ℕ) (call : Call) : Type 0 where
   pub reply : Reply
   pub after : State
-  pub pokes : Pokes s (worker_at system worker).worker call.object call.offset call.byte reply
-      after
+  pub pokes : Pokes s (worker_at system worker).worker (call_object call) (call_offset call)
+      (call_byte call) reply after
   pub replies : Replies opening s b system worker call 2 reply after b
   pub known : known_after (setup_of s b) system worker 2 ≡ (worker_at system worker).known
 
@@ -75,8 +76,8 @@ abbrev pub PokesAreStores : Type 0
 PokesAreStores =
     (opening : World) (s : State) (b : Beside) (system : System) (worker : ℕ) (call : Call)
     → let l = worker_at system worker in
-    IsAtRest opening s b system → IsNext system worker call → call.kind ≡ Poke
-    → known_to s l.worker call.object ≡ Some (held_known l.worker (known_at l call))
+    IsAtRest opening s b system → IsNext system worker call → call_kind call ≡ Poke
+    → known_to s l.worker (call_object call) ≡ Some (held_known l.worker (known_at l call))
     → PokesAlone opening s b system worker call
 
 -- ---- frees
@@ -84,7 +85,7 @@ PokesAreStores =
 -- the call frees an object that the worker holds, of a checked cache with these slabs
 pub record IsCheckedFree (s : State) (l : Local) (call : Call) (slabs : CheckedState)
     : Type 0 where
-  pub kind : call.kind ≡ Free
+  pub kind : call_kind call ≡ Free
   pub held : (known_at l call).held ≡ true
   pub checked : checked_of s (known_at l call).cache ≡ Some slabs
 
@@ -134,9 +135,9 @@ SpareSlabsArePutBack =
 -- the call allocates from the checked cache, with these slabs, that the name at this place names
 pub record IsCheckedAlloc (s : State) (call : Call) (place cache : ℕ) (slabs : CheckedState)
     : Type 0 where
-  pub kind : call.kind ≡ Alloc
+  pub kind : call_kind call ≡ Alloc
   pub named : named s place ≡ Some cache
-  pub asks : call.cache ≡ Some cache
+  pub asks : call_cache call ≡ Some cache
   pub checked : checked_of s cache ≡ Some slabs
 
 -- an allocation where a listed slab has an object to give (`alloc_single_from_partial`)

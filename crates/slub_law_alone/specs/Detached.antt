@@ -4,6 +4,7 @@ use Rattle.slub_words.specs.declared.cpu.CpuWord.{CpuWord}
 use Rattle.slub_lists.specs.State.{State}
 use Rattle.slub_lists.specs.Alloc.{lists_of}
 use Rattle.slub_core.specs.declared.call.Call.{Call}
+use Rattle.slub_core.specs.Calls.{call_cpu}
 use Rattle.slub_core.specs.Setup.{cpu_number}
 use Rattle.slub_core.specs.World.{World, world_of}
 use Rattle.slub_core.specs.Run.{System}
@@ -34,6 +35,7 @@ abbrev pub CurrentSlabsAreDetached : Type 0
 CurrentSlabsAreDetached =
     (opening : World) (s : State) (b : Beside) (system : System) (worker : ℕ) (call : Call)
     (place cache frame : ℕ) → IsAtRest opening s b system → IsNext system worker call
-    → IsAlloc s call place cache → HasIds b (cpu_number cache call.cpu) 1
-    → (lists_of s cache call.cpu).free ≡ [] → (lists_of s cache call.cpu).current ≡ Some frame
-    → Detaches s b system worker (cpu_number cache call.cpu)
+    → IsAlloc s call place cache → HasIds b (cpu_number cache (call_cpu call)) 1
+    → (lists_of s cache (call_cpu call)).free ≡ []
+    → (lists_of s cache (call_cpu call)).current ≡ Some frame
+    → Detaches s b system worker (cpu_number cache (call_cpu call))

@@ -6,6 +6,7 @@ use Rattle.slub_lists.specs.Alloc.{checked_of}
 use Rattle.slub_lists.specs.Coherent.{held_under}
 use Rattle.slub_core.specs.declared.call.Call.{Call}
 use Rattle.slub_core.specs.declared.call.CallKind.TheVariants.{Free}
+use Rattle.slub_core.specs.Calls.{call_kind, call_cpu, call_object}
 use Rattle.slub_core.specs.Setup.{cpu_number}
 use Rattle.slub_core.specs.World.{World}
 use Rattle.slub_core.specs.Run.{System}
@@ -26,8 +27,8 @@ pub record FreesSome (opening : World) (s : State) (b : Beside) (system : System
     (worker : ℕ) (call : Call) : Type 0 where
   pub turns : ℕ
   pub frees : FreesAlone opening s b system worker call (1 + turns)
-      (grown b (word_of_free s call.cpu call.object)
-      (changes_of_free s call.cpu (worker_at system worker).worker call.object))
+      (grown b (word_of_free s (call_cpu call) (call_object call))
+      (changes_of_free s (call_cpu call) (worker_at system worker).worker (call_object call)))
 
 -- the number names nothing that the worker may free, and it finds nothing. Or it names what the
 -- worker holds, or what it takes from the board first: that goes to the CPU's freelist where its
@@ -39,7 +40,7 @@ abbrev pub FreesAreThoseOfLists : Type 0
 FreesAreThoseOfLists =
     (opening : World) (s : State) (b : Beside) (system : System) (worker : ℕ) (call : Call)
     → IsAtRest opening s b system → IsNext system worker call → HasOwnNumber system worker
-    → call.kind ≡ Free
-    → IfSome (held_under s call.object)
-    (λ held. (checked_of s held.cache ≡ None) × HasIds b (cpu_number held.cache call.cpu) 1)
+    → call_kind call ≡ Free
+    → IfSome (held_under s (call_object call))
+    (λ held. (checked_of s held.cache ≡ None) × HasIds b (cpu_number held.cache (call_cpu call)) 1)
     → FreesSome opening s b system worker call

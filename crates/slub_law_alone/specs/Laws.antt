@@ -17,6 +17,7 @@ use Rattle.slub_lists.specs.Freeing.{Frees}
 use Rattle.slub_lists.specs.Words.{Writes, Reads}
 use Rattle.slub_core.specs.declared.call.Call.{Call}
 use Rattle.slub_core.specs.declared.call.CallKind.TheVariants.{Alloc, Free, Write, Read}
+use Rattle.slub_core.specs.Calls.{call_kind, call_cpu, call_cache, call_object, call_place, call_word, call_value}
 use Rattle.slub_core.specs.Setup.{cpu_number}
 use Rattle.slub_core.specs.World.{World, world_of}
 use Rattle.slub_core.specs.Opening.{opened}
@@ -42,9 +43,9 @@ RoundsBeginAtRest =
 
 -- the call allocates from the unchecked cache that the name at this place names
 pub record IsAlloc (s : State) (call : Call) (place cache : ℕ) : Type 0 where
-  pub kind : call.kind ≡ Alloc
+  pub kind : call_kind call ≡ Alloc
   pub named : named s place ≡ Some cache
-  pub asks : call.cache ≡ Some cache
+  pub asks : call_cache call ≡ Some cache
   pub unchecked : checked_of s cache ≡ None
 
 -- by so many turns of the worker alone its allocation is that of the lists, beside which d stands
@@ -52,15 +53,15 @@ pub record AllocatesAlone (opening : World) (s : State) (b : Beside) (system : S
     (worker : ℕ) (call : Call) (place turns : ℕ) (d : Beside) : Type 0 where
   pub reply : Reply
   pub after : State
-  pub allocates : AllocatesNamed s place call.cpu (worker_at system worker).worker call.object
-      reply after
+  pub allocates : AllocatesNamed s place (call_cpu call) (worker_at system worker).worker
+      (call_object call) reply after
   pub given : State
-  pub words : IsGiven call.object after given
+  pub words : IsGiven (call_object call) after given
   pub replies : Replies opening s b system worker call turns reply given d
   -- it holds the object that it was given; what else it knows is as before
   pub known : let old = (worker_at system worker).known in
       known_after (setup_of s b) system worker turns ≡ (if is_given reply
-      then slice_set old call.place (known_under after call.object) else old)
+      then slice_set old (call_place call) (known_under after (call_object call)) else old)
 
 -- an allocation that finds an object in its CPU's freelist: it loads the CPU word and the object's
 -- free pointer, and takes the object off the freelist (`slab_alloc_node`)
@@ -68,10 +69,10 @@ abbrev pub FastAllocationsArePops : Type 0
 FastAllocationsArePops =
     (opening : World) (s : State) (b : Beside) (system : System) (worker : ℕ) (call : Call)
     (place cache : ℕ) → IsAtRest opening s b system → IsNext system worker call
-    → IsAlloc s call place cache → HasIds b (cpu_number cache call.cpu) 1
-    → 0 < length (lists_of s cache call.cpu).free
+    → IsAlloc s call place cache → HasIds b (cpu_number cache (call_cpu call)) 1
+    → 0 < length (lists_of s cache (call_cpu call)).free
     → AllocatesAlone opening s b system worker call place 3
-    (grown b (cpu_number cache call.cpu) 1)
+    (grown b (cpu_number cache (call_cpu call)) 1)
 
 -- an allocation that finds its CPU's freelist empty, and takes the current slab's own: it takes the
 -- slab off the CPU, loads the slab word and takes the whole freelist, loads the first object's free
@@ -80,11 +81,12 @@ abbrev pub OwnFreelistsAreTaken : Type 0
 OwnFreelistsAreTaken =
     (opening : World) (s : State) (b : Beside) (system : System) (worker : ℕ) (call : Call)
     (place cache frame : ℕ) → IsAtRest opening s b system → IsNext system worker call
-    → IsAlloc s call place cache → HasIds b (cpu_number cache call.cpu) 2
-    → (lists_of s cache call.cpu).free ≡ [] → (lists_of s cache call.cpu).current ≡ Some frame
+    → IsAlloc s call place cache → HasIds b (cpu_number cache (call_cpu call)) 2
+    → (lists_of s cache (call_cpu call)).free ≡ []
+    → (lists_of s cache (call_cpu call)).current ≡ Some frame
     → 0 < length (own_free s frame)
     → AllocatesAlone opening s b system worker call place 7
-    (grown b (cpu_number cache call.cpu) 2)
+    (grown b (cpu_number cache (call_cpu call)) 2)
 
 -- an allocation of a CPU without a slab of the cache, on whose partial list there is one: it takes
 -- the list, freezes the slab with its whole freelist, loads the first object's free pointer and the
@@ -93,11 +95,12 @@ abbrev pub OnlyPartialSlabsAreTaken : Type 0
 OnlyPartialSlabsAreTaken =
     (opening : World) (s : State) (b : Beside) (system : System) (worker : ℕ) (call : Call)
     (place cache frame : ℕ) → IsAtRest opening s b system → IsNext system worker call
-    → IsAlloc s call place cache → HasIds b (cpu_number cache call.cpu) 1
-    → (lists_of s cache call.cpu).free ≡ [] → (lists_of s cache call.cpu).current ≡ None
-    → (lists_of s cache call.cpu).partial ≡ frame ∷ []
+    → IsAlloc s call place cache → HasIds b (cpu_number cache (call_cpu call)) 1
+    → (lists_of s cache (call_cpu call)).free ≡ []
+    → (lists_of s cache (call_cpu call)).current ≡ None
+    → (lists_of s cache (call_cpu call)).partial ≡ frame ∷ []
     → AllocatesAlone opening s b system worker call place 7
-    (grown b (cpu_number cache call.cpu) 1)
+    (grown b (cpu_number cache (call_cpu call)) 1)
 
 -- and where there are several: the first is taken in hand, and the rest put back at once
 -- (`slub_set_percpu_partial`)
@@ -106,11 +109,11 @@ FirstPartialSlabsAreTaken =
     (opening : World) (s : State) (b : Beside) (system : System) (worker : ℕ) (call : Call)
     (place cache first second : ℕ) (others : List ℕ) → IsAtRest opening s b system
     → IsNext system worker call → IsAlloc s call place cache
-    → HasIds b (cpu_number cache call.cpu) 1 → (lists_of s cache call.cpu).free ≡ []
-    → (lists_of s cache call.cpu).current ≡ None
-    → (lists_of s cache call.cpu).partial ≡ first ∷ second ∷ others
+    → HasIds b (cpu_number cache (call_cpu call)) 1 → (lists_of s cache (call_cpu call)).free ≡ []
+    → (lists_of s cache (call_cpu call)).current ≡ None
+    → (lists_of s cache (call_cpu call)).partial ≡ first ∷ second ∷ others
     → AllocatesAlone opening s b system worker call place 10
-    (grown b (cpu_number cache call.cpu) 1)
+    (grown b (cpu_number cache (call_cpu call)) 1)
 
 -- the CPU has no slab of the cache, neither current nor on its partial list, and the node has none
 pub record HasNoSlab (s : State) (cache cpu : ℕ) : Type 0 where
@@ -125,8 +128,8 @@ abbrev pub LackOfFramesIsTold : Type 0
 LackOfFramesIsTold =
     (opening : World) (s : State) (b : Beside) (system : System) (worker : ℕ) (call : Call)
     (place cache : ℕ) → IsAtRest opening s b system → IsNext system worker call
-    → IsAlloc s call place cache → HasIds b (cpu_number cache call.cpu) 1
-    → HasNoSlab s cache call.cpu → HasNoBlock s.pool.free (layout_at s cache).min_order
+    → IsAlloc s call place cache → HasIds b (cpu_number cache (call_cpu call)) 1
+    → HasNoSlab s cache (call_cpu call) → HasNoBlock s.pool.free (layout_at s cache).min_order
     → AllocatesAlone opening s b system worker call place 6 b
 
 -- an allocation that finds no slab, where the pool has a run of frames, of the layout's order or
@@ -136,9 +139,9 @@ LackOfFramesIsTold =
 abbrev pub NewSlabsAreMade : Type 0
 NewSlabsAreMade =
     (opening : World) (s : State) (b : Beside) (system : System) (worker : ℕ) (call : Call)
-    (place cache : ℕ) (run : Run) (pool : FreeFrames) → let n = cpu_number cache call.cpu in
+    (place cache : ℕ) (run : Run) (pool : FreeFrames) → let n = cpu_number cache (call_cpu call) in
     IsAtRest opening s b system → IsNext system worker call → IsAlloc s call place cache
-    → HasIds b n 1 → HasNoSlab s cache call.cpu
+    → HasIds b n 1 → HasNoSlab s cache (call_cpu call)
     → FindsRun s.pool (layout_at s cache) (Some run) pool
     → AllocatesAlone opening s b system worker call place (10 + run.objects) (grown b n 1)
 
@@ -146,7 +149,7 @@ NewSlabsAreMade =
 
 -- the call frees an object of an unchecked cache that the worker holds
 pub record IsFree (s : State) (l : Local) (call : Call) : Type 0 where
-  pub kind : call.kind ≡ Free
+  pub kind : call_kind call ≡ Free
   pub held : (known_at l call).held ≡ true
   pub unchecked : checked_of s (known_at l call).cache ≡ None
 
@@ -160,14 +163,17 @@ pub record FreesAlone (opening : World) (s : State) (b : Beside) (system : Syste
     (worker : ℕ) (call : Call) (turns : ℕ) (d : Beside) : Type 0 where
   pub reply : Reply
   pub after : State
-  pub frees : Frees s call.cpu (worker_at system worker).worker call.object reply after
+  pub frees : Frees s (call_cpu call) (worker_at system worker).worker (call_object call) reply
+      after
   pub replies : Replies opening s b system worker call turns reply after d
   -- it knows the object that it may free, and holds it no more, unless it is damaged and so still
   -- there; what else it knows is as before
   pub known : let l = worker_at system worker in
       known_after (setup_of s b) system worker turns
-      ≡ (if may_free s l.worker call.object then slice_set l.known call.place
-      (record (known_under s call.object) { held = is_some (held_under after call.object) })
+      ≡ (if may_free s l.worker (call_object call) then slice_set l.known (call_place call)
+      (record (known_under s (call_object call)) {
+        held = is_some (held_under after (call_object call));
+      })
       else l.known)
 
 -- a free of an object whose slab is current on the CPU: it loads the CPU word, stores the head of
@@ -177,9 +183,10 @@ FastFreesArePushes =
     (opening : World) (s : State) (b : Beside) (system : System) (worker : ℕ) (call : Call)
     → let known = known_at (worker_at system worker) call in IsReady opening s b system worker
     → IsNext system worker call → IsFree s (worker_at system worker) call
-    → HasIds b (cpu_number known.cache call.cpu) 1
-    → (lists_of s known.cache call.cpu).current ≡ Some known.frame
-    → FreesAlone opening s b system worker call 3 (grown b (cpu_number known.cache call.cpu) 1)
+    → HasIds b (cpu_number known.cache (call_cpu call)) 1
+    → (lists_of s known.cache (call_cpu call)).current ≡ Some known.frame
+    → FreesAlone opening s b system worker call 3
+    (grown b (cpu_number known.cache (call_cpu call)) 1)
 
 -- the slab stays where it is when an object of it goes to its own freelist: it is frozen, or it has
 -- a free object, and it doesn't come to be a slab of the node list with no object in use
@@ -196,7 +203,7 @@ FreesInPlaceArePuts =
     (opening : World) (s : State) (b : Beside) (system : System) (worker : ℕ) (call : Call)
     → let known = known_at (worker_at system worker) call in IsReady opening s b system worker
     → IsNext system worker call → IsFree s (worker_at system worker) call
-    → (lists_of s known.cache call.cpu).current ≢ Some known.frame
+    → (lists_of s known.cache (call_cpu call)).current ≢ Some known.frame
     → StaysThere s known.cache known.frame → FreesAlone opening s b system worker call 4 b
 
 -- a free of the last object in use of a slab of the node list, which has fewer slabs than it is to
@@ -212,8 +219,8 @@ LastOfListedAreKept =
 
 -- a CPU's partial list takes one slab more as it is: it has none, or fewer than the cache lets a
 -- CPU keep
-abbrev pub HasRoom : State → ℕ → ℕ → Type 0
-HasRoom s cache cpu = let count = length (lists_of s cache cpu).partial in
+abbrev pub ListHasRoom : State → ℕ → ℕ → Type 0
+ListHasRoom s cache cpu = let count = length (lists_of s cache cpu).partial in
     (count ≡ 0) ⊎ (count < (layout_at s cache).cpu_partial_slabs)
 
 -- a free of an object of a full slab that no CPU has, where the CPU's partial list has room: the
@@ -224,7 +231,7 @@ FullSlabsAreListed =
     → let known = known_at (worker_at system worker) call in IsReady opening s b system worker
     → IsNext system worker call → IsFree s (worker_at system worker) call
     → is_frozen s known.frame ≡ false → own_free s known.frame ≡ []
-    → HasRoom s known.cache call.cpu → FreesAlone opening s b system worker call 8 b
+    → ListHasRoom s known.cache (call_cpu call) → FreesAlone opening s b system worker call 8 b
 
 -- the number names nothing that the worker may free: nothing, or what another worker holds
 abbrev pub IsUnheld : State → ℕ → ℕ → Type 0
@@ -235,8 +242,8 @@ IsUnheld s worker object =
 abbrev pub UnheldFreesFindNothing : Type 0
 UnheldFreesFindNothing =
     (opening : World) (s : State) (b : Beside) (system : System) (worker : ℕ) (call : Call)
-    → IsAtRest opening s b system → IsNext system worker call → call.kind ≡ Free
-    → IsUnheld s (worker_at system worker).worker call.object
+    → IsAtRest opening s b system → IsNext system worker call → call_kind call ≡ Free
+    → IsUnheld s (worker_at system worker).worker (call_object call)
     → FreesAlone opening s b system worker call 1 b
 
 -- ---- words of objects
@@ -247,15 +254,15 @@ pub record WritesAlone (opening : World) (s : State) (b : Beside) (system : Syst
     (worker : ℕ) (call : Call) (turns : ℕ) : Type 0 where
   pub reply : Reply
   pub after : State
-  pub writes : Writes s (worker_at system worker).worker call.object call.word call.value reply
-      after
+  pub writes : Writes s (worker_at system worker).worker (call_object call) (call_word call)
+      (call_value call) reply after
   pub replies : Replies opening s b system worker call turns reply after b
   pub known : known_after (setup_of s b) system worker turns ≡ (worker_at system worker).known
 
 pub record ReadsAlone (opening : World) (s : State) (b : Beside) (system : System)
     (worker : ℕ) (call : Call) (turns : ℕ) : Type 0 where
   pub reply : Reply
-  pub reads : Reads s (worker_at system worker).worker call.object call.word reply
+  pub reads : Reads s (worker_at system worker).worker (call_object call) (call_word call) reply
   pub replies : Replies opening s b system worker call turns reply s b
   pub known : known_after (setup_of s b) system worker turns ≡ (worker_at system worker).known
 
@@ -263,7 +270,7 @@ pub record ReadsAlone (opening : World) (s : State) (b : Beside) (system : Syste
 abbrev pub WritesAreStores : Type 0
 WritesAreStores =
     (opening : World) (s : State) (b : Beside) (system : System) (worker : ℕ) (call : Call)
-    → IsAtRest opening s b system → IsNext system worker call → call.kind ≡ Write
+    → IsAtRest opening s b system → IsNext system worker call → call_kind call ≡ Write
     → checked_of s (known_at (worker_at system worker) call).cache ≡ None
     → WritesAlone opening s b system worker call 1
 
@@ -271,6 +278,6 @@ WritesAreStores =
 abbrev pub ReadsAreLoads : Type 0
 ReadsAreLoads =
     (opening : World) (s : State) (b : Beside) (system : System) (worker : ℕ) (call : Call)
-    → IsAtRest opening s b system → IsNext system worker call → call.kind ≡ Read
+    → IsAtRest opening s b system → IsNext system worker call → call_kind call ≡ Read
     → checked_of s (known_at (worker_at system worker) call).cache ≡ None
     → ReadsAlone opening s b system worker call 1

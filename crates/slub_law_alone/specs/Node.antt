@@ -4,6 +4,7 @@ use Rattle.slub_lists.specs.State.{State}
 use Rattle.slub_lists.specs.Alloc.{lists_of, node_of, batch_of}
 use Rattle.slub_lists.specs.Places.{layout_at}
 use Rattle.slub_core.specs.declared.call.Call.{Call}
+use Rattle.slub_core.specs.Calls.{call_cpu}
 use Rattle.slub_core.specs.Setup.{cpu_number}
 use Rattle.slub_core.specs.World.{World}
 use Rattle.slub_core.specs.Run.{System}
@@ -24,8 +25,9 @@ NodeSlabsAreTaken =
     (opening : World) (s : State) (b : Beside) (system : System) (worker : ℕ) (call : Call)
     (place cache frame : ℕ) (others : List ℕ) → IsAtRest opening s b system
     → IsNext system worker call → IsAlloc s call place cache
-    → HasIds b (cpu_number cache call.cpu) 1 → (lists_of s cache call.cpu).current ≡ None
-    → (lists_of s cache call.cpu).partial ≡ [] → node_of s cache ≡ frame ∷ others
+    → HasIds b (cpu_number cache (call_cpu call)) 1
+    → (lists_of s cache (call_cpu call)).current ≡ None
+    → (lists_of s cache (call_cpu call)).partial ≡ [] → node_of s cache ≡ frame ∷ others
     → AllocatesAlone opening s b system worker call place
     (9 + 5 * length (take (batch_of (layout_at s cache)) others))
-    (grown b (cpu_number cache call.cpu) 1)
+    (grown b (cpu_number cache (call_cpu call)) 1)

@@ -1,7 +1,6 @@
 -- A round whose events are made one after the other, in the order of the text: each to its end,
 -- with no turn of another worker in between.
-use Rattle.std.specs.Prelude.{◌≡◌, ◌≢◌, ℕ, ◌<◌, ◌≤◌, ◌⊎◌, true, List, [], ◌∷◌, length, map, reverse, filter, slice_index_or, Some, All}
-use Rattle.std.specs.List.{zip}
+use Rattle.std.specs.Prelude.{◌≡◌, ◌≢◌, ℕ, ◌<◌, ◌≤◌, ◌⊎◌, true, List, [], ◌∷◌, length, Some, All}
 use Rattle.slub_trace.specs.declared.event.Event.{Event}
 use Rattle.slub_trace.specs.declared.event.Round.{Round}
 use Rattle.slub_trace.specs.declared.reply.Reply.{Reply}
@@ -11,13 +10,10 @@ use Rattle.slub_lists.specs.declared.lists.Held.{Held}
 use Rattle.slub_lists.specs.State.{State}
 use Rattle.slub_lists.specs.Coherent.{held_under}
 use Rattle.slub_core.specs.declared.call.Call.{Call}
-use Rattle.slub_core.specs.declared.local.Answered.{Answered}
 use Rattle.slub_core.specs.Setup.{Setup}
 use Rattle.slub_core.specs.Run.{System}
 use Rattle.slub_calls.specs.Calls.{call_for, events_by, rooms_for}
-use Rattle.slub_slabinfo_text.specs.Lawful.{is_by}
 use Rattle.slub_law_alone.specs.Alone.{alone, worker_at, HasReply, HasWord}
-use Rattle.slub_calls.specs.Replies.{replies_by, told_to}
 
 -- ---- turns in the order of the text
 

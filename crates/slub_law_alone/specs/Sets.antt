@@ -6,6 +6,7 @@ use Rattle.slub_lists.specs.Alloc.{lists_of, own_free}
 use Rattle.slub_lists.specs.Free.{is_frozen}
 use Rattle.slub_lists.specs.Places.{layout_at}
 use Rattle.slub_core.specs.declared.call.Call.{Call}
+use Rattle.slub_core.specs.Calls.{call_cpu}
 use Rattle.slub_core.specs.World.{World}
 use Rattle.slub_core.specs.Run.{System}
 use Rattle.slub_law_opening.specs.Opening.{Beside}
@@ -29,5 +30,5 @@ FullListsAreMoved =
     → let known = known_at (worker_at system worker) call in IsReady opening s b system worker
     → IsNext system worker call → IsFree s (worker_at system worker) call
     → is_frozen s known.frame ≡ false → own_free s known.frame ≡ []
-    → HasNoRoom s known.cache call.cpu
+    → HasNoRoom s known.cache (call_cpu call)
     → (turns : ℕ) × FreesAlone opening s b system worker call (suc turns) b

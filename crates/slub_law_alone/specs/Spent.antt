@@ -4,6 +4,7 @@ use Rattle.slub_lists.specs.State.{State}
 use Rattle.slub_lists.specs.Alloc.{lists_of, own_free, retired}
 use Rattle.slub_core.specs.declared.call.Call.{Call}
 use Rattle.slub_core.specs.declared.spot.Spot.TheVariants.{Between}
+use Rattle.slub_core.specs.Calls.{call_cpu}
 use Rattle.slub_core.specs.Setup.{cpu_number}
 use Rattle.slub_core.specs.World.{World}
 use Rattle.slub_core.specs.Local.{Local}
@@ -33,19 +34,20 @@ pub record TakesOff (opening : World) (s : State) (b : Beside) (system : System)
     (call : Call) (place cache frame : ℕ) : Type 0 where
   pub taken : System
   pub ran : taken ≡ recalled worker (alone (setup_of s b) worker 4 system)
-  pub rest : IsAtRest opening (retired s cache call.cpu frame)
-      (grown b (cpu_number cache call.cpu) 1) taken
+  pub rest : IsAtRest opening (retired s cache (call_cpu call) frame)
+      (grown b (cpu_number cache (call_cpu call)) 1) taken
   pub next : IsNext taken worker call
   pub same : HasSame (worker_at system worker) (worker_at taken worker)
   pub others : taken.locals ≡ slice_set system.locals worker (worker_at taken worker)
-  pub alloc : IsAlloc (retired s cache call.cpu frame) call place cache
-  pub ids : HasIds (grown b (cpu_number cache call.cpu) 1) (cpu_number cache call.cpu) 1
-  pub lists : lists_of (retired s cache call.cpu frame) cache call.cpu
-      ≡ record { current = None; free = []; partial = (lists_of s cache call.cpu).partial }
+  pub alloc : IsAlloc (retired s cache (call_cpu call) frame) call place cache
+  pub ids : HasIds (grown b (cpu_number cache (call_cpu call)) 1)
+      (cpu_number cache (call_cpu call)) 1
+  pub lists : lists_of (retired s cache (call_cpu call) frame) cache (call_cpu call)
+      ≡ record { current = None; free = []; partial = (lists_of s cache (call_cpu call)).partial }
   -- its first turn from there only loads the CPU word again
   pub goes_on : (turns : ℕ) (d : Beside)
-      (later : AllocatesAlone opening (retired s cache call.cpu frame)
-      (grown b (cpu_number cache call.cpu) 1) taken worker call place (1 + turns) d)
+      (later : AllocatesAlone opening (retired s cache (call_cpu call) frame)
+      (grown b (cpu_number cache (call_cpu call)) 1) taken worker call place (1 + turns) d)
       → (done : AllocatesAlone opening s b system worker call place (4 + turns) d)
       × (done.reply ≡ later.reply)
 
@@ -56,6 +58,7 @@ abbrev pub SpentSlabsAreTakenOff : Type 0
 SpentSlabsAreTakenOff =
     (opening : World) (s : State) (b : Beside) (system : System) (worker : ℕ) (call : Call)
     (place cache frame : ℕ) → IsAtRest opening s b system → IsNext system worker call
-    → IsAlloc s call place cache → HasIds b (cpu_number cache call.cpu) 2
-    → (lists_of s cache call.cpu).free ≡ [] → (lists_of s cache call.cpu).current ≡ Some frame
+    → IsAlloc s call place cache → HasIds b (cpu_number cache (call_cpu call)) 2
+    → (lists_of s cache (call_cpu call)).free ≡ []
+    → (lists_of s cache (call_cpu call)).current ≡ Some frame
     → own_free s frame ≡ [] → TakesOff opening s b system worker call place cache frame

@@ -20,6 +20,7 @@ use Rattle.slub_core.specs.declared.spot.OfflineSpot.TheVariants.{LoadCurrent, D
 use Rattle.slub_core.specs.declared.spot.DiscardSpot.TheVariants.{Unmake, LockDiscard, PutRun, GiveDiscard}
 use Rattle.slub_core.specs.declared.spot.TrimSpot.TheVariants.{LockTrim, ScanNode, LoadScanned, DropScanned, GiveTrim}
 use Rattle.slub_core.specs.declared.step.Answer.TheVariants.{Word}
+use Rattle.slub_core.specs.Calls.{call_kind, call_cpu, call_cache, call_place}
 use Rattle.slub_core.specs.Setup.{Setup, IsPlain, node_lock, pool_lock}
 use Rattle.slub_core.specs.Words.{number_of, answer_of, list_in}
 use Rattle.slub_core.specs.World.{World, LockValue, Node, Checked, Pool, update, frames_in, world_from, world_of, one_if}
@@ -88,7 +89,7 @@ or-so P l more (Some reply) p q = q reply
 rested-so : (P : Local → Type 0) → ((l : Local) (r : Reply) → P l → P (answered l r)) → (m : Setup) (calls : List Call) (l : Local) → P l → P (rested_with m calls l)
 rested-so P keeps m [] l p = p
 rested-so P keeps m (call ∷ calls) l p =
-    or-so P l (λ reply. rested_with m calls (answered l reply)) (told_at_once m (get_or l.known call.place nobody) call call.kind) p
+    or-so P l (λ reply. rested_with m calls (answered l reply)) (told_at_once m (get_or l.known (call_place call) nobody) call (call_kind call)) p
     (λ reply. rested-so P keeps m calls (answered l reply) (keeps l reply p))
 
 rested_at-so : (P : Local → Type 0) → ((l : Local) (r : Reply) → P l → P (answered l r)) → (m : Setup) (l : Local) (spot : Spot) → P l → P (rested_at m l spot)
@@ -118,9 +119,9 @@ first-few Flush checked held string nodes cpu turn = (refl, omega arith)
 begun_with-within : (m : Setup) (tries : Bool) (value : ℕ → LockValue) (l : Local) (calls : List Call) → IsWithin m value l → IsWithin m value (begun_with m tries l calls)
 begun_with-within m tries value l [] ok = ok
 begun_with-within m tries value l (call ∷ calls) ok =
-    let known = get_or l.known call.place nobody in
-    let cache = cache_for m known call.cache call.kind in
-    let first = first-few call.kind (m.checks cache) known.held (string_of l).count (length (frames_in (value (node_lock cache)))) (first_cpu call.kind call.cpu) 0 in
+    let known = get_or l.known (call_place call) nobody in
+    let cache = cache_for m known (call_cache call) (call_kind call) in
+    let first = first-few (call_kind call) (m.checks cache) known.held (string_of l).count (length (frames_in (value (node_lock cache)))) (first_cpu (call_kind call) (call_cpu call)) 0 in
     record { few = goes-few ok.few.put first.0 first.1; some = ok.some }
 
 begun_at-within : (m : Setup) (tries : Bool) (value : ℕ → LockValue) (l : Local) (spot : Spot) → IsWithin m value l → IsWithin m value (begun_at m tries l spot)

@@ -15,7 +15,7 @@ use Rattle.slub_core.specs.World.{World, one_if, sum_below, is_at, on_board}
 use Rattle.slub_core.specs.Placed.{held_as, held}
 use Rattle.slub_core.proofs.Update.{sum_below_same}
 use Rattle.slub_core.proofs.Pigeon.{sum_below-add, sum_below-none}
-use Rattle.slub_law_opening.specs.Rests.{IsBetween, held_on, held_in, held_among, held_under, named, times_named}
+use Rattle.slub_law_opening.specs.Rests.{IsBetween, held_on, held_in, held_among, times_held, named, times_named}
 
 -- what one number names, and how often: once at most; n tells whether it is the object (f, i)
 record IsCounted (h : Option Held) (f i times n : ℕ) : Type 0 where
@@ -70,11 +70,11 @@ knowns-counted worker f i o (k ∷ ks) =
 abbrev pub held_by : ℕ → ℕ → ℕ → Local → ℕ
 held_by f i o l = sum_by (held_of f i o) l.known
 
-among-counted : (f i o : ℕ) (ls : List Local) → IsCounted (held_among ls o) f i (sum_by (held_under o) ls) (sum_by (held_by f i o) ls)
+among-counted : (f i o : ℕ) (ls : List Local) → IsCounted (held_among ls o) f i (sum_by (times_held o) ls) (sum_by (held_by f i o) ls)
 among-counted f i o [] = record { none = λ z. (refl, refl); same = λ one. refl }
 among-counted f i o (l ∷ ls) =
     counted-as (held_among (l ∷ ls) o) (option_or (held_in l.worker l.known o) (held_among ls o)) f i _ _ _ _
-    refl (sum_by-cons (held_under o) l ls) (sum_by-cons (held_by f i o) l ls)
+    refl (sum_by-cons (times_held o) l ls) (sum_by-cons (held_by f i o) l ls)
     (or-counted (held_in l.worker l.known o) (held_among ls o) f i _ _ _ _ (knowns-counted l.worker f i o l.known) (among-counted f i o ls))
 
 board-counted : (f i : ℕ) (b : Option BoardWord) → IsCounted (option_map held_on b) f i (one_if (is_some b)) (on_board b f i)
@@ -170,13 +170,13 @@ in-knowns worker o (x ∷ ks) k is held at once =
           (cond-false (x.held && eqb x.object o) (Some (as_held worker x)) (held_in worker ks o) none ∙ r.0, omega (arith, c, r.1))
     ]
 
-in-among : (o : ℕ) (ls : List Local) (l : Local) (k : Known) → Contains ls l → Contains l.known k → k.held ≡ true → k.object ≡ o → sum_by (held_under o) ls ≤ 1 → (held_among ls o ≡ Some (as_held l.worker k)) × (1 ≤ sum_by (held_under o) ls)
+in-among : (o : ℕ) (ls : List Local) (l : Local) (k : Known) → Contains ls l → Contains l.known k → k.held ≡ true → k.object ≡ o → sum_by (times_held o) ls ≤ 1 → (held_among ls o ≡ Some (as_held l.worker k)) × (1 ≤ sum_by (times_held o) ls)
 in-among o [] l k is has held at once = absurd (none-in l is)
 in-among o (x ∷ ls) l k is has held at once =
-    let c = sum_by-cons (held_under o) x ls in
+    let c = sum_by-cons (times_held o) x ls in
     elim (here-or_later x ls l is) [
       | inl e ↦
-          let same : held_under o x ≡ held_under o l = ap (held_under o) e in
+          let same : times_held o x ≡ times_held o l = ap (times_held o) e in
           let r = in-knowns l.worker o l.known k has held at (omega arith) in
           let here : held_in x.worker x.known o ≡ Some (as_held l.worker k) = ap (λ (z : Local). held_in z.worker z.known o) e ∙ r.0 in
           (ap (λ h. option_or h (held_among ls o)) here, omega (arith, c, same, r.1))

@@ -9,7 +9,7 @@ use Rattle.slub_core.specs.declared.local.Known.{Known}
 use Rattle.slub_core.specs.Local.{Worker, nobody}
 use Rattle.slub_core.specs.World.{World, one_if}
 use Rattle.slub_core.specs.Accounted.{place_of, known_of, AreDistinct, boarded, had, IsTold, IsAccounted, public}
-use Rattle.slub_law_opening.specs.Rests.{held_under, times_named}
+use Rattle.slub_law_opening.specs.Rests.{times_held, times_named}
 use Rattle.slub_law_opening.proofs.Counts.{locals_of}
 use Rattle.slub_law_opening.proofs.Names.{holds}
 
@@ -51,13 +51,13 @@ held-known o (k ∷ ks) distinct = go (eqb k.object o) refl (sum_by-cons (holds 
         let q : one_if (known_of (k ∷ ks) o).held ≡ one_if (known_of ks o).held = ap (λ (k : Known). one_if k.held) p in
         omega arith
 
-held-had : (o : ℕ) (xs : List Worker) → All (λ (x : Worker). AreDistinct x.local.known) xs → sum_by (held_under o) (locals_of xs) ≤ sum_by (λ (x : Worker). had o x.local) xs
+held-had : (o : ℕ) (xs : List Worker) → All (λ (x : Worker). AreDistinct x.local.known) xs → sum_by (times_held o) (locals_of xs) ≤ sum_by (λ (x : Worker). had o x.local) xs
 held-had o [] distinct = omega arith
 held-had o (x ∷ xs) distinct =
     let P : Worker → Type 0 = λ x. AreDistinct x.local.known in
     let here = held-known o x.local.known (All-head P x xs distinct) in
     let r = held-had o xs (All-tail P x xs distinct) in
-    let c = sum_by-cons (held_under o) x.local (locals_of xs) in
+    let c = sum_by-cons (times_held o) x.local (locals_of xs) in
     let d = sum_by-cons (λ (x : Worker). had o x.local) x xs in
     omega arith
 

@@ -31,8 +31,8 @@ use Rattle.slub_core.specs.Words.{no_slab_word}
 use Rattle.slub_core.specs.World.{World, IsChain, pointer, frames_in, one_if}
 use Rattle.slub_core.specs.Fresh.{IsWorded}
 use Rattle.slub_core.proofs.Update.{update_at, update_other}
-use Rattle.slub_law_opening.specs.Opening.{Beside, IsBeside, IsLaidDown, Row, lay_each, lay_items, head_of, front_of, string_row, cpu_at, frame_of, cache_in, own_row, cpu_row, link_of, plain_word, slab_word, board_word, node_value, value_of, opened, setup_of}
-use Rattle.slub_law_opening.specs.Rests.{IsBetween, IsCpuOf, IsFreelistOf, Rests, held_on, held_in, held_among, held_under as held_by, named, times_named, current_in}
+use Rattle.slub_law_opening.specs.Opening.{Beside, IsBeside, IsLaidDown, Row, lay_each, lay_items, head_of, front_of, string_row, cpu_at, frame_of, cache_in, own_row, cpu_row, link_of, plain_word, slab_word, board_word, node_value, value_of, opened_words, setup_of}
+use Rattle.slub_law_opening.specs.Rests.{IsBetween, IsCpuOf, IsFreelistOf, Rests, held_on, held_in, held_among, times_held as held_by, named, times_named, current_in}
 use Rattle.slub_law_opening.proofs.Lay.{lay-other, first-there}
 use Rattle.slub_law_opening.proofs.Cpus.{cpu-alone, current-at, partial-one}
 use Rattle.slub_law_opening.proofs.Rows.{own-pointer, cpu-pointer, own-chain, cpu-chain, strings-stand}
@@ -46,7 +46,7 @@ each-other rows zero m q away = refl
 each-other rows (suc n) m q away = lay-other (rows n).place (rows n).value (rows n).items (lay_each rows n m) q (λ x le. away n x le) ∙ each-other rows n m q away
 
 held-word-kept : (s : State) (b : Beside) (object word : ℕ) (held : Held) → IsConsistent s → held_under s object ≡ Some held → is_word (layout_at s held.cache) word ≡ true
-    → (opened s b).memory (word_at (layout_at s held.cache) held word) ≡ get_or s.memory (word_at (layout_at s held.cache) held word) 0
+    → (opened_words s b).memory (word_at (layout_at s held.cache) held word) ≡ get_or s.memory (word_at (layout_at s held.cache) held word) 0
 held-word-kept s b object word held consistent is inside =
     let q = word_at (layout_at s held.cache) held word in
     let m : ℕ → ℕ = λ p. get_or s.memory p 0 in
@@ -100,7 +100,7 @@ none-held_by (l ∷ ls) object nothing =
 
 module _ (s : State) (b : Beside) (ls : List Local) (beside : IsBeside s b) (coherent : IsCoherent s) (down : IsLaidDown s) (between : All (IsBetween (setup_of s b)) ls) (nothing : All HoldsNothing ls) where
   abbrev pub w : World
-  w = opened s b
+  w = opened_words s b
 
   consistent : IsConsistent s
   consistent = consistent-of s coherent
@@ -171,7 +171,7 @@ module _ (s : State) (b : Beside) (ls : List Local) (beside : IsBeside s b) (coh
       go [] in_machine = omega arith
       go (f ∷ fs) in_machine = let t = in_machine f (first-there f fs) in omega arith
 
-  link-range : (f : ℕ) → (opened s b).link f < 2 ^ 16
+  link-range : (f : ℕ) → (opened_words s b).link f < 2 ^ 16
   link-range f = rows 512 f
     where
       row : (fs : List ℕ) (m : ℕ → ℕ) → ((f : ℕ) → 1 ≤ times f fs → f < 4096) → ((f : ℕ) → m f < 2 ^ 16) → (f : ℕ) → lay_items (λ f. f) (λ f rest. front_of rest) fs m f < 2 ^ 16
@@ -193,7 +193,7 @@ module _ (s : State) (b : Beside) (ls : List Local) (beside : IsBeside s b) (coh
   live-some : (k : ℕ) → is_some (cache_of s k) ≡ true → IsSome (cache_of s k)
   live-some k e = e
 
-  pub words-opened : IsWorded (opened s b)
+  pub words-opened : IsWorded (opened_words s b)
   words-opened = record {
     cpu = λ n. (beside.tid n, by-current n (λ y. frame_of y < 2 ^ 16) (λ e. omega arith) (λ f e. let t = (current-frame n f e).1 in omega arith), (let t = cpu-head n in omega arith));
     slab = λ f. by-word f (λ c. (c.head < 2 ^ 16) × (c.inuse < 2 ^ 16) × (c.objects < 2 ^ 16) × (c.cache < 2 ^ 8)) (λ _ _. (omega arith, omega arith, omega arith, omega arith))
@@ -241,7 +241,7 @@ module _ (s : State) (b : Beside) (ls : List Local) (beside : IsBeside s b) (coh
 
   -- ---- what CPUs have
 
-  cpu-opened : (n : ℕ) → n < 512 → IsCpuOf b (opened s b) n (cpu_at s n)
+  cpu-opened : (n : ℕ) → n < 512 → IsCpuOf b (opened_words s b) n (cpu_at s n)
   cpu-opened n below = record {
     tid = refl;
     current = by-current n (λ y. y ≡ current_in (frame_of y)) (λ e. refl) (λ f e. sym (cond-false (eqb f 0) None (Some f) (ne_eqb f 0 (λ z. absurd (let t = (current-frame n f e).0 in omega arith)))));
@@ -252,31 +252,31 @@ module _ (s : State) (b : Beside) (ls : List Local) (beside : IsBeside s b) (coh
 
   -- ---- slabs
 
-  own-opened : (f : ℕ) → IsFreelistOf (opened s b) f (own_free s f)
+  own-opened : (f : ℕ) → IsFreelistOf (opened_words s b) f (own_free s f)
   own-opened f = record {
-    chain = by-word f (λ c. IsChain (pointer (opened s b) c.cache f) c.head (own_free s f))
-        (λ e _. subst (λ xs. IsChain (pointer (opened s b) 0 f) 0 xs) (sym e) refl)
-        (λ x e was. subst (λ y. IsChain (pointer (opened s b) (cache_in y) f) (head_of (own_free s f)) (own_free s f)) e (own-chain s b f consistent));
+    chain = by-word f (λ c. IsChain (pointer (opened_words s b) c.cache f) c.head (own_free s f))
+        (λ e _. subst (λ xs. IsChain (pointer (opened_words s b) 0 f) 0 xs) (sym e) refl)
+        (λ x e was. subst (λ y. IsChain (pointer (opened_words s b) (cache_in y) f) (head_of (own_free s f)) (own_free s f)) e (own-chain s b f consistent));
     in_use = by-word f (λ c. c.inuse + length (own_free s f) ≡ c.objects) (λ e _. let z = ap (length {A = ℕ}) e in omega arith) (λ x e was. let l = own-length s f x consistent e in omega arith);
   }
 
   -- ---- objects
 
-  named-opened : (o : ℕ) → held_under s o ≡ named (opened s b) ls o
+  named-opened : (o : ℕ) → held_under s o ≡ named (opened_words s b) ls o
   named-opened o = go (held_under s o) refl (down o)
     where
       go : (h : Option Held) → held_under s o ≡ h → IfSome h (λ held. held.worker ≡ None) → h ≡ option_or (option_map held_on (option_map board_word h)) (held_among ls o)
       go None e free = sym (none-among ls o nothing)
       go (Some held) e free = λ i. Some (record { frame = held.frame; index = held.index; cache = held.cache; worker = free i })
 
-  once-opened : (o : ℕ) → times_named (opened s b) ls o ≤ 1
-  once-opened o = let z = none-held_by ls o nothing in go ((opened s b).board o) z
+  once-opened : (o : ℕ) → times_named (opened_words s b) ls o ≤ 1
+  once-opened o = let z = none-held_by ls o nothing in go ((opened_words s b).board o) z
     where
       go : {A : Type 0} (h : Option A) → sum_by (held_by o) ls ≡ 0 → one_if (is_some h) + sum_by (held_by o) ls ≤ 1
       go None z = omega arith
       go (Some x) z = omega arith
 
-  pub opened-rests : Rests s b (opened s b) ls
+  pub opened-rests : Rests s b (opened_words s b) ls
   opened-rests = record {
     setup = refl;
     words = words-opened;

@@ -16,7 +16,7 @@ use Rattle.slub_lists.proofs.Kept.{consistent-of}
 use Rattle.slub_lists.proofs.Places.{objects-few, slab-inside, pointer-inside}
 use Rattle.slub_core.specs.Local.{Local}
 use Rattle.slub_core.specs.Words.{cpu_in, list_in, slab_in}
-use Rattle.slub_law_opening.specs.Opening.{Beside, IsBeside, IsLaidDown, lay_each, string_row, cpu_at, cpu_word, list_word, own_row, cpu_row, link_of, slab_word, board_word, opened, setup_of}
+use Rattle.slub_law_opening.specs.Opening.{Beside, IsBeside, IsLaidDown, lay_each, string_row, cpu_at, cpu_word, list_word, own_row, cpu_row, link_of, slab_word, board_word, opened_words, setup_of}
 use Rattle.slub_law_opening.specs.Rests.{IsBetween}
 use Rattle.slub_law_opening.proofs.Cpus.{has-cpus, cpu-past}
 use Rattle.slub_law_opening.proofs.Rows.{own-pointer, cpu-pointer}
@@ -28,7 +28,7 @@ module _ (s : State) (b : Beside) (ls : List Local) (beside : IsBeside s b) (coh
   consistent : IsConsistent s
   consistent = consistent-of s coherent
 
-  boarded : (o : ℕ) (d : BoardWord) → (opened s b).board o ≡ Some d → (d.index < 65535) × (d.frame < 2 ^ 16) × (d.cache < 2 ^ 8)
+  boarded : (o : ℕ) (d : BoardWord) → (opened_words s b).board o ≡ Some d → (d.index < 65535) × (d.frame < 2 ^ 16) × (d.cache < 2 ^ 8)
   boarded o d = go (held_under s o) refl
     where
       fits : (h : Held) → held_under s o ≡ Some h → (h.index < 65535) × (h.frame < 2 ^ 16) × (h.cache < 2 ^ 8)
@@ -47,21 +47,21 @@ module _ (s : State) (b : Beside) (ls : List Local) (beside : IsBeside s b) (coh
       go None e is = absurd (cc is)
       go (Some h) e is = subst (λ (d : BoardWord). (d.index < 65535) × (d.frame < 2 ^ 16) × (d.cache < 2 ^ 8)) (injected is) (fits h e)
 
-  cpu-room : (n : ℕ) → 512 ≤ n → (opened s b).cpu n ≡ cpu_in 0
+  cpu-room : (n : ℕ) → 512 ≤ n → (opened_words s b).cpu n ≡ cpu_in 0
   unfolding cpu_in
   cpu-room n past =
       let t : get_or b.tids n 0 ≡ 0 = get_or_past b.tids n 0 (omega (arith, past, beside.tids)) in
       ap (cpu_word b n) (cpu-past s n (has-cpus s consistent) past) ∙ (λ i. record { tid = t i; frame = 0; head = 0 })
 
-  list-room : (n : ℕ) → 512 ≤ n → (opened s b).list n ≡ list_in 0
+  list-room : (n : ℕ) → 512 ≤ n → (opened_words s b).list n ≡ list_in 0
   unfolding list_in
   list-room n past = ap (λ (x : CpuLists). list_word x.partial) (cpu-past s n (has-cpus s consistent) past)
 
-  slab-room : (f : ℕ) → s.frames ≤ f → (opened s b).slab f ≡ slab_in 0
+  slab-room : (f : ℕ) → s.frames ≤ f → (opened_words s b).slab f ≡ slab_in 0
   unfolding slab_in
   slab-room f past = ap (slab_word s f) (get_or_past s.slabs f None (omega (arith, past, consistent.shaped.slabs)))
 
-  memory-room : (p : ℕ) → 512 * s.frames ≤ p → (opened s b).memory p ≡ 0
+  memory-room : (p : ℕ) → 512 * s.frames ≤ p → (opened_words s b).memory p ≡ 0
   memory-room p past =
       let m : ℕ → ℕ = λ p. get_or s.memory p 0 in
       each-other (cpu_row s) 512 (lay_each (own_row s) s.frames m) p
@@ -70,12 +70,12 @@ module _ (s : State) (b : Beside) (ls : List Local) (beside : IsBeside s b) (coh
       (λ f x le same. let q = own-pointer s f x consistent le in let i = pointer-inside s f x q.slab consistent q.is q.inside in omega (arith, past, same, q.place, i, consistent.shaped.memory))
       ∙ get_or_past s.memory p 0 (omega (arith, past, consistent.shaped.memory))
 
-  link-room : (f : ℕ) → s.frames ≤ f → (opened s b).link f ≡ 0
+  link-room : (f : ℕ) → s.frames ≤ f → (opened_words s b).link f ≡ 0
   link-room f past =
       each-other (λ n. string_row (cpu_at s n).partial) 512 (link_of b) f (λ n x le same. let t = string-frame s b ls beside coherent down between nothing n x le in omega (arith, past, same, t.1))
       ∙ get_or_past b.links f 0 (omega (arith, past, beside.links))
 
-  pub has-room : HasRoom (opened s b)
+  pub has-room : HasRoom (opened_words s b)
   has-room = record {
     locks = refl;
     cpu_words = refl;

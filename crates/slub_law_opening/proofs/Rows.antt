@@ -13,7 +13,7 @@ use Rattle.slub_lists.proofs.CheckedGiving.{one-object}
 use Rattle.slub_lists.proofs.Places.{pointers-apart, slab-inside, own-object, own-once, own-none}
 use Rattle.slub_core.specs.Setup.{hardened}
 use Rattle.slub_core.specs.World.{IsChain, Links, pointer}
-use Rattle.slub_law_opening.specs.Opening.{Beside, Row, lay_each, head_of, front_of, freelist_row, string_row, cpu_at, frame_of, cache_in, own_row, cpu_row, link_of, opened}
+use Rattle.slub_law_opening.specs.Opening.{Beside, Row, lay_each, head_of, front_of, freelist_row, string_row, cpu_at, frame_of, cache_in, own_row, cpu_row, link_of, opened_words}
 use Rattle.slub_law_opening.proofs.Lay.{IsLaid, AreApart, IsDistinct, each-kept, each-laid}
 use Rattle.slub_law_opening.proofs.Cpus.{cpu-object, cpu-alone, cpu-bare, cpu-below, current-at, currents-apart, partial-two, partial-one}
 
@@ -99,23 +99,23 @@ chain-laid s k f (x ∷ xs) m laid =
     (refl, subst (λ h. IsChain next h xs) (sym here) (chain-laid s k f xs m laid.1))
 
 -- the slabs' own freelists and the CPUs' freelists stand in memory
-pub own-chain : (s : State) (b : Beside) (f : ℕ) → IsConsistent s → IsChain (pointer (opened s b) (cache_in (slab_of s f)) f) (head_of (own_free s f)) (own_free s f)
+pub own-chain : (s : State) (b : Beside) (f : ℕ) → IsConsistent s → IsChain (pointer (opened_words s b) (cache_in (slab_of s f)) f) (head_of (own_free s f)) (own_free s f)
 own-chain s b f consistent = go (slab_of s f) refl
   where
-    go : (y : Option Slab) → slab_of s f ≡ y → IsChain (pointer (opened s b) (cache_in (slab_of s f)) f) (head_of (own_free s f)) (own_free s f)
-    go None e = subst (λ xs. IsChain (pointer (opened s b) (cache_in (slab_of s f)) f) (head_of xs) xs) (sym (own-none s f consistent e)) refl
+    go : (y : Option Slab) → slab_of s f ≡ y → IsChain (pointer (opened_words s b) (cache_in (slab_of s f)) f) (head_of (own_free s f)) (own_free s f)
+    go None e = subst (λ xs. IsChain (pointer (opened_words s b) (cache_in (slab_of s f)) f) (head_of xs) xs) (sym (own-none s f consistent e)) refl
     go (Some y) e =
-        chain-laid s (cache_in (slab_of s f)) f (own_free s f) (opened s b).memory
+        chain-laid s (cache_in (slab_of s f)) f (own_free s f) (opened_words s b).memory
         (each-kept (own_row s f) (cpu_row s) 512 (lay_each (own_row s) s.frames (λ p. get_or s.memory p 0)) (λ k below. own-cpu-apart s f k consistent)
         (each-laid (own_row s) s.frames (λ p. get_or s.memory p 0) (λ k below. own-distinct s k consistent) (λ j k lj lk d. owns-apart s j k consistent d) f (slab-inside s f y consistent e).1))
 
-pub cpu-chain : (s : State) (b : Beside) (n : ℕ) → IsConsistent s → IsChain (pointer (opened s b) (n / 16) (frame_of (cpu_at s n).current)) (head_of (cpu_at s n).free) (cpu_at s n).free
+pub cpu-chain : (s : State) (b : Beside) (n : ℕ) → IsConsistent s → IsChain (pointer (opened_words s b) (n / 16) (frame_of (cpu_at s n).current)) (head_of (cpu_at s n).free) (cpu_at s n).free
 cpu-chain s b n consistent = go (cpu_at s n).current refl
   where
-    go : (y : Option ℕ) → (cpu_at s n).current ≡ y → IsChain (pointer (opened s b) (n / 16) (frame_of (cpu_at s n).current)) (head_of (cpu_at s n).free) (cpu_at s n).free
-    go None e = subst (λ xs. IsChain (pointer (opened s b) (n / 16) (frame_of (cpu_at s n).current)) (head_of xs) xs) (sym (cpu-bare s n consistent e)) refl
+    go : (y : Option ℕ) → (cpu_at s n).current ≡ y → IsChain (pointer (opened_words s b) (n / 16) (frame_of (cpu_at s n).current)) (head_of (cpu_at s n).free) (cpu_at s n).free
+    go None e = subst (λ xs. IsChain (pointer (opened_words s b) (n / 16) (frame_of (cpu_at s n).current)) (head_of xs) xs) (sym (cpu-bare s n consistent e)) refl
     go (Some f) e =
-        chain-laid s (n / 16) (frame_of (cpu_at s n).current) (cpu_at s n).free (opened s b).memory
+        chain-laid s (n / 16) (frame_of (cpu_at s n).current) (cpu_at s n).free (opened_words s b).memory
         (each-laid (cpu_row s) 512 (lay_each (own_row s) s.frames (λ p. get_or s.memory p 0)) (λ k below. cpu-distinct s k consistent) (λ j k lj lk d. cpus-apart s j k consistent d) n (cpu-below s n f consistent e))
 
 -- ---- strings
@@ -124,9 +124,9 @@ string-laid : (fs : List ℕ) (m : ℕ → ℕ) → IsLaid (string_row fs) m →
 string-laid [] m laid = refl
 string-laid (f ∷ fs) m laid = (refl, subst (λ h. Links m h fs 0) (sym laid.0) (string-laid fs m laid.1))
 
-pub strings-stand : (s : State) (b : Beside) (n : ℕ) → IsConsistent s → n < 512 → Links (opened s b).link (front_of (cpu_at s n).partial) (cpu_at s n).partial 0
+pub strings-stand : (s : State) (b : Beside) (n : ℕ) → IsConsistent s → n < 512 → Links (opened_words s b).link (front_of (cpu_at s n).partial) (cpu_at s n).partial 0
 strings-stand s b n consistent l =
-    string-laid (cpu_at s n).partial (opened s b).link
+    string-laid (cpu_at s n).partial (opened_words s b).link
     (each-laid (λ n. string_row (cpu_at s n).partial) 512 (link_of b) (λ k below. record { once = λ x. omega (arith, partial-one s k x, consistent.listed.once x); places = λ x y lx ly same. same })
     (λ j k lj lk d x y lx ly same. apart j k x y lj lk d lx ly same) n l)
   where

@@ -23,6 +23,7 @@ use Rattle.slub_core.specs.declared.spot.FreeSpot.TheVariants.{TakeOff}
 use Rattle.slub_core.specs.declared.spot.MoveSetSpot.TheVariants.{PutTail}
 use Rattle.slub_core.specs.declared.spot.TrimSpot.TheVariants.{ScanNode, DropScanned}
 use Rattle.slub_core.specs.declared.spot.CheckedSpot.TheVariants.{DoChecked, MoveRun, AddSlab}
+use Rattle.slub_core.specs.Calls.{call_offset}
 use Rattle.slub_core.specs.Setup.{Setup, node_lock, pool_lock}
 use Rattle.slub_core.specs.World.{LockValue, Node, Checked, Pool, update, pool_in}
 use Rattle.slub_core.specs.Local.{Local, here, at, call_of}
@@ -99,7 +100,7 @@ took-sets m value l None = elim (cases_Bool (is_spare m (with_taken (slabs_of m 
 took-sets m value l (Some damage) = nothing
 
 poked-flags : (l : Local) (s : CheckedState) → (poked l s).flags ≡ s.flags
-poked-flags l s = elim (cases_Bool (is_offset s.layout (call_of l).offset && nat_lt (here l).index (objects_in (slab_of s (here l).frame)))) [ inl e ↦ rw e refl | inr e ↦ rw e refl ]
+poked-flags l s = elim (cases_Bool (is_offset s.layout (call_offset (call_of l)) && nat_lt (here l).index (objects_in (slab_of s (here l).frame)))) [ inl e ↦ rw e refl | inr e ↦ rw e refl ]
 
 do-sets : (m : Setup) (value : ℕ → LockValue) (l : Local) (kind : CallKind) → Sets m l (InChecked DoChecked kind) value (do_checked m value l kind (slabs_of m value l)).value
 do-sets m value l Alloc = let s = slabs_of m value l in gave-sets m value l (m.means.give s) (m.means.gave s) (λ sound. give-flags s (m.means.gave s) (m.means.give s) (m.means.gives s sound))

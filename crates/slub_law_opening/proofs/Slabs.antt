@@ -19,7 +19,7 @@ use Rattle.slub_core.specs.World.{World, LockValue, size_in, order_in, objects_i
 use Rattle.slub_core.proofs.StepValues.{alone-in}
 use Rattle.slub_core.proofs.RemakeStep.{no_value-objects}
 use Rattle.slub_core.proofs.Pigeon.{sum_below-none}
-use Rattle.slub_law_opening.specs.Opening.{Beside, node_value, value_of, plain_word, slab_word, opened}
+use Rattle.slub_law_opening.specs.Opening.{Beside, node_value, value_of, plain_word, slab_word, opened_words}
 use Rattle.slub_law_opening.specs.Rests.{slab_at}
 use Rattle.slub_law_opening.proofs.Sums.{one-term}
 
@@ -110,28 +110,28 @@ unworded w f e =
     let none : nat_lt 0 (w.slab f).objects ≡ false = ap (λ (c : SlabWord). nat_lt 0 c.objects) e in
     (cond-false (nat_lt 0 (w.slab f).objects) _ _ none, cond-false (nat_lt 0 (w.slab f).objects) _ _ none, cond-false (nat_lt 0 (w.slab f).objects) _ _ none)
 
-pub slab-opened : (s : State) (b : Beside) (f : ℕ) → IsConsistent s → slab_of s f ≡ slab_at (opened s b) f
+pub slab-opened : (s : State) (b : Beside) (f : ℕ) → IsConsistent s → slab_of s f ≡ slab_at (opened_words s b) f
 slab-opened s b f consistent = go (word-cases s f)
   where
-    go : IsOpened s f (slab_word s f (slab_of s f)) → slab_of s f ≡ slab_at (opened s b) f
+    go : IsOpened s f (slab_word s f (slab_of s f)) → slab_of s f ≡ slab_at (opened_words s b) f
     go (is_none e c) =
-        let u = unworded (opened s b) f c in
+        let u = unworded (opened_words s b) f c in
         let z = no_value-objects (value_of s) 33 f (sum_below-none 33 (values_with s f) (λ n _. no-value s f n (λ k. no-size s f k consistent (λ x at here. absurd (cc (at, e)))))) in
-        e ∙ sym (slab-none (opened s b) f (u.0 ∙ z))
+        e ∙ sym (slab-none (opened_words s b) f (u.0 ∙ z))
     go (is_checked x k e was c) =
-        let u = unworded (opened s b) f c in
+        let u = unworded (opened_words s b) f c in
         let h = has-size s f x k consistent e was in
         let few = (objects-few s f x consistent e).0 in
         let within : suc x.cache < 33 = omega (arith, inside-of s.checked x.cache k was, consistent.shaped.checked.numbers) in
         let a = alone-in (value_of s) 33 (suc x.cache) f within (omega (arith, h.0, few)) (values-one s f 33 x consistent e) in
         let d : suc x.cache - 1 ≡ x.cache = omega arith in
-        e ∙ sym (slab-some (opened s b) f x few (u.0 ∙ a.objects ∙ h.0) (u.1 ∙ a.cache ∙ d) (u.2 ∙ a.order ∙ h.1) (ap (λ (c : SlabWord). c.frozen) c ∙ sym (checked-unfrozen s f x k consistent e was).0))
+        e ∙ sym (slab-some (opened_words s b) f x few (u.0 ∙ a.objects ∙ h.0) (u.1 ∙ a.cache ∙ d) (u.2 ∙ a.order ∙ h.1) (ap (λ (c : SlabWord). c.frozen) c ∙ sym (checked-unfrozen s f x k consistent e was).0))
     go (is_plain x e was c) =
         let few = (objects-few s f x consistent e).0 in
-        let o : (opened s b).slab f ≡ plain_word s f x = c in
-        let there : nat_lt 0 ((opened s b).slab f).objects ≡ true = ap (λ (c : SlabWord). nat_lt 0 c.objects) o ∙ lt-ltb 0 x.objects few in
-        e ∙ sym (slab-some (opened s b) f x few
-        (cond-true (nat_lt 0 ((opened s b).slab f).objects) _ _ there ∙ ap (λ (c : SlabWord). c.objects) o)
-        (cond-true (nat_lt 0 ((opened s b).slab f).objects) _ _ there ∙ ap (λ (c : SlabWord). c.cache) o)
-        (cond-true (nat_lt 0 ((opened s b).slab f).objects) _ _ there ∙ ap (λ (c : SlabWord). order_for (layout_at s c.cache) c.objects) o ∙ sym (order-of-slab s f x consistent e))
+        let o : (opened_words s b).slab f ≡ plain_word s f x = c in
+        let there : nat_lt 0 ((opened_words s b).slab f).objects ≡ true = ap (λ (c : SlabWord). nat_lt 0 c.objects) o ∙ lt-ltb 0 x.objects few in
+        e ∙ sym (slab-some (opened_words s b) f x few
+        (cond-true (nat_lt 0 ((opened_words s b).slab f).objects) _ _ there ∙ ap (λ (c : SlabWord). c.objects) o)
+        (cond-true (nat_lt 0 ((opened_words s b).slab f).objects) _ _ there ∙ ap (λ (c : SlabWord). c.cache) o)
+        (cond-true (nat_lt 0 ((opened_words s b).slab f).objects) _ _ there ∙ ap (λ (c : SlabWord). order_for (layout_at s c.cache) c.objects) o ∙ sym (order-of-slab s f x consistent e))
         (ap (λ (c : SlabWord). c.frozen) o))

@@ -24,7 +24,7 @@ use Rattle.slub_core.specs.World.{World, world_of, pool_of}
 use Rattle.slub_core.specs.Coherent.{Stands}
 use Rattle.slub_core.specs.Law.{IsCoherentSystem, CoherentAlong}
 use Rattle.slub_core.proofs.Opens.{rounds_keep}
-use Rattle.slub_law_opening.specs.Opening.{Beside, IsBeside, IsLaidDown, setup_of, value_of, opened, tid_of, link_of, cpu_at}
+use Rattle.slub_law_opening.specs.Opening.{Beside, IsBeside, IsLaidDown, setup_of, value_of, opened_words, tid_of, link_of, cpu_at}
 use Rattle.slub_law_opening.specs.Rests.{IsBetween, Rests}
 use Rattle.slub_law_opening.specs.Table.{RestsIn, system_of, words_of}
 use Rattle.slub_law_opening.specs.Closing.{Closes}
@@ -88,26 +88,26 @@ module _ (s : State) (b : Beside) (ls : List Local) (may : MayOpen s b) (begin :
   nothing : All HoldsNothing ls
   nothing = All-weaker (IsNew (setup_of s b)) HoldsNothing (new-nothing (setup_of s b)) ls begin.new
 
-  table-room : HasRoom (opened s b)
+  table-room : HasRoom (opened_words s b)
   table-room = has-room s b ls may.beside may.coherent may.laid_down between nothing
 
-  says : world_of (setup_of s b) (value_of s) (words_of (opened s b)) ≡ opened s b
-  says = table-says (opened s b) table-room
+  says : world_of (setup_of s b) (value_of s) (words_of (opened_words s b)) ≡ opened_words s b
+  says = table-says (opened_words s b) table-room
 
   pub rests-in : RestsIn s b (system_of s b ls)
   rests-in = record {
-    count = table-length (opened s b) table-room;
+    count = table-length (opened_words s b) table-room;
     rests = subst (λ w. Rests s b w ls) (sym says) (opened-rests s b ls may.beside may.coherent may.laid_down between nothing);
   }
 
-  at-rest : Stands (opened s b) []
+  at-rest : Stands (opened_words s b) []
   at-rest =
       let none = All-nil (IsBetween (setup_of s b)) in
-      stands s b (opened s b) [] may.beside may.coherent (opened-rests s b [] may.beside may.coherent may.laid_down none (All-nil HoldsNothing)) (All-nil IsBare)
+      stands s b (opened_words s b) [] may.beside may.coherent (opened-rests s b [] may.beside may.coherent may.laid_down none (All-nil HoldsNothing)) (All-nil IsBare)
 
   pub is-opening : IsOpening (setup_of s b) (system_of s b ls)
   is-opening = record {
-    words = table-length (opened s b) table-room;
+    words = table-length (opened_words s b) table-room;
     rest = subst (λ w. Stands w []) (sym says) at-rest;
     objects = may.beside.objects.0;
     new = begin.new;
@@ -264,6 +264,6 @@ pub rounds-keep : RoundsKeepLists
 rounds-keep s t b d ls picks may begin closes =
     let m = setup_of s b in
     let system = system_of s b ls in
-    let first = world_of (setup_of s b) (value_of s) (words_of (opened s b)) in
+    let first = world_of (setup_of s b) (value_of s) (words_of (opened_words s b)) in
     let along = rounds_keep m system picks (is-opening s b ls may begin) in
     closed s t b d first (run m (begun m system) picks) may (after-run m first (begun m system) picks along) closes

@@ -170,8 +170,8 @@ value_of s (suc cache) =
 
 -- every freelist stands in its objects' free pointers, every partial list of a CPU in the links.
 -- All other words of the frames are as they were, and every lock is free
-abbrev pub opened : State → Beside → World
-opened s b = record {
+abbrev pub opened_words : State → Beside → World
+opened_words s b = record {
   setup = setup_of s b;
   cpu = λ n. cpu_word b n (cpu_at s n);
   list = λ n. list_word (cpu_at s n).partial;

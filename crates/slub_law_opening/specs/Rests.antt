@@ -56,11 +56,11 @@ abbrev pub named : World → List Local → ℕ → Option Held
 named w ls object = option_or (option_map held_on (w.board object)) (held_among ls object)
 
 -- how often a number is held, and how often it names an object
-abbrev pub held_under : ℕ → Local → ℕ
-held_under object l = sum_by (λ (k : Known). one_if (k.held && (k.object == object))) l.known
+abbrev pub times_held : ℕ → Local → ℕ
+times_held object l = sum_by (λ (k : Known). one_if (k.held && (k.object == object))) l.known
 
 abbrev pub times_named : World → List Local → ℕ → ℕ
-times_named w ls object = one_if (is_some (w.board object)) + sum_by (held_under object) ls
+times_named w ls object = one_if (is_some (w.board object)) + sum_by (times_held object) ls
 
 -- ---- slabs
 

@@ -9,7 +9,7 @@ use Rattle.slub_core.specs.Local.{Local}
 use Rattle.slub_core.specs.Run.{System}
 use Rattle.slub_core.specs.Words.{word_count}
 use Rattle.slub_core.specs.World.{World, world_of}
-use Rattle.slub_law_opening.specs.Opening.{Beside, setup_of, value_of, opened}
+use Rattle.slub_law_opening.specs.Opening.{Beside, setup_of, value_of, opened_words}
 use Rattle.slub_law_opening.specs.Rests.{Rests}
 
 -- 0 where an object number is not on the board
@@ -31,7 +31,7 @@ words_of w =
 -- a coherent machine and the workers of a round, before the first step
 abbrev pub system_of : State → Beside → List Local → System
 system_of s b ls =
-    record { words = words_of (opened s b); value = value_of s; locals = ls }
+    record { words = words_of (opened_words s b); value = value_of s; locals = ls }
 
 -- the words, lock values and workers of a machine, and the lists that they rest in
 pub record RestsIn (s : State) (b : Beside) (system : System) : Type 0 where

@@ -23,7 +23,7 @@ use Rattle.slub_slabinfo_text.specs.declared.journal.RoundResult.{RoundResult}
 use Rattle.slub_slabinfo_text.specs.Lawful.{freed_in, given_in, is_by}
 use Rattle.slub_slabinfo_text.proofs.Numbers.{sum_from}
 use Rattle.slub_law_rounds.specs.Answered.{Answered, did_free, found_bad, gave, holding, is_corrupt, of_worker, times_taken}
-use Rattle.slub_law_rounds.specs.Round.{Cause, IsRound}
+use Rattle.slub_law_rounds.specs.Round.{ReplyCause, IsRound}
 use Rattle.slub_law_rounds.proofs.Times.{counted_append}
 use Rattle.slub_law_replay.proofs.Tally.{AreWithin, by_workers}
 use Rattle.slub_law_recorded.specs.Paired.{IsPairingAct, freed, freed_of}
@@ -60,7 +60,7 @@ module _ (before : State) (round : Round) (result : RoundResult) (after : State)
   -- ---- a free
 
   module _ (past : List Answered) (one : Answered) (rest : List Answered) (parts : answers ≡ past ++ one ∷ rest) where
-    cause-at : Cause before answers (of_worker one.0.worker past) one.0.act one.1
+    cause-at : ReplyCause before answers (of_worker one.0.worker past) one.0.act one.1
     cause-at =
         let worker = one.0.worker in
         let mine : of_worker worker (one ∷ rest) ≡ one ∷ of_worker worker rest = rw (eq-eqb worker worker refl) refl in
@@ -114,9 +114,9 @@ module _ (before : State) (round : Round) (result : RoundResult) (after : State)
       ]
 
       done : is_freed one.1 ≡ true
-      done = by one.1 refl (subst (λ act. Cause before answers (of_worker one.0.worker past) act one.1) frees cause-at)
+      done = by one.1 refl (subst (λ act. ReplyCause before answers (of_worker one.0.worker past) act one.1) frees cause-at)
         where
-          by : (answer : Reply) → one.1 ≡ answer → Cause before answers (of_worker one.0.worker past) (Free object) answer → is_freed answer ≡ true
+          by : (answer : Reply) → one.1 ≡ answer → ReplyCause before answers (of_worker one.0.worker past) (Free object) answer → is_freed answer ≡ true
           by (reply.Freed address) is cause = refl
           by (reply.Corrupt damage) is cause = absurd (false≢true (sym (unharmed-one object frees) ∙ ap is_corrupt is))
           by reply.NotHeld is cause = absurd (held is cause)

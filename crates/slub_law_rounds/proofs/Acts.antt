@@ -27,6 +27,7 @@ use Rattle.slub_core.specs.declared.local.FrameRun.{FrameRun}
 use Rattle.slub_core.specs.declared.local.Known.{Known}
 use Rattle.slub_core.specs.declared.spot.Spot.TheVariants.{InChecked}
 use Rattle.slub_core.specs.declared.spot.CheckedSpot.TheVariants.{DoChecked, AddSlab, LockRun, GiveChecked}
+use Rattle.slub_core.specs.Calls.{call_object, call_word, call_value, call_offset, call_byte}
 use Rattle.slub_core.specs.Setup.{Setup, node_lock, pool_lock}
 use Rattle.slub_core.specs.World.{World, LockValue, Checked, Pool, update, pool_of, size_in}
 use Rattle.slub_core.specs.Local.{Local, Worker, Change, here, call_of, address_in, run_of, at, loses, noted}
@@ -51,7 +52,7 @@ use Rattle.slub_core.proofs.RemakeStep.{run-first, pow-some}
 use Rattle.slub_core.proofs.Update.{update_other}
 use Rattle.slub_core.proofs.StepValues.{value-slab}
 use Rattle.slub_law_rounds.proofs.Cleaning.{Clean}
-use Rattle.slub_law_rounds.specs.Contents.{slabs_at, WasPoked, Came, IsDamage, Tells}
+use Rattle.slub_law_rounds.specs.Contents.{slabs_at, WasPoked, Came, IsDamage, TellsOfByte}
 use Rattle.slub_law_rounds.proofs.Moves.{Goes, goes-none, goes-taken, goes-gone, goes-poked, goes-written, goes-give, goes-added, goes-more, damage-of}
 use Rattle.slub_law_rounds.proofs.Grows.{Has, GoesAll, has-goes, has-reply, bytes-reply, goes-at}
 
@@ -79,8 +80,8 @@ is-between x p y e = let h = both-true (int_le x p) (int_lt p y) e in (record { 
 -- ---- where the object of a call is
 
 pub record IsWhere (m : Setup) (opening : World) (l : Local) : Type 0 where
-  pub address : address_by m opening.board l.done (call_of l).object ≡ Some (address_in m (here l))
-  pub cache : cache_by opening.board l.done (call_of l).object ≡ Some (here l).cache
+  pub address : address_by m opening.board l.done (call_object (call_of l)) ≡ Some (address_in m (here l))
+  pub cache : cache_by opening.board l.done (call_object (call_of l)) ≡ Some (here l).cache
 
 -- of what it holds
 pub where-held : (opening w : World) (x : Worker) (others : List Worker) (kind : CallKind) → IsAccounted opening w (x ∷ others) → doing x.local.spot ≡ Some kind → names_object kind ≡ true → (here x.local).held ≡ true → IsWhere w.setup opening x.local
@@ -132,7 +133,7 @@ one-more l r = record { call = call_of l; reply = r }
 
 -- a reply that tells nothing of bytes, and other slabs
 replied : (m : Setup) (opening : World) (rest : List (List Answered)) (value : ℕ → LockValue) (l : Local) (r : Reply) (old new : CheckedState) → value (node_lock l.cache) ≡ Checked old
-    → let more = (one-more l r ∷ l.done) ∷ rest in Tells m opening more l.done (call_of l) r → Goes (Came m opening more l.cache) old new → HasAt m opening rest value l → Has m opening (with_slabs value l new) more
+    → let more = (one-more l r ∷ l.done) ∷ rest in TellsOfByte m opening more l.done (call_of l) r → Goes (Came m opening more l.cache) old new → HasAt m opening rest value l → Has m opening (with_slabs value l new) more
 replied m opening rest value l r old new was tells goes has =
     let more = (one-more l r ∷ l.done) ∷ rest in
     has-goes m opening value (with_slabs value l new) more (goes-at m opening more value l.cache old new was (λ clean. goes)) (has-reply m opening value l.done rest (one-more l r) tells has)
@@ -151,17 +152,17 @@ does_write opening w x others rest old is s ac was of has =
     let ok = at-work w x others s in
     let used = held-object w x others old s (rw is refl) (rw is refl) was in
     let size : old.layout.object_size ≡ (w.setup.layout l.cache).object_size = ap (λ (l : Layout). l.object_size) of.layout in
-    let fits : 8 * ((call_of l).word + 1) ≤ (w.setup.layout l.cache).object_size = leb-true (8 * ((call_of l).word + 1)) (w.setup.layout l.cache).object_size (not-false _ (ok.spot.inside (rw is refl))) in
+    let fits : 8 * (call_word (call_of l) + 1) ≤ (w.setup.layout l.cache).object_size = leb-true (8 * (call_word (call_of l) + 1)) (w.setup.layout l.cache).object_size (not-false _ (ok.spot.inside (rw is refl))) in
     let more = (one-more l reply.Wrote ∷ l.done) ∷ rest in
-    replied w.setup opening rest w.value l reply.Wrote old (with_word old (slot_of l) (call_of l).word (call_of l).value) was tt
-    (goes-written (Came w.setup opening more l.cache) old (slot_of l) (call_of l).word (call_of l).value of.sound used (omega (arith, size, fits))
+    replied w.setup opening rest w.value l reply.Wrote old (with_word old (slot_of l) (call_word (call_of l)) (call_value (call_of l))) was tt
+    (goes-written (Came w.setup opening more l.cache) old (slot_of l) (call_word (call_of l)) (call_value (call_of l)) of.sound used (omega (arith, size, fits))
     (clean-here w.setup opening rest w.value l reply.Wrote old was (ok.spot.checked (rw is refl)).2 has)) has
 
 -- ---- a poke
 
 -- what the poke puts
 abbrev pub poke-was : (opening w : World) (x : Worker) (others : List Worker) (rest : List (List Answered)) (old : CheckedState) → x.local.spot ≡ InChecked DoChecked Poke → Stands w (x ∷ others) → IsAccounted opening w (x ∷ others) → IsCheckedOf w.setup x.local.cache old
-    → WasPoked w.setup opening.board ((one-more x.local reply.Poked ∷ x.local.done) ∷ rest) x.local.cache (pos (address_of (slot_of x.local).frame (slot_of x.local).index old.layout) +ℤ (call_of x.local).offset) (call_of x.local).byte
+    → WasPoked w.setup opening.board ((one-more x.local reply.Poked ∷ x.local.done) ∷ rest) x.local.cache (pos (address_of (slot_of x.local).frame (slot_of x.local).index old.layout) +ℤ (call_offset (call_of x.local))) (call_byte (call_of x.local))
 poke-was opening w x others rest old is s ac of =
     let ok = at-work w x others s in
     let k = ok.spot.pokes (rw is refl) in
@@ -178,31 +179,31 @@ poke-was opening w x others rest old is s ac of =
       of = place.cache ∙ ap Some k.1;
       address = address_in w.setup (here x.local);
       object = place.address;
-      is = ap (λ a. pos a +ℤ (call_of x.local).offset) (same-address w.setup (here x.local) x.local.cache old of k.1);
+      is = ap (λ a. pos a +ℤ (call_offset (call_of x.local))) (same-address w.setup (here x.local) x.local.cache old of k.1);
     }
 
 pub does_poke : DoesWell Poke
 does_poke opening w x others rest old is s ac was of has =
-    by_place (is_offset old.layout (call_of x.local).offset) (nat_lt (here x.local).index (objects_in (slab_of old (here x.local).frame))) refl
+    by_place (is_offset old.layout (call_offset (call_of x.local))) (nat_lt (here x.local).index (objects_in (slab_of old (here x.local).frame))) refl
   where
     l : Local
     l = x.local
 
     poked_as : Bool → Bool → Change
     poked_as inside there = record {
-      value = with_slabs w.value x.local (if inside && there then with_byte old (slot_of x.local) (call_of x.local).offset (call_of x.local).byte else old);
+      value = with_slabs w.value x.local (if inside && there then with_byte old (slot_of x.local) (call_offset (call_of x.local)) (call_byte (call_of x.local)) else old);
       local = at x.local (InChecked GiveChecked Poke);
       reply = Some (if inside then (if there then reply.Poked else reply.NotHeld) else reply.OutOfSlot);
     }
 
-    by_place : (inside there : Bool) → is_offset old.layout (call_of x.local).offset ≡ inside → HasAfter w.setup opening rest (poked_as inside there)
+    by_place : (inside there : Bool) → is_offset old.layout (call_offset (call_of x.local)) ≡ inside → HasAfter w.setup opening rest (poked_as inside there)
     by_place true true e =
         let ok = at-work w x others s in
         let d = one-more x.local reply.Poked in
         let more = (d ∷ x.local.done) ∷ rest in
         let was_poked = poke-was opening w x others rest old is s ac of in
-        replied w.setup opening rest w.value x.local reply.Poked old (with_byte old (slot_of x.local) (call_of x.local).offset (call_of x.local).byte) was tt
-        (goes-poked (Came w.setup opening more x.local.cache) old (slot_of x.local) (call_of x.local).offset (call_of x.local).byte of.sound (is-between (pos 0) (place_of old.layout (call_of x.local).offset) (pos old.layout.size) e) (inr was_poked)
+        replied w.setup opening rest w.value x.local reply.Poked old (with_byte old (slot_of x.local) (call_offset (call_of x.local)) (call_byte (call_of x.local))) was tt
+        (goes-poked (Came w.setup opening more x.local.cache) old (slot_of x.local) (call_offset (call_of x.local)) (call_byte (call_of x.local)) of.sound (is-between (pos 0) (place_of old.layout (call_offset (call_of x.local))) (pos old.layout.size) e) (inr was_poked)
         (clean-here w.setup opening rest w.value x.local reply.Poked old was (ok.spot.checked (rw is refl)).2 has)) has
     by_place true false e =
         replied w.setup opening rest w.value x.local reply.NotHeld old old was tt (goes-none _ old (clean-here w.setup opening rest w.value x.local reply.NotHeld old was ((at-work w x others s).spot.checked (rw is refl)).2 has)) has

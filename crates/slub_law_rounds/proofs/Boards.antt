@@ -11,6 +11,7 @@ use Rattle.slub_words.specs.declared.board.BoardWord.{BoardWord}
 use Rattle.slub_trace.specs.declared.reply.Reply.{Reply}
 use Rattle.slub_trace.specs.declared.reply.Reply.TheVariants as reply
 use Rattle.slub_core.specs.declared.local.Answered.{Answered}
+use Rattle.slub_core.specs.Calls.{call_object}
 use Rattle.slub_core.specs.Setup.{Setup, node_lock}
 use Rattle.slub_core.specs.World.{World, LockValue, Checked, object_at, objects_at, cache_at, size_in, on_board, idle_in, one_if}
 use Rattle.slub_core.specs.Local.{Worker, address_in}
@@ -44,9 +45,9 @@ pub address-ungiven : (m : Setup) (before : ℕ → Option BoardWord) (ds : List
 address-ungiven m before [] o none = refl
 address-ungiven m before (d ∷ ds) o none =
     let rest = address-ungiven m before ds o (omega arith) in
-    elim (cases_eq d.call.object o) [
-      | inl e ↦ rw (eq-eqb d.call.object o e) (by_reply d.reply (let z : one_if (is_given d.reply && eqb d.call.object o) ≡ 0 = omega arith in rw (eq-eqb d.call.object o e) at z) ∙ rest)
-      | inr n ↦ rw (ne_eqb d.call.object o n) rest
+    elim (cases_eq (call_object d.call) o) [
+      | inl e ↦ rw (eq-eqb (call_object d.call) o e) (by_reply d.reply (let z : one_if (is_given d.reply && eqb (call_object d.call) o) ≡ 0 = omega arith in rw (eq-eqb (call_object d.call) o e) at z) ∙ rest)
+      | inr n ↦ rw (ne_eqb (call_object d.call) o n) rest
     ]
   where
     by_reply : (r : Reply) {x : Option ℕ} → one_if (is_given r && true) ≡ 0 → address_after r x ≡ x

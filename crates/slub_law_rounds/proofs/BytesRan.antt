@@ -21,6 +21,7 @@ use Rattle.slub_core.specs.declared.call.Call.{Call}
 use Rattle.slub_core.specs.declared.call.CallKind.TheVariants as kind
 use Rattle.slub_core.specs.declared.local.Known.{Known}
 use Rattle.slub_core.specs.declared.local.Answered.{Answered as Done}
+use Rattle.slub_core.specs.Calls.{call_kind, call_object, call_word, call_value, call_offset, call_byte}
 use Rattle.slub_core.specs.Local.{Local}
 use Rattle.slub_core.specs.World.{World}
 use Rattle.slub_core.specs.Replies as core
@@ -67,12 +68,12 @@ module _ (table : Table) (rooms : List Known) (o word place : ℕ) where
   put-step ds event _ _ is (wrote x at value) =
       let last = contents.last_put ds o word place in
       ap (law.byte_by_write o word place last) is ∙ both (eqb x o) (eqb at word) (slice_index (to_le_bytes w64 value) place) last
-      ∙ ap (λ a. let c = call_for table rooms event.cpu a in cond (eqb c.object o) (cond (eqb c.word word) (Some (slice_index (to_le_bytes w64 c.value) place)) last) last) (sym is)
+      ∙ ap (λ a. let c = call_for table rooms event.cpu a in cond (eqb (call_object c) o) (cond (eqb (call_word c) word) (Some (slice_index (to_le_bytes w64 (call_value c)) place)) last) last) (sym is)
   put-step ds event _ _ is (poked x offset byte) = rw is (both (eqb x o) (int_eq offset (pos (8 * word + place))) byte (contents.last_put ds o word place))
   put-step ds event a r is (quiet _ _ still) =
       let c = call_for table rooms event.cpu event.act in
       let x = contents.last_put ds o word place in
-      put-quiet event r x still ∙ sym (same-either (eqb c.object o) x) ∙ ap (λ y. cond (eqb c.object o) y x) (sym (call-quiet c r x still))
+      put-quiet event r x still ∙ sym (same-either (eqb (call_object c) o) x) ∙ ap (λ y. cond (eqb (call_object c) o) y x) (sym (call-quiet c r x still))
 
   put-told : (own : List Answered) → All (IsMet table) own → law.last_put o word place own ≡ contents.last_put (back table rooms own []) o word place
   put-told own met = fold-back table rooms (λ ds. contents.last_put ds o word place) (law.put_after o word place) put-step own [] met
@@ -129,14 +130,14 @@ module _ (s : State) (b : Beside) (round : Round) (replies : List Reply) (openin
   first-met [] more met = All-nil (IsMet s.table)
   first-met (x ∷ own) more met = All-cons (IsMet s.table) x own (All-head (IsMet s.table) x (own ++ more) met) (first-met own more (All-tail (IsMet s.table) x (own ++ more) met))
 
-  poke-asks : (a : Act) (k cpu : ℕ) (c : Call) → call_for s.table (rooms k) cpu a ≡ c → c.kind ≡ kind.Poke → a ≡ Poke c.object c.offset c.byte
-  poke-asks (Poke x offset byte) k cpu c is poke = λ i. Poke (is i).object (is i).offset (is i).byte
-  poke-asks (Alloc p x) k cpu c is poke = absurd (let e = ap (λ (c : Call). c.kind) is ∙ poke in cc)
-  poke-asks (Free x) k cpu c is poke = absurd (let e = ap (λ (c : Call). c.kind) is ∙ poke in cc)
-  poke-asks (Write at x value) k cpu c is poke = absurd (let e = ap (λ (c : Call). c.kind) is ∙ poke in cc)
-  poke-asks (Read at x) k cpu c is poke = absurd (let e = ap (λ (c : Call). c.kind) is ∙ poke in cc)
-  poke-asks (Trim p) k cpu c is poke = absurd (let e = ap (λ (c : Call). c.kind) is ∙ poke in cc)
-  poke-asks Flush k cpu c is poke = absurd (let e = ap (λ (c : Call). c.kind) is ∙ poke in cc)
+  poke-asks : (a : Act) (k cpu : ℕ) (c : Call) → call_for s.table (rooms k) cpu a ≡ c → call_kind c ≡ kind.Poke → a ≡ Poke (call_object c) (call_offset c) (call_byte c)
+  poke-asks (Poke x offset byte) k cpu c is poke = λ i. Poke (call_object (is i)) (call_offset (is i)) (call_byte (is i))
+  poke-asks (Alloc p x) k cpu c is poke = absurd (let e = ap (λ (c : Call). call_kind c) is ∙ poke in cc)
+  poke-asks (Free x) k cpu c is poke = absurd (let e = ap (λ (c : Call). call_kind c) is ∙ poke in cc)
+  poke-asks (Write at x value) k cpu c is poke = absurd (let e = ap (λ (c : Call). call_kind c) is ∙ poke in cc)
+  poke-asks (Read at x) k cpu c is poke = absurd (let e = ap (λ (c : Call). call_kind c) is ∙ poke in cc)
+  poke-asks (Trim p) k cpu c is poke = absurd (let e = ap (λ (c : Call). call_kind c) is ∙ poke in cc)
+  poke-asks Flush k cpu c is poke = absurd (let e = ap (λ (c : Call). call_kind c) is ∙ poke in cc)
 
   -- a poke among the replies of a worker is one in the text
   poked-under : (o cache : ℕ) (at : ℤ) (byte : ℕ) → contents.IsPokedUnder (setup_of s b) opening.board dones cache o at byte → IsPokedUnder s answers o at byte
@@ -157,36 +158,36 @@ module _ (s : State) (b : Beside) (round : Round) (replies : List Reply) (openin
             own = among.front;
             one = among.one;
             there = record { later = among.more; split = among.split };
-            other = was.one.call.object;
-            offset = was.one.call.offset;
+            other = call_object was.one.call;
+            offset = call_offset was.one.call;
             differs = differs;
-            asks = poke-asks among.one.0.act was.there.0 among.one.0.cpu was.one.call (ap (λ (d : Done). d.call) among.is) was.asks ∙ ap (λ y. Poke was.one.call.object was.one.call.offset y) was.puts;
+            asks = poke-asks among.one.0.act was.there.0 among.one.0.cpu was.one.call (ap (λ (d : Done). d.call) among.is) was.asks ∙ ap (λ y. Poke (call_object was.one.call) (call_offset was.one.call) y) was.puts;
             done = ap (λ (d : Done). d.reply) among.is ∙ was.done;
             spot = record { cache = cache; address = was.address };
-            names = spot-is was.there.0 among.front was.one.call.object cache was.address met (ap (λ ds. core.cache_by opening.board ds was.one.call.object) among.before ∙ was.of) (ap (λ ds. core.address_by (setup_of s b) opening.board ds was.one.call.object) among.before ∙ was.object);
+            names = spot-is was.there.0 among.front (call_object was.one.call) cache was.address met (ap (λ ds. core.cache_by opening.board ds (call_object was.one.call)) among.before ∙ was.of) (ap (λ ds. core.address_by (setup_of s b) opening.board ds (call_object was.one.call)) among.before ∙ was.object);
             is = was.is;
           }
 
   -- a value that is told is one in the text
-  pub value-told : (k : ℕ) (own : List Answered) (c : Call) (o word value : ℕ) → c.object ≡ o → c.word ≡ word → All (IsMet s.table) own → contents.IsValue (setup_of s b) opening dones (back s.table (rooms k) own []) c value → IsOwnBytes s answers own o word value
-  value-told k own c o word value same_object same_word met is = subst (λ o. IsOwnBytes s answers own o word value) same_object (subst (λ word. IsOwnBytes s answers own c.object word value) same_word (record {
+  pub value-told : (k : ℕ) (own : List Answered) (c : Call) (o word value : ℕ) → call_object c ≡ o → call_word c ≡ word → All (IsMet s.table) own → contents.IsValue (setup_of s b) opening dones (back s.table (rooms k) own []) c value → IsOwnBytes s answers own o word value
+  value-told k own c o word value same_object same_word met is = subst (λ o. IsOwnBytes s answers own o word value) same_object (subst (λ word. IsOwnBytes s answers own (call_object c) word value) same_word (record {
     bytes = is.bytes;
     eight = is.eight;
     spelled = is.spelled;
-    each = λ place few. subst (λ x. IfSome x (λ put. (slice_index is.bytes place ≡ put) ⊎ ((at : ℤ) × IsByteAt s c.object own c.word place at × IsPokedUnder s answers c.object at (slice_index is.bytes place))))
-        (sym (put-told s.table (rooms k) c.object c.word place own met)) (by place (contents.last_put (back s.table (rooms k) own []) c.object c.word place) (is.each place few));
+    each = λ place few. subst (λ x. IfSome x (λ put. (slice_index is.bytes place ≡ put) ⊎ ((at : ℤ) × IsByteAt s (call_object c) own (call_word c) place at × IsPokedUnder s answers (call_object c) at (slice_index is.bytes place))))
+        (sym (put-told s.table (rooms k) (call_object c) (call_word c) place own met)) (by place (contents.last_put (back s.table (rooms k) own []) (call_object c) (call_word c) place) (is.each place few));
   }))
     where
-      at-byte : (place : ℕ) → IsByteAt s c.object own c.word place (pos (is.address + (8 * c.word + place)))
-      at-byte place = subst (λ x. MatchOption x ⊥ (λ (spot : Spot). pos (spot.address + (8 * c.word + place)) ≡ pos (is.address + (8 * c.word + place)))) (sym (spot-is k own c.object is.cache is.address met is.of is.object)) refl
+      at-byte : (place : ℕ) → IsByteAt s (call_object c) own (call_word c) place (pos (is.address + (8 * call_word c + place)))
+      at-byte place = subst (λ x. MatchOption x ⊥ (λ (spot : Spot). pos (spot.address + (8 * call_word c + place)) ≡ pos (is.address + (8 * call_word c + place)))) (sym (spot-is k own (call_object c) is.cache is.address met is.of is.object)) refl
 
-      put : (place put : ℕ) → contents.IsPut (setup_of s b) opening dones is.cache c.object (pos (is.address + (8 * c.word + place))) put (slice_index is.bytes place)
-          → (slice_index is.bytes place ≡ put) ⊎ ((at : ℤ) × IsByteAt s c.object own c.word place at × IsPokedUnder s answers c.object at (slice_index is.bytes place))
+      put : (place put : ℕ) → contents.IsPut (setup_of s b) opening dones is.cache (call_object c) (pos (is.address + (8 * call_word c + place))) put (slice_index is.bytes place)
+          → (slice_index is.bytes place ≡ put) ⊎ ((at : ℤ) × IsByteAt s (call_object c) own (call_word c) place at × IsPokedUnder s answers (call_object c) at (slice_index is.bytes place))
       put place x (inl same) = inl same
-      put place x (inr under) = inr (pos (is.address + (8 * c.word + place)), at-byte place, poked-under c.object is.cache (pos (is.address + (8 * c.word + place))) (slice_index is.bytes place) under)
+      put place x (inr under) = inr (pos (is.address + (8 * call_word c + place)), at-byte place, poked-under (call_object c) is.cache (pos (is.address + (8 * call_word c + place))) (slice_index is.bytes place) under)
 
-      by : (place : ℕ) (x : Option ℕ) → contents.IsReadByte (setup_of s b) opening dones is.cache c.object (pos (is.address + (8 * c.word + place))) x (slice_index is.bytes place)
-          → IfSome x (λ put. (slice_index is.bytes place ≡ put) ⊎ ((at : ℤ) × IsByteAt s c.object own c.word place at × IsPokedUnder s answers c.object at (slice_index is.bytes place)))
+      by : (place : ℕ) (x : Option ℕ) → contents.IsReadByte (setup_of s b) opening dones is.cache (call_object c) (pos (is.address + (8 * call_word c + place))) x (slice_index is.bytes place)
+          → IfSome x (λ put. (slice_index is.bytes place ≡ put) ⊎ ((at : ℤ) × IsByteAt s (call_object c) own (call_word c) place at × IsPokedUnder s answers (call_object c) at (slice_index is.bytes place)))
       by place None told = tt
       by place (Some x) told = put place x told
 
@@ -219,10 +220,10 @@ module _ (s : State) (b : Beside) (round : Round) (replies : List Reply) (openin
         let there : contents.AreTold (setup_of s b) opening dones (back s.table (rooms worker) is.later (told s.table (rooms worker) one ∷ ds)) =
         subst (contents.AreTold (setup_of s b) opening dones) (ap (λ xs. back s.table (rooms worker) xs []) is.split ∙ back-append s.table (rooms worker) own (one ∷ is.later) []) its in
         let mine = (told-first worker is.later (told s.table (rooms worker) one ∷ ds) there).0 in
-        let says : contents.Tells (setup_of s b) opening dones ds c (reply.Value value) = subst (λ r. contents.Tells (setup_of s b) opening dones ds c r) tells mine in
+        let says : contents.TellsOfByte (setup_of s b) opening dones ds c (reply.Value value) = subst (λ r. contents.TellsOfByte (setup_of s b) opening dones ds c r) tells mine in
         let met = first-met own (one ∷ is.later) (subst (All (IsMet s.table)) is.split (met-by s b round replies opening w ls lists ended are within below coherent worker)) in
-        let same_object : c.object ≡ object = ap (λ a. (call_for s.table (rooms worker) one.0.cpu a).object) asks in
-        let same_word : c.word ≡ word = ap (λ a. (call_for s.table (rooms worker) one.0.cpu a).word) asks in
+        let same_object : call_object c ≡ object = ap (λ a. call_object (call_for s.table (rooms worker) one.0.cpu a)) asks in
+        let same_word : call_word c ≡ word = ap (λ a. call_word (call_for s.table (rooms worker) one.0.cpu a)) asks in
         value-told worker own c object word value same_object same_word met
         (says (subst (λ o. core.IsOfChecked (setup_of s b) (core.cache_by opening.board ds o)) (sym same_object) (checked-told worker own object met checked))))
   ]

@@ -29,7 +29,7 @@ use Rattle.slub_lists.proofs.CheckedTaking.{checked-set}
 use Rattle.slub_lists.proofs.ObjectWords.{held-cache, memory-read, own-is, slab-read, used-word}
 use Rattle.slub_lists.proofs.Trimming.{place-live}
 use Rattle.slub_law_rounds.specs.Answered.{Answered, did_free, found_bad, gave, holding, last_put, last_written, of_worker, times_freed, times_taken}
-use Rattle.slub_law_rounds.specs.Round.{Cause, IsFreeable, IsOfChecked, IsOwnBytes, IsOwnValue, IsPokedUnder, IsSpare, Spot, has_word, layout_of, spot_by, spot_of, spot_under}
+use Rattle.slub_law_rounds.specs.Round.{ReplyCause, IsFreeable, IsOfChecked, IsOwnBytes, IsOwnValue, IsPokedUnder, IsSpare, Spot, has_word, layout_of, spot_by, spot_of, spot_under}
 use Rattle.slub_law_rounds.proofs.ByteTurns.{byte-in}
 use Rattle.slub_law_rounds.proofs.Damages.{damage-differs, damage-taken}
 use Rattle.slub_law_rounds.proofs.Puts.{under-more}
@@ -315,10 +315,10 @@ module _ (before : State) (past : List Answered) (s : State) (one : Answered) (a
   on-after object held did board =
       ap (λ (b : List (Option Held)). get_or b object None) board ∙ get_or-set_same s.board object (Some held) None (omega (arith, moves.inside object did, tale.caches.board))
 
-  as-is : (act : Act) (answer : Reply) → one.0.act ≡ act → one.1 ≡ answer → Cause before answers mine act answer → Cause before answers mine one.0.act one.1
-  as-is act answer asks is cause = subst (λ a. Cause before answers mine a one.1) (sym asks) (subst (λ r. Cause before answers mine act r) (sym is) cause)
+  as-is : (act : Act) (answer : Reply) → one.0.act ≡ act → one.1 ≡ answer → ReplyCause before answers mine act answer → ReplyCause before answers mine one.0.act one.1
+  as-is act answer asks is cause = subst (λ a. ReplyCause before answers mine a one.1) (sym asks) (subst (λ r. ReplyCause before answers mine act r) (sym is) cause)
 
-  cause-by : IsCoherent before → Step s one.0 one.1 after → Cause before answers mine one.0.act one.1
+  cause-by : IsCoherent before → Step s one.0 one.1 after → ReplyCause before answers mine one.0.act one.1
   cause-by coherent (gives place object live held asks names is_live owner is unheld board gone table memory cpus frames dry) =
       let did : gave object one ≡ true = rw (asks, is, eq-eqb object object refl) refl in
       let none = new-unheld before past s one after moves tale object did in
@@ -364,5 +364,5 @@ module _ (before : State) (past : List Answered) (s : State) (one : Answered) (a
   cause-by coherent (trims_none place asks none is now) = as-is _ _ asks is (sym (named-before place) ∙ none)
   cause-by coherent (flushes slabs asks is kept same_slabs) = as-is _ _ asks is tt
 
-  pub cause-of : IsCoherent before → Cause before answers mine one.0.act one.1
+  pub cause-of : IsCoherent before → ReplyCause before answers mine one.0.act one.1
   cause-of coherent = cause-by coherent (step-of before past s one after moves tale)

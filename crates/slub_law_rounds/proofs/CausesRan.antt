@@ -25,13 +25,14 @@ use Rattle.slub_core.specs.declared.call.CallKind.{CallKind}
 use Rattle.slub_core.specs.declared.call.CallKind.TheVariants as kind
 use Rattle.slub_core.specs.declared.local.Known.{Known}
 use Rattle.slub_core.specs.declared.local.Answered.{Answered as Done}
+use Rattle.slub_core.specs.Calls.{call_kind, call_object, call_word}
 use Rattle.slub_core.specs.Setup.{Setup}
 use Rattle.slub_core.specs.Steps.{is_outside}
 use Rattle.slub_core.specs.Replies as core
 use Rattle.slub_law_opening.specs.Opening.{Beside, board_word, setup_of}
 use Rattle.slub_calls.specs.Calls.{call_for}
 use Rattle.slub_law_rounds.specs.Answered.{Answered, holding, last_written, times_freed, times_taken}
-use Rattle.slub_law_rounds.specs.Round.{AllocCause, Cause, FlushCause, FreeCause, IsFreeable, IsOfChecked, IsOwnBytes, IsNearEnd, IsSpare, NamesUnchecked, PokeCause, ReadCause, Spot, TrimCause, WriteCause, has_word, layout_of, spot_by, spot_of, spot_under}
+use Rattle.slub_law_rounds.specs.Round.{AllocCause, ReplyCause, FlushCause, FreeCause, IsFreeable, IsOfChecked, IsOwnBytes, IsNearEnd, IsSpare, NamesUnchecked, PokeCause, ReadCause, Spot, TrimCause, WriteCause, has_word, layout_of, spot_by, spot_of, spot_under}
 use Rattle.slub_law_rounds.proofs.Split.{back}
 use Rattle.slub_law_rounds.proofs.Meeting.{IsMet}
 use Rattle.slub_law_rounds.proofs.TellingRan.{holding-told, spot_from, spot_of_calls, spot-told}
@@ -77,18 +78,18 @@ either-answers : (k one other : CallKind) (r : Reply) → may_answer one r ≡ t
 either-answers k one other r first second (inl is) = subst (λ k. may_answer k r ≡ true) (sym is) first
 either-answers k one other r first second (inr is) = subst (λ k. may_answer k r ≡ true) (sym is) second
 
-cause-answers : (m : Setup) (before : ℕ → Option BoardWord) (p : core.Public) (ds : List Done) (c : Call) (r : Reply) → core.Cause m before p ds c r → may_answer c.kind r ≡ true
+cause-answers : (m : Setup) (before : ℕ → Option BoardWord) (p : core.Public) (ds : List Done) (c : Call) (r : Reply) → core.Cause m before p ds c r → may_answer (call_kind c) r ≡ true
 cause-answers m before p ds c (reply.Given a) cause = subst (λ k. may_answer k (reply.Given a) ≡ true) (sym cause.0) refl
 cause-answers m before p ds c reply.NoFrames cause = subst (λ k. may_answer k reply.NoFrames ≡ true) (sym cause.0) refl
-cause-answers m before p ds c reply.NoSuchCache cause = either-answers c.kind kind.Alloc kind.Trim reply.NoSuchCache refl refl cause.0
+cause-answers m before p ds c reply.NoSuchCache cause = either-answers (call_kind c) kind.Alloc kind.Trim reply.NoSuchCache refl refl cause.0
 cause-answers m before p ds c reply.NoMemory cause = subst (λ k. may_answer k reply.NoMemory ≡ true) (sym cause.0) refl
 cause-answers m before p ds c (reply.IdsSpent t) cause = subst (λ k. may_answer k (reply.IdsSpent t) ≡ true) (sym cause.0) refl
 cause-answers m before p ds c (reply.Freed a) cause = subst (λ k. may_answer k (reply.Freed a) ≡ true) (sym cause.0) refl
-cause-answers m before p ds c reply.NotHeld cause = unheld-answers c.kind cause.0 cause.1
+cause-answers m before p ds c reply.NotHeld cause = unheld-answers (call_kind c) cause.0 cause.1
 cause-answers m before p ds c (reply.Corrupt d) cause = subst (λ k. may_answer k (reply.Corrupt d) ≡ true) (sym cause.0) refl
 cause-answers m before p ds c reply.Wrote cause = subst (λ k. may_answer k reply.Wrote ≡ true) (sym cause.0) refl
 cause-answers m before p ds c (reply.Value v) cause = subst (λ k. may_answer k (reply.Value v) ≡ true) (sym cause.0) refl
-cause-answers m before p ds c reply.OutOfObject cause = either-answers c.kind kind.Write kind.Read reply.OutOfObject refl refl cause.0
+cause-answers m before p ds c reply.OutOfObject cause = either-answers (call_kind c) kind.Write kind.Read reply.OutOfObject refl refl cause.0
 cause-answers m before p ds c reply.Poked cause = subst (λ k. may_answer k reply.Poked ≡ true) (sym cause.0) refl
 cause-answers m before p ds c reply.OutOfSlot cause = subst (λ k. may_answer k reply.OutOfSlot ≡ true) (sym cause.0) refl
 cause-answers m before p ds c reply.NotChecked cause = subst (λ k. may_answer k reply.NotChecked ≡ true) (sym cause.0) refl
@@ -113,7 +114,7 @@ addressed m before [] o k is = by (before o) is
     by : (x : Option BoardWord) → option_map (λ (b : BoardWord). b.cache) x ≡ Some k → (a : ℕ) × (core.address_on m x ≡ Some a)
     by None is = absurd (none-some k is)
     by (Some b) is = (address_of b.frame b.index (m.layout b.cache), refl)
-addressed m before (d ∷ ds) o k is = by (addressed m before ds o k) (eqb d.call.object o) d.reply is
+addressed m before (d ∷ ds) o k is = by (addressed m before ds o k) (eqb (call_object d.call) o) d.reply is
   where
     by : (core.cache_by before ds o ≡ Some k → (a : ℕ) × (core.address_by m before ds o ≡ Some a)) → (same : Bool) (r : Reply) → cond same (core.cache_after d.call r (core.cache_by before ds o)) (core.cache_by before ds o) ≡ Some k
         → (a : ℕ) × (cond same (core.address_after r (core.address_by m before ds o)) (core.address_by m before ds o) ≡ Some a)
@@ -128,7 +129,7 @@ cached m before p [] o a caused is = by (before o) is
     by : (x : Option BoardWord) → core.address_on m x ≡ Some a → (k : ℕ) × (option_map (λ (b : BoardWord). b.cache) x ≡ Some k)
     by None is = absurd (none-some a is)
     by (Some b) is = (b.cache, refl)
-cached m before p (d ∷ ds) o a caused is = by (cached m before p ds o a caused.1) (eqb d.call.object o) d.reply caused.0 is
+cached m before p (d ∷ ds) o a caused is = by (cached m before p ds o a caused.1) (eqb (call_object d.call) o) d.reply caused.0 is
   where
     by : (core.address_by m before ds o ≡ Some a → (k : ℕ) × (core.cache_by before ds o ≡ Some k)) → (same : Bool) (r : Reply) → core.Cause m before p ds d.call r
         → cond same (core.address_after r (core.address_by m before ds o)) (core.address_by m before ds o) ≡ Some a
@@ -188,15 +189,15 @@ module _ (s : State) (b : Beside) (rooms : List Known) (before : ℕ → Option 
         by None = grind (arith, nat_tests)
         by (Some live) = refl
 
-    inside : (c : Call) → core.IsWithin (setup_of s b) (core.cache_by before ds c.object) c → has_word s c.object own c.word ≡ true
-    inside c within = word-told c.object within.0 c.word within.1 ∙ by (is_word (layout_at s within.0) c.word) within.2
+    inside : (c : Call) → core.IsWithin (setup_of s b) (core.cache_by before ds (call_object c)) c → has_word s (call_object c) own (call_word c) ≡ true
+    inside c within = word-told (call_object c) within.0 (call_word c) within.1 ∙ by (is_word (layout_at s within.0) (call_word c)) within.2
       where
         by : (w : Bool) → not w ≡ false → w ≡ true
         by true is = refl
         by false is = sym is
 
-    outside : (c : Call) (k : ℕ) → core.cache_by before ds c.object ≡ Some k → is_outside (layout_at s k) c ≡ true → has_word s c.object own c.word ≡ false
-    outside c k cache out = word-told c.object k c.word cache ∙ by (is_word (layout_at s k) c.word) out
+    outside : (c : Call) (k : ℕ) → core.cache_by before ds (call_object c) ≡ Some k → is_outside (layout_at s k) (call_word c) ≡ true → has_word s (call_object c) own (call_word c) ≡ false
+    outside c k cache out = word-told (call_object c) k (call_word c) cache ∙ by (is_word (layout_at s k) (call_word c)) out
       where
         by : (w : Bool) → not w ≡ true → w ≡ false
         by true is = sym is
@@ -318,11 +319,11 @@ module _ (s : State) (b : Beside) (rooms : List Known) (before : ℕ → Option 
       flush-cause r may = absurd (false≢true may)
 
       pub cause-told : (a : Act) (r : Reply) → ((x word value : ℕ) → a ≡ Read word x → r ≡ reply.Value value → IsOfChecked s x own → IsOwnBytes s all own x word value)
-          → core.Cause (setup_of s b) before p ds (call_for s.table rooms cpu a) r → Cause s all own a r
+          → core.Cause (setup_of s b) before p ds (call_for s.table rooms cpu a) r → ReplyCause s all own a r
       cause-told a r reads cause = by a reads cause (cause-answers (setup_of s b) before p ds (call_for s.table rooms cpu a) r cause)
         where
           by : (a : Act) → ((x word value : ℕ) → a ≡ Read word x → r ≡ reply.Value value → IsOfChecked s x own → IsOwnBytes s all own x word value) → core.Cause (setup_of s b) before p ds (call_for s.table rooms cpu a) r
-              → may_answer (call_for s.table rooms cpu a).kind r ≡ true → Cause s all own a r
+              → may_answer (call_kind (call_for s.table rooms cpu a)) r ≡ true → ReplyCause s all own a r
           by (Alloc place x) reads cause may = alloc-cause place x r may cause
           by (Free x) reads cause may = free-cause x r may cause
           by (Write word x value) reads cause may = write-cause x word value r may cause

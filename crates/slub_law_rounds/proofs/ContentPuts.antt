@@ -7,6 +7,7 @@ use Rattle.slub_red_zone.specs.State.{CheckedState, bytes_of}
 use Rattle.slub_red_zone.specs.Changes.{IsObject}
 use Rattle.slub_core.specs.declared.local.Answered.{Answered}
 use Rattle.slub_core.specs.declared.local.Known.{Known}
+use Rattle.slub_core.specs.Calls.{call_object}
 use Rattle.slub_core.specs.Setup.{Setup, node_lock}
 use Rattle.slub_core.specs.World.{World, LockValue, Checked}
 use Rattle.slub_core.specs.Local.{Worker, here, call_of}
@@ -33,9 +34,9 @@ IsByteKept m value after q = (word place : ℕ) → q.held ≡ true → m.checks
 
 -- what a reply owes: the object of the call, and the bytes of each other
 pub words-act : (m : Setup) (opening : World) (rest : List (List Answered)) (value after : ℕ → LockValue) (known now : List Known) (ds : List Answered) (d : Answered) (others : List Worker)
-    → ((o : ℕ) → (d.call.object ≡ o → ⊥) → known_of now o ≡ known_of known o)
-    → ((o : ℕ) → (d.call.object ≡ o → ⊥) → IsByteKept m value after (known_of known o))
-    → ((o word place put : ℕ) → d.call.object ≡ o → OwnOf m opening ((d ∷ ds) ∷ rest) after (d ∷ ds) o word place put (known_of now o))
+    → ((o : ℕ) → (call_object d.call ≡ o → ⊥) → known_of now o ≡ known_of known o)
+    → ((o : ℕ) → (call_object d.call ≡ o → ⊥) → IsByteKept m value after (known_of known o))
+    → ((o word place put : ℕ) → call_object d.call ≡ o → OwnOf m opening ((d ∷ ds) ∷ rest) after (d ∷ ds) o word place put (known_of now o))
     → ((k : ℕ) (e : Worker) → k < length others → (o : ℕ) → IsByteKept m value after (known_of (get_or others k e).local.known o))
     → WordsOf m opening rest value known ds others → WordsOf m opening rest after now (d ∷ ds) others
 words-act m opening rest value after known now ds d others same stays mine theirs has =
@@ -43,7 +44,7 @@ words-act m opening rest value after known now ds d others same stays mine their
     let more = (d ∷ ds) ∷ rest in
     let grows = front-grows ds d rest in (
       λ o word place put.
-          elim (cases_eq d.call.object o) [
+          elim (cases_eq (call_object d.call) o) [
             | inl e ↦ mine o word place put e
             | inr other ↦
                 subst (OwnOf m opening more after (d ∷ ds) o word place put) (sym (same o other))
@@ -78,11 +79,11 @@ words-none m opening rest value after known ds others stays theirs has =
 
 -- every object that somebody holds, but one
 abbrev pub KeepsHeld : World → Worker → List Worker → CheckedState → CheckedState → Type 0
-KeepsHeld w x others old new = (k : ℕ) (e : Worker) → k < length (x ∷ others) → (o : ℕ) → let q = known_of (get_or (x ∷ others) k e).local.known o in q.held ≡ true → q.cache ≡ x.local.cache → (k ≡ 0 → (call_of x.local).object ≡ o → ⊥)
+KeepsHeld w x others old new = (k : ℕ) (e : Worker) → k < length (x ∷ others) → (o : ℕ) → let q = known_of (get_or (x ∷ others) k e).local.known o in q.held ≡ true → q.cache ≡ x.local.cache → (k ≡ 0 → call_object (call_of x.local) ≡ o → ⊥)
     → bytes_of new (record { frame = q.frame; index = q.index }) ≡ bytes_of old (record { frame = q.frame; index = q.index })
 
 module _ (w : World) (x : Worker) (others : List Worker) (old new : CheckedState) (was : w.value (node_lock x.local.cache) ≡ Checked old) (layout : new.layout ≡ old.layout) (keeps : KeepsHeld w x others old new) where
-  pub mine-stays : (o : ℕ) → ((call_of x.local).object ≡ o → ⊥) → IsByteKept w.setup w.value (with_slabs w.value x.local new) (known_of x.local.known o)
+  pub mine-stays : (o : ℕ) → (call_object (call_of x.local) ≡ o → ⊥) → IsByteKept w.setup w.value (with_slabs w.value x.local new) (known_of x.local.known o)
   mine-stays o other word place held checks ends below =
       let q = known_of x.local.known o in
       bytes-at w.setup w.value x.local.cache old new q word place was (λ mine. bytes-in old new q word place layout (keeps 0 x (omega arith) o held mine (λ z. other)))
@@ -98,10 +99,10 @@ same-stays w x old q was word place held checks ends below = bytes-at w.setup w.
 
 -- an object is written, taken back or poked: each other that is held keeps its bytes
 pub held-apart : (w : World) (x : Worker) (others : List Worker) (old new : CheckedState) → Stands w (x ∷ others) → in_checked x.local.spot ≡ true → w.value (node_lock x.local.cache) ≡ Checked old → x.local.place < length x.local.known → (here x.local).held ≡ true
-    → (call_of x.local).object ≡ (here x.local).object → ((other : Slot) → other ≢ slot_of x.local → IsObject old other → bytes_of new other ≡ bytes_of old other) → KeepsHeld w x others old new
+    → call_object (call_of x.local) ≡ (here x.local).object → ((other : Slot) → other ≢ slot_of x.local → IsObject old other → bytes_of new other ≡ bytes_of old other) → KeepsHeld w x others old new
 held-apart w x others old new s at was inside mine same keeps k e below o held of not = by k below held of not
   where
-    by : (k : ℕ) → k < length (x ∷ others) → (known_of (get_or (x ∷ others) k e).local.known o).held ≡ true → (known_of (get_or (x ∷ others) k e).local.known o).cache ≡ x.local.cache → (k ≡ 0 → (call_of x.local).object ≡ o → ⊥)
+    by : (k : ℕ) → k < length (x ∷ others) → (known_of (get_or (x ∷ others) k e).local.known o).held ≡ true → (known_of (get_or (x ∷ others) k e).local.known o).cache ≡ x.local.cache → (k ≡ 0 → call_object (call_of x.local) ≡ o → ⊥)
         → bytes_of new (record { frame = (known_of (get_or (x ∷ others) k e).local.known o).frame; index = (known_of (get_or (x ∷ others) k e).local.known o).index })
         ≡ bytes_of old (record { frame = (known_of (get_or (x ∷ others) k e).local.known o).frame; index = (known_of (get_or (x ∷ others) k e).local.known o).index })
     by zero below held of not = keeps _ (slot-differs _ (slot_of x.local) (apart-mine w x others o s inside mine held (λ z. not refl (same ∙ sym z)))) (held-old w x others old 0 e o s at was below held of).0

@@ -20,6 +20,7 @@ use Rattle.slub_slabinfo_text.specs.Lawful.{is_order, lacks, least_order_of, min
 use Rattle.slub_core.specs.declared.call.Call.{Call}
 use Rattle.slub_core.specs.declared.local.Known.{Known}
 use Rattle.slub_core.specs.declared.local.Answered.{Answered as Done}
+use Rattle.slub_core.specs.Calls.{call_cache, call_object}
 use Rattle.slub_core.specs.Replies as core
 use Rattle.slub_core.specs.World.{one_if}
 use Rattle.slub_law_opening.specs.Opening.{Beside, setup_of}
@@ -76,7 +77,7 @@ module _ (table : Table) (rooms : List Known) (o : ℕ) where
   knows-step ds event a r is (quiet _ _ none) =
       let still = quiet-still r none in
       let k = core.knows ds o in
-      let b = eqb (call_for table rooms event.cpu event.act).object o in
+      let b = eqb (call_object (call_for table rooms event.cpu event.act)) o in
       still-knows (is_alloc_of o event.act) (is_free_of o event.act) k r still ∙ sym (same-either b k) ∙ ap (λ x. cond b x k) (sym (still-known r k still))
 
   taken-knows : (own : List Answered) (k : Bool) → (k ≡ true) ⊎ (0 < times_taken o own) → fold knows_after k own ≡ true
@@ -144,7 +145,7 @@ module _ (table : Table) (rooms : List Known) (o word : ℕ) where
   written-step ds event a r is (quiet _ _ still) none =
       let c = call_for table rooms event.cpu event.act in
       let x = core.last_wrote ds o word in
-      quiet-written event r x still ∙ sym (same-either (eqb c.object o) x) ∙ ap (λ y. cond (eqb c.object o) y x) (sym (quiet-wrote c r x still))
+      quiet-written event r x still ∙ sym (same-either (eqb (call_object c) o) x) ∙ ap (λ y. cond (eqb (call_object c) o) y x) (sym (quiet-wrote c r x still))
 
   written-back : (own : List Answered) (ds : List Done) → All (IsMet table) own → core.freed_in o (back table rooms own ds) ≡ 0
       → fold (written_after o word) (core.last_wrote ds o word) own ≡ core.last_wrote (back table rooms own ds) o word
@@ -175,14 +176,14 @@ module _ (s : State) (b : Beside) (rooms : List Known) (order : ℕ) (lives : (k
   quiet-dry p c reply.NoFrames none = absurd none
   quiet-dry p c r none = refl
 
-  dry-one : (event : Event) (a : Act) (r : Reply) → event.act ≡ a → Meets s.table a r → cond (lacks s order (event, r)) 1 0 ≡ one_if (core.is_dry r && eqb (core.least_order (setup_of s b) (call_for s.table rooms event.cpu event.act).cache) order)
+  dry-one : (event : Event) (a : Act) (r : Reply) → event.act ≡ a → Meets s.table a r → cond (lacks s order (event, r)) 1 0 ≡ one_if (core.is_dry r && eqb (core.least_order (setup_of s b) (call_cache (call_for s.table rooms event.cpu event.act))) order)
   dry-one event _ _ is (gave place x address) = refl
   dry-one event _ _ is (lacked place x k is_k) = rw is (ap (λ b. cond b 1 0) (least-is place k is_k))
   dry-one event _ _ is (freed x address) = refl
   dry-one event _ _ is (found x damage) = refl
   dry-one event _ _ is (wrote x word value) = refl
   dry-one event _ _ is (poked x offset byte) = refl
-  dry-one event a r is (quiet _ _ none) = quiet-dry (is_order order (least_order_of s event.act)) (eqb (core.least_order (setup_of s b) (call_for s.table rooms event.cpu event.act).cache) order) r none
+  dry-one event a r is (quiet _ _ none) = quiet-dry (is_order order (least_order_of s event.act)) (eqb (core.least_order (setup_of s b) (call_cache (call_for s.table rooms event.cpu event.act))) order) r none
 
   pub dry-told : (own : List Answered) → All (IsMet s.table) own → core.dry_in (setup_of s b) order (back s.table rooms own []) ≡ count_by (lacks s order) own
   dry-told own met =

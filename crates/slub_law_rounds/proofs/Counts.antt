@@ -20,6 +20,7 @@ use Rattle.slub_lists.proofs.Trimming.{place-live}
 use Rattle.slub_slabinfo_text.specs.Lawful.{lacks}
 use Rattle.slub_core.specs.declared.local.Known.{Known}
 use Rattle.slub_core.specs.declared.local.Answered.{Answered as Done}
+use Rattle.slub_core.specs.Calls.{call_object}
 use Rattle.slub_core.specs.Local.{Local}
 use Rattle.slub_core.specs.World.{World, one_if}
 use Rattle.slub_core.specs.Accounted.{boarded}
@@ -59,7 +60,7 @@ more-back : (s : State) (rooms : List Known) (o : ℕ) (own : List Answered) (ds
 more-back s rooms o [] ds = omega arith
 more-back s rooms o (one ∷ own) ds =
     let d = told s.table rooms one in
-    omega (arith, more-step (eqb d.call.object o) d.reply (core.holding ds o) (core.freed_in o ds), more-back s rooms o own (d ∷ ds))
+    omega (arith, more-step (eqb (call_object d.call) o) d.reply (core.holding ds o) (core.freed_in o ds), more-back s rooms o own (d ∷ ds))
 
 some-of : {A : Type 0} (x : Option A) → is_some x ≡ true → (y : A) × (x ≡ Some y)
 some-of None none = absurd (false≢true none)

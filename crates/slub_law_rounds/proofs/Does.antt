@@ -32,6 +32,7 @@ use Rattle.slub_core.specs.declared.local.Answered.{Answered}
 use Rattle.slub_core.specs.declared.local.Known.{Known}
 use Rattle.slub_core.specs.declared.spot.Spot.TheVariants.{InChecked}
 use Rattle.slub_core.specs.declared.spot.CheckedSpot.TheVariants.{DoChecked, AddSlab, LockRun, GiveChecked}
+use Rattle.slub_core.specs.Calls.{call_object, call_word, call_offset, call_byte}
 use Rattle.slub_core.specs.Setup.{Setup, node_lock, pool_lock}
 use Rattle.slub_core.specs.World.{World, LockValue, Checked, Pool, update, pool_of, one_if}
 use Rattle.slub_core.specs.Local.{Local, Worker, Change, here, call_of, address_in, run_of, at, loses, noted}
@@ -111,25 +112,25 @@ read-some m opening dones cache object at None byte to none = by (opening.board 
 -- who wrote a word, and was not given the object since, put something there
 wrote-puts : (ds : List Answered) (o word place : ℕ) → given_in o ds ≡ 0 → wrote ds o word ≡ true → last_put ds o word place ≡ None → ⊥
 wrote-puts [] o word place none is last = false≢true is
-wrote-puts (d ∷ ds) o word place none is last = elim (cases_eq d.call.object o) [
-  | inr other ↦ wrote-puts ds o word place (omega arith) (past d.reply (eqb d.call.word word) (ne_eqb d.call.object o other) is) (sym (put-other d ds o word place other) ∙ last)
-  | inl same ↦ by d.reply (let z : one_if (is_given d.reply && eqb d.call.object o) ≡ 0 = omega arith in rw (eq-eqb d.call.object o same) at z) (let z = is in rw (eq-eqb d.call.object o same) at z) (sym (put-this d ds o word place same) ∙ last) (λ z w. wrote-puts ds o word place (omega arith) w z)
+wrote-puts (d ∷ ds) o word place none is last = elim (cases_eq (call_object d.call) o) [
+  | inr other ↦ wrote-puts ds o word place (omega arith) (past d.reply (eqb (call_word d.call) word) (ne_eqb (call_object d.call) o other) is) (sym (put-other d ds o word place other) ∙ last)
+  | inl same ↦ by d.reply (let z : one_if (is_given d.reply && eqb (call_object d.call) o) ≡ 0 = omega arith in rw (eq-eqb (call_object d.call) o same) at z) (let z = is in rw (eq-eqb (call_object d.call) o same) at z) (sym (put-this d ds o word place same) ∙ last) (λ z w. wrote-puts ds o word place (omega arith) w z)
 ]
   where
-    past : (r : Reply) (b : Bool) → eqb d.call.object o ≡ false → ((is_wrote r && eqb d.call.object o && b) || wrote ds o word) ≡ true → wrote ds o word ≡ true
+    past : (r : Reply) (b : Bool) → eqb (call_object d.call) o ≡ false → ((is_wrote r && eqb (call_object d.call) o && b) || wrote ds o word) ≡ true → wrote ds o word ≡ true
     past r b other e = by_wrote (is_wrote r) (rw other at e)
       where
         by_wrote : (c : Bool) → ((c && false && b) || wrote ds o word) ≡ true → wrote ds o word ≡ true
         by_wrote true e = e
         by_wrote false e = e
 
-    by : (r : Reply) → one_if (is_given r && true) ≡ 0 → ((is_wrote r && true && eqb d.call.word word) || wrote ds o word) ≡ true → put_after d.call r word place (last_put ds o word place) ≡ None → (last_put ds o word place ≡ None → wrote ds o word ≡ true → ⊥) → ⊥
+    by : (r : Reply) → one_if (is_given r && true) ≡ 0 → ((is_wrote r && true && eqb (call_word d.call) word) || wrote ds o word) ≡ true → put_after d.call r word place (last_put ds o word place) ≡ None → (last_put ds o word place ≡ None → wrote ds o word ≡ true → ⊥) → ⊥
     by (reply.Given a) none w z rest = omega (arith, none)
-    by reply.Wrote none w z rest = elim (cases_Bool (eqb d.call.word word)) [
+    by reply.Wrote none w z rest = elim (cases_Bool (eqb (call_word d.call) word)) [
       | inl hit ↦ none-some _ (sym (rw hit at z))
       | inr missed ↦ rest (rw missed at z) (rw missed at w)
     ]
-    by reply.Poked none w z rest = elim (cases_Bool (int_eq d.call.offset (pos (8 * word + place)))) [
+    by reply.Poked none w z rest = elim (cases_Bool (int_eq (call_offset d.call) (pos (8 * word + place)))) [
       | inl hit ↦ none-some _ (sym (rw hit at z))
       | inr missed ↦ rest (rw missed at z) w
     ]
@@ -156,13 +157,13 @@ range-long xs a n fits = grind (arith, common_steps)
 
 value-read : (opening w : World) (x : Worker) (others : List Worker) (rest : List (List Answered)) (old : CheckedState) → x.local.spot ≡ InChecked DoChecked Read → Stands w (x ∷ others) → IsAccounted opening w (x ∷ others)
     → w.value (node_lock x.local.cache) ≡ Checked old → IsCheckedOf w.setup x.local.cache old → rest ≡ map (λ (y : Worker). y.local.done) others → WordsAt w.setup opening rest others w.value x.local → BoardedAt w.setup opening rest w.value x.local
-    → let v = word_of old (slot_of x.local) (call_of x.local).word in IsValue w.setup opening ((one-more x.local (reply.Value v) ∷ x.local.done) ∷ rest) x.local.done (call_of x.local) v
+    → let v = word_of old (slot_of x.local) (call_word (call_of x.local)) in IsValue w.setup opening ((one-more x.local (reply.Value v) ∷ x.local.done) ∷ rest) x.local.done (call_of x.local) v
 value-read opening w x others rest old is s ac was of are words boarded_at =
     let l = x.local in
     let m = w.setup in
     let ds = l.done in
     let slot = slot_of l in
-    let W = (call_of l).word in
+    let W = call_word (call_of l) in
     let v = word_of old slot W in
     let d = one-more l (reply.Value v) in
     let ok = at-work w x others s in
@@ -177,7 +178,7 @@ value-read opening w x others rest old is s ac was of are words boarded_at =
     let b = of.sound.layout.bounds in
     let from = old.layout.left_pad + 8 * W in
     let long = slot-long old.layout (slab_of old slot.frame).bytes slot.index (used-inside old slot of.sound used) in
-    let o = (call_of l).object in
+    let o = call_object (call_of l) in
     let kq : known_of l.known o ≡ here l = ap (known_of l.known) mine.same ∙ mine.knew in
     let held : (here l).held ≡ true = keep.1 in
     let holds : holding ds o ≡ true = sym (tale.holds o (λ f. absurd (false≢true (let z : is_freeing l.spot ≡ false = rw is refl in sym z ∙ f)))) ∙ ap (λ (k : Known). k.held) kq ∙ keep.1 in
@@ -243,7 +244,7 @@ both_write opening w x others rest old is s ac was of are has words board = (doe
 
 both_read : DoesBoth Read
 both_read opening w x others rest old is s ac was of are has words board =
-    let v = word_of old (slot_of x.local) (call_of x.local).word in
+    let v = word_of old (slot_of x.local) (call_word (call_of x.local)) in
     let d = one-more x.local (reply.Value v) in (
       has-reply w.setup opening w.value x.local.done rest d (λ checked. value-read opening w x others rest old is s ac was of are words board) has,
       words-calm w.setup opening rest w.value w.value x.local.known x.local.done d others (calm-value v) (λ o word place held checks ends below. refl) (λ k e below o word place held checks ends few. refl) words,
@@ -266,24 +267,24 @@ had-some opening w x others ac is real =
 
 both_poke : DoesBoth Poke
 both_poke opening w x others rest old is s ac was of are has words board =
-    let p = by_place (is_offset old.layout (call_of x.local).offset) (nat_lt (here x.local).index (objects_in (slab_of old (here x.local).frame))) refl refl in
+    let p = by_place (is_offset old.layout (call_offset (call_of x.local))) (nat_lt (here x.local).index (objects_in (slab_of old (here x.local).frame))) refl refl in
     (does_poke opening w x others rest old is s ac was of has, p.0, p.1)
   where
     poked_as : Bool → Bool → Change
     poked_as inside there = record {
-      value = with_slabs w.value x.local (if inside && there then with_byte old (slot_of x.local) (call_of x.local).offset (call_of x.local).byte else old);
+      value = with_slabs w.value x.local (if inside && there then with_byte old (slot_of x.local) (call_offset (call_of x.local)) (call_byte (call_of x.local)) else old);
       local = at x.local (InChecked GiveChecked Poke);
       reply = Some (if inside then (if there then reply.Poked else reply.NotHeld) else reply.OutOfSlot);
     }
 
-    by_place : (inside there : Bool) → is_offset old.layout (call_of x.local).offset ≡ inside → nat_lt (here x.local).index (objects_in (slab_of old (here x.local).frame)) ≡ there → WordsAfter w.setup opening rest others (poked_as inside there) × BoardedAfter w.setup opening rest (poked_as inside there)
+    by_place : (inside there : Bool) → is_offset old.layout (call_offset (call_of x.local)) ≡ inside → nat_lt (here x.local).index (objects_in (slab_of old (here x.local).frame)) ≡ there → WordsAfter w.setup opening rest others (poked_as inside there) × BoardedAfter w.setup opening rest (poked_as inside there)
     by_place true true e f =
         let ok = at-work w x others s in
         let k = ok.spot.pokes (rw is refl) in
         let put = poke-was opening w x others rest old is s ac of in (
-          words-poke opening w x others rest old s ac was of is (is-between (pos 0) (place_of old.layout (call_of x.local).offset) (pos old.layout.size) e)
+          words-poke opening w x others rest old s ac was of is (is-between (pos 0) (place_of old.layout (call_offset (call_of x.local))) (pos old.layout.size) e)
               (ltb-true (here x.local).index (objects_in (slab_of old (here x.local).frame)) f) put (put, refl) (had-some opening w x others ac is k.2) words,
-          boarded-poke opening w x others rest (over-of others rest are) old s ac (rw is refl) was of (is-between (pos 0) (place_of old.layout (call_of x.local).offset) (pos old.layout.size) e)
+          boarded-poke opening w x others rest (over-of others rest are) old s ac (rw is refl) was of (is-between (pos 0) (place_of old.layout (call_offset (call_of x.local))) (pos old.layout.size) e)
               (ltb-true (here x.local).index (objects_in (slab_of old (here x.local).frame)) f) k.1 put board,
         )
     by_place true false e f = (

@@ -15,7 +15,7 @@ use Rattle.slub_core.specs.Local.{Local}
 use Rattle.slub_core.specs.World.{World, pool_of, one_if}
 use Rattle.slub_core.specs.Accounted.{AreDistinct, known_of, place_of}
 use Rattle.slub_core.specs.Replies.{holding}
-use Rattle.slub_core.specs.Round.{IsRound, held_over}
+use Rattle.slub_core.specs.Round.{IsRoundOnWords, held_over}
 use Rattle.slub_schedule.specs.Finished.{HoldsAsTold}
 use Rattle.slub_schedule.specs.Closed.{held_by, or_held, word_of}
 use Rattle.slub_schedule.proofs.Closed.{held_count}
@@ -27,7 +27,7 @@ use Rattle.slub_calls.specs.Calls.{workers_of}
 -- the words and the workers after a round, the words before it, and the lists before and after
 pub record Ended (s : State) (b : Beside) (round : Round) (opening w : World) (ls : List Local) (lists : State) : Type 0 where
   pub board : (o : ℕ) → opening.board o ≡ option_map board_word (held_under s o)
-  pub law : IsRound (setup_of s b) opening w (map (λ (l : Local). l.todo) (workers_of s.table round)) (map (λ (l : Local). l.done) ls)
+  pub law : IsRoundOnWords (setup_of s b) opening w (map (λ (l : Local). l.todo) (workers_of s.table round)) (map (λ (l : Local). l.done) ls)
   pub setup : w.setup ≡ setup_of s b
   pub counted : Counted opening w ls
   pub distinct : All (λ (l : Local). AreDistinct l.known) ls

@@ -27,6 +27,7 @@ use Rattle.slub_core.specs.declared.local.Answered.{Answered}
 use Rattle.slub_core.specs.declared.local.Known.{Known}
 use Rattle.slub_core.specs.declared.spot.Spot.TheVariants.{InChecked}
 use Rattle.slub_core.specs.declared.spot.CheckedSpot.TheVariants.{DoChecked}
+use Rattle.slub_core.specs.Calls.{call_object}
 use Rattle.slub_core.specs.Setup.{Setup, node_lock}
 use Rattle.slub_core.specs.World.{World, LockValue, Checked, one_if}
 use Rattle.slub_core.specs.Local.{Local, Worker, here, call_of}
@@ -49,14 +50,14 @@ use Rattle.slub_law_rounds.proofs.ContentPuts.{WordsOf, KeepsHeld, words-act, wo
 use Rattle.slub_law_rounds.proofs.Stores.{here-of}
 
 -- the worker knows each other object as it did
-pub other-known : (l : Local) (k : Known) (o : ℕ) → l.place < length l.known → k.object ≡ (here l).object → (call_of l).object ≡ (here l).object → ((call_of l).object ≡ o → ⊥) → known_of (set l.known l.place k) o ≡ known_of l.known o
+pub other-known : (l : Local) (k : Known) (o : ℕ) → l.place < length l.known → k.object ≡ (here l).object → call_object (call_of l) ≡ (here l).object → (call_object (call_of l) ≡ o → ⊥) → known_of (set l.known l.place k) o ≡ known_of l.known o
 other-known l k o below same called other = known_of-other l.known l.place k o below same (λ e. other (called ∙ sym e))
 
 -- of an object that was just given, or is freed, nothing is said
-pub given-none : (m : Setup) (opening : World) (dones : List (List Answered)) (value : ℕ → LockValue) (d : Answered) (ds : List Answered) (a o word place put : ℕ) (k : Known) → d.reply ≡ reply.Given a → d.call.object ≡ o → OwnOf m opening dones value (d ∷ ds) o word place put k
+pub given-none : (m : Setup) (opening : World) (dones : List (List Answered)) (value : ℕ → LockValue) (d : Answered) (ds : List Answered) (a o word place put : ℕ) (k : Known) → d.reply ≡ reply.Given a → call_object d.call ≡ o → OwnOf m opening dones value (d ∷ ds) o word place put k
 given-none m opening dones value d ds a o word place put k is e held hold checks last ends below = absurd (none-some put (let z = sym (put-this d ds o word place e) ∙ last in rw is at z))
 
-pub freed-none : (m : Setup) (opening : World) (dones : List (List Answered)) (value : ℕ → LockValue) (d : Answered) (ds : List Answered) (a o word place put : ℕ) (k : Known) → d.reply ≡ reply.Freed a → d.call.object ≡ o → OwnOf m opening dones value (d ∷ ds) o word place put k
+pub freed-none : (m : Setup) (opening : World) (dones : List (List Answered)) (value : ℕ → LockValue) (d : Answered) (ds : List Answered) (a o word place put : ℕ) (k : Known) → d.reply ≡ reply.Freed a → call_object d.call ≡ o → OwnOf m opening dones value (d ∷ ds) o word place put k
 freed-none m opening dones value d ds a o word place put k is e held hold checks last ends below = absurd (false≢true (let z = sym (holding-this d ds o e) ∙ hold in rw is at z))
 
 on-some : (m : Setup) (x : Option BoardWord) (a : ℕ) → address_on m x ≡ Some a → boarded x ≡ 1
@@ -89,7 +90,7 @@ module _ (opening w : World) (x : Worker) (others : List Worker) (rest : List (L
         | inr other ↦ ap (λ (slab : SlabState). slot_bytes old.layout slab.bytes q.index) (slab_at-other mid.slabs f q.frame None other) ∙ first
       ]
     where
-      busy : (k : ℕ) (e : Worker) → k < length (x ∷ others) → (o : ℕ) → (known_of (get_or (x ∷ others) k e).local.known o).held ≡ true → (known_of (get_or (x ∷ others) k e).local.known o).cache ≡ x.local.cache → (k ≡ 0 → (call_of x.local).object ≡ o → ⊥)
+      busy : (k : ℕ) (e : Worker) → k < length (x ∷ others) → (o : ℕ) → (known_of (get_or (x ∷ others) k e).local.known o).held ≡ true → (known_of (get_or (x ∷ others) k e).local.known o).cache ≡ x.local.cache → (k ≡ 0 → call_object (call_of x.local) ≡ o → ⊥)
           → (known_of (get_or (x ∷ others) k e).local.known o).frame ≡ (here x.local).frame → ⊥
       busy k e below o held cache not same = apart k below held cache not same
         where
@@ -111,7 +112,7 @@ module _ (opening w : World) (x : Worker) (others : List Worker) (rest : List (L
               let was_zero : idle old f i ≡ 0 = subst (λ h. idle old h i ≡ 0) same there.1 in
               omega arith
 
-          apart : (k : ℕ) → k < length (x ∷ others) → (known_of (get_or (x ∷ others) k e).local.known o).held ≡ true → (known_of (get_or (x ∷ others) k e).local.known o).cache ≡ x.local.cache → (k ≡ 0 → (call_of x.local).object ≡ o → ⊥)
+          apart : (k : ℕ) → k < length (x ∷ others) → (known_of (get_or (x ∷ others) k e).local.known o).held ≡ true → (known_of (get_or (x ∷ others) k e).local.known o).cache ≡ x.local.cache → (k ≡ 0 → call_object (call_of x.local) ≡ o → ⊥)
               → (known_of (get_or (x ∷ others) k e).local.known o).frame ≡ (here x.local).frame → ⊥
           apart zero below held cache not same =
               let ok = (s.fresh.workers 0 x (omega arith)) in

@@ -13,12 +13,13 @@ use Rattle.slub_trace.specs.declared.reply.Reply.{Reply}
 use Rattle.slub_trace.specs.declared.reply.Reply.TheVariants as reply
 use Rattle.slub_core.specs.declared.call.Call.{Call}
 use Rattle.slub_core.specs.declared.local.Answered.{Answered}
+use Rattle.slub_core.specs.Calls.{call_object, call_word}
 use Rattle.slub_core.specs.Setup.{Setup, node_lock}
 use Rattle.slub_core.specs.World.{World, LockValue, Checked, update}
 use Rattle.slub_core.specs.Checked.{slabs_in}
 use Rattle.slub_core.proofs.Update.{update_same, update_other}
 use Rattle.slub_law_rounds.proofs.Cleaning.{Clean}
-use Rattle.slub_law_rounds.specs.Contents.{slabs_at, WasPoked, Came, IsDamage, IsReport, KeepsSlabs, IsCorrupt, last_put, IsPut, IsReadByte, IsValue, Tells, AreTold, KeepsContents}
+use Rattle.slub_law_rounds.specs.Contents.{slabs_at, WasPoked, Came, IsDamage, IsReport, KeepsSlabs, IsCorrupt, last_put, IsPut, IsReadByte, IsValue, TellsOfByte, AreTold, KeepsContents}
 use Rattle.slub_law_rounds.proofs.Moves.{Goes, keeps-more, goes-none}
 
 -- each worker has its replies, and maybe more
@@ -118,10 +119,10 @@ value-later m before dones more own call v grows is = record {
   eight = is.eight;
   spelled = is.spelled;
   each = λ place below.
-      read-later m before dones more is.cache call.object (pos (is.address + (8 * call.word + place))) (last_put own call.object call.word place) (slice_index is.bytes place) grows (is.each place below);
+      read-later m before dones more is.cache (call_object call) (pos (is.address + (8 * call_word call + place))) (last_put own (call_object call) (call_word call) place) (slice_index is.bytes place) grows (is.each place below);
 }
 
-tells-later : (m : Setup) (before : World) (dones more : List (List Answered)) (own : List Answered) (call : Call) (r : Reply) → Grows dones more → Tells m before dones own call r → Tells m before more own call r
+tells-later : (m : Setup) (before : World) (dones more : List (List Answered)) (own : List Answered) (call : Call) (r : Reply) → Grows dones more → TellsOfByte m before dones own call r → TellsOfByte m before more own call r
 tells-later m before dones more own call (reply.Corrupt damage) grows is = corrupt-later m before dones more own call damage grows is
 tells-later m before dones more own call (reply.Given a) grows is = tt
 tells-later m before dones more own call (reply.Freed a) grows is = tt
@@ -179,7 +180,7 @@ front-grows ds d rest es (zero, below, is) = (d ∷ [], (0, omega arith, ap (λ 
 front-grows ds d rest es (suc k, below, is) = ([], (suc k, omega arith, is))
 
 -- it has one more reply
-pub has-reply : (m : Setup) (opening : World) (value : ℕ → LockValue) (ds : List Answered) (rest : List (List Answered)) (d : Answered) → Tells m opening ((d ∷ ds) ∷ rest) ds d.call d.reply
+pub has-reply : (m : Setup) (opening : World) (value : ℕ → LockValue) (ds : List Answered) (rest : List (List Answered)) (d : Answered) → TellsOfByte m opening ((d ∷ ds) ∷ rest) ds d.call d.reply
     → Has m opening value (ds ∷ rest) → Has m opening value ((d ∷ ds) ∷ rest)
 has-reply m opening value ds rest d tells has =
     let more = (d ∷ ds) ∷ rest in

@@ -15,6 +15,7 @@ use Rattle.slub_core.specs.declared.spot.Spot.{Spot}
 use Rattle.slub_core.specs.declared.spot.Spot.TheVariants.{InFree, InChecked}
 use Rattle.slub_core.specs.declared.spot.CheckedSpot.TheVariants.{LockChecked, DoChecked}
 use Rattle.slub_core.specs.declared.spot.FreeSpot.TheVariants.{LoadOwn, LinkOwn, Push, LoadSlab, LinkSlab, FreeSlab, LockFree, LoadLocked, GoBack, LinkLocked, FreeLocked}
+use Rattle.slub_core.specs.Calls.{call_object, call_word}
 use Rattle.slub_core.specs.Setup.{Setup}
 use Rattle.slub_core.specs.World.{World, one_if}
 use Rattle.slub_core.specs.Local.{Worker, here}
@@ -34,9 +35,9 @@ pub cache-ungiven : (before : ℕ → Option BoardWord) (ds : List Answered) (o 
 cache-ungiven before [] o none = refl
 cache-ungiven before (d ∷ ds) o none =
     let rest = cache-ungiven before ds o (omega arith) in
-    elim (cases_eq d.call.object o) [
-      | inl e ↦ rw (eq-eqb d.call.object o e) (by_reply d.reply (let z : one_if (is_given d.reply && eqb d.call.object o) ≡ 0 = omega arith in rw (eq-eqb d.call.object o e) at z) ∙ rest)
-      | inr n ↦ rw (ne_eqb d.call.object o n) rest
+    elim (cases_eq (call_object d.call) o) [
+      | inl e ↦ rw (eq-eqb (call_object d.call) o e) (by_reply d.reply (let z : one_if (is_given d.reply && eqb (call_object d.call) o) ≡ 0 = omega arith in rw (eq-eqb (call_object d.call) o e) at z) ∙ rest)
+      | inr n ↦ rw (ne_eqb (call_object d.call) o n) rest
     ]
   where
     by_reply : (r : Reply) {x : Option ℕ} → one_if (is_given r && true) ≡ 0 → cache_after d.call r x ≡ x
@@ -61,16 +62,16 @@ cache-ungiven before (d ∷ ds) o none =
 -- a worker knows what it wrote to
 wrote-knows : (m : Setup) (before : ℕ → Option BoardWord) (p : Public) (ds : List Answered) (o word : ℕ) → Caused m before p ds → wrote ds o word ≡ true → knows ds o ≡ true
 wrote-knows m before p [] o word caused is = absurd (false≢true is)
-wrote-knows m before p (d ∷ ds) o word caused is = elim (cases_eq d.call.object o) [
-  | inl same ↦ rw (eq-eqb d.call.object o same) (by d.reply (wrote-knows m before p ds o word caused.1) caused.0 (rw (eq-eqb d.call.object o same) at is) same)
-  | inr other ↦ rw (ne_eqb d.call.object o other) (wrote-knows m before p ds o word caused.1 (past (is_wrote d.reply) (eqb d.call.word word) (rw (ne_eqb d.call.object o other) at is)))
+wrote-knows m before p (d ∷ ds) o word caused is = elim (cases_eq (call_object d.call) o) [
+  | inl same ↦ rw (eq-eqb (call_object d.call) o same) (by d.reply (wrote-knows m before p ds o word caused.1) caused.0 (rw (eq-eqb (call_object d.call) o same) at is) same)
+  | inr other ↦ rw (ne_eqb (call_object d.call) o other) (wrote-knows m before p ds o word caused.1 (past (is_wrote d.reply) (eqb (call_word d.call) word) (rw (ne_eqb (call_object d.call) o other) at is)))
 ]
   where
     past : (c b : Bool) → ((c && false && b) || wrote ds o word) ≡ true → wrote ds o word ≡ true
     past true b e = e
     past false b e = e
 
-    by : (r : Reply) → (wrote ds o word ≡ true → knows ds o ≡ true) → Cause m before p ds d.call r → ((is_wrote r && true && eqb d.call.word word) || wrote ds o word) ≡ true → d.call.object ≡ o → knows_after r (knows ds o) ≡ true
+    by : (r : Reply) → (wrote ds o word ≡ true → knows ds o ≡ true) → Cause m before p ds d.call r → ((is_wrote r && true && eqb (call_word d.call) word) || wrote ds o word) ≡ true → call_object d.call ≡ o → knows_after r (knows ds o) ≡ true
     by (reply.Given a) was cause now same = refl
     by (reply.Freed a) was cause now same = refl
     by (reply.Corrupt d) was cause now same = refl

@@ -18,6 +18,7 @@ use Rattle.slub_core.specs.declared.local.Answered.{Answered as Done}
 use Rattle.slub_core.specs.Setup.{Setup}
 use Rattle.slub_core.specs.Replies.{Public, Cause, Caused}
 use Rattle.slub_core.specs.declared.call.Call.{Call}
+use Rattle.slub_core.specs.Calls.{call_kind, call_cache}
 use Rattle.slub_calls.specs.Calls.{call_for, cache_named}
 use Rattle.slub_law_rounds.specs.Answered.{Answered}
 use Rattle.slub_law_rounds.proofs.Split.{told, back}
@@ -53,12 +54,12 @@ pub data Meets (table : Table) : Act → Reply → Type 0 where
 
 -- the call that a reply answers
 abbrev Suits : Call → Reply → Type 0
-Suits c (reply.Given address) = c.kind ≡ kind.Alloc
-Suits c reply.NoFrames = (c.kind ≡ kind.Alloc) × ((k : ℕ) × (c.cache ≡ Some k))
-Suits c (reply.Freed address) = c.kind ≡ kind.Free
-Suits c (reply.Corrupt damage) = c.kind ≡ kind.Free
-Suits c reply.Wrote = c.kind ≡ kind.Write
-Suits c reply.Poked = c.kind ≡ kind.Poke
+Suits c (reply.Given address) = call_kind c ≡ kind.Alloc
+Suits c reply.NoFrames = (call_kind c ≡ kind.Alloc) × ((k : ℕ) × (call_cache c ≡ Some k))
+Suits c (reply.Freed address) = call_kind c ≡ kind.Free
+Suits c (reply.Corrupt damage) = call_kind c ≡ kind.Free
+Suits c reply.Wrote = call_kind c ≡ kind.Write
+Suits c reply.Poked = call_kind c ≡ kind.Poke
 Suits c _ = ⊤
 
 cause-suits : (m : Setup) (before : ℕ → Option BoardWord) (p : Public) (ds : List Done) (c : Call) (r : Reply) → Cause m before p ds c r → Suits c r

@@ -57,12 +57,13 @@ use Rattle.slub_core.specs.Discard.{discard_advance}
 use Rattle.slub_core.specs.PutOnList.{put_on_list_advance}
 use Rattle.slub_core.specs.Free.{free_advance, board_taken, without, is_long, count_loaded, set_taken}
 use Rattle.slub_core.specs.declared.spot.Discard.TheVariants.{FromFree}
+use Rattle.slub_core.specs.Calls.{call_cache, call_word}
 use Rattle.slub_core.specs.MoveSet.{move_set_advance, after_move, front_taken}
 use Rattle.slub_core.specs.Offline.{offline_advance, trim_advance, scan_node, next_swept, list_swept}
 use Rattle.slub_core.specs.Checked.{checked_advance, move_run, way_of_found}
 use Rattle.slub_core.specs.Steps.{advance_at, at_once, told_of_use, told_of_alloc, told_of_trim, told_at_once, is_outside}
 use Rattle.slub_core.proofs.Update.{update_other, update_at}
-use Rattle.slub_law_rounds.specs.Contents.{Tells}
+use Rattle.slub_law_rounds.specs.Contents.{TellsOfByte}
 
 -- such a reply changes nothing of what a worker holds, or put anywhere, and tells nothing of bytes
 abbrev pub MildReply : Option Reply → Type 0
@@ -74,7 +75,7 @@ MildReply (Some (reply.Value value)) = ⊥
 MildReply (Some reply.Poked) = ⊥
 MildReply _ = Unit {0}
 
-pub tells-mild : (m : Setup) (opening : World) (dones : List (List Answered)) (own : List Answered) (call : Call) (r : Reply) → MildReply (Some r) → Tells m opening dones own call r
+pub tells-mild : (m : Setup) (opening : World) (dones : List (List Answered)) (own : List Answered) (call : Call) (r : Reply) → MildReply (Some r) → TellsOfByte m opening dones own call r
 tells-mild m opening dones own call (reply.Corrupt damage) mild = absurd mild
 tells-mild m opening dones own call (reply.Value v) mild = absurd mild
 tells-mild m opening dones own call (reply.Given a) mild = tt
@@ -274,8 +275,8 @@ turn-step m value l s a = keeps refl tt
 
 -- ---- replies that take no step
 
-use-mild : (m : Setup) (known : Known) (call : Call) → MildReply (told_of_use m known call)
-use-mild m known call = by (not known.held) (is_outside (m.layout known.cache) call)
+use-mild : (m : Setup) (known : Known) (call : Call) → MildReply (told_of_use m known (call_word call))
+use-mild m known call = by (not known.held) (is_outside (m.layout known.cache) (call_word call))
   where
     by : (a b : Bool) → MildReply (if a then Some reply.NotHeld else if b then Some reply.OutOfObject else None)
     by true b = tt
@@ -283,7 +284,7 @@ use-mild m known call = by (not known.held) (is_outside (m.layout known.cache) c
     by false false = tt
 
 pub rest-mild : (m : Setup) (known : Known) (call : Call) (kind : CallKind) → MildReply (told_at_once m known call kind)
-rest-mild m known call Alloc = by call.cache
+rest-mild m known call Alloc = by (call_cache call)
   where
     by : (cache : Option ℕ) → MildReply (told_of_alloc cache)
     by None = tt
@@ -297,7 +298,7 @@ rest-mild m known call Poke = by (eqb known.frame 0) (not (m.checks known.cache)
     by true b = tt
     by false true = tt
     by false false = tt
-rest-mild m known call Trim = by call.cache
+rest-mild m known call Trim = by (call_cache call)
   where
     checked : (b : Bool) → MildReply (if b then Some reply.Checked else None)
     checked true = tt

@@ -13,6 +13,7 @@ use Rattle.slub_core.specs.declared.spot.Spot.{Spot}
 use Rattle.slub_core.specs.declared.spot.Spot.TheVariants.{Between, InFree}
 use Rattle.slub_core.specs.declared.spot.FreeSpot.TheVariants.{TakeBoard}
 use Rattle.slub_core.specs.declared.step.Answer.TheVariants.{Word}
+use Rattle.slub_core.specs.Calls.{call_kind, call_object}
 use Rattle.slub_core.specs.Setup.{Setup}
 use Rattle.slub_core.specs.Words.{after_op, answer_of, board_in, number_of, word_count}
 use Rattle.slub_core.specs.World.{World, LockValue, world_from, world_of}
@@ -64,10 +65,10 @@ noted-from : (before : ℕ → Option BoardWord) (l : Local) (r : Option Reply) 
 noted-from before l None ok = ok
 noted-from before l (Some r) ok = ok
 
-asked-first : (o : ℕ) (cs : List Call) → 1 ≤ length cs → (get_or cs 0 no_call).kind ≡ Alloc → (get_or cs 0 no_call).object ≡ o → 1 ≤ asked_in o cs
+asked-first : (o : ℕ) (cs : List Call) → 1 ≤ length cs → call_kind (get_or cs 0 no_call) ≡ Alloc → call_object (get_or cs 0 no_call) ≡ o → 1 ≤ asked_in o cs
 asked-first o [] some alloc same = absurd (omega (arith, some))
 asked-first o (c ∷ cs) some alloc same =
-    let one : asked_in o (c ∷ cs) ≡ 1 + asked_in o cs = rw alloc (rw (eq-eqb c.object o same) refl) in omega (arith, one)
+    let one : asked_in o (c ∷ cs) ≡ 1 + asked_in o cs = rw alloc (rw (eq-eqb (call_object c) o same) refl) in omega (arith, one)
 
 off-board : (x : Option BoardWord) → boarded x ≡ 0 → x ≡ None
 off-board None none = refl

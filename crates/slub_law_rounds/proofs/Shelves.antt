@@ -32,6 +32,7 @@ use Rattle.slub_core.specs.declared.local.Answered.{Answered}
 use Rattle.slub_core.specs.declared.local.FrameRun.{FrameRun}
 use Rattle.slub_core.specs.declared.spot.Spot.TheVariants.{InChecked}
 use Rattle.slub_core.specs.declared.spot.CheckedSpot.TheVariants.{DoChecked}
+use Rattle.slub_core.specs.Calls.{call_object, call_word, call_value, call_offset, call_byte}
 use Rattle.slub_core.specs.Setup.{node_lock}
 use Rattle.slub_core.specs.World.{World, Checked, object_at, cache_at, covers, idle_in, one_if}
 use Rattle.slub_core.specs.Local.{Worker, nobody, here, call_of}
@@ -175,14 +176,14 @@ module _ (opening w : World) (x : Worker) (others : List Worker) (rest : List (L
   -- ---- a write
 
   pub boarded-write : x.local.spot ≡ InChecked DoChecked Write → HasBoarded w.setup opening dones w.value
-      → HasBoarded w.setup opening ((one-more x.local reply.Wrote ∷ x.local.done) ∷ rest) (with_slabs w.value x.local (with_word old (slot_of x.local) (call_of x.local).word (call_of x.local).value))
+      → HasBoarded w.setup opening ((one-more x.local reply.Wrote ∷ x.local.done) ∷ rest) (with_slabs w.value x.local (with_word old (slot_of x.local) (call_word (call_of x.local)) (call_value (call_of x.local))))
   boarded-write is has =
       let l = x.local in
       let d = one-more l reply.Wrote in
       let more = (d ∷ l.done) ∷ rest in
       let slot = slot_of l in
-      let W = (call_of l).word in
-      let V = (call_of l).value in
+      let W = call_word (call_of l) in
+      let V = call_value (call_of l) in
       let new = with_word old slot W V in
       let ok = at-work w x others s in
       let keep = ok.spot.keeps (rw is refl) in
@@ -223,22 +224,22 @@ module _ (opening w : World) (x : Worker) (others : List Worker) (rest : List (L
         ]
       ]) has
     where
-      wrote-now : (ds : List Answered) (d : Answered) (o word : ℕ) → d.reply ≡ reply.Wrote → d.call.object ≡ o → d.call.word ≡ word → wrote (d ∷ ds) o word ≡ true
-      wrote-now ds d o word r a b = rw (r, eq-eqb d.call.object o a, eq-eqb d.call.word word b) refl
+      wrote-now : (ds : List Answered) (d : Answered) (o word : ℕ) → d.reply ≡ reply.Wrote → call_object d.call ≡ o → call_word d.call ≡ word → wrote (d ∷ ds) o word ≡ true
+      wrote-now ds d o word r a b = rw (r, eq-eqb (call_object d.call) o a, eq-eqb (call_word d.call) word b) refl
 
   -- ---- a poke
 
-  pub boarded-poke : IsOffset old.layout (call_of x.local).offset → IsObject old (slot_of x.local) → (here x.local).cache ≡ x.local.cache
-      → WasPoked w.setup opening.board ((one-more x.local reply.Poked ∷ x.local.done) ∷ rest) x.local.cache (pos (address_of (slot_of x.local).frame (slot_of x.local).index old.layout) +ℤ (call_of x.local).offset) (call_of x.local).byte
+  pub boarded-poke : IsOffset old.layout (call_offset (call_of x.local)) → IsObject old (slot_of x.local) → (here x.local).cache ≡ x.local.cache
+      → WasPoked w.setup opening.board ((one-more x.local reply.Poked ∷ x.local.done) ∷ rest) x.local.cache (pos (address_of (slot_of x.local).frame (slot_of x.local).index old.layout) +ℤ (call_offset (call_of x.local))) (call_byte (call_of x.local))
       → HasBoarded w.setup opening dones w.value
-      → HasBoarded w.setup opening ((one-more x.local reply.Poked ∷ x.local.done) ∷ rest) (with_slabs w.value x.local (with_byte old (slot_of x.local) (call_of x.local).offset (call_of x.local).byte))
+      → HasBoarded w.setup opening ((one-more x.local reply.Poked ∷ x.local.done) ∷ rest) (with_slabs w.value x.local (with_byte old (slot_of x.local) (call_offset (call_of x.local)) (call_byte (call_of x.local))))
   boarded-poke inside object owner put has =
       let l = x.local in
       let d = one-more l reply.Poked in
       let more = (d ∷ l.done) ∷ rest in
       let slot = slot_of l in
-      let offset = (call_of l).offset in
-      let byte = (call_of l).byte in
+      let offset = call_offset (call_of l) in
+      let byte = call_byte (call_of l) in
       let new = with_byte old slot offset byte in
       let grows = front-grows l.done d rest in
       let freed : (o : ℕ) → freed_over o dones ≤ freed_over o more = λ o. freed-grows o l.done d rest in
@@ -282,10 +283,10 @@ module _ (opening w : World) (x : Worker) (others : List Worker) (rest : List (L
 
   -- ---- a free
 
-  freed-this : (a o : ℕ) → (call_of x.local).object ≡ o → freed_over o ((one-more x.local (reply.Freed a) ∷ x.local.done) ∷ rest) ≡ 0 → ⊥
+  freed-this : (a o : ℕ) → call_object (call_of x.local) ≡ o → freed_over o ((one-more x.local (reply.Freed a) ∷ x.local.done) ∷ rest) ≡ 0 → ⊥
   freed-this a o e none =
       let c = sum_by-cons (freed_in o) (one-more x.local (reply.Freed a) ∷ x.local.done) rest in
-      let z : one_if (eqb (call_of x.local).object o) ≡ 1 = rw (eq-eqb (call_of x.local).object o e) refl in
+      let z : one_if (eqb (call_object (call_of x.local)) o) ≡ 1 = rw (eq-eqb (call_object (call_of x.local)) o e) refl in
       omega arith
 
   taken-each : (a : ℕ) → x.local.spot ≡ InChecked DoChecked Free → damage_of_used old (slot_of x.local) ≡ None → HasBoarded w.setup opening dones w.value → EachOf (with_taken old (slot_of x.local)) ((one-more x.local (reply.Freed a) ∷ x.local.done) ∷ rest)

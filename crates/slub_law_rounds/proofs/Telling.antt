@@ -17,7 +17,7 @@ use Rattle.slub_slabinfo_text.specs.declared.journal.RoundResult.{RoundResult}
 use Rattle.slub_slabinfo_text.specs.Lawful.{DoesRound, IsAtRest, cache_numbers, found_in, found_of, reports_of, title_of}
 use Rattle.slub_law_rounds.specs.Answered.{Answered}
 use Rattle.slub_law_rounds.specs.Pokes.{IsPokedFree, IsPokedReport, WasGiven, WasPoked}
-use Rattle.slub_law_rounds.specs.Round.{Fits}
+use Rattle.slub_law_rounds.specs.Round.{RoundFits}
 use Rattle.slub_law_rounds.proofs.Cleaning.{ToldPoked}
 use Rattle.slub_law_rounds.proofs.Poked.{AddsTold, IsTold, RoundTold, runs-told}
 use Rattle.slub_law_rounds.proofs.Reports.{all-flat, drop-none}
@@ -61,7 +61,7 @@ pub record TellsPoked (told : List Answered) (round : Round) (result : RoundResu
   pub damages : All (λ (found : Found). IsPokedReport (told ++ zip round.events result.replies) found.report) result.damages
   pub frees_told : (one : Answered) → Contains (zip round.events result.replies) one → IsPokedFree (told ++ zip round.events result.replies) one
 
-pub round-told : (told : List Answered) (before : State) (round : Round) (result : RoundResult) (after : State) → IsCoherent before → IsAtRest before → Fits before round → DoesRound before round result after → IsTold told before
+pub round-told : (told : List Answered) (before : State) (round : Round) (result : RoundResult) (after : State) → IsCoherent before → IsAtRest before → RoundFits before round → DoesRound before round result after → IsTold told before
     → TellsPoked told round result after
 round-told told before round result after coherent rest fits does is_told =
     let answers = zip round.events result.replies in

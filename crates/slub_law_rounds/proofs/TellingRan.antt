@@ -13,6 +13,7 @@ use Rattle.slub_lists.specs.Alloc.{named}
 use Rattle.slub_core.specs.declared.call.Call.{Call}
 use Rattle.slub_core.specs.declared.local.Known.{Known}
 use Rattle.slub_core.specs.declared.local.Answered.{Answered as Done}
+use Rattle.slub_core.specs.Calls.{call_object}
 use Rattle.slub_core.specs.Replies as core
 use Rattle.slub_core.specs.World.{one_if}
 use Rattle.slub_core.specs.Setup.{Setup}
@@ -83,7 +84,7 @@ module _ (table : Table) (rooms : List Known) where
     holds-step ds event a r is (quiet _ _ none) =
         let still = quiet-still r none in
         let h = core.holding ds o in
-        let b = eqb (call_for table rooms event.cpu event.act).object o in
+        let b = eqb (call_object (call_for table rooms event.cpu event.act)) o in
         still-told (is_alloc_of o event.act) (is_free_of o event.act) h r still ∙ sym (same-either b h) ∙ ap (λ x. cond b x h) (sym (still-holds r h still))
 
     pub holding-told : (own : List Answered) → All (IsMet table) own → holding o own ≡ core.holding (back table rooms own []) o
@@ -139,9 +140,9 @@ module _ (s : State) (rooms : List Known) (m : Setup) (before : ℕ → Option B
       let c = call_for s.table rooms event.cpu event.act in
       let k = core.cache_by before ds o in
       let at = core.address_by m before ds o in
-      still-spot event r (spot_of_calls ds) still ∙ kept-spot (eqb c.object o) k at
-      ∙ ap (λ x. spot_from (cond (eqb c.object o) x k) (cond (eqb c.object o) at at)) (sym (still-cache c r k still))
-      ∙ ap (λ x. spot_from (cond (eqb c.object o) (core.cache_after c r k) k) (cond (eqb c.object o) x at)) (sym (still-address r at still))
+      still-spot event r (spot_of_calls ds) still ∙ kept-spot (eqb (call_object c) o) k at
+      ∙ ap (λ x. spot_from (cond (eqb (call_object c) o) x k) (cond (eqb (call_object c) o) at at)) (sym (still-cache c r k still))
+      ∙ ap (λ x. spot_from (cond (eqb (call_object c) o) (core.cache_after c r k) k) (cond (eqb (call_object c) o) x at)) (sym (still-address r at still))
 
   pub spot-told : (own : List Answered) → All (IsMet s.table) own → spot_under s o ≡ spot_of_calls [] → spot_by s o own ≡ spot_of_calls (back s.table rooms own [])
   spot-told own met here = ap (λ x. fold (spot_after s o) x own) here ∙ fold-back s.table rooms spot_of_calls (spot_after s o) spot-step own [] met
@@ -165,23 +166,23 @@ module _ (table : Table) (rooms : List Known) (o : ℕ) where
   still-freed b c (reply.Freed a) still = absurd still
   still-freed b c r still = not-both b c
 
-  given-one : (event : Event) (a : Act) (r : Reply) → event.act ≡ a → Meets table a r → cond (did_give o (event, r)) 1 0 ≡ one_if (core.is_given r && eqb (call_for table rooms event.cpu event.act).object o)
+  given-one : (event : Event) (a : Act) (r : Reply) → event.act ≡ a → Meets table a r → cond (did_give o (event, r)) 1 0 ≡ one_if (core.is_given r && eqb (call_object (call_for table rooms event.cpu event.act)) o)
   given-one event _ _ is (gave place x address) = rw is (both (eqb x o))
   given-one event _ _ is (lacked place x k is_k) = rw is (not-both (eqb x o) (eqb x o))
   given-one event _ _ is (freed x address) = rw is refl
   given-one event _ _ is (found x damage) = rw is refl
   given-one event _ _ is (wrote x word value) = rw is refl
   given-one event _ _ is (poked x offset byte) = rw is refl
-  given-one event a r is (quiet _ _ none) = still-given (is_alloc_of o event.act) (eqb (call_for table rooms event.cpu event.act).object o) r (quiet-still r none)
+  given-one event a r is (quiet _ _ none) = still-given (is_alloc_of o event.act) (eqb (call_object (call_for table rooms event.cpu event.act)) o) r (quiet-still r none)
 
-  freed-one : (event : Event) (a : Act) (r : Reply) → event.act ≡ a → Meets table a r → cond (did_free o (event, r)) 1 0 ≡ one_if (core.is_freed r && eqb (call_for table rooms event.cpu event.act).object o)
+  freed-one : (event : Event) (a : Act) (r : Reply) → event.act ≡ a → Meets table a r → cond (did_free o (event, r)) 1 0 ≡ one_if (core.is_freed r && eqb (call_object (call_for table rooms event.cpu event.act)) o)
   freed-one event _ _ is (gave place x address) = rw is refl
   freed-one event _ _ is (lacked place x k is_k) = rw is refl
   freed-one event _ _ is (freed x address) = rw is (both (eqb x o))
   freed-one event _ _ is (found x damage) = rw is (not-both (eqb x o) (eqb x o))
   freed-one event _ _ is (wrote x word value) = rw is refl
   freed-one event _ _ is (poked x offset byte) = rw is refl
-  freed-one event a r is (quiet _ _ none) = still-freed (is_free_of o event.act) (eqb (call_for table rooms event.cpu event.act).object o) r (quiet-still r none)
+  freed-one event a r is (quiet _ _ none) = still-freed (is_free_of o event.act) (eqb (call_object (call_for table rooms event.cpu event.act)) o) r (quiet-still r none)
 
   pub given-told : (own : List Answered) → All (IsMet table) own → core.given_in o (back table rooms own []) ≡ times_given o own
   given-told own met = let all = count-back table rooms (core.given_in o) (did_give o) (λ ds event a r is met. ap (λ n. n + core.given_in o ds) (sym (given-one event a r is met))) own [] met in omega (arith, all)

@@ -22,6 +22,7 @@ use Rattle.slub_core.specs.declared.spot.Spot.{Spot}
 use Rattle.slub_core.specs.declared.spot.Spot.TheVariants.{Between, InFree, WriteWord, ReadWord, InChecked}
 use Rattle.slub_core.specs.declared.spot.FreeSpot.TheVariants.{TakeBoard}
 use Rattle.slub_core.specs.declared.spot.CheckedSpot.TheVariants.{DoChecked, AddSlab}
+use Rattle.slub_core.specs.Calls.{call_kind, call_place}
 use Rattle.slub_core.specs.Setup.{Setup, node_lock}
 use Rattle.slub_core.specs.Words.{word_count, number_of, after_op, answer_of}
 use Rattle.slub_core.specs.World.{World, LockValue, Checked, world_from, world_of}
@@ -182,9 +183,9 @@ or-has P l more (Some reply) a b = b reply refl
 rests : (m : Setup) (opening : World) (rest : List (List Answered)) (others : List Worker) (value : ℕ → LockValue) (calls : List Call) (l : Local) → Both m opening rest others value l → Both m opening rest others value (rested_with m calls l)
 rests m opening rest others value [] l has = has
 rests m opening rest others value (call ∷ calls) l has =
-    or-has (Both m opening rest others value) l (λ reply. rested_with m calls (answered l reply)) (told_at_once m (get_or l.known call.place nobody) call call.kind) has
+    or-has (Both m opening rest others value) l (λ reply. rested_with m calls (answered l reply)) (told_at_once m (get_or l.known (call_place call) nobody) call (call_kind call)) has
     (λ reply is. rests m opening rest others value calls (answered l reply)
-    (mild-both m opening rest others value value l l (Some reply) refl refl refl (subst MildReply is (rest-mild m (get_or l.known call.place nobody) call call.kind)) (no-goes m opening value) (no-moves m value) (λ cache checks. refl) has))
+    (mild-both m opening rest others value value l l (Some reply) refl refl refl (subst MildReply is (rest-mild m (get_or l.known (call_place call) nobody) call (call_kind call))) (no-goes m opening value) (no-moves m value) (λ cache checks. refl) has))
 
 rests-at : (m : Setup) (opening : World) (rest : List (List Answered)) (others : List Worker) (value : ℕ → LockValue) (l : Local) (spot : Spot) → Both m opening rest others value l → Both m opening rest others value (rested_at m l spot)
 rests-at m opening rest others value l Between has = rests m opening rest others value l.todo l has
@@ -483,9 +484,9 @@ run_keeps m opening s (pick ∷ picks) is has = run_keeps m opening (turn m s pi
 told-rested : (m : Setup) (opening : World) (dones : List (List Answered)) (calls : List Call) (l : Local) → AreTold m opening dones l.done → AreTold m opening dones (rested_with m calls l).done
 told-rested m opening dones [] l told = told
 told-rested m opening dones (call ∷ calls) l told =
-    or-has (λ l. AreTold m opening dones l.done) l (λ reply. rested_with m calls (answered l reply)) (told_at_once m (get_or l.known call.place nobody) call call.kind) told
+    or-has (λ l. AreTold m opening dones l.done) l (λ reply. rested_with m calls (answered l reply)) (told_at_once m (get_or l.known (call_place call) nobody) call (call_kind call)) told
     (λ reply is. told-rested m opening dones calls (answered l reply)
-    (tells-mild m opening dones l.done (call_of l) reply (subst MildReply is (rest-mild m (get_or l.known call.place nobody) call call.kind)), told))
+    (tells-mild m opening dones l.done (call_of l) reply (subst MildReply is (rest-mild m (get_or l.known (call_place call) nobody) call (call_kind call))), told))
 
 told-new : (m : Setup) (opening : World) (dones : List (List Answered)) (l : Local) (spot : Spot) → l.done ≡ [] → AreTold m opening dones (rested_at m l spot).done
 told-new m opening dones l Between none = told-rested m opening dones l.todo l (rw none tt)
@@ -497,7 +498,7 @@ unheld m l o new is = false≢true (sym (new.known (place_of l.known o) nobody (
 
 known-rested : (m : Setup) (calls : List Call) (l : Local) → (rested_with m calls l).known ≡ l.known
 known-rested m [] l = refl
-known-rested m (call ∷ calls) l = or-has (λ n. n.known ≡ l.known) l (λ reply. rested_with m calls (answered l reply)) (told_at_once m (get_or l.known call.place nobody) call call.kind) refl (λ reply is. known-rested m calls (answered l reply))
+known-rested m (call ∷ calls) l = or-has (λ n. n.known ≡ l.known) l (λ reply. rested_with m calls (answered l reply)) (told_at_once m (get_or l.known (call_place call) nobody) call (call_kind call)) refl (λ reply is. known-rested m calls (answered l reply))
 
 known-at : (m : Setup) (l : Local) (spot : Spot) → (rested_at m l spot).known ≡ l.known
 known-at m l Between = known-rested m l.todo l

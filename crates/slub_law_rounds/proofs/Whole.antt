@@ -22,7 +22,7 @@ use Rattle.slub_slabinfo_text.specs.declared.journal.Found.{Found}
 use Rattle.slub_slabinfo_text.specs.declared.journal.RoundResult.{RoundResult}
 use Rattle.slub_slabinfo_text.specs.Lawful.{DoesRound, IsAtRest, IsUnheld, is_by}
 use Rattle.slub_law_rounds.specs.Answered.{Answered, IsAfter, of_worker, times_freed, times_given}
-use Rattle.slub_law_rounds.specs.Round.{Cause, Fits, IsBoardAfter, IsOfSlab, IsRound, Spot, WasGivenAt, aside_at, spot_of, spot_under}
+use Rattle.slub_law_rounds.specs.Round.{ReplyCause, RoundFits, IsBoardAfter, IsOfSlab, IsRound, Spot, WasGivenAt, aside_at, spot_of, spot_under}
 use Rattle.slub_law_rounds.proofs.Causes.{cause-of, if-some}
 use Rattle.slub_law_rounds.proofs.Reports.{found-aside, found-differ, reports-none}
 use Rattle.slub_law_rounds.proofs.Rounds.{Reaches, Runs, SameCaches, Tale, all-within, runs-even, runs-of, runs-reach, runs-tale}
@@ -38,7 +38,7 @@ times-held before objects object unheld some =
     subst (IsUnheld before) there.2 (unheld there.0 object there.1)
 
 -- a number that was on the board isn't given, and none is given twice
-pub given-once : (before : State) (round : Round) (result : RoundResult) → Fits before round → (object : ℕ) → on_board object before + times_given object (zip round.events result.replies) ≤ 1
+pub given-once : (before : State) (round : Round) (result : RoundResult) → RoundFits before round → (object : ℕ) → on_board object before + times_given object (zip round.events result.replies) ≤ 1
 given-once before round result fits object = by (held_under before object) refl
   where
     few : times_given object (zip round.events result.replies) ≤ times object (objects_of round.events)
@@ -115,7 +115,7 @@ none-gone [] object = refl
 none-gone (freed ∷ gone) zero = refl
 none-gone (freed ∷ gone) (suc object) = none-gone gone object
 
-module _ (before : State) (round : Round) (result : RoundResult) (after : State) (coherent : IsCoherent before) (rest : IsAtRest before) (fits : Fits before round) (does : DoesRound before round result after) where
+module _ (before : State) (round : Round) (result : RoundResult) (after : State) (coherent : IsCoherent before) (rest : IsAtRest before) (fits : RoundFits before round) (does : DoesRound before round result after) where
   abbrev answers : List Answered
   answers = zip round.events result.replies
 
@@ -130,13 +130,13 @@ module _ (before : State) (round : Round) (result : RoundResult) (after : State)
       runs-reach before [] before front one back does.last (start before coherent rest)
       (subst (λ (l : List Answered). Runs before [] before l does.last) split (runs-of before [] before round.events result.replies does.last (all-within before round.events fits.within) once does.runs))
 
-  causes : (worker : ℕ) (own : List Answered) (one : Answered) → IsAfter answers worker own one → Cause before answers own one.0.act one.1
+  causes : (worker : ℕ) (own : List Answered) (one : Answered) → IsAfter answers worker own one → ReplyCause before answers own one.0.act one.1
   causes worker own one is_after =
       let at = splits (is_by worker) answers own is_after.later one is_after.split in
       let here = reaches at.before one at.behind at.parts in
       let mine : of_worker one.0.worker at.before ≡ own = ap (λ w. of_worker w at.before) (same-worker one.0.worker worker at.is) ∙ at.sifted in
-      subst (λ (own : List Answered). Cause before answers own one.0.act one.1) mine
-      (subst (λ (all : List Answered). Cause before all (of_worker one.0.worker at.before) one.0.act one.1) (sym at.parts)
+      subst (λ (own : List Answered). ReplyCause before answers own one.0.act one.1) mine
+      (subst (λ (all : List Answered). ReplyCause before all (of_worker one.0.worker at.before) one.0.act one.1) (sym at.parts)
       (cause-of before at.before here.mid one here.next at.behind here.moves here.tale coherent))
 
   -- ---- the board after

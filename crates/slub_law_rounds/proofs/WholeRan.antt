@@ -136,7 +136,7 @@ module _ (s : State) (trace : Trace) (round : Round) (result : RoundResult) (lis
 
   -- ---- the end
 
-  ends : core_law.IsRound (setup_of s ran.beside) opening w (map (λ (l : Local). l.todo) first_workers) (map (λ (l : Local). l.done) last.locals)
+  ends : core_law.IsRoundOnWords (setup_of s ran.beside) opening w (map (λ (l : Local). l.todo) first_workers) (map (λ (l : Local). l.done) last.locals)
   ends = rounds_end (setup_of s ran.beside) first ran.picks is-open.1 ran.finished
 
   quiet : IsQuiet (setup_of s ran.beside) opening last × Counted opening w last.locals

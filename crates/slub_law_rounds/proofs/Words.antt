@@ -17,6 +17,7 @@ use Rattle.slub_trace.specs.declared.reply.Reply.TheVariants as reply
 use Rattle.slub_words.specs.declared.board.BoardWord.{BoardWord}
 use Rattle.slub_core.specs.declared.call.Call.{Call}
 use Rattle.slub_core.specs.declared.local.Answered.{Answered}
+use Rattle.slub_core.specs.Calls.{call_object}
 use Rattle.slub_core.specs.Setup.{Setup}
 use Rattle.slub_core.specs.Replies.{is_freed, holds_after, holding, knows_after, knows, freed_in, Public, Cause, Caused}
 use Rattle.slub_core.specs.World.{one_if}
@@ -29,18 +30,18 @@ use Rattle.slub_law_rounds.proofs.Mild.{MildReply}
 -- ---- replies
 
 -- a reply of another object
-pub holding-other : (d : Answered) (ds : List Answered) (o : ℕ) → (d.call.object ≡ o → ⊥) → holding (d ∷ ds) o ≡ holding ds o
-holding-other d ds o other = rw (ne_eqb d.call.object o other) refl
+pub holding-other : (d : Answered) (ds : List Answered) (o : ℕ) → (call_object d.call ≡ o → ⊥) → holding (d ∷ ds) o ≡ holding ds o
+holding-other d ds o other = rw (ne_eqb (call_object d.call) o other) refl
 
-pub put-other : (d : Answered) (ds : List Answered) (o word place : ℕ) → (d.call.object ≡ o → ⊥) → last_put (d ∷ ds) o word place ≡ last_put ds o word place
-put-other d ds o word place other = rw (ne_eqb d.call.object o other) refl
+pub put-other : (d : Answered) (ds : List Answered) (o word place : ℕ) → (call_object d.call ≡ o → ⊥) → last_put (d ∷ ds) o word place ≡ last_put ds o word place
+put-other d ds o word place other = rw (ne_eqb (call_object d.call) o other) refl
 
 -- of this one
-pub holding-this : (d : Answered) (ds : List Answered) (o : ℕ) → d.call.object ≡ o → holding (d ∷ ds) o ≡ holds_after d.reply (holding ds o)
-holding-this d ds o same = rw (eq-eqb d.call.object o same) refl
+pub holding-this : (d : Answered) (ds : List Answered) (o : ℕ) → call_object d.call ≡ o → holding (d ∷ ds) o ≡ holds_after d.reply (holding ds o)
+holding-this d ds o same = rw (eq-eqb (call_object d.call) o same) refl
 
-pub put-this : (d : Answered) (ds : List Answered) (o word place : ℕ) → d.call.object ≡ o → last_put (d ∷ ds) o word place ≡ put_after d.call d.reply word place (last_put ds o word place)
-put-this d ds o word place same = rw (eq-eqb d.call.object o same) refl
+pub put-this : (d : Answered) (ds : List Answered) (o word place : ℕ) → call_object d.call ≡ o → last_put (d ∷ ds) o word place ≡ put_after d.call d.reply word place (last_put ds o word place)
+put-this d ds o word place same = rw (eq-eqb (call_object d.call) o same) refl
 
 -- a reply that changes neither
 pub record Calm (r : Reply) : Type 0 where
@@ -70,13 +71,13 @@ pub calm-value : (v : ℕ) → Calm (reply.Value v)
 calm-value v = record { holds = λ b. refl; puts = λ call word place x. refl }
 
 pub holding-calm : (d : Answered) (ds : List Answered) (o : ℕ) → Calm d.reply → holding (d ∷ ds) o ≡ holding ds o
-holding-calm d ds o calm = elim (cases_eq d.call.object o) [
+holding-calm d ds o calm = elim (cases_eq (call_object d.call) o) [
   | inl same ↦ holding-this d ds o same ∙ calm.holds (holding ds o)
   | inr other ↦ holding-other d ds o other
 ]
 
 pub put-calm : (d : Answered) (ds : List Answered) (o word place : ℕ) → Calm d.reply → last_put (d ∷ ds) o word place ≡ last_put ds o word place
-put-calm d ds o word place calm = elim (cases_eq d.call.object o) [
+put-calm d ds o word place calm = elim (cases_eq (call_object d.call) o) [
   | inl same ↦ put-this d ds o word place same ∙ calm.puts d.call word place (last_put ds o word place)
   | inr other ↦ put-other d ds o word place other
 ]
@@ -84,12 +85,12 @@ put-calm d ds o word place calm = elim (cases_eq d.call.object o) [
 -- what a worker knows it holds, or has freed
 pub knows-had : (ds : List Answered) (o : ℕ) → knows ds o ≡ true → (holding ds o ≡ true) ⊎ (1 ≤ freed_in o ds)
 knows-had [] o is = absurd (false≢true is)
-knows-had (d ∷ ds) o is = elim (cases_eq d.call.object o) [
+knows-had (d ∷ ds) o is = elim (cases_eq (call_object d.call) o) [
   | inl same ↦ (
-      let now : knows_after d.reply (knows ds o) ≡ true = rw (eq-eqb d.call.object o same) at is in
-      rw (eq-eqb d.call.object o same) (by d.reply (knows-had ds o) now))
+      let now : knows_after d.reply (knows ds o) ≡ true = rw (eq-eqb (call_object d.call) o same) at is in
+      rw (eq-eqb (call_object d.call) o same) (by d.reply (knows-had ds o) now))
   | inr other ↦ (
-      let was : knows ds o ≡ true = rw (ne_eqb d.call.object o other) at is in
+      let was : knows ds o ≡ true = rw (ne_eqb (call_object d.call) o other) at is in
       elim (knows-had ds o was) [
         | inl held ↦ inl (holding-other d ds o other ∙ held)
         | inr freed ↦ inr (omega arith)
@@ -122,14 +123,14 @@ knows-had (d ∷ ds) o is = elim (cases_eq d.call.object o) [
 -- where it put something it knows the object
 pub put-knows : (m : Setup) (before : ℕ → Option BoardWord) (p : Public) (ds : List Answered) (o word place put : ℕ) → Caused m before p ds → last_put ds o word place ≡ Some put → knows ds o ≡ true
 put-knows m before p [] o word place put caused is = absurd (none-some put is)
-put-knows m before p (d ∷ ds) o word place put caused is = elim (cases_eq d.call.object o) [
+put-knows m before p (d ∷ ds) o word place put caused is = elim (cases_eq (call_object d.call) o) [
   | inl same ↦ (
       let now = sym (put-this d ds o word place same) ∙ is in
-      rw (eq-eqb d.call.object o same) (by d.reply (put-knows m before p ds o word place put caused.1) caused.0 now same))
-  | inr other ↦ rw (ne_eqb d.call.object o other) (put-knows m before p ds o word place put caused.1 (sym (put-other d ds o word place other) ∙ is))
+      rw (eq-eqb (call_object d.call) o same) (by d.reply (put-knows m before p ds o word place put caused.1) caused.0 now same))
+  | inr other ↦ rw (ne_eqb (call_object d.call) o other) (put-knows m before p ds o word place put caused.1 (sym (put-other d ds o word place other) ∙ is))
 ]
   where
-    by : (r : Reply) → (last_put ds o word place ≡ Some put → knows ds o ≡ true) → Cause m before p ds d.call r → put_after d.call r word place (last_put ds o word place) ≡ Some put → d.call.object ≡ o → knows_after r (knows ds o) ≡ true
+    by : (r : Reply) → (last_put ds o word place ≡ Some put → knows ds o ≡ true) → Cause m before p ds d.call r → put_after d.call r word place (last_put ds o word place) ≡ Some put → call_object d.call ≡ o → knows_after r (knows ds o) ≡ true
     by (reply.Given a) was cause now same = refl
     by (reply.Freed a) was cause now same = refl
     by (reply.Corrupt d) was cause now same = refl

@@ -17,6 +17,7 @@ use Rattle.slub_trace.specs.declared.reply.Reply.TheVariants as reply
 use Rattle.slub_core.specs.declared.call.Call.{Call}
 use Rattle.slub_core.specs.declared.call.CallKind.TheVariants.{Poke}
 use Rattle.slub_core.specs.declared.local.Answered.{Answered}
+use Rattle.slub_core.specs.Calls.{call_kind, call_object, call_word, call_value, call_offset, call_byte}
 use Rattle.slub_core.specs.Setup.{Setup, node_lock}
 use Rattle.slub_core.specs.World.{World, LockValue}
 use Rattle.slub_core.specs.Checked.{slabs_in}
@@ -45,13 +46,13 @@ pub record WasPoked (m : Setup) (board : ℕ → Option BoardWord) (dones : List
   pub one : Answered
   pub later : List Answered
   pub there : Contains dones (later ++ one ∷ own)
-  pub asks : one.call.kind ≡ Poke
+  pub asks : call_kind one.call ≡ Poke
   pub done : one.reply ≡ reply.Poked
-  pub puts : one.call.byte ≡ byte
-  pub of : cache_by board own one.call.object ≡ Some cache
+  pub puts : call_byte one.call ≡ byte
+  pub of : cache_by board own (call_object one.call) ≡ Some cache
   pub address : ℕ
-  pub object : address_by m board own one.call.object ≡ Some address
-  pub is : pos address +ℤ one.call.offset ≡ at
+  pub object : address_by m board own (call_object one.call) ≡ Some address
+  pub is : pos address +ℤ (call_offset one.call) ≡ at
 
 -- the byte stood there before the round, or was put there by a poke
 abbrev pub Came : Setup → World → List (List Answered) → ℕ → ℤ → ℕ → Type 0
@@ -101,25 +102,26 @@ pub record KeepsSlabs (came : ℤ → ℕ → Type 0) (before after : CheckedSta
 pub record IsCorrupt (m : Setup) (before : World) (dones : List (List Answered))
     (own : List Answered) (call : Call) (damage : Damage) : Type 0 where
   pub cache : ℕ
-  pub of : cache_by before.board own call.object ≡ Some cache
+  pub of : cache_by before.board own (call_object call) ≡ Some cache
   pub address : ℕ
-  pub object : address_by m before.board own call.object ≡ Some address
+  pub object : address_by m before.board own (call_object call) ≡ Some address
   pub bad : IsDamage (Came m before dones cache) address damage
 
 -- what a call with this reply put in a byte of a word of its object, or else what was put there
 abbrev pub put_after : Call → Reply → ℕ → ℕ → Option ℕ → Option ℕ
 put_after call (reply.Given address) word place x = None
 put_after call reply.Wrote word place x =
-    if call.word == word then Some (slice_index (to_le_bytes w64 call.value) place) else x
+    if call_word call == word then Some (slice_index (to_le_bytes w64 (call_value call)) place)
+    else x
 put_after call reply.Poked word place x =
-    if int_eq call.offset (pos (8 * word + place)) then Some call.byte else x
+    if int_eq (call_offset call) (pos (8 * word + place)) then Some (call_byte call) else x
 put_after call _ word place x = x
 
 -- what the worker put there last since it was given the object
 abbrev pub last_put : List Answered → ℕ → ℕ → ℕ → Option ℕ
 last_put [] object word place = None
 last_put (one ∷ own) object word place =
-    if one.call.object == object
+    if call_object one.call == object
     then put_after one.call one.reply word place (last_put own object word place)
     else last_put own object word place
 
@@ -127,7 +129,7 @@ last_put (one ∷ own) object word place =
 abbrev pub IsPokedUnder : Setup → (ℕ → Option BoardWord) → List (List Answered) → ℕ → ℕ → ℤ → ℕ
     → Type 0
 IsPokedUnder m board dones cache object at byte =
-    (poked : WasPoked m board dones cache at byte) × (poked.one.call.object ≢ object)
+    (poked : WasPoked m board dones cache at byte) × (call_object poked.one.call ≢ object)
 
 -- the byte is the one that the worker put there last, or it was poked there under another number
 abbrev pub IsPut : Setup → World → List (List Answered) → ℕ → ℕ → ℤ → ℕ → ℕ → Type 0
@@ -147,29 +149,30 @@ IsReadByte m before dones cache object at None byte =
 pub record IsValue (m : Setup) (before : World) (dones : List (List Answered))
     (own : List Answered) (call : Call) (value : ℕ) : Type 0 where
   pub cache : ℕ
-  pub of : cache_by before.board own call.object ≡ Some cache
+  pub of : cache_by before.board own (call_object call) ≡ Some cache
   pub address : ℕ
-  pub object : address_by m before.board own call.object ≡ Some address
+  pub object : address_by m before.board own (call_object call) ≡ Some address
   pub bytes : List ℕ
   pub eight : length bytes ≡ 8
   pub spelled : value ≡ from_le_bytes w64 bytes
-  pub each : (place : ℕ) → place < 8 → IsReadByte m before dones cache call.object
-      (pos (address + (8 * call.word + place))) (last_put own call.object call.word place)
+  pub each : (place : ℕ) → place < 8 → IsReadByte m before dones cache (call_object call)
+      (pos (address + (8 * call_word call + place)))
+      (last_put own (call_object call) (call_word call) place)
       (slice_index bytes place)
 
 -- what a reply tells of bytes
-abbrev pub Tells : Setup → World → List (List Answered) → List Answered → Call → Reply → Type 0
-Tells m before dones own call (reply.Corrupt damage) = IsCorrupt m before dones own call damage
-Tells m before dones own call (reply.Value value) =
-    IsOfChecked m (cache_by before.board own call.object)
+abbrev pub TellsOfByte : Setup → World → List (List Answered) → List Answered → Call → Reply → Type 0
+TellsOfByte m before dones own call (reply.Corrupt damage) = IsCorrupt m before dones own call damage
+TellsOfByte m before dones own call (reply.Value value) =
+    IsOfChecked m (cache_by before.board own (call_object call))
     → IsValue m before dones own call value
-Tells m before dones own call _ = Unit {0}
+TellsOfByte m before dones own call _ = Unit {0}
 
 -- each reply of one worker
 abbrev pub AreTold : Setup → World → List (List Answered) → List Answered → Type 0
 AreTold m before dones [] = Unit {0}
 AreTold m before dones (one ∷ own) =
-    Tells m before dones own one.call one.reply × AreTold m before dones own
+    TellsOfByte m before dones own one.call one.reply × AreTold m before dones own
 
 -- ---- the round
 

@@ -17,6 +17,7 @@ use Rattle.slub_red_zone.specs.Zones.{examined_free, examined_used}
 use Rattle.slub_red_zone.specs.Bytes.{IsIn}
 use Rattle.slub_core.specs.declared.local.Known.{Known}
 use Rattle.slub_core.specs.declared.local.Answered.{Answered}
+use Rattle.slub_core.specs.Calls.{call_object, call_word}
 use Rattle.slub_core.specs.Setup.{Setup}
 use Rattle.slub_core.specs.World.{World, LockValue, world_of}
 use Rattle.slub_core.specs.Local.{Local, address_in}
@@ -70,7 +71,7 @@ is_wrote _ = false
 abbrev pub wrote : List Answered → ℕ → ℕ → Bool
 wrote [] object word = false
 wrote (one ∷ own) object word =
-    (is_wrote one.reply && (one.call.object == object) && (one.call.word == word))
+    (is_wrote one.reply && (call_object one.call == object) && (call_word one.call == word))
     || wrote own object word
 
 -- where a checked object of the board stood, which nobody has freed, there stand bytes that came

@@ -7,7 +7,7 @@ use Rattle.slub_lists.specs.State.{State}
 use Rattle.slub_lists.specs.Coherent.{IsCoherent, all_on_board}
 use Rattle.slub_core.specs.Law.{replies_of}
 use Rattle.slub_core.specs.Run.{System, Pick}
-use Rattle.slub_schedule.specs.Rounds.{Ends}
+use Rattle.slub_schedule.specs.Rounds.{EndsRound}
 use Rattle.slub_law_opening.specs.Closing.{Closes}
 use Rattle.slub_law_opening.specs.Opening.{Beside, IsBeside, IsLaidDown, setup_of}
 use Rattle.slub_calls.specs.Laws.{MayDo}
@@ -31,7 +31,7 @@ DrawnRoundsAreLawful =
     (s : State) (b : Beside) (seed : ℕ) (trace : Trace) (round : Round) (result : RoundResult)
     (picks : List Pick) (last : System) (lists after : State) (left : Beside)
     → IsCoherent s → IsLaidDown s → IsBeside s b → MayDo s trace round
-    → Ends (setup_of s b) seed (system_after s b round []) picks last → Closes s b last lists left
+    → EndsRound (setup_of s b) seed (system_after s b round []) picks last → Closes s b last lists left
     → AreReplies round.events (replies_of last) result.replies
     → result.damages ≡ found_in s lists
     → AreLedgers s (zip round.events result.replies) round.workers result.ledgers

@@ -1,11 +1,8 @@
 -- A round of several workers that was run on words, in whatever order its workers made their turns.
-use Rattle.std.specs.Prelude.{◌≡◌, ℕ, List, [], length, map, filter, reverse, slice_index_or, All}
+use Rattle.std.specs.Prelude.{◌≡◌, List, All}
 use Rattle.std.specs.List.{zip}
-use Rattle.slub_trace.specs.declared.event.Event.{Event}
 use Rattle.slub_trace.specs.declared.event.Round.{Round}
-use Rattle.slub_trace.specs.declared.reply.Reply.{Reply}
 use Rattle.slub_lists.specs.State.{State}
-use Rattle.slub_core.specs.declared.local.Answered.{Answered}
 use Rattle.slub_core.specs.Run.{System, Pick, run, IsFinished}
 use Rattle.slub_core.specs.Opening.{opened}
 use Rattle.slub_core.specs.Law.{replies_of}
@@ -14,8 +11,8 @@ use Rattle.slub_law_opening.specs.Table.{system_of}
 use Rattle.slub_law_opening.specs.Closing.{Closes}
 use Rattle.slub_calls.specs.Calls.{workers_of}
 use Rattle.slub_slabinfo_text.specs.declared.journal.RoundResult.{RoundResult}
-use Rattle.slub_slabinfo_text.specs.Lawful.{AreLedgers, found_in, is_by}
-use Rattle.slub_calls.specs.Replies.{replies_by, told_to, AreReplies}
+use Rattle.slub_slabinfo_text.specs.Lawful.{AreLedgers, found_in}
+use Rattle.slub_calls.specs.Replies.{AreReplies}
 
 -- ---- the round
 

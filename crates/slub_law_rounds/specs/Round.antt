@@ -25,7 +25,7 @@ use Rattle.slub_slabinfo_text.specs.Lawful.{AreLedgers, IsAtRest, IsUnheld, lack
 use Rattle.slub_law_rounds.specs.Answered.{Answered, IsAfter, holding, is_alloc_of, last_put, last_written, of_worker, times_freed, times_given, times_taken}
 
 -- what a round allocates are numbers of the machine, which have no object, and each number once
-pub record Fits (s : State) (round : Round) : Type 0 where
+pub record RoundFits (s : State) (round : Round) : Type 0 where
   pub within : All (λ object. object < length s.board) (objects_of round.events)
   pub unheld : All (IsUnheld s) (objects_of round.events)
   pub distinct : IsDistinct nat_eq (objects_of round.events)
@@ -226,14 +226,14 @@ FlushCause (reply.Flushed slabs) = ⊤
 FlushCause _ = ⊥
 
 -- the cause of a reply, which is one of those that the act has
-abbrev pub Cause : State → List Answered → List Answered → Act → Reply → Type 0
-Cause before answers own (Alloc place object) reply = AllocCause before answers own place reply
-Cause before answers own (Free object) reply = FreeCause before answers own object reply
-Cause before answers own (Write word object value) reply = WriteCause before own object word reply
-Cause before answers own (Read word object) reply = ReadCause before answers own object word reply
-Cause before answers own (Poke object offset byte) reply = PokeCause reply
-Cause before answers own (Trim place) reply = TrimCause before place reply
-Cause before answers own Flush reply = FlushCause reply
+abbrev pub ReplyCause : State → List Answered → List Answered → Act → Reply → Type 0
+ReplyCause before answers own (Alloc place object) reply = AllocCause before answers own place reply
+ReplyCause before answers own (Free object) reply = FreeCause before answers own object reply
+ReplyCause before answers own (Write word object value) reply = WriteCause before own object word reply
+ReplyCause before answers own (Read word object) reply = ReadCause before answers own object word reply
+ReplyCause before answers own (Poke object offset byte) reply = PokeCause reply
+ReplyCause before answers own (Trim place) reply = TrimCause before place reply
+ReplyCause before answers own Flush reply = FlushCause reply
 
 -- ---- the board
 
@@ -291,7 +291,7 @@ IsOfSlab s cache frame report =
 abbrev pub HaveCauses : State → List Answered → Type 0
 HaveCauses before answers =
     (worker : ℕ) (own : List Answered) (one : Answered) → IsAfter answers worker own one
-    → Cause before answers own one.0.act one.1
+    → ReplyCause before answers own one.0.act one.1
 
 -- the want of frames is counted by least order, once for each reply that tells of it, as far as the
 -- counts go

@@ -13,12 +13,12 @@ ghost use Rattle.slub_slabinfo_text.specs.declared.journal.RoundResult.{RoundRes
 ghost use Rattle.slub_slabinfo_text.specs.Lawful.{Answers, DoesRound, IsAtRest};
 ghost use Rattle.slub_law_rounds.specs.Answered.{Answered, AreUnpoked, last_written};
 ghost use Rattle.slub_law_rounds.specs.Event.{GivesFree, LacksFrames, SparesWords};
-ghost use Rattle.slub_law_rounds.specs.Round.{Fits, IsOwnValue, IsRound};
+ghost use Rattle.slub_law_rounds.specs.Round.{RoundFits, IsOwnValue, IsRound};
 
 /// A round that is done event by event, in the order of the text, is lawful.
 pub fn rounds_are_lawful()
     ensures { (before : State) (round : Round) (result : RoundResult) (after : State) →
-        IsCoherent before → IsAtRest before → Fits before round →
+        IsCoherent before → IsAtRest before → RoundFits before round →
         DoesRound before round result after → IsRound before round result after }
 {}
 

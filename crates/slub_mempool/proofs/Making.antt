@@ -11,7 +11,7 @@ use Rattle.slub_slabinfo_text.specs.declared.client.ClientAnswer.TheVariants as 
 use Rattle.slub_slabinfo_text.specs.declared.client.ClientDone.{ClientDone}
 use Rattle.slub_rounds.specs.Heap.{HeapState}
 use Rattle.slub_rounds.specs.BulkLines.{SpendsTaking}
-use Rattle.slub_rounds.specs.Reserves.{Fills, IsTurnedAway, Makes, PutsBack, Reserve, ServesMempool, ServesMput, SpendsMempool, has_number, is_of_cache, place_of, reserve_at}
+use Rattle.slub_rounds.specs.Reserves.{Fills, IsTurnedAway, Makes, PutsBack, Reserve, ServesMempool, ServesMput, SpendsMempool, has_number, is_of_cache, place_of_reserve, reserve_at}
 
 -- all were given
 pub made-all : (reserves : List Reserve) (fresh : Reserve) (refusal : Option CacheRefusal) (told : ClientAnswer) (left : List Reserve) → refusal ≡ None → told ≡ answer.Made → left ≡ reserves ++ fresh ∷ [] → Makes reserves fresh refusal told left
@@ -28,19 +28,19 @@ no-place None is = refl
 no-place (Some at) is = absurd (let never : true ≡ false = is in cc)
 
 -- a reserve whose name is free, where there is room, is filled
-pub fresh-served : (h : HeapState) (reserves : List Reserve) (fresh : Reserve) (done : ClientDone) (after : HeapState) (left : List Reserve) → is_some (place_of reserves fresh.name) ≡ false → length reserves < 8
+pub fresh-served : (h : HeapState) (reserves : List Reserve) (fresh : Reserve) (done : ClientDone) (after : HeapState) (left : List Reserve) → is_some (place_of_reserve reserves fresh.name) ≡ false → length reserves < 8
     → Fills h reserves fresh done after left → ServesMempool h reserves fresh done after left
 fresh-served h reserves fresh done after left free room fills =
-    let none : place_of reserves fresh.name ≡ None = no-place (place_of reserves fresh.name) free in
+    let none : place_of_reserve reserves fresh.name ≡ None = no-place (place_of_reserve reserves fresh.name) free in
     let few : nat_le 8 (length reserves) ≡ false = grind (arith, nat_tests, room) in
     rw none (rw few fills)
 
 -- or its turns are spent
-pub fresh-spent : (h : HeapState) (reserves : List Reserve) (fresh : Reserve) → is_some (place_of reserves fresh.name) ≡ false → length reserves < 8 → SpendsTaking h 0 fresh.cache fresh.numbers → SpendsMempool h reserves fresh
-fresh-spent h reserves fresh free room spent = (no-place (place_of reserves fresh.name) free, room, spent)
+pub fresh-spent : (h : HeapState) (reserves : List Reserve) (fresh : Reserve) → is_some (place_of_reserve reserves fresh.name) ≡ false → length reserves < 8 → SpendsTaking h 0 fresh.cache fresh.numbers → SpendsMempool h reserves fresh
+fresh-spent h reserves fresh free room spent = (no-place (place_of_reserve reserves fresh.name) free, room, spent)
 
 -- an object that is put, and for which its reserve has no room
-pub full-served : (h : HeapState) (reserves : List Reserve) (cpu : ℕ) (pool : List ℕ) (object at : ℕ) (held : Held) (done : ClientDone) (after : HeapState) (left : List Reserve) → place_of reserves pool ≡ Some at → held_under h.lists object ≡ Some held
+pub full-served : (h : HeapState) (reserves : List Reserve) (cpu : ℕ) (pool : List ℕ) (object at : ℕ) (held : Held) (done : ClientDone) (after : HeapState) (left : List Reserve) → place_of_reserve reserves pool ≡ Some at → held_under h.lists object ≡ Some held
     → is_of_cache h.lists (reserve_at reserves at) held.cache ≡ true → list_any (has_number object) reserves ≡ false → nat_lt (length (reserve_at reserves at).numbers) (reserve_at reserves at).min_nr ≡ false
     → PutsBack h cpu object done after → left ≡ reserves → ServesMput h reserves cpu pool object done after left
 full-served h reserves cpu pool object at held done after left place here own none full back same = rw place (rw here (rw own (rw none (rw full (back, same)))))

@@ -27,7 +27,7 @@ use Rattle.slub_rounds.specs.TextLaws.{RoundsByTextAreLawful}
 use Rattle.slub_rounds.specs.Asked.{IsOpenTo, IsServable}
 use Rattle.slub_rounds.specs.BulkLines.{TakesAll}
 use Rattle.slub_rounds.specs.ClientLaws.{IsNumber}
-use Rattle.slub_rounds.specs.Reserves.{AreReserves, Asks, Fills, Gets, Lends, Makes, Pops, PutsBack, Reserve, ServesKept, ServesMempool, ServesMget, ServesMput, fresh_reserve, has_number, is_of_cache, no_reserve, place_of, reserve_at, times_in}
+use Rattle.slub_rounds.specs.Reserves.{AreReserves, Asks, Fills, Gets, Lends, Makes, Pops, PutsBack, Reserve, ServesKept, ServesMempool, ServesMget, ServesMput, fresh_reserve, has_number, is_of_cache, no_reserve, place_of_reserve, reserve_at, times_in}
 use Rattle.slub_rounds.proofs.Allowed.{frees-may}
 use Rattle.slub_bulk.specs.Taking.{MayTake}
 use Rattle.slub_bulk.proofs.Boards.{allocs_lawful, asked_lawful, one_may, one_stays, others_stay, takes_come, takes_stay}
@@ -35,7 +35,7 @@ use Rattle.slub_bulk.proofs.Bulking.{range_differs, range_known}
 use Rattle.slub_mempool.proofs.Keeping.{in-none, lent, made, put, still}
 
 -- a place of a reserve is one
-pub place-within : (reserves : List Reserve) (pool : List ℕ) (at : ℕ) → place_of reserves pool ≡ Some at → at < length reserves
+pub place-within : (reserves : List Reserve) (pool : List ℕ) (at : ℕ) → place_of_reserve reserves pool ≡ Some at → at < length reserves
 place-within reserves pool at is = (position-Some (λ (reserve : Reserve). bytes_eq pool reserve.name) reserves at (reserve_at reserves at) is).0
 
 -- the heap and the reserves are as they were
@@ -61,7 +61,7 @@ fills lawful h trace reserves fresh done after left may are room few within fill
 served_mempool : (lawful : RoundsByTextAreLawful) (h : HeapState) (trace : Trace) (reserves : List Reserve) (fresh : Reserve) (done : ClientDone) (after : HeapState) (left : List Reserve) → MayTake h trace 0 fresh.cache fresh.numbers → AreReserves h.lists trace reserves
     → fresh.min_nr ≤ 64 → length fresh.numbers ≤ fresh.min_nr → ServesMempool h reserves fresh done after left → AreReserves after.lists trace left
 served_mempool lawful h trace reserves fresh done after left may are few within serves =
-    match_either (place_of reserves fresh.name) _ _ (AreReserves after.lists trace left) serves
+    match_either (place_of_reserve reserves fresh.name) _ _ (AreReserves after.lists trace left) serves
     (λ none answered. match_bool (nat_le 8 (length reserves)) _ _ (AreReserves after.lists trace left) answered
     (λ full told. same h trace reserves after left are told.0.2 told.1)
     (λ room filled. fills lawful h trace reserves fresh done after left may are (below room) few within filled))
@@ -84,7 +84,7 @@ gets s trace reserves at (Err why) answer after left are within stay got = by go
 served_mget : (lawful : RoundsByTextAreLawful) (h : HeapState) (trace : Trace) (reserves : List Reserve) (cpu : ℕ) (pool : List ℕ) (object : ℕ) (done : ClientDone) (after : HeapState) (left : List Reserve) → IsOpenTo h trace 1 → cpu < trace.cpus → AreReserves h.lists trace reserves
     → IsNumber h object → IsUnheld h.lists object → ServesMget h reserves cpu pool object done after left → AreReserves after.lists trace left
 served_mget lawful h trace reserves cpu pool object done after left heap on_cpu are known unheld serves =
-    match_either (place_of reserves pool) _ _ (AreReserves after.lists trace left) serves
+    match_either (place_of_reserve reserves pool) _ _ (AreReserves after.lists trace left) serves
     (λ none told. same h trace reserves after left are told.0.2 told.1)
     (λ at is asks. asked at (place-within reserves pool at is) asks)
   where
@@ -113,7 +113,7 @@ puts_back lawful h trace reserves cpu object done after heap on_cpu known are no
 served_mput : (lawful : RoundsByTextAreLawful) (h : HeapState) (trace : Trace) (reserves : List Reserve) (cpu : ℕ) (pool : List ℕ) (object : ℕ) (done : ClientDone) (after : HeapState) (left : List Reserve) → IsOpenTo h trace 0 → cpu < trace.cpus → IsNumber h object → AreReserves h.lists trace reserves
     → ServesMput h reserves cpu pool object done after left → AreReserves after.lists trace left
 served_mput lawful h trace reserves cpu pool object done after left heap on_cpu known are serves =
-    match_either (place_of reserves pool) _ _ (AreReserves after.lists trace left) serves
+    match_either (place_of_reserve reserves pool) _ _ (AreReserves after.lists trace left) serves
     (λ none told. same h trace reserves after left are told.0.2 told.1)
     (λ at is some. match_either (held_under h.lists object) _ _ (AreReserves after.lists trace left) some
     (λ none told. same h trace reserves after left are told.0.2 told.1)

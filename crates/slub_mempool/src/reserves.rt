@@ -11,7 +11,7 @@ ghost use Rattle.slub_engine.specs.Steps.{KeepsUnheld};
 ghost use Rattle.slub_rounds.specs.Asked.{IsOpenTo, IsServable, SpendsAsked, StaysOpen};
 ghost use Rattle.slub_rounds.specs.BulkLines.{SpendsTaking, address_under};
 ghost use Rattle.slub_rounds.specs.ClientLaws.{IsNumber};
-ghost use Rattle.slub_rounds.specs.Reserves.{AreReserves, AreSoundReserves, Fills, Gets, IsReserveLine, PutsBack, ServesKept, ServesMempool, ServesMget, ServesMput, ServesReserves, SpendsKept, SpendsMempool, SpendsMget, SpendsMput, SpendsReserves, TakesOne, fresh_reserve, has_number, is_of_cache, kept_in, numbers_of, place_of, reserve_at};
+ghost use Rattle.slub_rounds.specs.Reserves.{AreReserves, AreSoundReserves, Fills, Gets, IsReserveLine, PutsBack, ServesKept, ServesMempool, ServesMget, ServesMput, ServesReserves, SpendsKept, SpendsMempool, SpendsMget, SpendsMput, SpendsReserves, TakesOne, fresh_reserve, has_number, is_of_cache, kept_in, numbers_of, place_of_reserve, reserve_at};
 ghost use Rattle.slub_rounds.specs.ClientStopped.{IsStoppedWhere};
 ghost use Rattle.slub_mempool.specs.Serving.{AreKnown, FreesHeld, IsUsable, TellsFreed};
 
@@ -23,7 +23,7 @@ use slub_common::sequence::Sequence;
 use slub_list_machine::lists::Lists;
 use slub_object_layout::layout::address;
 use slub_object_layout::name::Name;
-use slub_rounds::client::{Stopped, at_once, client_round, told};
+use slub_rounds::client::{LineStopped, at_once, client_round, told};
 use slub_rounds::heap::Heap;
 use slub_rounds::text_laws::rounds_by_text_are_lawful;
 use slub_slabinfo_text::client::{CacheRefusal, ClientAnswer, ClientDone, ClientRound};
@@ -100,7 +100,7 @@ fn take_one(
     place: u32,
     object: u32,
     rounds: &mut Vec<ClientRound>,
-) -> Result<(Heap, Result<u32, CacheRefusal>), Stopped>
+) -> Result<(Heap, Result<u32, CacheRefusal>), LineStopped>
     requires asks { (trace : Read) × IsOpenTo heap trace 1 }
     requires cpu { cpu < heap.lists.cpus }
     requires place { place < length heap.lists.table.kept }
@@ -123,7 +123,12 @@ fn take_one(
 }
 
 /// Frees an object that no reserve has room for.
-fn put_back(alloc: Global, heap: Heap, cpu: u32, object: u32) -> Result<(Heap, ClientDone), Stopped>
+fn put_back(
+    alloc: Global,
+    heap: Heap,
+    cpu: u32,
+    object: u32,
+) -> Result<(Heap, ClientDone), LineStopped>
     requires asks { (trace : Read) × IsOpenTo heap trace 0 }
     requires cpu { cpu < heap.lists.cpus }
     requires number { IsNumber heap object }
@@ -183,7 +188,7 @@ impl Reserves {
 
     /// The place of the reserve of this name.
     fn place_of(&self, pool: &Name) -> Option<usize>
-        ensures place { result ≡ place_of self.now pool.now }
+        ensures place { result ≡ place_of_reserve self.now pool.now }
         ensures inside { IfSome result (λ at. at < length self.now) }
     {
         self.made.iter().position(|reserve| *pool == reserve.name)
@@ -237,7 +242,7 @@ impl Reserves {
         place: u32,
         min_nr: u32,
         first: u32,
-    ) -> Result<(Heap, ClientDone), Stopped>
+    ) -> Result<(Heap, ClientDone), LineStopped>
         requires asks { (trace : Read) × IsOpenTo heap trace (length (range_with_len first min_nr)) }
         requires place { place < length heap.lists.table.kept }
         requires first { 1 ≤ first }
@@ -271,7 +276,7 @@ impl Reserves {
         place: u32,
         min_nr: u32,
         first: u32,
-    ) -> Result<(Heap, ClientDone), Stopped>
+    ) -> Result<(Heap, ClientDone), LineStopped>
         requires room { length self.old < 8 }
         requires asks { (trace : Read) × IsOpenTo heap trace (length (range_with_len first min_nr)) }
         requires place { place < length heap.lists.table.kept }
@@ -312,7 +317,7 @@ impl Reserves {
         cpu: u32,
         pool: &Name,
         object: u32,
-    ) -> Result<(Heap, ClientDone), Stopped>
+    ) -> Result<(Heap, ClientDone), LineStopped>
         requires asks { (trace : Read) × IsOpenTo heap trace 1 }
         requires cpu { cpu < heap.lists.cpus }
         requires number { IsNumber heap object }
@@ -384,7 +389,7 @@ impl Reserves {
         cpu: u32,
         pool: &Name,
         object: u32,
-    ) -> Result<(Heap, ClientDone), Stopped>
+    ) -> Result<(Heap, ClientDone), LineStopped>
         requires asks { (trace : Read) × IsOpenTo heap trace 0 }
         requires cpu { cpu < heap.lists.cpus }
         requires number { IsNumber heap object }
@@ -421,7 +426,7 @@ impl Reserves {
         heap: Heap,
         trace: &Trace,
         client: &Client,
-    ) -> Result<(Heap, ClientDone), Stopped>
+    ) -> Result<(Heap, ClientDone), LineStopped>
         requires servable { IsServable heap trace.now client.now }
         requires line { IsReserveLine client.now }
         requires reserves { AreReserves heap.lists trace.now self.old }
@@ -456,7 +461,7 @@ impl Reserves {
         heap: Heap,
         trace: &Trace,
         client: &Client,
-    ) -> Result<(Heap, ClientDone), Stopped>
+    ) -> Result<(Heap, ClientDone), LineStopped>
         requires servable { IsServable heap trace.now client.now }
         requires line { IsReserveLine client.now }
         requires sound { AreSoundReserves trace.now self.old }

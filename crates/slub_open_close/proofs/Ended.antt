@@ -35,7 +35,7 @@ use Rattle.slub_open_close.specs.Opened.{room_of}
 use Rattle.slub_open_close.specs.Values.{IsKeptOf}
 use Rattle.slub_open_close.specs.Joins.{Joins}
 use Rattle.slub_open_close.specs.Reads.{lists_at, own_at, on_board}
-use Rattle.slub_open_close.specs.Closing.{IsEnded, IsClosed, HasSizes, IsWritten, MayTakeBack, IsPutTogether, AreKnown, system_of, links_at}
+use Rattle.slub_open_close.specs.Closing.{IsEnded, IsClosed, HasSizes, IsWrittenBack, MayTakeBack, IsPutTogether, AreKnown, system_of, links_at}
 use Rattle.slub_open_close.proofs.Made.{IsRead, closes, keeps}
 
 -- ---- what is behind a lock, and what was kept of its node list
@@ -153,7 +153,7 @@ module _ (facts : Facts) (table : WordTable) (values : List Guarded) (rest : Res
   -- ---- the machine that is put together
 
   module _ (new : Rest) (memory : List ℕ) (t : State) (beside : Beside) (count : length memory ≡ 512 * table.frames) (words : (at : ℕ) → at < 512 * table.frames → get_or memory at 0 ≡ get_or table.words (1056 + table.frames + table.objects + at) 0)
-      (written : IsWritten facts table.words memory (values_of values) locals rest new) (put : IsPutTogether facts.step (values_of values) new memory t beside) where
+      (written : IsWrittenBack facts table.words memory (values_of values) locals rest new) (put : IsPutTogether facts.step (values_of values) new memory t beside) where
     links-base : links_at rest ≡ link_base (setup_of s b)
     links-base = omega (arith, ended.waiting.frames, ended.waiting.board)
 

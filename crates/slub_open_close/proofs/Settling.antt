@@ -16,7 +16,7 @@ use Rattle.slub_slabinfo_text.specs.declared.journal.Done.{Done}
 use Rattle.slub_slabinfo_text.specs.declared.journal.Done.TheVariants as done
 use Rattle.slub_open_close.specs.Ids.{AreIds, id_at}
 use Rattle.slub_open_close.specs.declared.growth.Due.{Due}
-use Rattle.slub_open_close.specs.Due.{AreAfter, AreCurrent, HasRoom, IsDue, IsDueOf, came_about, detached_by, made_by, with_steps}
+use Rattle.slub_open_close.specs.Due.{AreAfter, AreCurrent, DetachHasRoom, IsDue, IsDueOf, came_about, detached_by, made_by, with_steps}
 use Rattle.slub_open_close.specs.Growth.{ids_after, with_detached, with_detached_of, with_first}
 use Rattle.slub_open_close.proofs.Fitting.{made-at}
 use Rattle.slub_open_close.proofs.Steps.{step-is}
@@ -127,7 +127,7 @@ module _ (trace : Trace) (number : ℕ) (it : Item) (due : Due) (dn : Done) (ids
 
 -- there is room where each current slab can be detached
 pub room-of : (s : State) (trace : Trace) (number : ℕ) (it : Item) (due : Due) (ids : List ℕ) (cache step : ℕ) → slice_get trace.items number ≡ Some it → due.cache ≡ Some cache → step ≡ step_of trace.cpus
-    → (1 ≤ trace.cpus) × (trace.cpus ≤ 16) → IsDue s trace number due → s.cpus ≡ trace.cpus → AreIds s ids → (n : ℕ) → HasRoom step cache due.current n (id_at ids n)
+    → (1 ≤ trace.cpus) × (trace.cpus ≤ 16) → IsDue s trace number due → s.cpus ≡ trace.cpus → AreIds s ids → (n : ℕ) → DetachHasRoom step cache due.current n (id_at ids n)
 room-of s trace number it due ids cache step at of step_is few dued cpus are n word current =
     let its = due-of s trace number it due at dued in
     let found : AreCurrent s cache due.current = subst (λ (x : Option ℕ). IfSome x (λ cache. AreCurrent s cache due.current)) of its.current in

@@ -16,7 +16,7 @@ use Rattle.slub_core.specs.Setup.{Means}
 use Rattle.slub_core.specs.World.{World}
 use Rattle.slub_core.specs.declared.cache.CacheFacts.{CacheFacts}
 use Rattle.slub_core.specs.Facts.{Facts, pointer_in}
-use Rattle.slub_law_opening.specs.Opening.{Row, lay_each, cpu_at, frame_of, cache_in, own_row, cpu_row, opened, value_of}
+use Rattle.slub_law_opening.specs.Opening.{Row, lay_each, cpu_at, frame_of, cache_in, own_row, cpu_row, opened_words, value_of}
 use Rattle.slub_law_opening.specs.Table.{board_number, words_of}
 use Rattle.slub_law_opening.proofs.Rows.{own-pointer, cpu-pointer}
 use Rattle.slub_open_close.specs.declared.beside.Beside.{Beside}
@@ -105,11 +105,11 @@ classes : (w : World) (a b c d e f g : List ℕ)
 classes w a b c d e f g ea eb ec ed ee ef eg = seven a b c d e f g ∙ (λ i. ea i ++ (eb i ++ (ec i ++ (ed i ++ (ee i ++ (ef i ++ eg i))))))
 
 pub words-whole : (s : State) (b : Beside) (means : Means) (memory links : List ℕ) → IsConsistent s
-    → length memory ≡ 512 * s.frames → read memory ≡ (opened s (beside_of b means)).memory
-    → length links ≡ s.frames → read links ≡ (opened s (beside_of b means)).link
-    → (front_words s b.tids.items ++ memory) ++ links ≡ words_of (opened s (beside_of b means))
+    → length memory ≡ 512 * s.frames → read memory ≡ (opened_words s (beside_of b means)).memory
+    → length links ≡ s.frames → read links ≡ (opened_words s (beside_of b means)).link
+    → (front_words s b.tids.items ++ memory) ++ links ≡ words_of (opened_words s (beside_of b means))
 words-whole s b means memory links consistent memory_count memory_is links_count links_are =
-    classes (opened s (beside_of b means)) lock_words (list_words s) (cpu_words s b.tids.items) (slab_words s) (board_words s) memory links
+    classes (opened_words s (beside_of b means)) lock_words (list_words s) (cpu_words s b.tids.items) (slab_words s) (board_words s) memory links
     refl refl refl refl refl
     (list-read memory (512 * s.frames) memory_count ∙ ap (λ (m : ℕ → ℕ). map m (range_with_len 0 (512 * s.frames))) memory_is)
     (list-read links s.frames links_count ∙ ap (λ (m : ℕ → ℕ). map m (range_with_len 0 s.frames)) links_are)

@@ -95,7 +95,7 @@ AreKnown objects locals = All (λ (l : Local). AreDistinct l.known
 
 -- the vectors say what the words of the table and those of the frames say, and the others are as
 -- they were
-pub record IsWritten (facts : Facts) (words memory : List ℕ) (value : ℕ → LockValue)
+pub record IsWrittenBack (facts : Facts) (words memory : List ℕ) (value : ℕ → LockValue)
     (locals : List Local) (old new : Rest) : Type 0 where
   pub sizes : HasSizes new
   pub objects : length new.board.items ≡ length old.board.items

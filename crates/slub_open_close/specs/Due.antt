@@ -69,8 +69,8 @@ came_about (item.Tune place setting) done = is_tuned done
 came_about item done = false
 
 -- a word that a detach changes has room for a step
-abbrev pub HasRoom : ℕ → ℕ → List Bool → ℕ → ℕ → Type 0
-HasRoom step cache current n id =
+abbrev pub DetachHasRoom : ℕ → ℕ → List Bool → ℕ → ℕ → Type 0
+DetachHasRoom step cache current n id =
     n / 16 ≡ cache → slice_index_or current (n % 16) false ≡ true → id + step < 2 ^ 32
 
 -- ids after a cache was detached that these CPUs had a current slab of

@@ -5,7 +5,7 @@ use Rattle.slub_lists.specs.State.{State}
 use Rattle.slub_core.specs.Setup.{Means}
 use Rattle.slub_core.specs.Facts as local
 use Rattle.slub_core.specs.Values.{values_of, rooms_of}
-use Rattle.slub_law_opening.specs.Opening.{setup_of, value_of, opened}
+use Rattle.slub_law_opening.specs.Opening.{setup_of, value_of, opened_words}
 use Rattle.slub_law_opening.specs.Table.{words_of}
 use Rattle.slub_open_close.specs.declared.beside.Beside.{Beside}
 use Rattle.slub_open_close.specs.declared.opened.Opened.{Opened}
@@ -24,7 +24,7 @@ pub record IsOpened (s : State) (b : Beside) (o : Opened) : Type 0 where
   pub setup : (means : Means) → local.setup_of o.setup means ≡ setup_of s (beside_of b means)
   pub frames : o.table.frames ≡ s.frames
   pub objects : o.table.objects ≡ length s.board
-  pub words : (means : Means) → o.table.words ≡ words_of (opened s (beside_of b means))
+  pub words : (means : Means) → o.table.words ≡ words_of (opened_words s (beside_of b means))
   pub values : values_of o.values.items ≡ value_of s
   pub rooms : rooms_of o.values.items ≡ map (room_of s) (range_with_len 0 33)
   pub rest : IsRestOf s o.rest

@@ -5,7 +5,7 @@ ghost use Rattle.slub_lists.specs.State.{State};
 ghost use Rattle.slub_core.specs.Values.{values_of};
 ghost use Rattle.slub_law_opening.specs.Opening as opening;
 ghost use Rattle.slub_open_close.specs.Beside.{beside_of};
-ghost use Rattle.slub_open_close.specs.Closing.{IsEnded, IsClosed, MayTakeBack, HasSizes, IsWritten, IsPutTogether, system_of};
+ghost use Rattle.slub_open_close.specs.Closing.{IsEnded, IsClosed, MayTakeBack, HasSizes, IsWrittenBack, IsPutTogether, system_of};
 
 use crate::beside::Beside;
 use crate::board::{close_board, count_live};
@@ -49,7 +49,7 @@ fn write_lists(
     rest: &mut Rest,
 )
     requires { HasSizes rest.old }
-    ensures { IsWritten setup.now table.now.words memory.now (values_of values.now) locals.now rest.old rest.new }
+    ensures { IsWrittenBack setup.now table.now.words memory.now (values_of values.now) locals.now rest.old rest.new }
 {
     let board = 1056 + rest.frames as usize;
     let links = board + rest.board.len() + 512 * rest.frames as usize;

@@ -7,7 +7,7 @@ ghost use Rattle.slub_trace.specs.Ranges.{step_of};
 ghost use Rattle.slub_trace.specs.Sound.{IsSound, IsSoundItem};
 ghost use Rattle.slub_open_close.specs.Ids.{AreIds, first_id, id_at};
 ghost use Rattle.slub_open_close.specs.Growth.{with_first};
-ghost use Rattle.slub_open_close.specs.Due.{AreAfter, AreCurrent, IsDue, HasRoom, came_about, detached_by, is_shrunk, is_tuned, made_by, new_in, with_steps};
+ghost use Rattle.slub_open_close.specs.Due.{AreAfter, AreCurrent, IsDue, DetachHasRoom, came_about, detached_by, is_shrunk, is_tuned, made_by, new_in, with_steps};
 
 use crate::ids::Ids;
 use slub_list_machine::lists::Lists;
@@ -215,7 +215,7 @@ fn begun(first: u32, cpus: u32, cache: u8, number: usize, id: u32) -> u32
 /// Each current slab of the cache is detached.
 fn detach(words: &mut [u32], step: u32, cache: u8, current: &[bool; 16])
     requires words { length words.old ≡ 512 }
-    requires room { (n : ℕ) → HasRoom step cache current.now n (id_at words.old n) }
+    requires room { (n : ℕ) → DetachHasRoom step cache current.now n (id_at words.old n) }
     ensures { words.new ≡ with_steps step cache current.now words.old }
 {
     for number in 0..512 {
@@ -226,7 +226,7 @@ fn detach(words: &mut [u32], step: u32, cache: u8, current: &[bool; 16])
 /// What becomes of the id of a word where a cache is detached: it grows by one step where the CPU has a current slab
 /// of the cache (`flush_slab`).
 fn stepped(step: u32, cache: u8, current: &[bool; 16], number: usize, id: u32) -> u32
-    requires { HasRoom step cache current.now number id }
+    requires { DetachHasRoom step cache current.now number id }
     ensures { result ≡ (if (number / 16 == cache) && slice_index_or current.now (number % 16) false then id + step else id) }
 {
     if number / 16 == usize::from(cache) && current[number % 16] {

@@ -39,11 +39,11 @@ stop_status ReadFault = ends.ReadFault
 stop_status NoMemory = ends.NoMemory
 
 -- the number with which the program ends
-abbrev pub number_of : Status → ℕ
-number_of ends.Fine = 0
-number_of ends.BadWords = 2
-number_of ends.BadTrace = 3
-number_of ends.ReadFault = 4
-number_of ends.WriteFault = 5
-number_of ends.NoMemory = 6
-number_of ends.TurnsSpent = 7
+abbrev pub status_number : Status → ℕ
+status_number ends.Fine = 0
+status_number ends.BadWords = 2
+status_number ends.BadTrace = 3
+status_number ends.ReadFault = 4
+status_number ends.WriteFault = 5
+status_number ends.NoMemory = 6
+status_number ends.TurnsSpent = 7

@@ -22,11 +22,11 @@ pub enum Status {
 
 impl Status {
     ghost use Rattle.std.specs.Prelude.{◌≡◌};
-    ghost use Rattle.slub_outcomes.specs.Stop.{number_of};
+    ghost use Rattle.slub_outcomes.specs.Stop.{status_number};
 
     /// The number with which the program ends: 0, or 2 to 7.
     pub fn number(self) -> u8
-        ensures { result ≡ number_of self }
+        ensures { result ≡ status_number self }
     {
         match self {
             Status::Fine => 0,

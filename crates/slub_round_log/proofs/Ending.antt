@@ -12,7 +12,7 @@ use Rattle.slub_round_log.specs.declared.kept.Fault.TheVariants.{NoMemory}
 use Rattle.slub_round_log.specs.declared.kept.Kept.{Kept}
 use Rattle.slub_round_log.specs.Choices.{Goes}
 use Rattle.slub_round_log.specs.Told.{lines_of}
-use Rattle.slub_round_log.specs.Log.{Begun, Ends, FailsBy, IsAlike, IsNoted, IsPut, IsWritten, Notes, SinkState, Takes, Writes, ended_by, first_lines, shown}
+use Rattle.slub_round_log.specs.Log.{Begun, EndsTurns, FailsBy, IsAlike, IsNoted, IsPut, AreLinesWritten, Notes, SinkState, Takes, Writes, ended_by, first_lines, shown}
 
 shown_alike : (k mid : Kept) (text lines : List ℕ) → mid.is_shown ≡ k.is_shown → lines ≡ text → shown mid lines ≡ shown k text
 shown_alike k mid text lines alike is =
@@ -28,7 +28,7 @@ text_written k mid last choice text old new alike lines context made waits write
     let F : List ℕ → Type 0 = λ t. IfSome last.fault (λ fault. FailsBy fault t old new) in
     record {
       alike = record { labels = writes.alike.labels ∙ alike.labels; is_shown = writes.alike.is_shown ∙ alike.is_shown };
-      written = λ (fine : last.fault ≡ None). let w : IsWritten mid mid.lines.items last old new = writes.written fine in record {
+      written = λ (fine : last.fault ≡ None). let w : AreLinesWritten mid mid.lines.items last old new = writes.written fine in record {
         lines = w.lines;
         taken = subst T is w.taken;
         context = w.context ∙ context;
@@ -41,7 +41,7 @@ text_written k mid last choice text old new alike lines context made waits write
 pub turn_ends : (m : Facts) (k mid last : Kept) (value : ℕ → LockValue) (before : ℕ) (l : Local) (choice : Choice) (old new : SinkState)
     → Notes m k (Rests value before l) mid → mid.fault ≡ None → Writes mid mid.lines.items last old new
     → last.choice ≡ mid.choice → Goes last.choice (ended_by l mid.waits) choice
-    → Ends m k value before l (record last { choice = choice }) old new
+    → EndsTurns m k value before l (record last { choice = choice }) old new
 turn_ends m k mid last value before l choice old new notes fine writes same goes =
     let text : List ℕ = k.lines.items ++ lines_of k.labels m k.context (Rests value before l) in
     record {

@@ -14,7 +14,7 @@ use Rattle.slub_round_log.specs.declared.choice.Choice.{Choice}
 use Rattle.slub_round_log.specs.declared.kept.Kept.{Kept}
 use Rattle.slub_round_log.specs.Choices.{Goes}
 use Rattle.slub_round_log.specs.Laws.{AreHeard, AreWritten, Heard, IsChosen, LogState, RoundsAreWritten, TurnsAreWritten, all_of}
-use Rattle.slub_round_log.specs.Log.{Ends, Hears, IsAlike, IsWritten, SinkState, Takes, Writes, ended_by, made_after, shown, waits_after}
+use Rattle.slub_round_log.specs.Log.{EndsTurns, Hears, IsAlike, AreLinesWritten, SinkState, Takes, Writes, ended_by, made_after, shown, waits_after}
 use Rattle.slub_round_log.specs.Told.{Context, context_after, context_behind, lines_of, turns_text}
 use Rattle.slub_round_log.proofs.Heard.{HasNoted, fine_before, front_noted}
 
@@ -59,12 +59,12 @@ module _ (m : Facts) (w u : LogState) (front : List Happening) (value : ℕ → 
       ap (λ (b : Bool). if b then text else []) noted.alike.is_shown
       ∙ ap (λ (t : List ℕ). if w.kept.is_shown then t else []) text_is
 
-  turn_written : (v : LogState) → Ends m u.kept value before last v.kept u.sink v.sink → v.kept.fault ≡ None
+  turn_written : (v : LogState) → EndsTurns m u.kept value before last v.kept u.sink v.sink → v.kept.fault ≡ None
       → AreWritten m w (front ++ end ∷ []) v × Goes w.kept.choice (ended_by last (fold waits_after w.kept.waits front)) v.kept.choice
   turn_written v ends fine =
       let was : u.kept.fault ≡ None = fine_before u.kept.fault u.kept v.kept refl (λ h. (ends.over h).0) fine in
       let writes : Writes u.kept (u.kept.lines.items ++ lines_of u.kept.labels m u.kept.context end) v.kept u.sink v.sink = ends.writes was in
-      let out : IsWritten u.kept (u.kept.lines.items ++ lines_of u.kept.labels m u.kept.context end) v.kept u.sink v.sink = writes.written fine in
+      let out : AreLinesWritten u.kept (u.kept.lines.items ++ lines_of u.kept.labels m u.kept.context end) v.kept u.sink v.sink = writes.written fine in
       let T : List ℕ → Type 0 = λ t. Takes u.sink v.sink t in
       let S : SinkState → Type 0 = λ s. Takes s v.sink (shown w.kept (turns_text w.kept.labels m w.kept.context (front ++ end ∷ []))) in
       let G : Choice → Type 0 = λ x. Goes x (ended_by last u.kept.waits) v.kept.choice in
@@ -86,9 +86,9 @@ turns_written m w happenings v turn heard empty fine =
     let P : List Happening → Type 0 = λ hs. FoldsTo (Heard m) w hs v in
     let parts = split (Heard m) w turn.front (Rests turn.value turn.before turn.last ∷ []) v (subst P turn.happenings_are heard) in
     let u : LogState = parts.0 in
-    let ends : Ends m u.kept turn.value turn.before turn.last parts.2.0.kept u.sink parts.2.0.sink = parts.2.1 in
-    let E : LogState → Type 0 = λ x. Ends m u.kept turn.value turn.before turn.last x.kept u.sink x.sink in
-    let at : Ends m u.kept turn.value turn.before turn.last v.kept u.sink v.sink = subst E parts.2.2 ends in
+    let ends : EndsTurns m u.kept turn.value turn.before turn.last parts.2.0.kept u.sink parts.2.0.sink = parts.2.1 in
+    let E : LogState → Type 0 = λ x. EndsTurns m u.kept turn.value turn.before turn.last x.kept u.sink x.sink in
+    let at : EndsTurns m u.kept turn.value turn.before turn.last v.kept u.sink v.sink = subst E parts.2.2 ends in
     let was : u.kept.fault ≡ None = fine_before u.kept.fault u.kept v.kept refl (λ h. (at.over h).0) fine in
     let noted : HasNoted m w turn.front u = front_noted m w turn.front u turn.none_ends parts.1 was in
     let Q : List Happening → Type 0 = λ hs. AreWritten m w hs v × Goes w.kept.choice (ended_by turn.last (fold waits_after w.kept.waits turn.front)) v.kept.choice in

@@ -85,7 +85,7 @@ abbrev pub shown : Kept → List ℕ → List ℕ
 shown k text = if k.is_shown then text else []
 
 -- the lines are written, none is left, and what is known of the turns stays
-pub record IsWritten (k : Kept) (text : List ℕ) (after : Kept) (old new : SinkState)
+pub record AreLinesWritten (k : Kept) (text : List ℕ) (after : Kept) (old new : SinkState)
     : Type 0 where
   pub lines : after.lines.items ≡ []
   pub taken : Takes old new (shown k text)
@@ -97,7 +97,7 @@ pub record IsWritten (k : Kept) (text : List ℕ) (after : Kept) (old new : Sink
 pub record Writes (k : Kept) (text : List ℕ) (after : Kept) (old new : SinkState)
     : Type 0 where
   pub alike : IsAlike k after
-  pub written : after.fault ≡ None → IsWritten k text after old new
+  pub written : after.fault ≡ None → AreLinesWritten k text after old new
   pub failed : IfSome after.fault (λ fault. FailsBy fault (shown k text) old new)
 
 -- ---- the end of a turn
@@ -108,7 +108,7 @@ ended_by l waits = record { is_event_over = is_between l.spot; is_lost_at_lock =
 
 -- its lines are written, and whose turn comes next goes by how it ended; once something failed,
 -- nothing changes
-pub record Ends (m : Facts) (k : Kept) (value : ℕ → LockValue) (before : ℕ) (l : Local)
+pub record EndsTurns (m : Facts) (k : Kept) (value : ℕ → LockValue) (before : ℕ) (l : Local)
     (after : Kept) (old new : SinkState) : Type 0 where
   pub over : k.fault ≢ None → (after ≡ k) × (new ≡ old)
   pub writes : k.fault ≡ None → Writes k
@@ -118,7 +118,7 @@ pub record Ends (m : Facts) (k : Kept) (value : ℕ → LockValue) (before : ℕ
 
 -- what becomes of a log by what it hears
 abbrev pub Hears : Facts → Kept → SinkState → Happening → Kept → SinkState → Type 0
-Hears m k old (Rests value before l) after new = Ends m k value before l after old new
+Hears m k old (Rests value before l) after new = EndsTurns m k value before l after old new
 Hears m k old h after new = Notes m k h after × (new ≡ old)
 
 -- ---- the begin of a round, and its end

@@ -18,7 +18,7 @@ use slub_edges::pieces::write_lines;
 use slub_picks::walk::Ended;
 use slub_schedule::order::Order;
 use slub_trace::reply::Reply;
-use slub_turns::machine::Machine;
+use slub_turns::machine::StepMachine;
 use slub_turns::watch::Watch;
 
 /// A log of a round's turns. The lines of a turn are written at its end.
@@ -76,7 +76,7 @@ impl<'a, K: Sink> Watch for Log<'a, K> {
         self.write();
     }
 
-    fn choose(&mut self, machine: &Machine, order: &Order) -> Result<usize, Halt> {
+    fn choose(&mut self, machine: &StepMachine, order: &Order) -> Result<usize, Halt> {
         if let Some(fault) = self.kept.fault {
             return Err(Halt::Failed(fault));
         }
@@ -86,7 +86,7 @@ impl<'a, K: Sink> Watch for Log<'a, K> {
         }
     }
 
-    fn end(&mut self, machine: &Machine) -> Result<(), Halt> {
+    fn end(&mut self, machine: &StepMachine) -> Result<(), Halt> {
         if let Some(fault) = self.kept.fault {
             return Err(Halt::Failed(fault));
         }

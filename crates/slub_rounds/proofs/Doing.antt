@@ -36,7 +36,7 @@ use Rattle.slub_law_opening.proofs.Turns.{get_or-beyond}
 use Rattle.slub_calls.specs.Calls.{events_by, worker_of, workers_of}
 use Rattle.slub_open_close.specs.declared.beside.Beside.{Beside}
 use Rattle.slub_open_close.specs.declared.opened.Rest.{Rest}
-use Rattle.slub_turns.specs.declared.machine.Machine.{Machine}
+use Rattle.slub_turns.specs.declared.machine.StepMachine.{StepMachine}
 use Rattle.slub_law_opening.specs.Opening.{setup_of}
 use Rattle.slub_rounds.specs.Doing.{AreUnder, AwaitsEvents, ComesThrough, HasTurned, StaysUnder, is_through, local_at}
 use Rattle.slub_rounds.specs.InOrder.{AreInOrder, EndsInOrder, IsSpentInOrder, answered, busy_from, next_in, next_worker}
@@ -413,7 +413,7 @@ events-each table round inside v =
           ap (λ (l : Local). length l.done + length l.todo) gone ∙ (let e : 0 + 0 ≡ count v round.events = omega (arith, none) in e)
     ]
 
-pub awaits-begun : (s : State) (ids : List ℕ) (b : Beside) (trace : Trace) (round : Round) (m : Machine) (rest : Rest) → MayRun s ids b trace round → IsBegun s b round m rest → AwaitsEvents round.events m.locals.items
+pub awaits-begun : (s : State) (ids : List ℕ) (b : Beside) (trace : Trace) (round : Round) (m : StepMachine) (rest : Rest) → MayRun s ids b trace round → IsBegun s b round m rest → AwaitsEvents round.events m.locals.items
 awaits-begun s ids b trace round m rest may begun = record {
   between = λ v. elim (cases_lt v (length m.locals.items)) [
     | inl below ↦ all-between s b round m rest begun v idle below

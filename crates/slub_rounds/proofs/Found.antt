@@ -27,6 +27,7 @@ use Rattle.slub_core.specs.declared.spot.Spot.{Spot}
 use Rattle.slub_core.specs.declared.spot.Spot.TheVariants.{Between, InAlloc, InPutAway, InDiscard, InPutOnList, InFree, InMoveSet, InOffline, InTrim, WriteWord, ReadWord, InChecked}
 use Rattle.slub_core.specs.declared.spot.CheckedSpot.TheVariants.{LockChecked, DoChecked, LockRun, MoveRun, AddSlab, GiveRun, GiveChecked}
 use Rattle.slub_core.specs.declared.spot.CheckedSpot.{CheckedSpot}
+use Rattle.slub_core.specs.Calls.{call_offset}
 use Rattle.slub_core.specs.Setup.{Setup, node_lock, pool_lock, pool_after}
 use Rattle.slub_core.specs.Words.{word_count, number_of, after_op, answer_of}
 use Rattle.slub_core.specs.World.{World, LockValue, Node, Checked, Pool, update, sum_below, pool_in, world_from, world_of}
@@ -133,7 +134,7 @@ took-few m value l old None below is =
 took-few m value l old (Some damage) below is = omega arith
 
 poked-few : (l : Local) (s : CheckedState) → findable (poked l s) ≤ findable s + 1
-poked-few l s = elim (cases_Bool (is_offset s.layout (call_of l).offset && nat_lt (here l).index (objects_in (slab_of s (here l).frame)))) [ inl e ↦ rw e (omega arith) | inr e ↦ rw e (omega arith) ]
+poked-few l s = elim (cases_Bool (is_offset s.layout (call_offset (call_of l)) && nat_lt (here l).index (objects_in (slab_of s (here l).frame)))) [ inl e ↦ rw e (omega arith) | inr e ↦ rw e (omega arith) ]
 
 do-few : (m : Setup) (value : ℕ → LockValue) (l : Local) (kind : CallKind) (old : CheckedState) → node_lock l.cache < 33 → value (node_lock l.cache) ≡ Checked old → IsSound old → FindsFew value (do_checked m value l kind old)
 do-few m value l Alloc old below is sound =

@@ -30,7 +30,7 @@ use Rattle.slub_engine.specs.Steps.{IsKnown, IsKnownAct}
 use Rattle.slub_engine.specs.declared.running.Running.{Running}
 use Rattle.slub_engine.proofs.UnderWay.{has_run_all, has_run_next, may_answer}
 use Rattle.slub_rounds.specs.ByText.{DoesRoundOnLists, IdsLast}
-use Rattle.slub_rounds.specs.Raising.{HasRoom, HaveRoom, ids_beside, ids_left, ids_raised, with_given, word_given, word_in}
+use Rattle.slub_rounds.specs.Raising.{WordHasRoom, HaveRoom, ids_beside, ids_left, ids_raised, with_given, word_given, word_in}
 use Rattle.slub_rounds.proofs.Growing.{act-grows, not-grown, runs-grow, runs-more}
 use Rattle.slub_rounds.proofs.Raised.{left-is, named-within, word-within}
 use Rattle.slub_rounds.proofs.Standing.{beside_ids, lasting, stands}
@@ -139,15 +139,15 @@ may-next s ids trace round events done running now words event may same way with
 
 -- the word of an object that is given is one of all
 module _ (s : State) (cpu step : ℕ) (ids : List ℕ) (coherent : IsCoherent s) (below : cpu < s.cpus) (count : length ids ≡ 512) (room : HaveRoom step ids) where
-  given-in : (cache : ℕ) → cache < 32 → (checked : Bool) → IfSome (cond checked None (Some (cpu_number cache cpu))) (HasRoom step ids)
+  given-in : (cache : ℕ) → cache < 32 → (checked : Bool) → IfSome (cond checked None (Some (cpu_number cache cpu))) (WordHasRoom step ids)
   given-in cache inside true = tt
   given-in cache inside false = (word-within cache cpu s.cpus (length ids) inside below coherent.shaped.cpus.1 count, room (cpu_number cache cpu))
 
-  given-of : (place : ℕ) (x : Option ℕ) → named s place ≡ x → IfSome (option_and_then (word_in s cpu) x) (HasRoom step ids)
+  given-of : (place : ℕ) (x : Option ℕ) → named s place ≡ x → IfSome (option_and_then (word_in s cpu) x) (WordHasRoom step ids)
   given-of place None is = tt
   given-of place (Some cache) is = given-in cache (named-within s place cache coherent is) (is_some (checked_of s cache))
 
-  pub given-room : (a : Act) → IfSome (word_given s cpu a) (HasRoom step ids)
+  pub given-room : (a : Act) → IfSome (word_given s cpu a) (WordHasRoom step ids)
   given-room (act.Alloc place object) = given-of place (named s place) refl
   given-room (act.Free object) = tt
   given-room (act.Write word object value) = tt

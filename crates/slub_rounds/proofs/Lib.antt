@@ -8,6 +8,7 @@ pub mod Following
 pub mod Lists
 pub mod One
 pub mod Threads
+pub mod Seating
 pub mod Lawful
 pub mod Doing
 pub mod OneInOrder

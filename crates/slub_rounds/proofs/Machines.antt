@@ -29,7 +29,7 @@ use Rattle.slub_open_close.specs.declared.opened.Rest.{Rest}
 use Rattle.slub_open_close.specs.Ids.{AreIds, IsStepOf}
 use Rattle.slub_open_close.specs.Opened.{IsOpened, room_of}
 use Rattle.slub_open_close.specs.Closing.{IsEnded, IsClosed}
-use Rattle.slub_turns.specs.declared.machine.Machine.{Machine}
+use Rattle.slub_turns.specs.declared.machine.StepMachine.{StepMachine}
 use Rattle.slub_turns.specs.Means.{the_means}
 use Rattle.slub_turns.specs.Ready.{IsReady, MayTurn, rooms_for, room_for}
 use Rattle.slub_turns.proofs.Ready.{begins_ready}
@@ -66,7 +66,7 @@ has-rooms s b coherent cache plain =
 pub may-of : (s : State) (ids : List ℕ) (b : Beside) (trace : Trace) (round : Round) → MayRun s ids b trace round → MayOpen s (beside_in b)
 may-of s ids b trace round may = may-open s (beside_in b) may.coherent may.laid_down may.stands.fits
 
-pub ready-begun : (s : State) (ids : List ℕ) (b : Beside) (trace : Trace) (round : Round) (m : Machine) (rest : Rest) → MayRun s ids b trace round → IsBegun s b round m rest → IsReady m.setup m.table m.values.items m.locals.items
+pub ready-begun : (s : State) (ids : List ℕ) (b : Beside) (trace : Trace) (round : Round) (m : StepMachine) (rest : Rest) → MayRun s ids b trace round → IsBegun s b round m rest → IsReady m.setup m.table m.values.items m.locals.items
 ready-begun s ids b trace round m rest may begun = record {
   may = subst (λ (p : Setup × System). MayTurn p.0 p.1) (λ i. (sym begun.setup i, sym begun.system i))
       (begins_ready begins-bounded s (beside_in b) (workers_of s.table round) opens_ (may_begin s (beside_in b) trace round opens_ may.does) (are-numbered s.table round));
@@ -78,10 +78,10 @@ ready-begun s ids b trace round m rest may begun = record {
     opens_ : MayOpen s (beside_in b)
     opens_ = may-of s ids b trace round may
 
-pub begun-count : (s : State) (b : Beside) (round : Round) (m : Machine) (rest : Rest) → IsBegun s b round m rest → length m.locals.items ≡ round.workers
+pub begun-count : (s : State) (b : Beside) (round : Round) (m : StepMachine) (rest : Rest) → IsBegun s b round m rest → length m.locals.items ≡ round.workers
 begun-count s b round m rest begun = ap (λ (y : System). length y.locals) begun.system ∙ begun-long s (beside_in b) round
 
-pub begun-most : (s : State) (ids : List ℕ) (b : Beside) (trace : Trace) (round : Round) (m : Machine) (rest : Rest) → MayRun s ids b trace round → IsBegun s b round m rest → turns_of (system_begun s (beside_in b) round) ≡ turns_of (system_in m)
+pub begun-most : (s : State) (ids : List ℕ) (b : Beside) (trace : Trace) (round : Round) (m : StepMachine) (rest : Rest) → MayRun s ids b trace round → IsBegun s b round m rest → turns_of (system_begun s (beside_in b) round) ≡ turns_of (system_in m)
 begun-most s ids b trace round m rest may begun = ap turns_of (sym begun.system)
 
 -- ---- the end
@@ -94,7 +94,7 @@ pub coherent-run : (s : State) (ids : List ℕ) (b : Beside) (trace : Trace) (ro
 coherent-run s ids b trace round picks may =
     rounds_keep (setup_of s (beside_in b)) (system_before s (beside_in b) round) picks (begins s (beside_in b) trace round (may-of s ids b trace round may) may.does)
 
-pub ended-closes : (s : State) (ids : List ℕ) (b : Beside) (trace : Trace) (round : Round) (m : Machine) (rest : Rest) (answers : Answers) → HasEnded s ids b trace round m rest answers
+pub ended-closes : (s : State) (ids : List ℕ) (b : Beside) (trace : Trace) (round : Round) (m : StepMachine) (rest : Rest) (answers : Answers) → HasEnded s ids b trace round m rest answers
     → IsEnded m.setup m.table m.values.items rest m.locals.items s (beside_in b) (world_before s (beside_in b) round)
 ended-closes s ids b trace round m rest answers ended =
     let d = beside_in b in
@@ -118,7 +118,7 @@ ended-closes s ids b trace round m rest answers ended =
           (machines-may_close s d (workers_of s.table round) ended.picks opens_ (may_begin s d trace round opens_ ended.may.does) (are-numbered s.table round) (subst R ended.run ended.finished));
     }
 
-pub ended-tells : (s : State) (ids : List ℕ) (b : Beside) (trace : Trace) (round : Round) (m : Machine) (rest : Rest) (answers : Answers) (t : State) (d : opening.Beside) → HasEnded s ids b trace round m rest answers
+pub ended-tells : (s : State) (ids : List ℕ) (b : Beside) (trace : Trace) (round : Round) (m : StepMachine) (rest : Rest) (answers : Answers) (t : State) (d : opening.Beside) → HasEnded s ids b trace round m rest answers
     → IsClosed s (beside_in b) (system_in m) t d → MayTell s t round m.locals.items answers
 ended-tells s ids b trace round m rest answers t d ended closed =
     let P : System → Type 0 = λ y. Closes s (beside_in b) y t d in
@@ -128,7 +128,7 @@ ended-tells s ids b trace round m rest answers t d ended closed =
 
 -- ---- the whole
 
-pub has-ended : (s : State) (ids : List ℕ) (b : Beside) (trace : Trace) (round : Round) (m n : Machine) (rest : Rest) (answers : Answers) (picks : List Pick) → MayRun s ids b trace round → IsBegun s b round m rest
+pub has-ended : (s : State) (ids : List ℕ) (b : Beside) (trace : Trace) (round : Round) (m n : StepMachine) (rest : Rest) (answers : Answers) (picks : List Pick) → MayRun s ids b trace round → IsBegun s b round m rest
     → local.setup_of n.setup the_means ≡ local.setup_of m.setup the_means → IsReady n.setup n.table n.values.items n.locals.items → system_in n ≡ run (local.setup_of m.setup the_means) (system_in m) picks → All IsFinished n.locals.items
     → IsRoomFor s (length round.events) round.workers answers → HasEnded s ids b trace round n rest answers
 has-ended s ids b trace round m n rest answers picks may begun kept ready ran finished room = record {
@@ -160,7 +160,7 @@ ids-left s t ids b d system stands closed =
     }
 
 -- by picks of whichever kind
-pub is-done : (Ending : Setup → System → List Pick → System → Type 0) (s : State) (ids : List ℕ) (b : Beside) (trace : Trace) (round : Round) (m n : Machine) (rest : Rest) (picks : List Pick) (done : Ended)
+pub is-done : (Ending : Setup → System → List Pick → System → Type 0) (s : State) (ids : List ℕ) (b : Beside) (trace : Trace) (round : Round) (m n : StepMachine) (rest : Rest) (picks : List Pick) (done : Ended)
     → MayRun s ids b trace round → IsBegun s b round m rest
     → Ending (local.setup_of m.setup the_means) (system_in m) picks (system_in n) → HasClosed s (beside_in b) round (system_in n) done → IsDone Ending s ids round done
 is-done Ending s ids b trace round m n rest picks done may begun ends closed = record {
@@ -187,7 +187,7 @@ is-done Ending s ids b trace round m n rest picks done may begun ends closed = r
   fit = closed.fit;
 }
 
-pub is-spent : (Spending : Setup → System → List Pick → System → Type 0) (s : State) (ids : List ℕ) (b : Beside) (trace : Trace) (round : Round) (m n : Machine) (rest : Rest) (picks : List Pick) → MayRun s ids b trace round → IsBegun s b round m rest
+pub is-spent : (Spending : Setup → System → List Pick → System → Type 0) (s : State) (ids : List ℕ) (b : Beside) (trace : Trace) (round : Round) (m n : StepMachine) (rest : Rest) (picks : List Pick) → MayRun s ids b trace round → IsBegun s b round m rest
     → Spending (local.setup_of m.setup the_means) (system_in m) picks (system_in n) → SpendsTurnsBySteps Spending s ids round
 is-spent Spending s ids b trace round m n rest picks may begun spent = record {
   beside = beside_in b;

@@ -18,7 +18,7 @@ use Rattle.slub_core.specs.Run.{System, Pick}
 use Rattle.slub_core.specs.Setup.{Setup}
 use Rattle.slub_core.specs.World.{world_of}
 use Rattle.slub_schedule.specs.Schedule.{AreRefusedAlike}
-use Rattle.slub_schedule.specs.Rounds.{Ends, IsSpent}
+use Rattle.slub_schedule.specs.Rounds.{EndsRound, IsSpent}
 use Rattle.slub_schedule.proofs.Picks.{rounds_unique}
 use Rattle.slub_law_opening.specs.Opening.{Beside, setup_of}
 use Rattle.slub_law_opening.specs.Table.{RestsIn}
@@ -159,18 +159,18 @@ module _ (Ending : Setup → System → List Pick → System → Type 0) (s : St
 -- ---- by a seed
 
 module _ (s : State) (seed : ℕ) (round : Round) (b d : Beside) (ps qs : List Pick) (x y : System) (same : b ≡ d) (alike : AreRefusedAlike ps qs)
-    (ends : Ends (setup_of s b) seed (system_begun s b round) ps x) where
-  moved : Ends (setup_of s d) seed (system_begun s d round) ps x
-  moved = subst (λ (b : Beside). Ends (setup_of s b) seed (system_begun s b round) ps x) same ends
+    (ends : EndsRound (setup_of s b) seed (system_begun s b round) ps x) where
+  moved : EndsRound (setup_of s d) seed (system_begun s d round) ps x
+  moved = subst (λ (b : Beside). EndsRound (setup_of s b) seed (system_begun s b round) ps x) same ends
 
-  pub same-last : Ends (setup_of s d) seed (system_begun s d round) qs y → x ≡ y
+  pub same-last : EndsRound (setup_of s d) seed (system_begun s d round) qs y → x ≡ y
   same-last other = ((rounds_unique (setup_of s d) seed (system_begun s d round) ps qs x y alike).0 moved other).1
 
   not-spent : IsSpent (setup_of s d) seed (system_begun s d round) qs y → ⊥
   not-spent spent = (rounds_unique (setup_of s d) seed (system_begun s d round) ps qs x y alike).2 moved spent
 
 abbrev EndsBy : ℕ → Setup → System → List Pick → System → Type 0
-EndsBy seed m first picks last = Ends m seed first picks last
+EndsBy seed m first picks last = EndsRound m seed first picks last
 
 pub are-one : RoundsBySeedAreOne
 are-one s ids seed round one other t u left kept does = (

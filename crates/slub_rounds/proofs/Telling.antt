@@ -31,7 +31,7 @@ use Rattle.slub_core.specs.World.{sum_below, world_from, world_of}
 use Rattle.slub_core.specs.Checked.{slabs_in}
 use Rattle.slub_core.specs.Run.{System, Pick, idle, run, IsFinished}
 use Rattle.slub_core.specs.Opening.{IsOpening, opened as begun}
-use Rattle.slub_core.specs.Round.{in_order, IsRound}
+use Rattle.slub_core.specs.Round.{in_order, IsRoundOnWords}
 use Rattle.slub_core.specs.Law.{replies_of, calls_to_come}
 use Rattle.slub_core.proofs.Opens.{opens}
 use Rattle.slub_core.proofs.RoundEnds.{rounds_end}
@@ -189,7 +189,7 @@ may-tell s t b d trace round picks answers may does finished closes coherent roo
     opening : IsOpening m (system_before s b round)
     opening = begins s b trace round may does
 
-    ends : IsRound m (world_before s b round) (world_of m last.value last.words) (calls_to_come (system_before s b round)) (replies_of last)
+    ends : IsRoundOnWords m (world_before s b round) (world_of m last.value last.words) (calls_to_come (system_before s b round)) (replies_of last)
     ends = rounds_end m (system_before s b round) picks opening finished
 
     long : length ls ≡ round.workers

@@ -25,7 +25,7 @@ use Rattle.slub_slabinfo_text.specs.Lawful.{IsAtRest}
 use Rattle.slub_slabinfo_text.specs.declared.journal.RoundResult.{RoundResult}
 use Rattle.slub_open_close.specs.Ids.{AreIds, IsStepOf, id_at}
 use Rattle.slub_open_close.proofs.Steps.{is-step, step-is}
-use Rattle.slub_law_rounds.specs.Round.{Fits, IsRound}
+use Rattle.slub_law_rounds.specs.Round.{RoundFits, IsRound}
 use Rattle.slub_law_rounds.proofs.Whole.{lawful}
 use Rattle.slub_law_rounds.proofs.WholeRan.{rounds-lawful}
 use Rattle.slub_rounds.specs.Laws.{RoundsInOrderAreLawful}
@@ -54,7 +54,7 @@ within trace workers size (event ∷ events) is sound =
         subst (λ (xs : List ℕ). All (λ object. object < size) xs) (sym all) rest
 
 -- a round that can be done fits the machine
-pub fits : (s : State) (trace : Trace) (round : Round) → MayDo s trace round → Fits s round
+pub fits : (s : State) (trace : Trace) (round : Round) → MayDo s trace round → RoundFits s round
 fits s trace round may = record {
   within = within trace round.workers (length s.board) round.events may.objects may.sound.events;
   unheld = may.unheld;

@@ -11,7 +11,7 @@ use Rattle.slub_schedule.specs.Made.{AreMade, EndsBy, SpendsBy, HaltsBy, IsUnend
 use Rattle.slub_schedule.specs.declared.machine.Unended.{Unended}
 use Rattle.slub_schedule.specs.declared.machine.Unended.TheVariants.{TurnsSpent, Halted}
 use Rattle.slub_schedule.proofs.Drawn.{made_run}
-use Rattle.slub_turns.specs.declared.machine.Machine.{Machine}
+use Rattle.slub_turns.specs.declared.machine.StepMachine.{StepMachine}
 use Rattle.slub_turns.specs.declared.watched.Watched.{Watched}
 use Rattle.slub_turns.specs.Happenings.{Happening, happenings_of}
 use Rattle.slub_turns.specs.Means.{the_means}
@@ -41,8 +41,8 @@ module _ {W : Type 0} (begins_round : Facts → W → List Local → W → Type 
       let r = made_watched next ps b rest in
       let c : Watched W = first.chosen in
       let same : c.machine ≡ a.machine = first.choice.0 in
-      let kept : next.machine.setup ≡ a.machine.setup = first.noted.0 ∙ ap (λ (m : Machine). m.setup) same in
-      let P : Machine → Type 0 = λ m. FoldsTo (hears m.setup) c.watch (happenings_of (setup_of m.setup the_means) p.refused (system_in m) p.worker) next.watch in
+      let kept : next.machine.setup ≡ a.machine.setup = first.noted.0 ∙ ap (λ (m : StepMachine). m.setup) same in
+      let P : StepMachine → Type 0 = λ m. FoldsTo (hears m.setup) c.watch (happenings_of (setup_of m.setup the_means) p.refused (system_in m) p.worker) next.watch in
       let Q : Facts × System → Type 0 = λ q. AreWatched chooses hears q.0 next.watch q.1 ps b.watch in (
         (next.watch, record { some = first.some; chosen = c.watch; choice = first.choice.1; call = first.call; heard = subst P same first.noted.1 }, subst Q (λ i. (kept i, first.turned i)) r.0),
         r.1 ∙ kept,

@@ -14,6 +14,7 @@ use Rattle.slub_lists.specs.State.{State}
 use Rattle.slub_core.specs.declared.call.Call.{Call}
 use Rattle.slub_core.specs.declared.local.Answered.{Answered}
 use Rattle.slub_core.specs.declared.local.Known.{Known}
+use Rattle.slub_core.specs.Calls.{call_kind}
 use Rattle.slub_core.specs.Setup.{Setup}
 use Rattle.slub_core.specs.Local.{Local}
 use Rattle.slub_core.specs.Steps.{rested}
@@ -31,14 +32,14 @@ use Rattle.slub_rounds.specs.Room.{weight_in, weight_of}
 in_order-events : (ds : List Answered) (todo : List Call) → events_in (in_order ds todo) ≡ events_in (calls_of ds) + events_in todo
 in_order-events [] todo = omega arith
 in_order-events (d ∷ ds) todo =
-    omega (arith, in_order-events ds (d.call ∷ todo), sum_by-cons (λ (c : Call). weight c.kind) d.call todo, sum_by-cons (λ (c : Call). weight c.kind) d.call (calls_of ds))
+    omega (arith, in_order-events ds (d.call ∷ todo), sum_by-cons (λ (c : Call). weight (call_kind c)) d.call todo, sum_by-cons (λ (c : Call). weight (call_kind c)) d.call (calls_of ds))
 
 rested-events : (m : Setup) (l : Local) → events_of (rested m l) ≡ events_of l
 rested-events m l =
     let after : Local = rested m l in
     sym (in_order-events after.done after.todo) ∙ ap events_in (rested_at-script m l l.spot) ∙ in_order-events l.done l.todo
 
-call-weight : (table : Table) (rooms : List Known) (cpu : ℕ) (a : Act) → weight (call_for table rooms cpu a).kind ≡ weight_in a
+call-weight : (table : Table) (rooms : List Known) (cpu : ℕ) (a : Act) → weight (call_kind (call_for table rooms cpu a)) ≡ weight_in a
 call-weight table rooms cpu (act.Alloc place object) = refl
 call-weight table rooms cpu (act.Free object) = refl
 call-weight table rooms cpu (act.Write word object value) = refl
@@ -54,8 +55,8 @@ worker-events : (table : Table) (round : Round) (worker : ℕ) → events_of (wo
 worker-events table round worker =
     let es = events_by worker round.events in
     let each : events_in (calls_for table (rooms_for es) es) ≡ sum_by one es =
-    sum_by-map (λ (c : Call). weight c.kind) (λ (e : Event). call_for table (rooms_for es) e.cpu e.act) es
-    ∙ sum_by-same (λ (e : Event). weight (call_for table (rooms_for es) e.cpu e.act).kind) one es (λ e. call-weight table (rooms_for es) e.cpu e.act) in
+    sum_by-map (λ (c : Call). weight (call_kind c)) (λ (e : Event). call_for table (rooms_for es) e.cpu e.act) es
+    ∙ sum_by-same (λ (e : Event). weight (call_kind (call_for table (rooms_for es) e.cpu e.act))) one es (λ e. call-weight table (rooms_for es) e.cpu e.act) in
     omega (arith, each)
 
 pub begun-long : (s : State) (b : Beside) (round : Round) → length (system_begun s b round).locals ≡ round.workers

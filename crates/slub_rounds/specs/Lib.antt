@@ -18,4 +18,5 @@ pub mod ClientLaws
 pub mod Reserves
 pub mod ClientStopped
 pub mod Prepared
+pub mod Seated
 pub mod Watched

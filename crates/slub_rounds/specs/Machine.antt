@@ -11,7 +11,7 @@ use Rattle.slub_core.specs.Run.{System, Pick, run, IsFinished}
 use Rattle.slub_core.specs.Facts as local
 use Rattle.slub_core.specs.Values.{rooms_of}
 use Rattle.slub_words.specs.Stored.{AreStored}
-use Rattle.slub_schedule.specs.Rounds.{Ends}
+use Rattle.slub_schedule.specs.Rounds.{EndsRound}
 use Rattle.slub_law_opening.specs.Opening.{IsLaidDown, setup_of}
 use Rattle.slub_law_opening.specs.Opening as opening
 use Rattle.slub_law_opening.specs.Closing.{Closes}
@@ -26,7 +26,7 @@ use Rattle.slub_open_close.specs.Beside.{beside_of, IsBesideOf}
 use Rattle.slub_open_close.specs.Ids.{AreIds}
 use Rattle.slub_open_close.specs.Opened.{IsOpened, room_of}
 use Rattle.slub_open_close.specs.Rest.{IsRestOf, IsUntouched}
-use Rattle.slub_turns.specs.declared.machine.Machine.{Machine}
+use Rattle.slub_turns.specs.declared.machine.StepMachine.{StepMachine}
 use Rattle.slub_turns.specs.Means.{the_means}
 use Rattle.slub_turns.specs.System.{system_of, IsTableFor}
 use Rattle.slub_rounds.specs.declared.answers.Answers.{Answers}
@@ -40,7 +40,7 @@ abbrev pub beside_in : Beside → opening.Beside
 beside_in b = beside_of b the_means
 
 -- the words, the values of the locks and the workers
-abbrev pub system_in : Machine → System
+abbrev pub system_in : StepMachine → System
 system_in m = system_of m.table m.values.items m.locals.items
 
 -- a round that can be done on these lists, beside which this stands, with these transaction ids
@@ -53,7 +53,7 @@ pub record MayRun (s : State) (ids : List ℕ) (b : Beside) (trace : Trace)
   pub does : MayDo s trace round
 
 -- the machine in words before the first turn
-pub record IsBegun (s : State) (b : Beside) (round : Round) (m : Machine)
+pub record IsBegun (s : State) (b : Beside) (round : Round) (m : StepMachine)
     (rest : Rest) : Type 0 where
   pub setup : local.setup_of m.setup the_means ≡ setup_of s (beside_in b)
   pub system : system_in m ≡ system_begun s (beside_in b) round
@@ -63,7 +63,7 @@ pub record IsBegun (s : State) (b : Beside) (round : Round) (m : Machine)
 
 -- and after the last one, by some picks
 pub record HasEnded (s : State) (ids : List ℕ) (b : Beside) (trace : Trace) (round : Round)
-    (m : Machine) (rest : Rest) (answers : Answers) : Type 0 where
+    (m : StepMachine) (rest : Rest) (answers : Answers) : Type 0 where
   pub may : MayRun s ids b trace round
   pub setup : local.setup_of m.setup the_means ≡ setup_of s (beside_in b)
   pub sizes : IsTableFor m.setup m.table
@@ -105,7 +105,7 @@ pub record IsSetForThreads (s : State) (ids : List ℕ) (b : Beside) (trace : Tr
   pub kept_are : AreStored kept s.memory
 
 -- s was opened as this machine, on which nothing was done, and beside it these words wait
-pub record WasKept (s : State) (m : Machine) (rest : Rest) (kept : List ℕ) : Type 0 where
+pub record WasKept (s : State) (m : StepMachine) (rest : Rest) (kept : List ℕ) : Type 0 where
   pub opened : WasOpened s m.values.items rest s.memory
   pub frames : length s.memory ≡ 512 * m.table.frames
   pub kept_are : AreStored kept s.memory
@@ -120,7 +120,7 @@ pub record IsDone (Ending : Setup → System → List Pick → System → Type 0
 
 abbrev pub IsDoneBySeed : State → List ℕ → ℕ → Round → Ended → Type 0
 IsDoneBySeed s ids seed round done =
-    IsDone (λ m first picks last. Ends m seed first picks last) s ids round done
+    IsDone (λ m first picks last. EndsRound m seed first picks last) s ids round done
 
 abbrev pub IsDoneByThreads : State → List ℕ → Round → Ended → Type 0
 IsDoneByThreads s ids round done = IsDone Finishes s ids round done

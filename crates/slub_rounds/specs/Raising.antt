@@ -54,8 +54,8 @@ with_given step (Some word) reply ids = with_step step word (is_given reply) ids
 -- ---- room
 
 -- the word is one of all, and has room for a step
-abbrev pub HasRoom : ℕ → List ℕ → ℕ → Type 0
-HasRoom step ids word = (word < length ids) × (id_at ids word + step < 2 ^ 32)
+abbrev pub WordHasRoom : ℕ → List ℕ → ℕ → Type 0
+WordHasRoom step ids word = (word < length ids) × (id_at ids word + step < 2 ^ 32)
 
 -- each word has room for a step
 abbrev pub HaveRoom : ℕ → List ℕ → Type 0

@@ -47,8 +47,8 @@ numbers_max = 64
 -- ---- which there are
 
 -- the place of the reserve of this name
-abbrev pub place_of : List Reserve → List ℕ → Option ℕ
-place_of reserves pool = position (λ reserve. bytes_eq pool reserve.name) reserves
+abbrev pub place_of_reserve : List Reserve → List ℕ → Option ℕ
+place_of_reserve reserves pool = position (λ reserve. bytes_eq pool reserve.name) reserves
 
 abbrev pub reserve_at : List Reserve → ℕ → Reserve
 reserve_at reserves at = slice_index_or reserves at no_reserve
@@ -56,7 +56,7 @@ reserve_at reserves at = slice_index_or reserves at no_reserve
 -- the numbers of the reserve of this name, or none
 abbrev pub numbers_of : List Reserve → List ℕ → List ℕ
 numbers_of reserves pool =
-    option_map_or (λ at. (reserve_at reserves at).numbers) (place_of reserves pool) []
+    option_map_or (λ at. (reserve_at reserves at).numbers) (place_of_reserve reserves pool) []
 
 -- how often a number stands in reserves
 abbrev pub times_in : ℕ → List Reserve → ℕ
@@ -124,7 +124,7 @@ Fills h reserves fresh done after left =
 abbrev pub ServesMempool
     : HeapState → List Reserve → Reserve → ClientDone → HeapState → List Reserve → Type 0
 ServesMempool h reserves fresh done after left =
-    MatchOption (place_of reserves fresh.name)
+    MatchOption (place_of_reserve reserves fresh.name)
     (MatchBool (nat_le reserves_max (length reserves))
     (AnswersLeaving h reserves answer.TooMany done after left)
     (Fills h reserves fresh done after left))
@@ -171,7 +171,7 @@ Asks h reserves at cpu object done after left =
 abbrev pub ServesMget : HeapState → List Reserve → ℕ → List ℕ → ℕ → ClientDone → HeapState
     → List Reserve → Type 0
 ServesMget h reserves cpu pool object done after left =
-    MatchOption (place_of reserves pool) (AnswersLeaving h reserves answer.NoPool done after left)
+    MatchOption (place_of_reserve reserves pool) (AnswersLeaving h reserves answer.NoPool done after left)
     (λ at. Asks h reserves at cpu object done after left)
 
 -- ---- `mput` (`mempool_free`)
@@ -218,7 +218,7 @@ Puts h reserves at cpu object cache done after left =
 abbrev pub ServesMput : HeapState → List Reserve → ℕ → List ℕ → ℕ → ClientDone → HeapState
     → List Reserve → Type 0
 ServesMput h reserves cpu pool object done after left =
-    MatchOption (place_of reserves pool) (AnswersLeaving h reserves answer.NoPool done after left)
+    MatchOption (place_of_reserve reserves pool) (AnswersLeaving h reserves answer.NoPool done after left)
     (λ at. MatchOption (held_under h.lists object)
     (AnswersLeaving h reserves answer.NotHeld done after left)
     (λ held. Puts h reserves at cpu object held.cache done after left))
@@ -260,13 +260,13 @@ ServesReserves h reserves client done after left =
 -- a round that takes the numbers of a new reserve spends them
 abbrev pub SpendsMempool : HeapState → List Reserve → Reserve → Type 0
 SpendsMempool h reserves fresh =
-    (place_of reserves fresh.name ≡ None) × (length reserves < reserves_max)
+    (place_of_reserve reserves fresh.name ≡ None) × (length reserves < reserves_max)
     × SpendsTaking h 0 fresh.cache fresh.numbers
 
 -- the one allocation from the cache of the reserve of this name
 abbrev pub SpendsMget : HeapState → List Reserve → ℕ → List ℕ → ℕ → Type 0
 SpendsMget h reserves cpu pool object =
-    (at : ℕ) × (place_of reserves pool ≡ Some at)
+    (at : ℕ) × (place_of_reserve reserves pool ≡ Some at)
     × SpendsAsked h cpu (Alloc (reserve_at reserves at).cache object ∷ [])
 
 -- an object of the cache of the reserve at a place is in no reserve, and this one is full
@@ -280,7 +280,7 @@ pub record IsTurnedAway (s : State) (reserves : List Reserve) (at object : ℕ) 
 -- the free of such an object
 abbrev pub SpendsMput : HeapState → List Reserve → ℕ → List ℕ → ℕ → Type 0
 SpendsMput h reserves cpu pool object =
-    (at : ℕ) × (place_of reserves pool ≡ Some at) × IsTurnedAway h.lists reserves at object
+    (at : ℕ) × (place_of_reserve reserves pool ≡ Some at) × IsTurnedAway h.lists reserves at object
     × SpendsAsked h cpu (Free object ∷ [])
 
 -- a round that the line makes, of reserves of which each number is on the board

@@ -11,7 +11,7 @@ use Rattle.slub_core.specs.Run.{System, Pick, run}
 use Rattle.slub_core.specs.Opening.{opened as begun}
 use Rattle.slub_core.specs.Law.{CoherentAlong, replies_of}
 use Rattle.slub_schedule.specs.Schedule.{IsCall}
-use Rattle.slub_schedule.specs.Rounds.{Ends, IsFinishedSystem, IsSpent}
+use Rattle.slub_schedule.specs.Rounds.{EndsRound, IsFinishedSystem, IsSpent}
 use Rattle.slub_law_opening.specs.Opening.{Beside, IsBeside, setup_of}
 use Rattle.slub_law_opening.specs.Table.{system_of}
 use Rattle.slub_law_opening.specs.Closing.{Closes}
@@ -82,7 +82,7 @@ pub record DoesRoundBySteps (Ending : Setup → System → List Pick → System 
 abbrev pub DoesRoundBySeed
     : State → List ℕ → ℕ → Round → RoundResult → State → List ℕ → Type 0
 DoesRoundBySeed s ids seed round result after ids_after =
-    DoesRoundBySteps (λ m first picks last. Ends m seed first picks last)
+    DoesRoundBySteps (λ m first picks last. EndsRound m seed first picks last)
     s ids round result after ids_after
 
 -- after these picks, whichever they are, each worker is finished, and no call is a try

@@ -10,10 +10,10 @@ ghost use Rattle.slub_rounds.specs.Machine.{IsBegun};
 
 use slub_core::worker_local::Local;
 use slub_open_close::opened::{Opened, Rest};
-use slub_turns::machine::Machine;
+use slub_turns::machine::StepMachine;
 
 /// The machine in words with its workers, each of which has the replies that take no step.
-pub fn begun(opened: Opened, locals: Vec<Local>) -> (Machine, Rest)
+pub fn begun(opened: Opened, locals: Vec<Local>) -> (StepMachine, Rest)
     ensures begun { (s : State) (b : Beside) (round : Events) → IsOpened s b opened → locals.items ≡ workers_of s.table round → IsBegun s b round result.0 result.1 }
     ensures values { result.0.values ≡ opened.values }
     ensures rest { result.1 ≡ opened.rest }
@@ -24,7 +24,7 @@ pub fn begun(opened: Opened, locals: Vec<Local>) -> (Machine, Rest)
         values,
         rest,
     } = opened;
-    let mut machine = Machine {
+    let mut machine = StepMachine {
         setup,
         table,
         values,

@@ -11,9 +11,9 @@ ghost use Rattle.slub_law_rounds.specs.Round.{IsRound};
 ghost use Rattle.slub_engine.specs.Steps.{KeepsUnheld};
 ghost use Rattle.slub_rounds.specs.Asked.{DoesAsked, IsOpenTo, SpendsAsked, StaysOpen};
 ghost use Rattle.slub_rounds.specs.ClientStopped.{IsStoppedWhere};
-ghost use Rattle.slub_rounds.specs.declared.client.Stopped.TheVariants as stopped;
+ghost use Rattle.slub_rounds.specs.declared.client.LineStopped.TheVariants as stopped;
 
-use crate::heap::{Heap, Stopped as RoundStopped};
+use crate::heap::{Heap, RoundStopped};
 use slub_common::no_memory::NoMemory;
 use slub_common::sequence::Sequence;
 use slub_slabinfo_text::client::{CacheRefusal, ClientAnswer, ClientDone, ClientRound};
@@ -23,34 +23,34 @@ use std::alloc::{AllocError, AllocFailed, Global};
 
 /// Why a client's line wasn't served. What it did so far is gone with the heap.
 #[derive(Clone, Copy, Debug, PartialEq, Eq)]
-pub enum Stopped {
+pub enum LineStopped {
     /// There was no memory for it.
     NoMemory,
     /// All turns of a round of it are made, and the worker is unfinished.
     TurnsSpent,
 }
 
-impl From<NoMemory> for Stopped {
+impl From<NoMemory> for LineStopped {
     ghost from_gives = { λ _ e. e ≡ stopped.NoMemory };
 
-    fn from(_want: NoMemory) -> Stopped {
-        Stopped::NoMemory
+    fn from(_want: NoMemory) -> LineStopped {
+        LineStopped::NoMemory
     }
 }
 
-impl From<AllocError> for Stopped {
+impl From<AllocError> for LineStopped {
     ghost from_gives = { λ _ e. e ≡ stopped.NoMemory };
 
-    fn from(_e: AllocError) -> Stopped {
-        Stopped::NoMemory
+    fn from(_e: AllocError) -> LineStopped {
+        LineStopped::NoMemory
     }
 }
 
-impl<T: Drop> From<AllocFailed<T>> for Stopped {
+impl<T: Drop> From<AllocFailed<T>> for LineStopped {
     ghost from_gives = { λ _ e. e ≡ stopped.NoMemory };
 
-    fn from(_e: AllocFailed<T>) -> Stopped {
-        Stopped::NoMemory
+    fn from(_e: AllocFailed<T>) -> LineStopped {
+        LineStopped::NoMemory
     }
 }
 
@@ -61,7 +61,7 @@ pub fn client_round(
     heap: Heap,
     cpu: u32,
     acts: &[Act],
-) -> Result<(Heap, ClientRound), Stopped>
+) -> Result<(Heap, ClientRound), LineStopped>
     requires cpu { cpu < heap.lists.cpus }
     requires asks { (trace : Trace) × IsOpenTo heap trace (length (objects_of (round_of cpu acts.now).events)) }
     requires may_do { (trace : Trace) × MayDo heap.lists trace (round_of cpu acts.now) }
@@ -78,12 +78,12 @@ pub fn client_round(
     match heap.round_by_text(alloc, &asked) {
         Ok((after, result)) => {
             if has_no_memory(result.replies.as_slice()) {
-                return Err(Stopped::NoMemory);
+                return Err(LineStopped::NoMemory);
             }
             Ok((after, ClientRound { asked, result }))
         }
-        Err(RoundStopped::NoMemory(_)) => Err(Stopped::NoMemory),
-        Err(RoundStopped::TurnsSpent) => Err(Stopped::TurnsSpent),
+        Err(RoundStopped::NoMemory(_)) => Err(LineStopped::NoMemory),
+        Err(RoundStopped::TurnsSpent) => Err(LineStopped::TurnsSpent),
     }
 }
 

@@ -12,14 +12,14 @@ use slub_open_close::closing::close;
 use slub_open_close::ids::Ids;
 use slub_open_close::opened::Rest;
 use slub_trace::event::Round;
-use slub_turns::machine::Machine;
+use slub_turns::machine::StepMachine;
 
 /// Closes the machine, whose workers have all their replies, and tells what came of the round.
-pub fn closed(machine: Machine, rest: Rest, round: &Round, answers: Answers) -> Ended
+pub fn closed(machine: StepMachine, rest: Rest, round: &Round, answers: Answers) -> Ended
     requires { (s : State) × (ids : List ℕ) × (b : Beside) × (trace : Trace) × HasEnded s ids b trace round.now machine rest answers }
     ensures { (s : State) (ids : List ℕ) (b : Beside) (trace : Trace) → HasEnded s ids b trace round.now machine rest answers → HasClosed s (beside_in b) round.now (system_in machine) result }
 {
-    let Machine {
+    let StepMachine {
         setup,
         table,
         values,

@@ -44,7 +44,7 @@ impl Model for Heap {
 
 /// Why a round wasn't done.
 #[derive(Debug, Drop)]
-pub enum Stopped {
+pub enum RoundStopped {
     /// There was no memory for it: the machine is as it was.
     NoMemory(Heap),
     /// All its turns are made, and an event has no reply.
@@ -57,7 +57,11 @@ impl Heap {
     /// Without ids it is done on the lists. With ids, too, where every one is far enough from its end; they grow as the
     /// exchanges of the steps would make them grow. Else it is done by steps. All memory is taken before the first
     /// event, but the bytes of new checked slabs.
-    pub fn round_by_text(self, alloc: Global, round: &Round) -> Result<(Heap, RoundResult), Stopped>
+    pub fn round_by_text(
+        self,
+        alloc: Global,
+        round: &Round,
+    ) -> Result<(Heap, RoundResult), RoundStopped>
         requires sound { IsSoundHeap self }
         requires rest { IsAtRest self.lists }
         requires objects { length self.lists.board ≤ 1048577 }
@@ -83,7 +87,7 @@ fn without_ids(
     alloc: Global,
     mut lists: Lists,
     round: &Round,
-) -> Result<(Heap, RoundResult), Stopped>
+) -> Result<(Heap, RoundResult), RoundStopped>
     requires coherent { IsCoherent lists }
     requires may_do { (trace : Trace) × MayDo lists trace round.now }
     ensures does { IfOk result (λ done. DoesRoundOf (heap_of lists None) round.now done.1 done.0) }
@@ -91,7 +95,7 @@ fn without_ids(
 {
     match serial(alloc, &mut lists, round) {
         Ok(result) => Ok((Heap { lists, ids: None }, result)),
-        Err(NoMemory) => Err(Stopped::NoMemory(Heap { lists, ids: None })),
+        Err(NoMemory) => Err(RoundStopped::NoMemory(Heap { lists, ids: None })),
     }
 }
 
@@ -101,7 +105,7 @@ fn beside_ids(
     lists: Lists,
     ids: Ids,
     round: &Round,
-) -> Result<(Heap, RoundResult), Stopped>
+) -> Result<(Heap, RoundResult), RoundStopped>
     requires coherent { IsCoherent lists }
     requires rest { IsAtRest lists }
     requires objects { length lists.board ≤ 1048577 }
@@ -125,7 +129,7 @@ fn lasting(
     mut ids: Ids,
     step: u32,
     round: &Round,
-) -> Result<(Heap, RoundResult), Stopped>
+) -> Result<(Heap, RoundResult), RoundStopped>
     requires coherent { IsCoherent lists }
     requires objects { length lists.board ≤ 1048577 }
     requires may_do { (trace : Trace) × MayDo lists trace round.now }
@@ -143,7 +147,7 @@ fn lasting(
             },
             result,
         )),
-        Err(NoMemory) => Err(Stopped::NoMemory(Heap {
+        Err(NoMemory) => Err(RoundStopped::NoMemory(Heap {
             lists,
             ids: Some(ids),
         })),
@@ -156,7 +160,7 @@ fn by_steps(
     lists: Lists,
     ids: Ids,
     round: &Round,
-) -> Result<(Heap, RoundResult), Stopped>
+) -> Result<(Heap, RoundResult), RoundStopped>
     requires coherent { IsCoherent lists }
     requires rest { IsAtRest lists }
     requires objects { length lists.board ≤ 1048577 }
@@ -174,10 +178,10 @@ fn by_steps(
             },
             ended.result,
         )),
-        Err(steps::Stopped::NoMemory(lists)) => Err(Stopped::NoMemory(Heap {
+        Err(steps::StepsStopped::NoMemory(lists)) => Err(RoundStopped::NoMemory(Heap {
             lists,
             ids: Some(ids),
         })),
-        Err(steps::Stopped::TurnsSpent) => Err(Stopped::TurnsSpent),
+        Err(steps::StepsStopped::TurnsSpent) => Err(RoundStopped::TurnsSpent),
     }
 }

@@ -28,7 +28,7 @@ use crate::ended::Ended;
 use crate::ends::closed;
 use crate::laws::rounds_in_order_are_lawful;
 use crate::room::{Room, take_room};
-use crate::scheduled::Stopped;
+use crate::scheduled::StepsStopped;
 use slub_common::no_memory::NoMemory;
 use slub_core::spot::Spot;
 use slub_core::worker_local::Local;
@@ -37,7 +37,7 @@ use slub_open_close::ids::Ids;
 use slub_open_close::opened::Opened;
 use slub_open_close::opening::open;
 use slub_trace::event::{Event, Round};
-use slub_turns::machine::Machine;
+use slub_turns::machine::StepMachine;
 use std::alloc::Global;
 
 /// All turns of a round are made, and an event isn't done.
@@ -48,7 +48,12 @@ struct TurnsSpent;
 ///
 /// All memory is taken before the first turn, but the bytes of new checked slabs. The cost is in proportion to the
 /// frames, the object numbers and the objects of the machine, to the events and to the turns.
-pub fn in_order(alloc: Global, lists: Lists, ids: &Ids, round: &Round) -> Result<Ended, Stopped>
+pub fn in_order(
+    alloc: Global,
+    lists: Lists,
+    ids: &Ids,
+    round: &Round,
+) -> Result<Ended, StepsStopped>
     requires coherent { IsCoherent lists }
     requires laid_down { IsLaidDown lists }
     requires objects { length lists.board ≤ 1048577 }
@@ -64,7 +69,7 @@ pub fn in_order(alloc: Global, lists: Lists, ids: &Ids, round: &Round) -> Result
     rounds_in_order_are_lawful();
     let room = match take_room(alloc, &lists, ids, round) {
         Ok(room) => room,
-        Err(NoMemory) => return Err(Stopped::NoMemory(lists)),
+        Err(NoMemory) => return Err(StepsStopped::NoMemory(lists)),
     };
     let Room {
         beside,
@@ -76,7 +81,7 @@ pub fn in_order(alloc: Global, lists: Lists, ids: &Ids, round: &Round) -> Result
     } = room;
     match open(alloc, lists, beside) {
         Ok(opened) => in_words(opened, workers, passed, turns, answers, round),
-        Err(unopened) => Err(Stopped::NoMemory(unopened.lists)),
+        Err(unopened) => Err(StepsStopped::NoMemory(unopened.lists)),
     }
 }
 
@@ -88,7 +93,7 @@ fn in_words(
     turns: u64,
     answers: Answers,
     round: &Round,
-) -> Result<Ended, Stopped>
+) -> Result<Ended, StepsStopped>
     requires set { (s : State) × (ids : List ℕ) × (b : Beside) × (trace : Trace) × IsSet s ids b trace round.now opened locals.items answers }
     requires passed { passed.items ≡ replicate round.now.workers 0 }
     requires turns { turns ≡ turns_for (weight_of round.now.events) round.now.workers }
@@ -98,13 +103,13 @@ fn in_words(
     let events = round.events.as_slice();
     match run_events(&mut machine, events, passed, turns) {
         Ok(()) => Ok(closed(machine, rest, round, answers)),
-        Err(TurnsSpent) => Err(Stopped::TurnsSpent),
+        Err(TurnsSpent) => Err(StepsStopped::TurnsSpent),
     }
 }
 
 /// Does the events in their order. `passed` has zeros, one for each worker.
 fn run_events(
-    machine: &mut Machine,
+    machine: &mut StepMachine,
     events: &[Event],
     mut passed: Vec<usize>,
     turns: u64,
@@ -125,7 +130,7 @@ fn run_events(
 
 /// Does the events in their order. `passed`: by worker, how many of its events are done.
 fn do_events(
-    machine: &mut Machine,
+    machine: &mut StepMachine,
     events: &[Event],
     passed: &mut [usize],
     turns: u64,
@@ -157,7 +162,7 @@ fn do_events(
 /// The worker, of whose events `passed` are done, makes its turns until its next event is done to its end: it has the
 /// reply, and is in no call. Gives how many turns of the round are made then, of which `made` were before.
 fn do_event(
-    machine: &mut Machine,
+    machine: &mut StepMachine,
     worker: usize,
     passed: usize,
     made: u64,

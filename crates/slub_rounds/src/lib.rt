@@ -7,7 +7,8 @@
 //!   the words into lists and ids again. `watched` does the same in the order that a watcher says
 //!   (`Watch` of `slub_turns`), which hears what comes about in each turn, and may have the round
 //!   end. `threaded` does the same with a thread for each worker
-//!   (`slub_workers`), and `in_order` with each event done to its end before the next begins. Then
+//!   (`slub_workers`), between `seat_workers` and `closed_at`, which open a table for a round and close
+//!   it, and `in_order` with each event done to its end before the next begins. Then
 //!   replies are put in the order of the text, and damages and ledgers are told (`answers`). All
 //!   memory is taken before the first turn, but the bytes of new checked slabs: where none is
 //!   found, the machine is as it was. `begins` makes the machine with which a round on words
@@ -32,9 +33,11 @@
 //! or its turns are spent, or the watcher had it end (`IsUnwatched`).
 //! `in_order`: the same, each turn that of the worker in a call, else of that of the first event
 //! without a reply (`DoesRoundInOrder`, `SpendsTurnsInOrder`). `threaded`: the same by some picks,
-//! in whatever order the threads made their steps (`DoesRoundByThreads`). Rounds by seed and in
-//! order are one each for a machine, want of memory aside; after a lawful round the next of its
-//! trace can be done.
+//! in whatever order the threads made their steps (`DoesRoundByThreads`). `closed_at`: so does a
+//! table that `seat_workers` opened (`OpensAt`), whatever made the calls of its workers at it, `round` of
+//! `slub_workers` or `Worker::call`, once each event has its reply and none was a try; and the
+//! round is lawful. Rounds by seed and in order are one each for a machine, want of memory aside;
+//! after a lawful round the next of its trace can be done.
 //!
 //! `Heap::round_by_text`: a round that is lawful in the words of the text, and keeps ids that fit.
 //! That it is a run of atomic steps is for `slub_law_replay`.
@@ -55,6 +58,7 @@ mod prepared;
 mod raising;
 mod room;
 pub mod scheduled;
+pub mod seated;
 pub mod text_laws;
 pub mod threaded;
 pub mod watched;

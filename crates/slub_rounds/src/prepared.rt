@@ -25,13 +25,13 @@ use slub_open_close::opened::{Opened, Rest};
 use slub_open_close::opening::open;
 use slub_schedule::order::Order;
 use slub_trace::event::Round;
-use slub_turns::machine::Machine;
+use slub_turns::machine::StepMachine;
 use std::alloc::Global;
 
 /// The machine in words, its workers with their events to come, and all the memory of the round.
 #[derive(Debug, Drop)]
 pub struct Prepared {
-    pub machine: Machine,
+    pub machine: StepMachine,
     /// What is beside the words.
     pub rest: Rest,
     /// The workers that are unfinished.

@@ -10,7 +10,7 @@ ghost use Rattle.slub_core.specs.Setup.{cpu_number};
 ghost use Rattle.slub_core.specs.World.{one_if};
 ghost use Rattle.slub_calls.specs.Changes.{has_slab_of, has_slab_on, changes_of_held, grown_where};
 ghost use Rattle.slub_engine.specs.Steps.{IsKnownAct};
-ghost use Rattle.slub_rounds.specs.Raising.{HasRoom, HaveRoom, ids_beside, ids_raised, with_given, with_step, word_given};
+ghost use Rattle.slub_rounds.specs.Raising.{WordHasRoom, HaveRoom, ids_beside, ids_raised, with_given, with_step, word_given};
 
 use slub_list_machine::lists::Lists;
 use slub_lists::lists::{CpuLists, Held};
@@ -59,7 +59,7 @@ pub fn raise(words: &mut [u32], lists: &Lists, step: u32, event: &Event) -> Opti
 
 /// The word grows once more where an object was given.
 pub fn raise_given(words: &mut [u32], step: u32, word: Option<usize>, reply: Reply)
-    requires room { IfSome word (HasRoom step words.old) }
+    requires room { IfSome word (WordHasRoom step words.old) }
     ensures { words.new ≡ with_given step word reply words.old }
 {
     if let Some(word) = word {
@@ -162,7 +162,7 @@ fn raise_flush(words: &mut [u32], lists: &Lists, step: u32, cpu: u32)
 
 /// The id of a word grows by a step where the word changes.
 fn raise_word(words: &mut [u32], word: usize, step: u32, changed: bool)
-    requires { HasRoom step words.old word }
+    requires { WordHasRoom step words.old word }
     ensures { words.new ≡ with_step step word changed words.old }
 {
     if !changed {

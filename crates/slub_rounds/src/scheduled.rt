@@ -6,7 +6,7 @@ ghost use Rattle.slub_lists.specs.State.{State};
 ghost use Rattle.slub_lists.specs.Coherent.{IsCoherent};
 ghost use Rattle.slub_core.specs.Run.{Pick};
 ghost use Rattle.slub_core.specs.Facts.{setup_of};
-ghost use Rattle.slub_schedule.specs.Rounds.{Ends, IsSpent};
+ghost use Rattle.slub_schedule.specs.Rounds.{EndsRound, IsSpent};
 ghost use Rattle.slub_schedule.specs.Schedule.{unfinished};
 ghost use Rattle.slub_schedule.specs.Turns.{turns_of};
 ghost use Rattle.slub_law_opening.specs.Opening.{IsLaidDown};
@@ -37,7 +37,7 @@ use std::alloc::Global;
 
 /// Why a round wasn't done.
 #[derive(Debug, Drop)]
-pub enum Stopped {
+pub enum StepsStopped {
     /// There was no memory for it: the machine is as it was.
     NoMemory(Lists),
     /// All its turns are made, and an event has no reply.
@@ -54,7 +54,7 @@ pub fn scheduled(
     ids: &Ids,
     round: &Round,
     seed: u64,
-) -> Result<Ended, Stopped>
+) -> Result<Ended, StepsStopped>
     requires coherent { IsCoherent lists }
     requires laid_down { IsLaidDown lists }
     requires objects { length lists.board ≤ 1048577 }
@@ -70,12 +70,12 @@ pub fn scheduled(
     rounds_by_seed_are_lawful();
     match prepare(alloc, lists, ids, round) {
         Ok(prepared) => in_words(prepared, round, seed),
-        Err(lists) => Err(Stopped::NoMemory(lists)),
+        Err(lists) => Err(StepsStopped::NoMemory(lists)),
     }
 }
 
 /// Does the round on the machine in words, and closes it.
-fn in_words(prepared: Prepared, round: &Round, seed: u64) -> Result<Ended, Stopped>
+fn in_words(prepared: Prepared, round: &Round, seed: u64) -> Result<Ended, StepsStopped>
     requires { (s : State) × (ids : List ℕ) × (b : Beside) × (trace : Trace) × IsPrepared s ids b trace round.now prepared }
     ensures { (s : State) (ids : List ℕ) (b : Beside) (trace : Trace) → IsPrepared s ids b trace round.now prepared → MatchResult result (λ done. IsDoneBySeed s ids seed round.now done) (IsStopped s ids seed round.now) }
 {
@@ -90,7 +90,7 @@ fn in_words(prepared: Prepared, round: &Round, seed: u64) -> Result<Ended, Stopp
     let mut seeded = Seeded { machine, draws };
     match run_turns(&mut seeded, order, turns) {
         Ok(()) => Ok(closed(seeded.machine, rest, round, answers)),
-        Err(TurnsSpent) => Err(Stopped::TurnsSpent),
+        Err(TurnsSpent) => Err(StepsStopped::TurnsSpent),
     }
 }
 
@@ -104,7 +104,7 @@ fn run_turns(seeded: &mut Seeded, order: Order, turns: u64) -> Result<(), TurnsS
     requires turns { turns ≡ turns_of (system_in seeded.old.machine) }
     ensures setup { setup_of seeded.new.machine.setup the_means ≡ setup_of seeded.old.machine.setup the_means }
     ensures ready { IsReady seeded.new.machine.setup seeded.new.machine.table seeded.new.machine.values.items seeded.new.machine.locals.items }
-    ensures ends { OnOk result ((picks : List Pick) × Ends (setup_of seeded.old.machine.setup the_means) seeded.old.draws (system_in seeded.old.machine) picks (system_in seeded.new.machine)) }
+    ensures ends { OnOk result ((picks : List Pick) × EndsRound (setup_of seeded.old.machine.setup the_means) seeded.old.draws (system_in seeded.old.machine) picks (system_in seeded.new.machine)) }
     ensures spent { OnErr result ((picks : List Pick) × IsSpent (setup_of seeded.old.machine.setup the_means) seeded.old.draws (system_in seeded.old.machine) picks (system_in seeded.new.machine)) }
 {
     match rounds::scheduled(seeded, order, turns) {

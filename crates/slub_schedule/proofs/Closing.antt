@@ -14,6 +14,7 @@ use Rattle.slub_trace.specs.declared.reply.Reply.TheVariants as reply
 use Rattle.slub_core.specs.declared.call.Call.{Call}
 use Rattle.slub_core.specs.declared.local.Known.{Known}
 use Rattle.slub_core.specs.declared.local.Answered.{Answered}
+use Rattle.slub_core.specs.Calls.{call_cache, call_object}
 use Rattle.slub_core.specs.Setup.{Setup}
 use Rattle.slub_core.specs.World.{World, world_of, world_from, one_if}
 use Rattle.slub_core.specs.Local.{Local, Worker, address_in}
@@ -23,11 +24,11 @@ use Rattle.slub_core.specs.Fresh.{IsAtWork}
 use Rattle.slub_core.specs.Coherent.{Stands}
 use Rattle.slub_core.proofs.Counts.{All-from_no_sum}
 use Rattle.slub_core.specs.Opening.{IsOpening, opened}
-use Rattle.slub_core.specs.Round.{IsRound}
+use Rattle.slub_core.specs.Round.{IsRoundOnWords}
 use Rattle.slub_core.proofs.Turns.{run_both}
 use Rattle.slub_core.proofs.Opens.{opens}
 use Rattle.slub_core.proofs.RoundEnds.{rounds_end}
-use Rattle.slub_schedule.specs.Rounds.{IsFinishedSystem, Ends}
+use Rattle.slub_schedule.specs.Rounds.{IsFinishedSystem, EndsRound}
 use Rattle.slub_schedule.specs.Finished.{empty_handed, IsQuiet, HoldsAsTold}
 use Rattle.slub_schedule.specs.Closed.{word_of, held_by, or_held, closed, WasGiven, IsBoardAfter}
 use Rattle.slub_core.specs.Run.{System, Pick}
@@ -55,7 +56,7 @@ address-stays : (m : Setup) (before : ℕ → Option BoardWord) (ds : List Answe
 address-stays m before [] o none = (refl, refl)
 address-stays m before (d ∷ ds) o none =
     let rest = address-stays m before ds o (omega arith) in
-    elim (cases_Bool (d.call.object == o)) [
+    elim (cases_Bool (call_object d.call == o)) [
       | inl same ↦
           let kept : is_given d.reply ≡ false = not-given (is_given d.reply) (given_in o ds) (rw same at none) in
           (rw same (kept-address d.reply (address_by m before ds o) kept ∙ rest.0), rw same (kept-cache d.call d.reply (cache_by before ds o) kept ∙ rest.1))
@@ -65,18 +66,18 @@ address-stays m before (d ∷ ds) o none =
 -- ---- what names an object now and was not on the board was given
 
 gift : (m : Setup) (before : ℕ → Option BoardWord) (o k a : ℕ) (ds : List Answered) → before o ≡ None → address_by m before ds o ≡ Some a → cache_by before ds o ≡ Some k
-    → (d : Answered) × Contains ds d × (d.call.object ≡ o) × (d.call.cache ≡ Some k) × (d.reply ≡ reply.Given a)
+    → (d : Answered) × Contains ds d × (call_object d.call ≡ o) × (call_cache d.call ≡ Some k) × (d.reply ≡ reply.Given a)
 gift m before o k a [] none at of = absurd (none-some a (rw none at at))
-gift m before o k a (d ∷ ds) none at of = elim (cases_Bool (d.call.object == o)) [
-  | inl same ↦ by_reply (gift m before o k a ds none) d.reply refl (eqb-true d.call.object o same) (rw same at at) (rw same at of)
+gift m before o k a (d ∷ ds) none at of = elim (cases_Bool (call_object d.call == o)) [
+  | inl same ↦ by_reply (gift m before o k a ds none) d.reply refl (eqb-true (call_object d.call) o same) (rw same at at) (rw same at of)
   | inr other ↦ later (gift m before o k a ds none (rw other at at) (rw other at of))
 ]
   where
-    later : (e : Answered) × Contains ds e × (e.call.object ≡ o) × (e.call.cache ≡ Some k) × (e.reply ≡ reply.Given a) → (e : Answered) × Contains (d ∷ ds) e × (e.call.object ≡ o) × (e.call.cache ≡ Some k) × (e.reply ≡ reply.Given a)
+    later : (e : Answered) × Contains ds e × (call_object e.call ≡ o) × (call_cache e.call ≡ Some k) × (e.reply ≡ reply.Given a) → (e : Answered) × Contains (d ∷ ds) e × (call_object e.call ≡ o) × (call_cache e.call ≡ Some k) × (e.reply ≡ reply.Given a)
     later (e, (n, below, is), object, cache, given) = (e, (suc n, omega arith, is), object, cache, given)
 
-    by_reply : (address_by m before ds o ≡ Some a → cache_by before ds o ≡ Some k → (e : Answered) × Contains ds e × (e.call.object ≡ o) × (e.call.cache ≡ Some k) × (e.reply ≡ reply.Given a)) → (r : Reply) → d.reply ≡ r → d.call.object ≡ o
-        → address_after r (address_by m before ds o) ≡ Some a → cache_after d.call r (cache_by before ds o) ≡ Some k → (e : Answered) × Contains (d ∷ ds) e × (e.call.object ≡ o) × (e.call.cache ≡ Some k) × (e.reply ≡ reply.Given a)
+    by_reply : (address_by m before ds o ≡ Some a → cache_by before ds o ≡ Some k → (e : Answered) × Contains ds e × (call_object e.call ≡ o) × (call_cache e.call ≡ Some k) × (e.reply ≡ reply.Given a)) → (r : Reply) → d.reply ≡ r → call_object d.call ≡ o
+        → address_after r (address_by m before ds o) ≡ Some a → cache_after d.call r (cache_by before ds o) ≡ Some k → (e : Answered) × Contains (d ∷ ds) e × (call_object e.call ≡ o) × (call_cache e.call ≡ Some k) × (e.reply ≡ reply.Given a)
     by_reply again (reply.Given b) is object at' of' = (d, (0, omega arith, refl), object, of', is ∙ ap (λ a. reply.Given a) (same_Some b a at'))
     by_reply again _ is object at' of' = later (again at' of')
 
@@ -137,7 +138,7 @@ board_after before w ls r = record {
 -- ---- the whole
 
 -- a round from its opening to its end
-pub ended : (m : Setup) (s : System) (seed : ℕ) (picks : List Pick) (last : System) → IsOpening m s → Ends m seed (opened m s) picks last
+pub ended : (m : Setup) (s : System) (seed : ℕ) (picks : List Pick) (last : System) → IsOpening m s → EndsRound m seed (opened m s) picks last
     → IsQuiet m (world_of m s.value s.words) last × Counted (world_of m s.value s.words) (world_of m last.value last.words) last.locals
 ended m s seed picks last new ends =
     let opening = world_of m s.value s.words in
@@ -149,7 +150,7 @@ end_well m s seed picks last new ends =
     let opening = world_of m s.value s.words in
     let all = ended m s seed picks last new ends in
     let round = rounds_end m s picks new (subst IsFinishedSystem ends.run ends.finished) in
-    (all.0, subst (λ (last : System). IsRound m opening (world_of m last.value last.words) (calls_to_come s) (replies_of last)) (sym ends.run) round, all.1.kept)
+    (all.0, subst (λ (last : System). IsRoundOnWords m opening (world_of m last.value last.words) (calls_to_come s) (replies_of last)) (sym ends.run) round, all.1.kept)
 
 pub close_well : RoundsClose
 unfolding world_of world_from

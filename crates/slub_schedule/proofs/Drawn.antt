@@ -4,7 +4,7 @@ use Rattle.slub_core.specs.Setup.{Setup}
 use Rattle.slub_core.specs.Run.{System, Pick, run}
 use Rattle.slub_schedule.specs.Draws.{next}
 use Rattle.slub_schedule.specs.Schedule.{AreDrawn}
-use Rattle.slub_schedule.specs.Rounds.{Ends, IsSpent}
+use Rattle.slub_schedule.specs.Rounds.{EndsRound, IsSpent}
 use Rattle.slub_schedule.specs.Made.{AreMade, EndsBy, SpendsBy, IsDrawn}
 
 module _ {M : Type 0} (setup : M → Setup) (system : M → System) (chooses : M → ℕ → M → Type 0) (notes : M → Pick → M → Type 0) where
@@ -25,7 +25,7 @@ module _ {M : Type 0} (setup : M → Setup) (system : M → System) (chooses : M
         let x : draws then ≡ next (draws a) = leave first.chosen p then first.noted ∙ d.1 in
         (first.some, d.0, first.call, subst (λ (q : Setup × System × ℕ). AreDrawn q.0 q.1 q.2 ps) (λ i. (first.stays i, first.turned i, x i)) r)
 
-    pub ends_drawn : (is_done : M → M → Type 0) (a b : M) → EndsBy setup system chooses notes is_done a b → (picks : List Pick) × Ends (setup a) (draws a) (system a) picks (system b)
+    pub ends_drawn : (is_done : M → M → Type 0) (a b : M) → EndsBy setup system chooses notes is_done a b → (picks : List Pick) × EndsRound (setup a) (draws a) (system a) picks (system b)
     ends_drawn is_done a b ends = (
       ends.picks,
       record {

@@ -9,6 +9,7 @@ use Rattle.slub_trace.specs.declared.reply.Reply.{Reply}
 use Rattle.slub_trace.specs.declared.reply.Reply.TheVariants as reply
 use Rattle.slub_core.specs.declared.spot.Spot.TheVariants.{Between}
 use Rattle.slub_core.specs.declared.local.Answered.{Answered}
+use Rattle.slub_core.specs.Calls.{call_object}
 use Rattle.slub_core.specs.Setup.{Setup}
 use Rattle.slub_core.specs.World.{World, world_from, world_of, one_if}
 use Rattle.slub_core.specs.Local.{Local, Worker}
@@ -18,7 +19,7 @@ use Rattle.slub_core.specs.Fresh.{IsAtWork, AreHands, IsStringOf}
 use Rattle.slub_core.specs.Listed.{takes}
 use Rattle.slub_core.specs.Coherent.{IsCoherent}
 use Rattle.slub_core.specs.Replies.{given_in, freed_in, holding, knows, holds_after, knows_after, is_freed, Public}
-use Rattle.slub_core.specs.Accounted.{boarded, known_of, had, public, IsTold, IsWritten, IsAccounted}
+use Rattle.slub_core.specs.Accounted.{boarded, known_of, had, public, IsTold, HasWritten, IsAccounted}
 use Rattle.slub_core.specs.Law.{IsCoherentSystem}
 use Rattle.slub_core.proofs.StepHands.{no-hands}
 use Rattle.slub_schedule.specs.Rounds.{IsFinishedSystem}
@@ -128,7 +129,7 @@ other_reply false k h f le = omega arith
 
 knows-holds : (o : ℕ) (ds : List Answered) → one_if (knows ds o) ≤ one_if (holding ds o) + freed_in o ds
 knows-holds o [] = omega arith
-knows-holds o (d ∷ ds) = elim (cases_Bool (d.call.object == o)) [
+knows-holds o (d ∷ ds) = elim (cases_Bool (call_object d.call == o)) [
   | inl is_so ↦ rw is_so (after_reply d.reply (knows ds o) (holding ds o) (freed_in o ds) (knows-holds o ds))
   | inr not_so ↦ rw not_so (other_reply (is_freed d.reply) (knows ds o) (holding ds o) (freed_in o ds) (knows-holds o ds))
 ]
@@ -153,7 +154,7 @@ pub record Counted (before w : World) (ls : List Local) : Type 0 where
   pub stays : (o : ℕ) → (w.board o ≡ None) ⊎ (w.board o ≡ before.board o)
   pub count : (o : ℕ) → boarded (w.board o) + holders o ls + freed_all o ls ≡ boarded (before.board o) + given_all o ls
 
-holds_as_told : (opening w : World) (p : Public) (l : Local) → l.spot ≡ Between → IsTold w.setup opening.board p l → IsWritten w opening.board l → HoldsAsTold opening.board w l
+holds_as_told : (opening w : World) (p : Public) (l : Local) → l.spot ≡ Between → IsTold w.setup opening.board p l → HasWritten w opening.board l → HoldsAsTold opening.board w l
 holds_as_told opening w p l is told written =
     let held : (o : ℕ) → (known_of l.known o).held ≡ holding l.done o = λ o. told.holds o (λ freeing at. false≢true (ap is_freeing (sym is) ∙ freeing)) in
     record {
@@ -168,7 +169,7 @@ counted opening w ls ac done =
     let xs = map empty_handed ls in
     let p = public w xs in
     let told = all_workers (IsTold w.setup opening.board p) ls ac.told in
-    let written = all_workers (IsWritten w opening.board) ls ac.written in
+    let written = all_workers (HasWritten w opening.board) ls ac.written in
     let holds : All (HoldsAsTold opening.board w) ls = λ k d below. holds_as_told opening w p (get_or ls k d) (done k d below).between (told k d below) (written k d below) in
     let held = All-weaker (HoldsAsTold opening.board w) Holds (λ l h. h.held) ls holds in
     let count : (o : ℕ) → boarded (w.board o) + holders o ls + freed_all o ls ≡ boarded (opening.board o) + given_all o ls = λ o.

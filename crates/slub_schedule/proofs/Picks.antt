@@ -13,7 +13,7 @@ use Rattle.slub_core.specs.Run.{System, Pick, idle, turn, run, IsFinished}
 use Rattle.slub_schedule.specs.Draws.{next, number_from}
 use Rattle.slub_schedule.specs.Schedule.{is_between, has_none, is_finished, marks_of, places_from, unfinished, chosen, AreDrawn, AreRefusedAlike, AreRefusedBy}
 use Rattle.slub_schedule.specs.Turns.{turns_of}
-use Rattle.slub_schedule.specs.Rounds.{IsFinishedSystem, Ends, IsSpent}
+use Rattle.slub_schedule.specs.Rounds.{IsFinishedSystem, EndsRound, IsSpent}
 use Rattle.slub_schedule.specs.Laws.{PicksAreUnfinished, RoundsAreUnique, RoundsEndOrAreSpent}
 use Rattle.slub_schedule.proofs.Marked.{places_marked}
 
@@ -67,7 +67,7 @@ alike m s x (p ∷ ps) (q ∷ qs) one other same f g =
     (λ fewer. f (omega arith)) (λ fewer. subst (λ (p : Pick). IsFinishedSystem (run m (turn m s p) qs)) (sym e) (g (omega arith))) in
     λ i. e i ∷ r i
 
-ended_ended : (m : Setup) (seed : ℕ) (first : System) (ps qs : List Pick) (one other : System) → AreRefusedAlike ps qs → Ends m seed first ps one → Ends m seed first qs other → (ps ≡ qs) × (one ≡ other)
+ended_ended : (m : Setup) (seed : ℕ) (first : System) (ps qs : List Pick) (one other : System) → AreRefusedAlike ps qs → EndsRound m seed first ps one → EndsRound m seed first qs other → (ps ≡ qs) × (one ≡ other)
 ended_ended m seed first ps qs one other same a b =
     let e = alike m first seed ps qs a.drawn b.drawn same (λ fewer. subst IsFinishedSystem a.run a.finished) (λ fewer. subst IsFinishedSystem b.run b.finished) in
     (e, a.run ∙ ap (run m first) e ∙ sym b.run)
@@ -79,7 +79,7 @@ spent_spent m seed first ps qs one other same a b =
     let e = alike m first seed ps qs a.drawn b.drawn same (λ fewer. absurd (omega arith)) (λ fewer. absurd (omega arith)) in
     (e, a.run ∙ ap (run m first) e ∙ sym b.run)
 
-ended_spent : (m : Setup) (seed : ℕ) (first : System) (ps qs : List Pick) (one other : System) → AreRefusedAlike ps qs → Ends m seed first ps one → IsSpent m seed first qs other → ⊥
+ended_spent : (m : Setup) (seed : ℕ) (first : System) (ps qs : List Pick) (one other : System) → AreRefusedAlike ps qs → EndsRound m seed first ps one → IsSpent m seed first qs other → ⊥
 ended_spent m seed first ps qs one other same a b =
     let c = a.within in
     let d = b.all in

@@ -4,6 +4,7 @@ use Rattle.slub_words.specs.declared.board.BoardWord.{BoardWord}
 use Rattle.slub_trace.specs.declared.reply.Reply.TheVariants.{Given}
 use Rattle.slub_core.specs.declared.local.Known.{Known}
 use Rattle.slub_core.specs.declared.local.Answered.{Answered}
+use Rattle.slub_core.specs.Calls.{call_cache, call_object}
 use Rattle.slub_core.specs.World.{World}
 use Rattle.slub_core.specs.Local.{Local}
 use Rattle.slub_core.specs.Replies.{address_on}
@@ -28,7 +29,7 @@ closed w ls = record w { board = λ o. or_held (w.board o) (held_by ls o) }
 -- a worker was answered that the number was given this address, of the cache that it asked for
 abbrev pub WasGiven : ℕ → ℕ → ℕ → List Answered → Type 0
 WasGiven o cache address ds =
-    (d : Answered) × Contains ds d × (d.call.object ≡ o) × (d.call.cache ≡ Some cache)
+    (d : Answered) × Contains ds d × (call_object d.call ≡ o) × (call_cache d.call ≡ Some cache)
     × (d.reply ≡ Given address)
 
 -- the board after, by the board before and the replies of each worker

@@ -7,10 +7,10 @@ use Rattle.slub_core.specs.World.{world_of}
 use Rattle.slub_core.specs.Run.{System, Pick, idle}
 use Rattle.slub_core.specs.Coherent.{IsAtRest}
 use Rattle.slub_core.specs.Opening.{IsOpening, opened}
-use Rattle.slub_core.specs.Round.{IsRound}
+use Rattle.slub_core.specs.Round.{IsRoundOnWords}
 use Rattle.slub_core.specs.Law.{CoherentAlong, calls_to_come, replies_of}
 use Rattle.slub_schedule.specs.Schedule.{is_finished, AreDrawn, AreRefusedAlike, AreRefusedBy}
-use Rattle.slub_schedule.specs.Rounds.{Ends, IsSpent}
+use Rattle.slub_schedule.specs.Rounds.{EndsRound, IsSpent}
 use Rattle.slub_schedule.specs.Table.{HasPlace}
 use Rattle.slub_schedule.specs.Closed.{closed, IsBoardAfter}
 use Rattle.slub_schedule.specs.Finished.{IsQuiet, AreHolders}
@@ -36,25 +36,25 @@ abbrev pub RoundsAreUnique : Type 0
 RoundsAreUnique =
     (m : Setup) (seed : ℕ) (first : System) (ps qs : List Pick) (one other : System)
     → AreRefusedAlike ps qs
-    → (Ends m seed first ps one → Ends m seed first qs other → (ps ≡ qs) × (one ≡ other))
+    → (EndsRound m seed first ps one → EndsRound m seed first qs other → (ps ≡ qs) × (one ≡ other))
     × (IsSpent m seed first ps one → IsSpent m seed first qs other → (ps ≡ qs) × (one ≡ other))
-    × (Ends m seed first ps one → IsSpent m seed first qs other → ⊥)
+    × (EndsRound m seed first ps one → IsSpent m seed first qs other → ⊥)
 
 -- a round ends or its turns are spent, whenever memory is refused
 abbrev pub RoundsEndOrAreSpent : Type 0
 RoundsEndOrAreSpent =
     (m : Setup) (seed : ℕ) (first : System) (refused : ℕ → Bool)
     → (picks : List Pick) × (last : System) × AreRefusedBy refused 0 picks
-    × (Ends m seed first picks last ⊎ IsSpent m seed first picks last)
+    × (EndsRound m seed first picks last ⊎ IsSpent m seed first picks last)
 
 -- where a round ends nothing is under way, calls, replies and boards are those of a round, and each
 -- worker holds what its replies say
 abbrev pub RoundsEndWell : Type 0
 RoundsEndWell =
     (m : Setup) (s : System) (seed : ℕ) (picks : List Pick) (last : System)
-    → IsOpening m s → Ends m seed (opened m s) picks last
+    → IsOpening m s → EndsRound m seed (opened m s) picks last
     → let before = world_of m s.value s.words in let after = world_of m last.value last.words in
-    IsQuiet m before last × IsRound m before after (calls_to_come s) (replies_of last)
+    IsQuiet m before last × IsRoundOnWords m before after (calls_to_come s) (replies_of last)
     × AreHolders before after last.locals
 
 -- and what the workers hold then is put on the board: the machine is at rest, without a worker, and
@@ -62,7 +62,7 @@ RoundsEndWell =
 abbrev pub RoundsClose : Type 0
 RoundsClose =
     (m : Setup) (s : System) (seed : ℕ) (picks : List Pick) (last : System)
-    → IsOpening m s → Ends m seed (opened m s) picks last
+    → IsOpening m s → EndsRound m seed (opened m s) picks last
     → let after = closed (world_of m last.value last.words) last.locals in
     IsAtRest after × IsBoardAfter (world_of m s.value s.words) after (replies_of last)
 

@@ -9,7 +9,7 @@ abbrev pub IsFinishedSystem : System → Type 0
 IsFinishedSystem s = All IsFinished s.locals
 
 -- after these picks of the seed, no more than the turns of the round, each worker is finished
-pub record Ends (m : Setup) (seed : ℕ) (first : System) (picks : List Pick)
+pub record EndsRound (m : Setup) (seed : ℕ) (first : System) (picks : List Pick)
     (last : System) : Type 0 where
   pub drawn : AreDrawn m first seed picks
   pub run : last ≡ run m first picks

@@ -3,6 +3,7 @@ use Rattle.std.specs.Prelude.{ℕ, ◌+◌, ◌*◌, List, length, sum_by}
 use Rattle.slub_core.specs.declared.call.Call.{Call}
 use Rattle.slub_core.specs.declared.call.CallKind.{CallKind}
 use Rattle.slub_core.specs.declared.call.CallKind.TheVariants.{Trim, Flush}
+use Rattle.slub_core.specs.Calls.{call_kind}
 use Rattle.slub_core.specs.Local.{Local}
 use Rattle.slub_core.specs.Accounted.{calls_of}
 use Rattle.slub_core.specs.Run.{System}
@@ -14,7 +15,7 @@ weight Flush = 16
 weight _ = 1
 
 abbrev pub events_in : List Call → ℕ
-events_in calls = sum_by (λ (c : Call). weight c.kind) calls
+events_in calls = sum_by (λ (c : Call). weight (call_kind c)) calls
 
 abbrev pub turns_for : ℕ → ℕ → ℕ
 turns_for events workers = 8192 * (events + 1) * workers

@@ -8,7 +8,7 @@
 //! that a seed draws or by anything else, and may stop the round. `specs/` says which turns lead from
 //! one state of such a machine to another (`AreMade`) and how a round ends, has its turns spent or is
 //! stopped then (`EndsBy`, `IsUnended`); which picks a seed draws (`AreDrawn`), when a round by seed
-//! ends and when its turns are spent (`Ends`, `IsSpent`), what a round
+//! ends and when its turns are spent (`EndsRound`, `IsSpent`), what a round
 //! leaves in which each worker is finished (`IsQuiet`, `AreHolders`), and what the machine is once it
 //! is closed (`closed`, `IsBoardAfter`). No step of a path stands here: this crate knows where steps
 //! lead by the definitions of `slub_core` alone. `number` and `answer` of `table` say where a word

@@ -32,7 +32,7 @@ use Rattle.slub_round_log.specs.declared.kept.Kept.{Kept}
 use Rattle.slub_round_log.specs.Log.{SinkState, Takes}
 use Rattle.slub_round_log.specs.Told.{Context}
 use Rattle.slub_steps.specs.declared.choices.RoundCounts.{RoundCounts}
-use Rattle.slub_steps.specs.declared.round.Place.{Place}
+use Rattle.slub_steps.specs.declared.round.ToldRound.{ToldRound}
 use Rattle.slub_steps.specs.Counted.{IsOutcome}
 use Rattle.slub_steps.specs.Inner.{ClosesBy, ClosesRound, FinishesLog, LacksEnd, StopsBy, StopsPlain, WritesPlain, WritesText, WritesTotal, ids_among}
 use Rattle.slub_steps.specs.Live.{Named}
@@ -58,13 +58,13 @@ pub stops_for : (o : Option Fault) (why other : Unwatched MachineState Halt) (ro
 stops_for o why other round turns stop none is by = rw (none, is) by
 
 -- what closes a round leaves the machine, and its outcome
-pub closes_same : (place : Place) (trace : Trace) (round : Round) (live : List Named) (m : MachineState) (left : Option (List ℕ)) (result : RoundResult) (k : Kept) (old new : SinkState) (r : Result (MachineState × Done) Stop)
+pub closes_same : (place : ToldRound) (trace : Trace) (round : Round) (live : List Named) (m : MachineState) (left : Option (List ℕ)) (result : RoundResult) (k : Kept) (old new : SinkState) (r : Result (MachineState × Done) Stop)
     → ClosesRound place trace round live m left result k old new r → IfOk r (λ done. (done.0 ≡ m) × IsOutcome result done.1)
 closes_same place trace round live m left result k old new (Ok done) closes = (closes.0, closes.1)
 closes_same place trace round live m left result k old new (Err stop) closes = tt
 
 -- or it stops the round
-pub closes_text : (A : Type 0) (place : Place) (trace : Trace) (round : Round) (live : List Named) (m : MachineState) (left : Option (List ℕ)) (result : RoundResult) (k : Kept) (old new : SinkState) (text : List ℕ) (stop : Stop)
+pub closes_text : (A : Type 0) (place : ToldRound) (trace : Trace) (round : Round) (live : List Named) (m : MachineState) (left : Option (List ℕ)) (result : RoundResult) (k : Kept) (old new : SinkState) (text : List ℕ) (stop : Stop)
     → ClosesBy place trace round live m left k text → WritesText {A = A} old new (if_shown place.is_shown (text ++ text_at true trace place.number (done.Round result))) (Err stop)
     → ClosesRound place trace round live m left result k old new (Err stop)
 closes_text A place trace round live m left result k old new text stops.NoMemory closes wrote = wrote

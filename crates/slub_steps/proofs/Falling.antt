@@ -24,7 +24,7 @@ use Rattle.slub_round_log.specs.declared.kept.Fault.TheVariants.{NoMemory, Write
 use Rattle.slub_round_log.specs.declared.kept.Kept.{Kept}
 use Rattle.slub_round_log.specs.Choices.{Goes, GoesOn}
 use Rattle.slub_round_log.specs.Laws.{Heard, IsOneTurn, LogState, is_rest}
-use Rattle.slub_round_log.specs.Log.{Ends, FailsAt, FailsBy, Notes, SinkState, Writes, shown}
+use Rattle.slub_round_log.specs.Log.{EndsTurns, FailsAt, FailsBy, Notes, SinkState, Writes, shown}
 use Rattle.slub_round_log.specs.Told.{Context, context_after, context_behind, lines_of, turns_text}
 use Rattle.slub_round_log.proofs.Heard.{HasNoted, front_noted, noted_of}
 
@@ -71,15 +71,15 @@ parted R w (x ∷ xs) ys v heard =
 record Parts (m : Facts) (w : LogState) (hs : List Happening) (turn : IsOneTurn hs) (v : LogState) : Type 0 where
   pub at : LogState
   pub front : FoldsTo (Heard m) w turn.front at
-  pub ends : Ends m at.kept turn.value turn.before turn.last v.kept at.sink v.sink
+  pub ends : EndsTurns m at.kept turn.value turn.before turn.last v.kept at.sink v.sink
 
 parts_of : (m : Facts) (w : LogState) (hs : List Happening) (turn : IsOneTurn hs) (v : LogState) → FoldsTo (Heard m) w hs v → Parts m w hs turn v
 parts_of m w hs turn v heard =
     let P : List Happening → Type 0 = λ hs. FoldsTo (Heard m) w hs v in
     let parts = parted (Heard m) w turn.front (Rests turn.value turn.before turn.last ∷ []) v (subst P turn.happenings_are heard) in
     let at : LogState = parts.0 in
-    let ends : Ends m at.kept turn.value turn.before turn.last parts.2.0.kept at.sink parts.2.0.sink = parts.2.1 in
-    let E : LogState → Type 0 = λ x. Ends m at.kept turn.value turn.before turn.last x.kept at.sink x.sink in
+    let ends : EndsTurns m at.kept turn.value turn.before turn.last parts.2.0.kept at.sink parts.2.0.sink = parts.2.1 in
+    let E : LogState → Type 0 = λ x. EndsTurns m at.kept turn.value turn.before turn.last x.kept at.sink x.sink in
     record { at = at; front = parts.1; ends = subst E parts.2.2 ends }
 
 -- what its end adds, behind its front

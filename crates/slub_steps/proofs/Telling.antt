@@ -41,7 +41,7 @@ use Rattle.slub_round_log.specs.declared.kept.Kept.{Kept}
 use Rattle.slub_round_log.specs.Choices.{Refuses}
 use Rattle.slub_round_log.specs.Log.{FailsAt, SinkState, Takes}
 use Rattle.slub_round_log.specs.Told.{Context}
-use Rattle.slub_steps.specs.declared.round.Place.{Place}
+use Rattle.slub_steps.specs.declared.round.ToldRound.{ToldRound}
 use Rattle.slub_steps.specs.Inner.{ClosesRound, IsFirstKept, OpensAs, StopsBy, WritesText, due_of, ids_among, stop_by}
 use Rattle.slub_steps.specs.Live.{Named}
 use Rattle.slub_steps.specs.Rounds.{AreTold, IsClosing, IsOpening, IsRoundTold, RoundDue, StopsRound, Telling, WritesRound, if_shown, labels_of}
@@ -124,7 +124,7 @@ fell_to f s ids round labels c sayer is_shown old new beside stands means picks 
     by fault.Write leaves = (leaves.0.tells, going leaves.0, leaves.1)
 
 -- so the round stops
-fault_stops : (place : Place) (trace : Trace) (round : Round) (sayer : Sayer) (live : List Named) (m : MachineState) (head : List ℕ) (old mid new : SinkState) (fault : Fault)
+fault_stops : (place : ToldRound) (trace : Trace) (round : Round) (sayer : Sayer) (live : List Named) (m : MachineState) (head : List ℕ) (old mid new : SinkState) (fault : Fault)
     → IsOpening (due_of place trace round sayer live) m head → Takes old mid (if_shown place.is_shown head)
     → FellTo fault m.lists (ids_before m.lists m.ids) round (labels_of trace m.lists round) sayer place.is_shown mid new
     → StopsRound (due_of place trace round sayer live) place.is_shown m old new (stop_by fault)
@@ -314,7 +314,7 @@ module _ {W S : Type 0} (kept : W → Kept) (sink : W → S) (taken : S → Opti
       subst (λ (x : SinkState). FellTo fault m.lists (ids_before m.lists m.ids) round labels sayer is_shown (now w) x) (sym (now_same e.told v e.halted.1)) to
 
   -- what stops a round is why it wasn't done, and its text so far is written
-  pub cut_round : (place : Place) (trace : Trace) (round : Round) (sayer : Sayer) (live : List Named) (m : MachineState) (c : Choice) (why : Unwatched MachineState Halt) (stop : Stop) (head : List ℕ) (old : SinkState) (w v : W) (o : Option Fault)
+  pub cut_round : (place : ToldRound) (trace : Trace) (round : Round) (sayer : Sayer) (live : List Named) (m : MachineState) (c : Choice) (why : Unwatched MachineState Halt) (stop : Stop) (head : List ℕ) (old : SinkState) (w v : W) (o : Option Fault)
       → (kept v).fault ≡ o → IsFirstKept (kept w) (labels_of trace m.lists round) c place.is_shown → OpensAs sayer round.workers c
       → IsOpening (due_of place trace round sayer live) m head → Takes old (now w) (if_shown place.is_shown head)
       → Unended m round w v why → StopsBy o why place.round (kept v).context.turns stop
@@ -375,7 +375,7 @@ module _ {W S : Type 0} (kept : W → Kept) (sink : W → S) (taken : S → Opti
   left_of (Some ids) ids_after left others given = (given.0, ap (λ (x : Option (List ℕ)). ids_among x others) given.0)
 
   -- the end of a round that was told is written behind its turns
-  pub closed_round : (place : Place) (trace : Trace) (round : Round) (sayer : Sayer) (live : List Named) (m after : MachineState) (c : Choice) (result : RoundResult) (others : Option (List ℕ)) (head : List ℕ) (old new : SinkState) (w v : W)
+  pub closed_round : (place : ToldRound) (trace : Trace) (round : Round) (sayer : Sayer) (live : List Named) (m after : MachineState) (c : Choice) (result : RoundResult) (others : Option (List ℕ)) (head : List ℕ) (old new : SinkState) (w v : W)
       (r : Result (MachineState × Done) Stop)
       → IsFirstKept (kept w) (labels_of trace m.lists round) c place.is_shown → OpensAs sayer round.workers c
       → IsOpening (due_of place trace round sayer live) m head → Takes old (now w) (if_shown place.is_shown head)
@@ -483,7 +483,7 @@ module _ {W S : Type 0} (kept : W → Kept) (sink : W → S) (taken : S → Opti
 
 -- the same of a log as it stands before and after
 module _ {W S : Type 0} (v w : W) (kept : W → Kept) (sink : W → S) (taken : S → Option (List ℕ)) (faults : S → ℕ) where
-  pub closed_for : (place : Place) (trace : Trace) (round : Round) (sayer : Sayer) (live : List Named) (m after : MachineState) (c : Choice) (result : RoundResult) (others : Option (List ℕ)) (head : List ℕ) (old new : SinkState)
+  pub closed_for : (place : ToldRound) (trace : Trace) (round : Round) (sayer : Sayer) (live : List Named) (m after : MachineState) (c : Choice) (result : RoundResult) (others : Option (List ℕ)) (head : List ℕ) (old new : SinkState)
       (r : Result (MachineState × Done) Stop)
       → IsFirstKept (kept w) (labels_of trace m.lists round) c place.is_shown → OpensAs sayer round.workers c
       → IsOpening (due_of place trace round sayer live) m head → Takes old (state kept sink taken faults w) (if_shown place.is_shown head)
@@ -494,7 +494,7 @@ module _ {W S : Type 0} (v w : W) (kept : W → Kept) (sink : W → S) (taken : 
   closed_for place trace round sayer live m after c result others head old new r first_kept opens opened took does lawful reserves counted closes =
       closed_round kept sink taken faults place trace round sayer live m after c result others head old new w v r first_kept opens opened took does lawful reserves counted closes
 
-  pub cut_for : (place : Place) (trace : Trace) (round : Round) (sayer : Sayer) (live : List Named) (m : MachineState) (c : Choice) (why : Unwatched MachineState Halt) (stop : Stop) (head : List ℕ) (turns : ℕ) (old : SinkState)
+  pub cut_for : (place : ToldRound) (trace : Trace) (round : Round) (sayer : Sayer) (live : List Named) (m : MachineState) (c : Choice) (why : Unwatched MachineState Halt) (stop : Stop) (head : List ℕ) (turns : ℕ) (old : SinkState)
       → IsFirstKept (kept w) (labels_of trace m.lists round) c place.is_shown → OpensAs sayer round.workers c
       → IsOpening (due_of place trace round sayer live) m head → Takes old (state kept sink taken faults w) (if_shown place.is_shown head)
       → IsUnwatched (BeginsLog kept sink taken faults) (ChoosesLog kept sink taken faults) (HearsLog kept sink taken faults) (HaltsLog kept sink taken faults) m m.lists (ids_before m.lists m.ids) round w v why

@@ -20,7 +20,7 @@ use Rattle.slub_round_log.specs.declared.kept.Halt.{Halt}
 use Rattle.slub_round_log.specs.declared.kept.Kept.{Kept}
 use Rattle.slub_round_log.specs.Choices.{Chooses, Goes}
 use Rattle.slub_round_log.specs.Laws.{AreHeard, AreWritten, Heard, IsOneTurn, LogState, told_by}
-use Rattle.slub_round_log.specs.Log.{Begun, FailsAt, FailsBy, Halts, Hears, IsOverAll, IsWritten, Picks, SinkState, Takes, Writes, first_lines, made_after, shown}
+use Rattle.slub_round_log.specs.Log.{Begun, FailsAt, FailsBy, Halts, Hears, IsOverAll, AreLinesWritten, Picks, SinkState, Takes, Writes, first_lines, made_after, shown}
 use Rattle.slub_round_log.specs.Told.{Context, context_behind, first_context, turns_text}
 use Rattle.slub_round_log.proofs.OneTurn.{one_turn}
 use Rattle.slub_round_log.proofs.Written.{rounds_written, turns_written}
@@ -163,7 +163,7 @@ module _ {W S : Type 0} (kept : W → Kept) (sink : W → S) (taken : S → Opti
       let hs : List Happening = come_about k first picks in
       let fine_b : (kept b).fault ≡ None = fine_at m b first picks v was.turns fine in
       let writes : Writes (kept w) ((kept w).lines.items ++ first_lines (kept w).labels first.locals) (kept b) (state w) (state b) = was.begins.writes first_kept.fault in
-      let one : IsWritten (kept w) ((kept w).lines.items ++ first_lines (kept w).labels first.locals) (kept b) (state w) (state b) = writes.written fine_b in
+      let one : AreLinesWritten (kept w) ((kept w).lines.items ++ first_lines (kept w).labels first.locals) (kept b) (state w) (state b) = writes.written fine_b in
       let all : AreWritten m (view b) hs (view v) = rounds_written m (view b) (told_by k first picks) (view v) (are_heard m b first picks v was.turns) one.lines fine in
       let front : List ℕ = first_lines labels first.locals in
       let back : List ℕ = turns_text labels m first_context hs in

@@ -36,7 +36,7 @@ use Rattle.slub_round_log.specs.Told.{first_context}
 use Rattle.slub_turn_text.specs.Labels.{RoundLabels}
 use Rattle.slub_steps.specs.declared.replay.Plan.{Plan}
 use Rattle.slub_steps.specs.declared.choices.RoundCounts.{RoundCounts}
-use Rattle.slub_steps.specs.declared.round.Place.{Place}
+use Rattle.slub_steps.specs.declared.round.ToldRound.{ToldRound}
 use Rattle.slub_steps.specs.Counted.{IsOutcome}
 use Rattle.slub_steps.specs.Live.{Named, live_past}
 use Rattle.slub_steps.specs.Rounds.{IsClosing, RoundDue, Telling, if_shown}
@@ -68,7 +68,7 @@ OpensAs (Listed entries) workers c =
     (walk : Walk) × (c ≡ choice.Part walk) × (walk.entries.now ≡ entries)
     × (walk.workers ≡ workers) × ((left : List ℕ) → IsAlong walk [] left)
 
-abbrev pub due_of : Place → Trace → Round → Sayer → List Named → RoundDue
+abbrev pub due_of : ToldRound → Trace → Round → Sayer → List Named → RoundDue
 due_of place trace round sayer live = record {
   trace = trace;
   number = place.number;
@@ -91,14 +91,14 @@ pub record IsFirstKept (k : Kept) (labels : RoundLabels) (c : Choice) (is_shown 
   pub fault : k.fault ≡ None
 
 -- what stands behind the turns, by what a log has kept of them
-abbrev pub ClosesBy : Place → Trace → Round → List Named → MachineState → Option (List ℕ) → Kept
+abbrev pub ClosesBy : ToldRound → Trace → Round → List Named → MachineState → Option (List ℕ) → Kept
     → List ℕ → Type 0
 ClosesBy place trace round live m left k text =
     (sayer : Sayer) (tells : Telling) → tells.context ≡ k.context → IsMade k.made tells.made
     → IsClosing (due_of place trace round sayer live) m.lists (ids_among m.ids left) tells text
 
 -- the end of a round is written, and this came of it
-abbrev pub ClosesRound : Place → Trace → Round → List Named → MachineState → Option (List ℕ)
+abbrev pub ClosesRound : ToldRound → Trace → Round → List Named → MachineState → Option (List ℕ)
     → RoundResult → Kept → SinkState → SinkState → Result (MachineState × Done) Stop → Type 0
 ClosesRound place trace round live m left result k old new (Ok done) =
     (done.0 ≡ m) × IsOutcome result done.1 × (closing : List ℕ)

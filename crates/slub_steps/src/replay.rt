@@ -15,7 +15,7 @@ ghost use Rattle.slub_steps.specs.Written.{shows};
 
 use crate::choices::{RoundCounts, choice_of};
 use crate::live::note;
-use crate::round::{Place, do_round};
+use crate::round::{ToldRound, do_round};
 use crate::writing::write_item;
 use slub_asked::stop::Stop;
 use slub_edges::edges::Sink;
@@ -137,7 +137,7 @@ fn do_one<R: Threads + Wait + Sync, K: Sink, G: Gate + Sync>(
         Item::Round(round) => {
             let choice = choice_of(plan.way, plan.nothing, round, before);
             let line = before.lines.saturating_add(1);
-            let place = Place {
+            let place = ToldRound {
                 number,
                 round: line,
                 is_shown: plan.shows(line),

@@ -35,7 +35,7 @@ use std::alloc::Global;
 
 /// Of which round a text tells, and whether it is written.
 #[derive(Clone, Copy, Debug)]
-pub struct Place {
+pub struct ToldRound {
     /// The place of the item in the trace.
     pub number: usize,
     /// Which `round` line begins it, from 1.
@@ -59,7 +59,7 @@ fn opening(
     alloc: Global,
     machine: &Machine,
     trace: &Trace,
-    place: Place,
+    place: ToldRound,
     round: &Round,
     live: &LiveNames,
 ) -> Result<Vec<u8>, NoMemory>
@@ -85,7 +85,7 @@ fn closing(
     machine: &Machine,
     left: &Option<Ids>,
     trace: &Trace,
-    place: Place,
+    place: ToldRound,
     round: &Round,
     live: &LiveNames,
     kept: &Kept,
@@ -197,7 +197,7 @@ fn close_round<K: Sink>(
     outcome: RoundResult,
     left: Option<Ids>,
     trace: &Trace,
-    place: Place,
+    place: ToldRound,
     round: &Round,
     live: &LiveNames,
     kept: &Kept,
@@ -214,7 +214,7 @@ fn close_round<K: Sink>(
         Err(NoMemory) => return (sink, Err(Stop::NoMemory)),
     };
     let done = Done::Round(outcome);
-    let Place {
+    let ToldRound {
         number,
         is_shown,
         ..
@@ -238,7 +238,7 @@ pub fn do_round<K: Sink>(
     alloc: Global,
     machine: Machine,
     trace: &Trace,
-    place: Place,
+    place: ToldRound,
     round: &Round,
     live: &LiveNames,
     choice: Choice,

@@ -11,7 +11,7 @@ use Rattle.slub_open_close.specs.declared.opened.Rest.{Rest}
 use Rattle.slub_open_close.specs.Beside.{IsBesideOf, first_links}
 use Rattle.slub_open_close.specs.Ids.{IsStepOf}
 use Rattle.slub_open_close.specs.Laws.{BesidesFit}
-use Rattle.slub_turns.specs.declared.machine.Machine.{Machine}
+use Rattle.slub_turns.specs.declared.machine.StepMachine.{StepMachine}
 use Rattle.slub_turns.specs.Means.{the_means}
 use Rattle.slub_rounds.specs.Machine.{IsBegun, MayRun, beside_in}
 use Rattle.slub_workers.specs.Round.{begun_by}
@@ -28,7 +28,7 @@ may-run s ids b trace round coherent laid does law fits step tids links = record
   does = does;
 }
 
-pub opens-into : (s : State) (ids : List ℕ) (b : Beside) (trace : Trace) (round : Round) (m : Machine) (rest : Rest) → MayRun s ids b trace round → IsBegun s b round m rest → OpensInto s ids round (begun_by m)
+pub opens-into : (s : State) (ids : List ℕ) (b : Beside) (trace : Trace) (round : Round) (m : StepMachine) (rest : Rest) → MayRun s ids b trace round → IsBegun s b round m rest → OpensInto s ids round (begun_by m)
 opens-into s ids b trace round m rest may begun = record {
   beside = beside_in b;
   stands = may.stands;

@@ -4,7 +4,7 @@ use Rattle.std.specs.Prelude.{◌≡◌, ℕ, Bool, List, [], ◌∷◌}
 use Rattle.slub_trace.specs.declared.event.Round.{Round}
 use Rattle.slub_lists.specs.State.{State}
 use Rattle.slub_law_opening.specs.Opening.{Beside, setup_of}
-use Rattle.slub_turns.specs.declared.machine.Machine.{Machine}
+use Rattle.slub_turns.specs.declared.machine.StepMachine.{StepMachine}
 use Rattle.slub_turns.specs.Means.{the_means}
 use Rattle.slub_rounds.specs.Rounds.{StandsBeside, system_begun}
 use Rattle.slub_workers.specs.Begun.{Begun}
@@ -25,14 +25,14 @@ pub record OpensInto (s : State) (ids : List ℕ) (round : Round) (key : Begun) 
   pub system : rule.system_begun key ≡ system_begun s beside round
 
 -- the machine that a worker leaves is one that some order of its steps leads to
-pub record Leaves (lone : Lone) (last : Machine) : Type 0 where
+pub record Leaves (lone : Lone) (last : StepMachine) : Type 0 where
   pub tried : Bool
   pub closed : HasClosed lone.key tried (begun_by last)
   pub local : last.locals.items ≡ lone.standing.local ∷ []
 
 -- the worker did all its calls, from where it stands in the machine that was opened
 pub record PlaysRound (s : State) (ids : List ℕ) (round : Round) (all : List Told)
-    (last : Machine) : Type 0 where
+    (last : StepMachine) : Type 0 where
   pub lone : Lone
   pub opens : OpensInto s ids round lone.key
   pub told : AllAreTold lone.key (begins_as lone.key) all lone.standing

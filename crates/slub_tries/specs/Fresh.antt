@@ -8,7 +8,7 @@ use Rattle.slub_lists.specs.State.{State}
 use Rattle.slub_lists.specs.Alloc.{no_lists}
 use Rattle.slub_lists.specs.Coherent.{IsCoherent}
 use Rattle.slub_open_close.specs.Ids.{first_ids}
-use Rattle.slub_turns.specs.declared.machine.Machine.{Machine}
+use Rattle.slub_turns.specs.declared.machine.StepMachine.{StepMachine}
 use Rattle.slub_tries.specs.declared.tries.Told.{Told}
 use Rattle.slub_tries.specs.Begun.{OpensInto, PlaysRound}
 use Rattle.slub_tries.specs.Lone.{Lone, begins_as}
@@ -41,7 +41,7 @@ pub record BeginsTrace (trace : Trace) (lone : Lone) : Type 0 where
   pub stands : lone.standing ≡ begins_as lone.key
 
 -- the events of such a round were answered so, and this machine is left
-pub record PlaysTrace (trace : Trace) (all : List Told) (last : Machine) : Type 0 where
+pub record PlaysTrace (trace : Trace) (all : List Told) (last : StepMachine) : Type 0 where
   pub lists : State
   pub round : Events
   pub set : IsSetFor trace lists round

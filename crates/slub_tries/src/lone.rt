@@ -20,7 +20,7 @@ use slub_list_machine::lists::Lists;
 use slub_open_close::ids::Ids;
 use slub_trace::event::Round;
 use slub_trace::reply::Reply;
-use slub_turns::machine::Machine;
+use slub_turns::machine::StepMachine;
 use slub_workers::fast::Fast;
 use slub_workers::shared::Shared;
 use slub_workers::workers::Workers;
@@ -99,7 +99,7 @@ impl LoneWorker {
     }
 
     /// Closes the table. The machine is given as the last step left it, in words.
-    pub fn close(self) -> Machine
+    pub fn close(self) -> StepMachine
         ensures { Leaves self result }
     {
         let LoneWorker { shared, workers } = self;

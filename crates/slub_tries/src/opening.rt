@@ -20,7 +20,7 @@ use slub_open_close::laws::besides_fit;
 use slub_open_close::opening::open;
 use slub_rounds::begins::begun;
 use slub_trace::event::Round;
-use slub_turns::machine::Machine;
+use slub_turns::machine::StepMachine;
 use slub_workers::round;
 use slub_workers::shared::Shared;
 use slub_workers::workers::Workers;
@@ -39,7 +39,7 @@ pub(crate) fn machine_of(
     lists: Lists,
     ids: &Ids,
     round: &Round,
-) -> Result<(Machine, Sizes), NoMemory>
+) -> Result<(StepMachine, Sizes), NoMemory>
     requires coherent { IsCoherent lists }
     requires laid_down { IsLaidDown lists }
     requires objects { length lists.board ≤ 1048577 }
@@ -67,7 +67,7 @@ pub(crate) fn machine_of(
 /// A table with this machine, at which its one worker has a seat.
 pub(crate) fn seated(
     alloc: Global,
-    machine: Machine,
+    machine: StepMachine,
     sizes: Sizes,
 ) -> Result<(Shared, Workers), NoMemory>
     requires work { MayWork machine }

@@ -16,7 +16,7 @@ use slub_list_machine::lists::Lists;
 use slub_open_close::ids::Ids;
 use slub_trace::event::Round;
 use slub_trace::reply::Reply;
-use slub_turns::machine::Machine;
+use slub_turns::machine::StepMachine;
 use slub_workers::fast::Fast;
 use std::alloc::Global;
 use std::sync::Wait;
@@ -36,7 +36,7 @@ pub struct Tried {
     /// What its events were answered, in their order.
     pub told: Vec<Told>,
     /// The machine that it left, in words.
-    pub machine: Machine,
+    pub machine: StepMachine,
 }
 
 impl LoneWorker {

@@ -1,13 +1,13 @@
 -- The lines of answers.
-use Rattle.std.specs.Prelude.{ℕ, ◌+◌, ◌-◌, List, [], ◌∷◌, ◌++◌, length, reverse, slice_index_or, flat_map, codes}
+use Rattle.std.specs.Prelude.{ℕ, ◌+◌, ◌-◌, List, [], ◌∷◌, ◌++◌, length, reverse, slice_get, flat_map, codes, Option, Some, None}
 use Rattle.std.specs.List.{range_with_len}
 use Rattle.slub_trace.specs.declared.event.Event.{Event}
 use Rattle.slub_trace.specs.declared.reply.Reply.{Reply}
-use Rattle.slub_trace.specs.declared.reply.Reply.TheVariants.{Given, Freed, NotHeld}
+use Rattle.slub_trace.specs.declared.reply.Reply.TheVariants.{Given, Freed}
 use Rattle.slub_slabinfo_text.specs.Texts.{reply_answer}
 use Rattle.slub_core.specs.declared.local.Answered.{Answered}
 use Rattle.slub_core.specs.declared.local.Known.{Known}
-use Rattle.slub_core.specs.Local.{Local, here, no_call}
+use Rattle.slub_core.specs.Local.{Local, here}
 use Rattle.slub_turn_text.specs.Columns.{front}
 use Rattle.slub_turn_text.specs.Fields.{object_text}
 use Rattle.slub_turn_text.specs.Labels.{RoundLabels, event_at, event_words}
@@ -32,24 +32,22 @@ answer_line labels l reply =
 
 -- ---- events that were answered without a step
 
--- where there is none
-abbrev pub no_answer : Answered
-no_answer = record { call = no_call; reply = NotHeld }
-
--- a worker's reply of this number, from 0 on
-unfoldable pub reply_at : Local → ℕ → Reply
-reply_at l number = (slice_index_or (reverse l.done) number no_answer).reply
-
 -- the line of an answer that gives and frees no object
 unfoldable pub quiet_line : RoundLabels → ℕ → ℕ → Reply → List ℕ
 quiet_line labels worker number reply =
     front (codes "=") (lane_of labels worker)
     ++ answer_words labels (event_at labels worker number) reply ++ 10 ∷ []
 
--- the answer so many behind this one
+-- the same, where there is such an answer
+abbrev pub quiet_text : RoundLabels → ℕ → ℕ → Option Answered → List ℕ
+quiet_text labels worker number None = []
+quiet_text labels worker number (Some answered) =
+    quiet_line labels worker number answered.reply
+
+-- the answer so many behind this one; a worker's answers have numbers from 0 on
 unfoldable pub quiet_at : RoundLabels → Local → ℕ → ℕ → List ℕ
 quiet_at labels l from more =
-    quiet_line labels l.worker (from + more) (reply_at l (from + more))
+    quiet_text labels l.worker (from + more) (slice_get (reverse l.done) (from + more))
 
 -- the lines of a worker's answers, from this number on
 abbrev pub quiet_lines : RoundLabels → Local → ℕ → List ℕ

@@ -20,7 +20,7 @@ use Rattle.slub_core.specs.declared.spot.TrimSpot.TheVariants.{LoadScanned, Scan
 use Rattle.slub_core.specs.declared.spot.CheckedSpot.{CheckedSpot}
 use Rattle.slub_core.specs.declared.spot.CheckedSpot.TheVariants.{DoChecked, MoveRun, AddSlab}
 use Rattle.slub_core.specs.Facts.{Facts, cache_of}
-use Rattle.slub_core.specs.Local.{Local, here, hand_of, run_of}
+use Rattle.slub_core.specs.Local.{Local, here, hand_of, run_of, call_of}
 use Rattle.slub_turn_text.specs.declared.change.Before.{Before}
 use Rattle.slub_turn_text.specs.Fields.{run_text}
 use Rattle.slub_turn_text.specs.Checked.{add_says, do_says}
@@ -122,7 +122,7 @@ run_change m before l kind.Alloc = take_says m l (run_of l)
 run_change m before l _ = back_says before.run
 
 unfoldable pub checked_change : Facts → Before → Local → CheckedSpot → CallKind → Option Reply → List ℕ
-checked_change m before l DoChecked kind reply = do_says l kind reply
+checked_change m before l DoChecked kind reply = do_says l (call_of l) reply
 checked_change m before l MoveRun kind reply = run_change m before l kind
 checked_change m before l AddSlab kind reply = add_says before.run reply
 checked_change m before l s kind reply = []

@@ -1,5 +1,5 @@
 -- What is said of a change of a checked cache's slabs.
-use Rattle.std.specs.Prelude.{ℕ, ◌+◌, ◌-◌, ◌*◌, ◌/◌, ◌%◌, ◌^◌, ◌==◌, Bool, true, false, is_some, if◌then◌else◌, List, [], ◌∷◌, ◌++◌, slice_index_or, codes, Option, Some, None}
+use Rattle.std.specs.Prelude.{ℕ, ℤ, ◌+◌, ◌-◌, ◌*◌, ◌/◌, ◌%◌, ◌^◌, ◌==◌, Bool, true, false, is_some, if◌then◌else◌, List, [], ◌∷◌, ◌++◌, slice_index_or, codes, Option, Some, None}
 use Rattle.std.specs.Fmt.{decimal, signed_decimal}
 use Rattle.slub_object_layout.specs.declared.layout.Layout.{Layout}
 use Rattle.slub_trace.specs.declared.damage.Report.{Report}
@@ -7,10 +7,10 @@ use Rattle.slub_trace.specs.declared.reply.Reply.{Reply}
 use Rattle.slub_trace.specs.declared.reply.Reply.TheVariants.{Given, Corrupt, Value, Poked}
 use Rattle.slub_red_zone.specs.State.{CheckedState}
 use Rattle.slub_slabinfo_text.specs.Texts.{damage_words, hex_byte}
-use Rattle.slub_core.specs.declared.call.CallKind.{CallKind}
-use Rattle.slub_core.specs.declared.call.CallKind.TheVariants.{Alloc, Free, Write, Read, Poke, Trim, Flush}
+use Rattle.slub_core.specs.declared.call.Call.{Call}
+use Rattle.slub_core.specs.declared.call.Call.TheVariants.{Alloc, Free, Write, Read, Poke, Trim, Flush}
 use Rattle.slub_core.specs.declared.local.FrameRun.{FrameRun}
-use Rattle.slub_core.specs.Local.{Local, here, call_of, run_of}
+use Rattle.slub_core.specs.Local.{Local, here, run_of}
 use Rattle.slub_turn_text.specs.Fields.{object_text, run_text}
 
 -- ---- slabs that are set aside
@@ -68,37 +68,38 @@ free_says l (Some (Corrupt damage)) = codes "finds " ++ own_text l ++ 32 ∷ dam
 free_says l _ = codes "takes " ++ own_text l ++ codes " back" ++ off_text l
 
 -- `writes word N of F.I, V`
-unfoldable pub use_text : List ℕ → Local → ℕ → List ℕ
-use_text word l value =
-    word ++ decimal (call_of l).word ++ codes " of " ++ own_text l ++ codes ", " ++ decimal value
+unfoldable pub use_text : List ℕ → Local → ℕ → ℕ → List ℕ
+use_text words l word value =
+    words ++ decimal word ++ codes " of " ++ own_text l ++ codes ", " ++ decimal value
 
-unfoldable pub read_says : Local → Option Reply → List ℕ
-read_says l (Some (Value value)) = use_text (codes "reads word ") l value
-read_says l _ = []
+unfoldable pub read_says : Local → ℕ → Option Reply → List ℕ
+read_says l word (Some (Value value)) = use_text (codes "reads word ") l word value
+read_says l word _ = []
 
 -- `pokes byte OFFSET of F.I, XX`
-unfoldable pub byte_text : Local → List ℕ
-byte_text l =
-    codes "pokes byte " ++ signed_decimal (call_of l).offset ++ codes " of " ++ own_text l
-    ++ codes ", " ++ hex_byte (call_of l).byte
+unfoldable pub byte_text : Local → ℤ → ℕ → List ℕ
+byte_text l offset byte =
+    codes "pokes byte " ++ signed_decimal offset ++ codes " of " ++ own_text l ++ codes ", "
+    ++ hex_byte byte
 
 -- the byte was written
 abbrev pub is_poked : Option Reply → Bool
 is_poked (Some Poked) = true
 is_poked _ = false
 
-unfoldable pub poke_says : Local → Option Reply → List ℕ
-poke_says l reply = if is_poked reply then byte_text l else codes "pokes nothing"
+unfoldable pub poke_says : Local → ℤ → ℕ → Option Reply → List ℕ
+poke_says l offset byte reply =
+    if is_poked reply then byte_text l offset byte else codes "pokes nothing"
 
--- the call of this kind, after which the worker is so, with this reply
-unfoldable pub do_says : Local → CallKind → Option Reply → List ℕ
-do_says l Alloc reply = alloc_says l reply
-do_says l Free reply = free_says l reply
-do_says l Write reply = use_text (codes "writes word ") l (call_of l).value
-do_says l Read reply = read_says l reply
-do_says l Poke reply = poke_says l reply
-do_says l Trim reply = []
-do_says l Flush reply = []
+-- the call, after which the worker is so, with this reply
+unfoldable pub do_says : Local → Call → Option Reply → List ℕ
+do_says l (Alloc cpu cache object place) reply = alloc_says l reply
+do_says l (Free cpu object place) reply = free_says l reply
+do_says l (Write object place word value) reply = use_text (codes "writes word ") l word value
+do_says l (Read object place word) reply = read_says l word reply
+do_says l (Poke object place offset byte) reply = poke_says l offset byte reply
+do_says l (Trim cache) reply = []
+do_says l (Flush cpu) reply = []
 
 -- ---- new slabs (`alloc_single_from_new_slab`)
 

@@ -1,6 +1,8 @@
 -- Which word a step is made on, as its column has it.
-use Rattle.std.specs.Prelude.{ℕ, ◌-◌, ◌/◌, ◌%◌, ◌==◌, if◌then◌else◌, List, ◌∷◌, ◌++◌, codes}
+use Rattle.std.specs.Prelude.{ℕ, ◌-◌, ◌/◌, ◌%◌, ◌==◌, if◌then◌else◌, List, [], ◌∷◌, ◌++◌, codes}
 use Rattle.std.specs.Fmt.{decimal}
+use Rattle.slub_core.specs.declared.call.Call.{Call}
+use Rattle.slub_core.specs.declared.call.Call.TheVariants.{Write, Read}
 use Rattle.slub_core.specs.declared.step.Place.{Place}
 use Rattle.slub_core.specs.declared.step.Place.TheVariants.{LockOf, ListOf, CpuOf, SlabOf, BoardOf, MemoryOf, LinkOf}
 use Rattle.slub_core.specs.declared.spot.Spot.{Spot}
@@ -42,9 +44,16 @@ pointed l s = own_object l
 abbrev pub next_text : Object → List ℕ
 next_text o = codes "next " ++ object_text o.frame o.index
 
+-- the word that a write or a read is of, behind a blank; no other call has one
+abbrev pub word_of_call : Call → List ℕ
+word_of_call (Write object place word value) = 32 ∷ decimal word
+word_of_call (Read object place word) = 32 ∷ decimal word
+word_of_call _ = []
+
 -- `word F.I N`
 unfoldable pub used_text : Local → List ℕ
-used_text l = codes "word " ++ object_text (here l).frame (here l).index ++ 32 ∷ decimal (call_of l).word
+used_text l =
+    codes "word " ++ object_text (here l).frame (here l).index ++ word_of_call (call_of l)
 
 -- a holder's word, or a free pointer
 unfoldable pub memory_text : Local → Spot → List ℕ

@@ -8,8 +8,8 @@ use crate::columns::{push_front, push_words};
 use crate::fields::push_object;
 use crate::labels::Labels;
 use slub_common::no_memory::NoMemory;
-use slub_core::local::{Answered, Known};
-use slub_core::worker_local::{Local, NO_CALL};
+use slub_core::local::Known;
+use slub_core::worker_local::Local;
 use slub_object_layout::name::Name;
 use slub_slabinfo_text::text::{LINE_MAX, push_reply_line};
 use slub_trace::event::Event;
@@ -65,23 +65,6 @@ pub fn push_answer(
     push_words(text, b"\n")
 }
 
-/// No answer.
-const NO_ANSWER: Answered = Answered {
-    call: NO_CALL,
-    reply: Reply::NotHeld,
-};
-
-/// A worker's reply of this number, from 0 on.
-#[tactic(auto, using(crate::proofs::Lanes::turned), unfolding(crate::specs::Answers::reply_at))]
-fn reply_at(local: &Local, number: usize) -> Reply
-    ensures { result ≡ spec.reply_at local.now number }
-{
-    match local.answers().get(number) {
-        Some(answered) => answered.reply,
-        None => NO_ANSWER.reply,
-    }
-}
-
 /// The line of an answer that gives and frees no object.
 #[tactic(auto, unfolding(crate::specs::Answers::quiet_line))]
 fn push_quiet(
@@ -100,8 +83,8 @@ fn push_quiet(
     push_words(text, b"\n")
 }
 
-/// The line of a worker's answer of this number, from which on they are told.
-#[tactic(auto, unfolding(crate::specs::Answers::quiet_at))]
+/// The line of a worker's answer so many behind this one.
+#[tactic(auto, using(crate::proofs::Lanes::turned), unfolding(crate::specs::Answers::quiet_at))]
 fn push_quiet_at(
     text: &mut Vec<u8>,
     labels: &Labels,
@@ -114,13 +97,10 @@ fn push_quiet_at(
         text.old.items ++ spec.quiet_at labels.now local.now from more) }
 {
     let number = from + more;
-    push_quiet(
-        text,
-        labels,
-        local.worker(),
-        number,
-        &reply_at(local, number),
-    )
+    match local.answers().get(number) {
+        Some(answered) => push_quiet(text, labels, local.worker(), number, &answered.reply),
+        None => Ok(()),
+    }
 }
 
 /// How many answers a worker has from this number on.

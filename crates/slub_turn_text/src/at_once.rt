@@ -285,7 +285,7 @@ fn push_checked(
         text.old.items ++ spec.checked_change setup.now before.now local.now spot kind reply) }
 {
     match spot {
-        CheckedSpot::DoChecked => push_do(text, local, kind, reply),
+        CheckedSpot::DoChecked => push_do(text, local, local.call(), reply),
         CheckedSpot::MoveRun => push_move_run(text, setup, before, local, kind),
         CheckedSpot::AddSlab => push_add(text, before.run, reply),
         _ => Ok(()),

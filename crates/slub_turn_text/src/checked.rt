@@ -7,7 +7,7 @@ use crate::columns::{push_hex, push_number, push_signed, push_words};
 use crate::damage::push_damage;
 use crate::fields::{push_object, push_run_told};
 use slub_common::no_memory::NoMemory;
-use slub_core::call::CallKind;
+use slub_core::call::Call;
 use slub_core::local::FrameRun;
 use slub_core::worker_local::Local;
 use slub_object_layout::layout::Layout;
@@ -128,11 +128,17 @@ fn push_free(text: &mut Vec<u8>, local: &Local, reply: Option<Reply>) -> Result<
 
 /// A word that is written or read.
 #[tactic(auto, unfolding(crate::specs::Checked::use_text))]
-fn push_use(text: &mut Vec<u8>, words: &[u8], local: &Local, value: u64) -> Result<(), NoMemory>
-    ensures { OnOk result (text.new.items ≡ text.old.items ++ spec.use_text words.now local.now value) }
+fn push_use(
+    text: &mut Vec<u8>,
+    words: &[u8],
+    local: &Local,
+    word: u32,
+    value: u64,
+) -> Result<(), NoMemory>
+    ensures { OnOk result (text.new.items ≡ text.old.items ++ spec.use_text words.now local.now word value) }
 {
     push_words(text, words)?;
-    push_number(text, u64::from(local.call().word))?;
+    push_number(text, u64::from(word))?;
     push_words(text, b" of ")?;
     push_own(text, local)?;
     push_words(text, b", ")?;
@@ -140,27 +146,31 @@ fn push_use(text: &mut Vec<u8>, words: &[u8], local: &Local, value: u64) -> Resu
 }
 
 #[tactic(auto, unfolding(crate::specs::Checked::read_says))]
-fn push_read(text: &mut Vec<u8>, local: &Local, reply: Option<Reply>) -> Result<(), NoMemory>
-    ensures { OnOk result (text.new.items ≡ text.old.items ++ spec.read_says local.now reply) }
+fn push_read(
+    text: &mut Vec<u8>,
+    local: &Local,
+    word: u32,
+    reply: Option<Reply>,
+) -> Result<(), NoMemory>
+    ensures { OnOk result (text.new.items ≡ text.old.items ++ spec.read_says local.now word reply) }
 {
     match reply {
-        Some(Reply::Value(value)) => push_use(text, b"reads word ", local, value),
+        Some(Reply::Value(value)) => push_use(text, b"reads word ", local, word, value),
         _ => Ok(()),
     }
 }
 
 /// A byte that is poked.
 #[tactic(auto, unfolding(crate::specs::Checked::byte_text))]
-fn push_byte(text: &mut Vec<u8>, local: &Local) -> Result<(), NoMemory>
-    ensures { OnOk result (text.new.items ≡ text.old.items ++ spec.byte_text local.now) }
+fn push_byte(text: &mut Vec<u8>, local: &Local, offset: i32, byte: u8) -> Result<(), NoMemory>
+    ensures { OnOk result (text.new.items ≡ text.old.items ++ spec.byte_text local.now offset byte) }
 {
-    let call = local.call();
     push_words(text, b"pokes byte ")?;
-    push_signed(text, call.offset)?;
+    push_signed(text, offset)?;
     push_words(text, b" of ")?;
     push_own(text, local)?;
     push_words(text, b", ")?;
-    push_hex(text, call.byte)
+    push_hex(text, byte)
 }
 
 /// Whether a byte was written.
@@ -174,33 +184,39 @@ fn is_poked(reply: Option<Reply>) -> bool
 }
 
 #[tactic(auto, unfolding(crate::specs::Checked::poke_says))]
-fn push_poke(text: &mut Vec<u8>, local: &Local, reply: Option<Reply>) -> Result<(), NoMemory>
-    ensures { OnOk result (text.new.items ≡ text.old.items ++ spec.poke_says local.now reply) }
+fn push_poke(
+    text: &mut Vec<u8>,
+    local: &Local,
+    offset: i32,
+    byte: u8,
+    reply: Option<Reply>,
+) -> Result<(), NoMemory>
+    ensures { OnOk result (text.new.items ≡ text.old.items ++ spec.poke_says local.now offset byte reply) }
 {
     if is_poked(reply) {
-        push_byte(text, local)
+        push_byte(text, local, offset, byte)
     } else {
         push_words(text, b"pokes nothing")
     }
 }
 
-/// What a call of this kind says, after which the worker is so, with this reply.
+/// What a call says, after which the worker is so, with this reply.
 #[tactic(auto, unfolding(crate::specs::Checked::do_says))]
 pub(crate) fn push_do(
     text: &mut Vec<u8>,
     local: &Local,
-    kind: CallKind,
+    call: Call,
     reply: Option<Reply>,
 ) -> Result<(), NoMemory>
-    ensures { OnOk result (text.new.items ≡ text.old.items ++ spec.do_says local.now kind reply) }
+    ensures { OnOk result (text.new.items ≡ text.old.items ++ spec.do_says local.now call reply) }
 {
-    match kind {
-        CallKind::Alloc => push_alloc(text, local, reply),
-        CallKind::Free => push_free(text, local, reply),
-        CallKind::Write => push_use(text, b"writes word ", local, local.call().value),
-        CallKind::Read => push_read(text, local, reply),
-        CallKind::Poke => push_poke(text, local, reply),
-        CallKind::Trim | CallKind::Flush => Ok(()),
+    match call {
+        Call::Alloc { .. } => push_alloc(text, local, reply),
+        Call::Free { .. } => push_free(text, local, reply),
+        Call::Write { word, value, .. } => push_use(text, b"writes word ", local, word, value),
+        Call::Read { word, .. } => push_read(text, local, word, reply),
+        Call::Poke { offset, byte, .. } => push_poke(text, local, offset, byte, reply),
+        Call::Trim { .. } | Call::Flush { .. } => Ok(()),
     }
 }
 

@@ -9,6 +9,7 @@ use crate::fields::push_object;
 use crate::labels::Labels;
 use crate::object::Object;
 use slub_common::no_memory::NoMemory;
+use slub_core::call::Call;
 use slub_core::spot::{AllocSpot, PutAwaySpot, Spot};
 use slub_core::step::Place;
 use slub_core::ways::reached;
@@ -74,6 +75,23 @@ fn push_next(text: &mut Vec<u8>, object: Object) -> Result<(), NoMemory>
     push_object(text, object.frame, u64::from(object.index))
 }
 
+/// The word that a write or a read is of.
+fn push_word_of(text: &mut Vec<u8>, call: Call) -> Result<(), NoMemory>
+    ensures { OnOk result (text.new.items ≡ text.old.items ++ spec.word_of_call call) }
+{
+    match call {
+        Call::Write { word, .. } => {
+            push_words(text, b" ")?;
+            push_number(text, u64::from(word))
+        }
+        Call::Read { word, .. } => {
+            push_words(text, b" ")?;
+            push_number(text, u64::from(word))
+        }
+        _ => Ok(()),
+    }
+}
+
 /// A word of the object of a worker's call.
 #[tactic(auto, unfolding(crate::specs::Words::used_text))]
 fn push_used(text: &mut Vec<u8>, local: &Local) -> Result<(), NoMemory>
@@ -81,8 +99,7 @@ fn push_used(text: &mut Vec<u8>, local: &Local) -> Result<(), NoMemory>
 {
     push_words(text, b"word ")?;
     push_object(text, local.here().frame, u64::from(local.here().index))?;
-    push_words(text, b" ")?;
-    push_number(text, u64::from(local.call().word))
+    push_word_of(text, local.call())
 }
 
 /// A holder's word, or a free pointer.

@@ -28,30 +28,32 @@ use Rattle.slub_core.proofs.PoolSpots.{can-put, sized-small, some-run}
 use Rattle.slub_core.proofs.RemakeStep.{run-first, pow-some}
 use Rattle.slub_core.proofs.StepValues.{value-slab}
 use Rattle.slub_core.specs.declared.guarded.Guarded.{Guarded}
+use Rattle.slub_core.specs.Calls.{call_word}
 use Rattle.slub_core.specs.Values.{values_of}
 use Rattle.slub_checked_paths.specs.Slabs.{IsCheckedValue, slabs_at}
 use Rattle.slub_checked_paths.specs.Fits.{MayDo, MayPut, MayMove, MayAdd}
 use Rattle.slub_turns.specs.Fits.{AtOnceFits, AreValues}
+use Rattle.slub_turns.proofs.UseFits.{OwnKind}
 use Rattle.slub_turns.proofs.Values.{pool-there}
 
 -- ---- a call of the slabs
 
 -- the word of a write or a read lies in the object
-word-fits : (w : World) (x : Worker) (others : List Worker) (old : CheckedState) → uses_word x.local.spot ≡ true → IsCheckedOf w.setup x.local.cache old → Stands w (x ∷ others) → 8 * ((call_of x.local).word + 1) ≤ old.layout.object_size
+word-fits : (w : World) (x : Worker) (others : List Worker) (old : CheckedState) → uses_word x.local.spot ≡ true → IsCheckedOf w.setup x.local.cache old → Stands w (x ∷ others) → 8 * (call_word (call_of x.local) + 1) ≤ old.layout.object_size
 word-fits w x others old word of s =
     let ok = All-head (IsAtWork w) x others s.fresh.workers in
     let size : old.layout.object_size ≡ (w.setup.layout x.local.cache).object_size = ap (λ (l : Layout). l.object_size) of.layout in
-    let fits : 8 * ((call_of x.local).word + 1) ≤ (w.setup.layout x.local.cache).object_size = leb-true (8 * ((call_of x.local).word + 1)) (w.setup.layout x.local.cache).object_size (not-false _ (ok.spot.inside word)) in
+    let fits : 8 * (call_word (call_of x.local) + 1) ≤ (w.setup.layout x.local.cache).object_size = leb-true (8 * (call_word (call_of x.local) + 1)) (w.setup.layout x.local.cache).object_size (not-false _ (ok.spot.inside word)) in
     omega arith
 
-may-do : (w : World) (x : Worker) (others : List Worker) (kind : CallKind) (old : CheckedState) → x.local.spot ≡ InChecked DoChecked kind → w.value (node_lock x.local.cache) ≡ Checked old → IsCheckedOf w.setup x.local.cache old → Stands w (x ∷ others) → MayDo x.local old kind
-may-do w x others Alloc old is was of s = tt
-may-do w x others Free old is was of s = held-object w x others old s (rw is refl) (rw is refl) was
-may-do w x others Write old is was of s = (held-object w x others old s (rw is refl) (rw is refl) was, word-fits w x others old (rw is refl) of s)
-may-do w x others Read old is was of s = (held-object w x others old s (rw is refl) (rw is refl) was, word-fits w x others old (rw is refl) of s)
-may-do w x others Poke old is was of s = tt
-may-do w x others Trim old is was of s = tt
-may-do w x others Flush old is was of s = tt
+may-do : (w : World) (x : Worker) (others : List Worker) (kind : CallKind) (old : CheckedState) → x.local.spot ≡ InChecked DoChecked kind → w.value (node_lock x.local.cache) ≡ Checked old → IsCheckedOf w.setup x.local.cache old → Stands w (x ∷ others) → OwnKind x.local → MayDo x.local old kind
+may-do w x others Alloc old is was of s own = tt
+may-do w x others Free old is was of s own = held-object w x others old s (rw is refl) (rw is refl) was
+may-do w x others Write old is was of s own = (own Write (rw is refl), (held-object w x others old s (rw is refl) (rw is refl) was, word-fits w x others old (rw is refl) of s))
+may-do w x others Read old is was of s own = (own Read (rw is refl), (held-object w x others old s (rw is refl) (rw is refl) was, word-fits w x others old (rw is refl) of s))
+may-do w x others Poke old is was of s own = own Poke (rw is refl)
+may-do w x others Trim old is was of s own = tt
+may-do w x others Flush old is was of s own = tt
 
 -- ---- a run in hand
 
@@ -123,15 +125,15 @@ may-add w x others kind old is was of s =
 
 -- ---- spot by spot
 
-pub checked_once : (w : World) (x : Worker) (others : List Worker) (guarded : List Guarded) (spot : CheckedSpot) (kind : CallKind) → x.local.spot ≡ InChecked spot kind → Stands w (x ∷ others) → AreValues w.setup w.value guarded → AtOnceFits guarded x.local (InChecked spot kind)
-checked_once w x others guarded DoChecked kind is s values =
+pub checked_once : (w : World) (x : Worker) (others : List Worker) (guarded : List Guarded) (spot : CheckedSpot) (kind : CallKind) → x.local.spot ≡ InChecked spot kind → Stands w (x ∷ others) → OwnKind x.local → AreValues w.setup w.value guarded → AtOnceFits guarded x.local (InChecked spot kind)
+checked_once w x others guarded DoChecked kind is s own values =
     let r = the-slabs w x others s (rw is refl) in
     let now : values_of guarded (node_lock x.local.cache) ≡ Checked r.0 = ap (λ (v : ℕ → LockValue). v (node_lock x.local.cache)) values.values ∙ r.1 in
-    subst (λ (v : LockValue). IsCheckedValue v × MayDo x.local (slabs_at v) kind) (sym now) (tt, may-do w x others kind r.0 is r.1 r.2 s)
-checked_once w x others guarded MoveRun kind is s values = may-move w x others guarded kind values is s
-checked_once w x others guarded AddSlab kind is s values =
+    subst (λ (v : LockValue). IsCheckedValue v × MayDo x.local (slabs_at v) kind) (sym now) (tt, may-do w x others kind r.0 is r.1 r.2 s own)
+checked_once w x others guarded MoveRun kind is s own values = may-move w x others guarded kind values is s
+checked_once w x others guarded AddSlab kind is s own values =
     let r = the-slabs w x others s (rw is refl) in
     let now : values_of guarded (node_lock x.local.cache) ≡ Checked r.0 = ap (λ (v : ℕ → LockValue). v (node_lock x.local.cache)) values.values ∙ r.1 in
     let put = may-put w x others guarded AddSlab kind values is refl s in
     subst (λ (v : LockValue). IsCheckedValue v × MayAdd (slabs_at v) x.local × MayPut guarded x.local) (sym now) (tt, may-add w x others kind r.0 is r.1 r.2 s, put)
-checked_once w x others guarded _ kind is s values = tt
+checked_once w x others guarded _ kind is s own values = tt

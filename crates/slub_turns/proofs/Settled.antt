@@ -31,6 +31,7 @@ use Rattle.slub_core.specs.declared.spot.MoveSet.{MoveSet}
 use Rattle.slub_core.specs.declared.spot.TrimSpot.{TrimSpot}
 use Rattle.slub_core.specs.declared.spot.TrimSpot.TheVariants.{ScanNode, DropScanned}
 use Rattle.slub_core.specs.declared.spot.CheckedSpot.TheVariants.{DoChecked, MoveRun, AddSlab, GiveRun}
+use Rattle.slub_core.specs.Calls.{call_offset}
 use Rattle.slub_core.specs.Setup.{Setup, pool_lock}
 use Rattle.slub_core.specs.World.{LockValue, pool_in}
 use Rattle.slub_core.specs.Local.{Local, Change, here, call_of, noted, stays}
@@ -114,7 +115,7 @@ do_reply m value l Alloc s = gave_reply m value l (m.means.give s) (m.means.gave
 do_reply m value l Free s = took_reply m value l s (damage_of_used s (slot_of l))
 do_reply m value l Write s = refl
 do_reply m value l Read s = refl
-do_reply m value l Poke s = poke_told (is_offset s.layout (call_of l).offset) (nat_lt (here l).index (objects_in (slab_of s (here l).frame)))
+do_reply m value l Poke s = poke_told (is_offset s.layout (call_offset (call_of l))) (nat_lt (here l).index (objects_in (slab_of s (here l).frame)))
 do_reply m value l Trim s = refl
 do_reply m value l Flush s = refl
 

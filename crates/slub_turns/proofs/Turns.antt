@@ -36,6 +36,7 @@ use Rattle.slub_turns.specs.FitLaws.{TurnsFit}
 use Rattle.slub_turns.proofs.BeginFits.{begin_fits}
 use Rattle.slub_turns.proofs.Counts.{counts-fit}
 use Rattle.slub_turns.proofs.Steps.{step_fits, once_fits}
+use Rattle.slub_turns.proofs.UseFits.{own-kind}
 
 -- ---- at each spot
 
@@ -43,7 +44,7 @@ use Rattle.slub_turns.proofs.Steps.{step_fits, once_fits}
 once-comes : (opening w : World) (others : List Worker) (l : Local) → Comes opening w others l → (guarded : List Guarded) → AreValues w.setup w.value guarded → AtOnceFits guarded l l.spot
 once-comes opening w others l comes guarded are =
     let j = joined opening w others l comes in
-    subst (λ (l : Local). AtOnceFits guarded l l.spot) j.1 (once_fits w j.0 others guarded j.0.local.spot refl j.2 are)
+    subst (λ (l : Local). AtOnceFits guarded l l.spot) j.1 (once_fits w j.0 others guarded j.0.local.spot refl j.2 (own-kind opening w j.0 others j.3) are)
 
 -- a reply is that of a call
 has-reply : (l n : Local) (s : Spot) (r : Option Reply) → Leaves l s n r → (IsSome (doing s) → 1 ≤ length l.todo) → HasCallFor n r
@@ -82,7 +83,7 @@ turn_fits opening m s refused x others long st ac room =
     let next : World = record v { value = c.value } in
     let then : Comes opening next others (noted c.local c.reply) = comes_once opening v refused others told comes in
     record {
-      step = step_fits w x others l.spot refl st (counts-fit l l.spot room);
+      step = step_fits w x others l.spot refl st (own-kind opening w x others ac) (counts-fit l l.spot room);
       first = change-fits opening v others turn.local turn.reply (has-reply l turn.local l.spot turn.reply (turn-says m s.value l l.spot a) (has-call opening w others l ((x, refl, st), (x, refl, ac)))) comes;
       second = change-fits opening next others c.local c.reply (once-call opening v refused others told comes) then;
       last = once-call opening next refused others (noted c.local c.reply) then;

@@ -3,28 +3,26 @@
 use Rattle.std.specs.Prelude.{◌≡◌, ℕ, ◌+◌, ◌<◌, ◌≤◌, ◌^◌, Bool, List, [], ◌∷◌, length, slice_index_or, Option, IfSome}
 use Rattle.slub_trace.specs.declared.reply.Reply.{Reply}
 use Rattle.slub_core.specs.declared.call.Call.{Call}
+use Rattle.slub_core.specs.declared.call.CallKind.TheVariants.{Write, Read}
 use Rattle.slub_core.specs.declared.spot.Spot.{Spot}
 use Rattle.slub_core.specs.declared.spot.Spot.TheVariants.{Between, InAlloc, InPutAway, InDiscard, InPutOnList, InFree, InMoveSet, InOffline, InTrim, WriteWord, ReadWord, InChecked}
 use Rattle.slub_core.specs.Setup.{Setup, IsPlain, node_lock}
 use Rattle.slub_core.specs.Words.{number_of, answer_of}
 use Rattle.slub_core.specs.World.{LockValue}
-use Rattle.slub_core.specs.Local.{Local, Turn, Change, call_of, noted}
+use Rattle.slub_core.specs.Local.{Local, Turn, Change, noted}
 use Rattle.slub_core.specs.Steps.{step_of, advance_at, changed, begun}
 use Rattle.slub_core.specs.Run.{System, Pick, idle}
 use Rattle.slub_core.specs.Law.{IsRested}
 use Rattle.slub_core.specs.declared.guarded.Guarded.{Guarded}
+use Rattle.slub_core.specs.Calls.{call_cpu}
 use Rattle.slub_core.specs.Values.{values_of, rooms_of}
 use Rattle.slub_alloc_paths.specs.Fits.{AllocFits}
 use Rattle.slub_alloc_paths.specs.Fits as alloc
-use Rattle.slub_free_paths.specs.Fits.{FreeFits, PutOnListFits, PutAwayFits, DiscardFits, MoveSetFits, PutsRun, PutsAway, PutsTail, TakesOff}
+use Rattle.slub_free_paths.specs.Fits.{FreeFits, PutOnListFits, PutAwayFits, DiscardFits, MoveSetFits, UseFits, PutsRun, PutsAway, PutsTail, TakesOff}
 use Rattle.slub_offline.specs.Fits.{OfflineFits, OfflineRoom, TrimFits, MayScan}
 use Rattle.slub_checked_paths.specs.Fits.{CheckedFits}
 
 -- ---- a step, and the answer to it
-
--- a word of an object is one of the words that a slab can have
-abbrev pub IsWordOfSlab : Local → Type 0
-IsWordOfSlab l = (call_of l).word ≤ 4095
 
 -- where each change adds `step` to a transaction id
 abbrev pub StepFits : ℕ → Local → Spot → Type 0
@@ -37,8 +35,8 @@ StepFits step l (InFree s) = FreeFits step l s × (length l.hands < 2)
 StepFits step l (InMoveSet s move) = MoveSetFits l s
 StepFits step l (InOffline s sweep) = OfflineFits step l s × OfflineRoom l s
 StepFits step l (InTrim s) = TrimFits l s
-StepFits step l WriteWord = IsWordOfSlab l
-StepFits step l ReadWord = IsWordOfSlab l
+StepFits step l WriteWord = UseFits l Write
+StepFits step l ReadWord = UseFits l Read
 StepFits step l (InChecked s kind) = Unit {0}
 
 -- ---- what is done at once
@@ -106,7 +104,7 @@ picked s pick = slice_index_or s.locals pick.worker idle
 -- a worker between two calls begins one whose CPU has a number of eight bits
 abbrev pub CallsFit : List Call → Type 0
 CallsFit [] = Unit {0}
-CallsFit (call ∷ calls) = call.cpu < 256
+CallsFit (call ∷ calls) = call_cpu call < 256
 
 abbrev pub BeginFits : Local → Spot → Type 0
 BeginFits l Between = CallsFit l.todo

@@ -9,7 +9,7 @@ use Rattle.slub_core.specs.Run.{System, Pick, turn}
 use Rattle.slub_law_opening.specs.Opening.{Beside, setup_of}
 use Rattle.slub_law_opening.specs.Closing.{Closes}
 use Rattle.slub_law_opening.specs.Laws.{MayOpen, MayBegin}
-use Rattle.slub_schedule.specs.Rounds.{Ends}
+use Rattle.slub_schedule.specs.Rounds.{EndsRound}
 use Rattle.slub_law_opening.specs.BoundLaws.{AreNumbered, begins}
 use Rattle.slub_turns.specs.Fits.{PickFits}
 use Rattle.slub_turns.specs.Ready.{MayTurn}
@@ -35,6 +35,6 @@ abbrev pub RoundsBySeedClose : Type 0
 RoundsBySeedClose =
     (s : State) (b : Beside) (ls : List Local) (seed : ℕ) (picks : List Pick) (last : System)
     → MayOpen s b → MayBegin s b ls → AreNumbered ls
-    → Ends (setup_of s b) seed (begins s b ls) picks last
+    → EndsRound (setup_of s b) seed (begins s b ls) picks last
     → (t : State) × (d : Beside)
     × Closes s b last t d × plain.IsCoherent t × MayOpen (all_on_board t) d

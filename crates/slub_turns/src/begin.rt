@@ -1,6 +1,8 @@
 //! Between two calls: the replies that take no step, and the begin of a call.
 
-ghost use Rattle.std.specs.Prelude.{◌≡◌, ◌<◌, map};
+ghost use Rattle.std.specs.Prelude.{◌≡◌, ◌<◌, map, slice_index_or};
+ghost use Rattle.slub_core.specs.Calls.{call_kind, call_cpu, call_place};
+ghost use Rattle.slub_core.specs.Local.{nobody};
 ghost use Rattle.slub_core.specs.Setup.{Means};
 ghost use Rattle.slub_core.specs.Steps as core;
 ghost use Rattle.slub_core.specs.Facts.{setup_of};
@@ -16,22 +18,22 @@ use slub_object_layout::layout::Layout;
 use slub_trace::reply::Reply;
 
 /// Whether a word of an object lies outside of it.
-fn is_outside(layout: &Layout, call: &Call) -> bool
-    ensures { result ≡ core.is_outside layout.now call.now }
+fn is_outside(layout: &Layout, word: u32) -> bool
+    ensures { result ≡ core.is_outside layout.now word }
 {
-    let end = 8 * (u64::from(call.word) + 1);
+    let end = 8 * (u64::from(word) + 1);
     end > u64::from(layout.object_size)
 }
 
-/// The reply to a write or a read that takes no step.
-fn told_of_use(setup: &Setup, known: Known, call: &Call) -> Option<Reply>
-    ensures { (means : Means) → result ≡ core.told_of_use (setup_of setup.now means) known call.now }
+/// The reply to a write or a read of this word that takes no step.
+fn told_of_use(setup: &Setup, known: Known, word: u32) -> Option<Reply>
+    ensures { (means : Means) → result ≡ core.told_of_use (setup_of setup.now means) known word }
 {
     if !known.held {
         return Some(Reply::NotHeld);
     }
     let layout = setup.layout(known.cache);
-    if is_outside(&layout, call) {
+    if is_outside(&layout, word) {
         Some(Reply::OutOfObject)
     } else {
         None
@@ -86,17 +88,17 @@ fn told_of_flush(setup: &Setup) -> Option<Reply>
 
 /// The reply of a call that takes no step; None where it takes one.
 #[inline(always)]
-fn told_at_once(setup: &Setup, known: Known, call: &Call) -> Option<Reply>
-    ensures { (means : Means) → result ≡ core.told_at_once (setup_of setup.now means) known call.now call.now.kind }
+fn told_at_once(setup: &Setup, local: &Local, call: Call) -> Option<Reply>
+    ensures { (means : Means) → result ≡ core.told_at_once (setup_of setup.now means) (slice_index_or local.now.known (call_place call) nobody) call (call_kind call) }
 {
-    match call.kind {
-        CallKind::Alloc => told_of_alloc(call.cache),
-        CallKind::Free => None,
-        CallKind::Write => told_of_use(setup, known, call),
-        CallKind::Read => told_of_use(setup, known, call),
-        CallKind::Poke => told_of_poke(setup, known),
-        CallKind::Trim => told_of_trim(setup, call.cache),
-        CallKind::Flush => told_of_flush(setup),
+    match call {
+        Call::Alloc { cache, .. } => told_of_alloc(cache),
+        Call::Free { .. } => None,
+        Call::Write { place, word, .. } => told_of_use(setup, local.known_at(place), word),
+        Call::Read { place, word, .. } => told_of_use(setup, local.known_at(place), word),
+        Call::Poke { place, .. } => told_of_poke(setup, local.known_at(place)),
+        Call::Trim { cache } => told_of_trim(setup, cache),
+        Call::Flush { .. } => told_of_flush(setup),
     }
 }
 
@@ -117,23 +119,10 @@ fn rest_with(setup: &Setup, local: &mut Local)
 {
     while local.has_call() {
         let call = local.call();
-        let known = local.known_at(call.place);
-        match told_at_once(setup, known, &call) {
+        match told_at_once(setup, local, call) {
             Some(reply) => local.answered(reply),
             None => return,
         }
-    }
-}
-
-/// The cache of a call: the one that it names, or that of its object; a flush begins with the oldest.
-#[inline(always)]
-fn cache_for(setup: &Setup, known: Known, call: &Call) -> u8
-    ensures { (means : Means) → result ≡ core.cache_for (setup_of setup.now means) known call.now.cache call.now.kind }
-{
-    match call.kind {
-        CallKind::Alloc | CallKind::Trim => call.cache.unwrap_or(0),
-        CallKind::Free | CallKind::Write | CallKind::Read | CallKind::Poke => known.cache,
-        CallKind::Flush => oldest(setup),
     }
 }
 
@@ -164,29 +153,68 @@ fn first_spot(kind: CallKind, checked: bool, held: bool) -> Spot
     }
 }
 
-/// The CPU that a call begins with, which for a trim is CPU 0.
+/// A worker begins a call of this kind.
 #[inline(always)]
-fn first_cpu(kind: CallKind, cpu: u32) -> u8
-    requires { cpu < 256 }
-    ensures { result ≡ core.first_cpu kind cpu }
+fn begin_at(
+    setup: &Setup,
+    local: &mut Local,
+    kind: CallKind,
+    cache: u8,
+    cpu: u8,
+    place: usize,
+    tries: bool,
+)
+    ensures { (means : Means) → local.new ≡ record local.old { spot = core.first_spot kind ((setup_of setup.now means).checks cache) (slice_index_or local.old.known place nobody).held; cache = cache; cpu = cpu; place = place; fast = tries; turn = 0; count = 0 } }
 {
-    match kind {
-        CallKind::Trim => 0,
-        _ => cpu as u8,
-    }
+    let held = local.known_at(place).held;
+    let spot = first_spot(kind, setup.checks(cache), held);
+    local.begin(spot, cache, cpu, place, tries);
 }
 
-/// A worker begins this call; as a try, where `tries` says so.
+/// A worker begins this call; as a try, where `tries` says so. The cache is the one that the call names, or that of its
+/// object; a trim begins with CPU 0, and a flush with the oldest cache.
 #[inline(always)]
-fn begin_call(setup: &Setup, local: &mut Local, call: &Call, tries: bool)
-    requires { call.now.cpu < 256 }
-    ensures { (means : Means) → local.new ≡ core.begun_call (setup_of setup.now means) tries local.old call.now }
+fn begin_call(setup: &Setup, local: &mut Local, call: Call, tries: bool)
+    requires { call_cpu call < 256 }
+    ensures { (means : Means) → local.new ≡ core.begun_call (setup_of setup.now means) tries local.old call }
 {
-    let known = local.known_at(call.place);
-    let cache = cache_for(setup, known, call);
-    let spot = first_spot(call.kind, setup.checks(cache), known.held);
-    let cpu = first_cpu(call.kind, call.cpu);
-    local.begin(spot, cache, cpu, call.place, tries);
+    let kind = call.kind();
+    match call {
+        Call::Alloc {
+            cpu,
+            cache,
+            place,
+            ..
+        } => {
+            begin_at(
+                setup,
+                local,
+                kind,
+                cache.unwrap_or(0),
+                cpu as u8,
+                place,
+                tries,
+            )
+        }
+        Call::Free { cpu, place, .. } => {
+            let cache = local.known_at(place).cache;
+            begin_at(setup, local, kind, cache, cpu as u8, place, tries)
+        }
+        Call::Write { place, .. } => {
+            let cache = local.known_at(place).cache;
+            begin_at(setup, local, kind, cache, 0, place, tries)
+        }
+        Call::Read { place, .. } => {
+            let cache = local.known_at(place).cache;
+            begin_at(setup, local, kind, cache, 0, place, tries)
+        }
+        Call::Poke { place, .. } => {
+            let cache = local.known_at(place).cache;
+            begin_at(setup, local, kind, cache, 0, place, tries)
+        }
+        Call::Trim { cache } => begin_at(setup, local, kind, cache.unwrap_or(0), 0, 0, tries),
+        Call::Flush { cpu } => begin_at(setup, local, kind, oldest(setup), cpu as u8, 0, tries),
+    }
 }
 
 /// A worker between two calls begins its next one; as a try, where `tries` says so.
@@ -198,7 +226,7 @@ pub fn begin(setup: &Setup, local: &mut Local, tries: bool)
     if let Spot::Between = local.spot() {
         if local.has_call() {
             let call = local.call();
-            begin_call(setup, local, &call, tries);
+            begin_call(setup, local, call, tries);
         }
     }
 }

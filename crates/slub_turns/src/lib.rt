@@ -25,7 +25,7 @@
 //!
 //! Each call is the definition of its name in the step machine (`Steps` and `Run` of `slub_core`),
 //! in every machine of the setup's facts, and what a turn asks it has by `turns_fit`. A turn of a
-//! `Machine` is `turn` of the definitions, whether memory is refused in it or not, and leaves the
+//! `StepMachine` is `turn` of the definitions, whether memory is refused in it or not, and leaves the
 //! machine ready. A `Seeded` makes the turns that the seed draws (`slub_schedule`). A watched turn is
 //! a turn too, and the watcher has heard exactly `happenings_of` it; `turns_are_told` says that these
 //! tell the turn: its step, and what it leaves.

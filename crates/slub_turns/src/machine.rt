@@ -19,7 +19,7 @@ use slub_schedule::table::Table;
 
 /// A machine in a round.
 #[derive(Debug, Drop)]
-pub struct Machine {
+pub struct StepMachine {
     pub setup: Setup,
     pub table: Table,
     /// By the number of the lock.
@@ -28,7 +28,7 @@ pub struct Machine {
     pub locals: Vec<Local>,
 }
 
-impl Machine {
+impl StepMachine {
     /// Each worker is given the replies that take no step.
     pub fn open(&mut self)
         ensures system { system_of self.new.table self.new.values.items self.new.locals.items ≡ opened (setup_of self.old.setup the_means) (system_of self.old.table self.old.values.items self.old.locals.items) }

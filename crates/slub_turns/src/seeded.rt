@@ -7,7 +7,7 @@ ghost use Rattle.slub_turns.specs.Means.{the_means};
 ghost use Rattle.slub_turns.specs.System.{system_of};
 ghost use Rattle.slub_turns.specs.Ready.{IsReady};
 
-use crate::machine::Machine;
+use crate::machine::StepMachine;
 use slub_schedule::draws::Draws;
 use slub_schedule::machine;
 use slub_schedule::order::Order;
@@ -16,7 +16,7 @@ use std::convert::Infallible;
 /// A machine, and the generator that draws whose turn comes next.
 #[derive(Debug, Drop)]
 pub struct Seeded {
-    pub machine: Machine,
+    pub machine: StepMachine,
     pub draws: Draws,
 }
 

@@ -9,7 +9,7 @@ ghost use Rattle.slub_schedule.specs.Schedule.{unfinished};
 ghost use Rattle.slub_turns.specs.Happenings.{Happening, Begins, Steps, Advances, Changing, Changed, Rests};
 ghost use Rattle.slub_turns.specs.System.{system_of};
 
-use crate::machine::Machine;
+use crate::machine::StepMachine;
 use slub_core::guarded::Guarded;
 use slub_core::setup::Setup;
 use slub_core::step::{Answer, Step};
@@ -44,7 +44,7 @@ pub trait Watch {
         ensures { begins_round setup.now self.old locals.now self.new };
 
     /// The place, among the workers that are unfinished, of the one whose turn comes next.
-    fn choose(&mut self, machine: &Machine, order: &Order) -> Result<usize, Self::Halt>
+    fn choose(&mut self, machine: &StepMachine, order: &Order) -> Result<usize, Self::Halt>
         requires some { 1 ≤ length order.now }
         requires order { order.now ≡ unfinished (system_of machine.now.table machine.now.values.items machine.now.locals.items) }
         ensures place { IfOk result (λ place. place < length order.now) }
@@ -52,7 +52,7 @@ pub trait Watch {
         ensures halted { IfErr result (λ halt. halts machine.now.setup self.old (system_of machine.now.table machine.now.values.items machine.now.locals.items) halt self.new) };
 
     /// Each worker of the machine is finished.
-    fn end(&mut self, machine: &Machine) -> Result<(), Self::Halt>
+    fn end(&mut self, machine: &StepMachine) -> Result<(), Self::Halt>
         requires { unfinished (system_of machine.now.table machine.now.values.items machine.now.locals.items) ≡ [] }
         ensures { MatchResult result (λ _. is_done machine.now.setup self.old (system_of machine.now.table machine.now.values.items machine.now.locals.items) self.new) (λ halt. halts machine.now.setup self.old (system_of machine.now.table machine.now.values.items machine.now.locals.items) halt self.new) };
 

@@ -11,7 +11,7 @@ ghost use Rattle.slub_turns.specs.Ready.{IsReady};
 
 use crate::begin::is_finished;
 use crate::laws::{picks_fit, turns_keep_ready};
-use crate::machine::Machine;
+use crate::machine::StepMachine;
 use crate::watch::Watch;
 use crate::watched_turn::watched_turn;
 use slub_schedule::machine;
@@ -20,7 +20,7 @@ use slub_schedule::order::Order;
 /// A machine in a round, and who watches it.
 #[derive(Debug, Drop)]
 pub struct Watched<W> {
-    pub machine: Machine,
+    pub machine: StepMachine,
     pub watch: W,
 }
 

@@ -14,6 +14,7 @@ use Rattle.slub_core.specs.Local.{Local, Change, nobody, no_call, call_of, answe
 use Rattle.slub_core.specs.Steps.{advance_at, advance_of, at_once, changed, told_at_once, or_step, rested_with, rested_at, rested, begun_with, begun_at, begun}
 use Rattle.slub_core.proofs.Scripts.{turn-says, change-leaves}
 use Rattle.slub_core.specs.declared.guarded.Guarded.{Guarded}
+use Rattle.slub_core.specs.Calls.{call_kind, call_place}
 use Rattle.slub_core.specs.Values.{values_of}
 use Rattle.slub_workers.specs.Standing.{Standing, step_in, in_hand, after_turn}
 use Rattle.slub_workers.specs.Turns.{IsAnswered}
@@ -58,7 +59,7 @@ or_goes l more (Some reply) g = g reply
 rested_goes : (m : Setup) (calls : List Call) (l : Local) → Goes l (rested_with m calls l)
 rested_goes m [] l = still l
 rested_goes m (call ∷ calls) l =
-    or_goes l (λ reply. rested_with m calls (answered l reply)) (told_at_once m (get_or l.known call.place nobody) call call.kind)
+    or_goes l (λ reply. rested_with m calls (answered l reply)) (told_at_once m (get_or l.known (call_place call) nobody) call (call_kind call))
     (λ reply. goes_on l (answered l reply) (rested_with m calls (answered l reply)) (goes_answered l reply) (rested_goes m calls (answered l reply)))
 
 rests_goes : (m : Setup) (l : Local) (spot : Spot) → Goes l (rested_at m l spot)

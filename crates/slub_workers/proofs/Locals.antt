@@ -34,6 +34,7 @@ use Rattle.slub_core.specs.declared.spot.MoveSet.{MoveSet}
 use Rattle.slub_core.specs.declared.spot.TrimSpot.{TrimSpot}
 use Rattle.slub_core.specs.declared.spot.TrimSpot.TheVariants.{ScanNode, LoadScanned, DropScanned}
 use Rattle.slub_core.specs.declared.spot.CheckedSpot.TheVariants.{DoChecked, MoveRun, AddSlab}
+use Rattle.slub_core.specs.Calls.{call_kind, call_cache, call_place}
 use Rattle.slub_core.specs.Setup.{Setup, node_lock, pool_lock}
 use Rattle.slub_core.specs.World.{LockValue, one_if, pool_in}
 use Rattle.slub_core.specs.Local.{Local, Worker, Change, nobody, answered, noted, here, at}
@@ -227,9 +228,9 @@ first_free Flush checked held cache = refl
 begun_with_locks : (m : Setup) (fast : Bool) (l : Local) (calls : List Call) → l.spot ≡ Between → locks_of (begun_with m fast l calls) ≡ locks_of l
 begun_with_locks m fast l [] between = refl
 begun_with_locks m fast l (call ∷ calls) between =
-    let known = slice_index_or l.known call.place nobody in
-    let cache = cache_for m known call.cache call.kind in
-    first_free call.kind (m.checks cache) known.held cache ∙ sym (ap (λ s. locks_at s l.cache) between)
+    let known = slice_index_or l.known (call_place call) nobody in
+    let cache = cache_for m known (call_cache call) (call_kind call) in
+    first_free (call_kind call) (m.checks cache) known.held cache ∙ sym (ap (λ s. locks_at s l.cache) between)
 
 pub begun_locks : (m : Setup) (fast : Bool) (l : Local) → locks_of (begun m fast l) ≡ locks_of l
 begun_locks m fast l = by_spot l.spot refl
@@ -249,7 +250,7 @@ or_step_locks l more (Some reply) same = same reply
 rested_with_locks : (m : Setup) (calls : List Call) (l : Local) → locks_of (rested_with m calls l) ≡ locks_of l
 rested_with_locks m [] l = refl
 rested_with_locks m (call ∷ calls) l =
-    or_step_locks l (λ reply. rested_with m calls (answered l reply)) (told_at_once m (slice_index_or l.known call.place nobody) call call.kind) (λ reply. rested_with_locks m calls (answered l reply))
+    or_step_locks l (λ reply. rested_with m calls (answered l reply)) (told_at_once m (slice_index_or l.known (call_place call) nobody) call (call_kind call)) (λ reply. rested_with_locks m calls (answered l reply))
 
 pub rested_locks : (m : Setup) (l : Local) → locks_of (rested m l) ≡ locks_of l
 rested_locks m l = by_spot l.spot

@@ -25,6 +25,7 @@ use Rattle.slub_core.specs.Facts.{Facts, cache_of}
 use Rattle.slub_core.specs.Ways.{is_spent_by}
 use Rattle.slub_core.specs.declared.guarded.Guarded.{Guarded}
 use Rattle.slub_core.specs.declared.guarded.Guarded.TheVariants.{Nothing}
+use Rattle.slub_core.specs.Calls.{call_kind, call_cpu, call_cache, call_place}
 use Rattle.slub_core.specs.Values.{values_of, rooms_of}
 use Rattle.slub_workers.specs.declared.fast.Fast.TheVariants.{Given, Empty, Moved, IdsSpent}
 use Rattle.slub_workers.specs.Begun.{Begun}
@@ -48,7 +49,7 @@ or_grows l more (Some reply) g = g reply
 rested_grows : (m : Setup) (calls : List Call) (l : Local) → Grows (rested_with m calls l) l
 rested_grows m [] l = (refl, ([], refl))
 rested_grows m (call ∷ calls) l =
-    or_grows l (λ reply. rested_with m calls (answered l reply)) (told_at_once m (get_or l.known call.place nobody) call call.kind)
+    or_grows l (λ reply. rested_with m calls (answered l reply)) (told_at_once m (get_or l.known (call_place call) nobody) call (call_kind call))
     (λ reply.
     let g = rested_grows m calls (answered l reply) in
     let one : List Answered = record { call = call_of l; reply = reply } ∷ [] in
@@ -80,7 +81,7 @@ stands x l a = record { local = l; values = x.values; tried = x.tried || true; a
 module _ (m : Setup) (x : Standing) (may : MayTry m x.local) where
   -- where it has begun
   abbrev pub entered : Local
-  entered = record x.local { spot = InAlloc LoadCpu; cache = may.cache; cpu = may.call.cpu; place = may.call.place; fast = true; turn = 0; count = 0 }
+  entered = record x.local { spot = InAlloc LoadCpu; cache = may.cache; cpu = call_cpu may.call; place = call_place may.call; fast = true; turn = 0; count = 0 }
 
   pub begins : begun_in m true x ≡ entered
   begins = rw (may.between, may.next, may.kind, may.names, may.plain) refl
@@ -365,7 +366,7 @@ module _ (key : Begun) (facts : Facts) (same : key.facts ≡ facts) (x : Standin
 
 -- ---- when it may be tried
 
-pub may_be_tried : (key : Begun) (facts : Facts) → key.facts ≡ facts → (l : Local) (call : Call) (cache : ℕ) → l.spot ≡ Between → nat_lt 0 (length l.todo) ≡ true → call ≡ call_of l → call.kind ≡ Alloc → call.cache ≡ Some cache
+pub may_be_tried : (key : Begun) (facts : Facts) → key.facts ≡ facts → (l : Local) (call : Call) (cache : ℕ) → l.spot ≡ Between → nat_lt 0 (length l.todo) ≡ true → call ≡ call_of l → call_kind call ≡ Alloc → call_cache call ≡ Some cache
     → (cache_of facts cache).checks ≡ false → MayTry (setup_in key) l
 may_be_tried key facts same l call cache between some is kind names plain = by_todo l.todo refl
   where
@@ -379,7 +380,7 @@ may_be_tried key facts same l call cache between some is kind names plain = by_t
           more = more;
           between = between;
           next = e;
-          kind = ap (λ (c : Call). c.kind) (sym here) ∙ kind;
-          names = ap (λ (c : Call). c.cache) (sym here) ∙ names;
+          kind = ap (λ (c : Call). call_kind c) (sym here) ∙ kind;
+          names = ap (λ (c : Call). call_cache c) (sym here) ∙ names;
           plain = ap (λ (f : Facts). (cache_of f cache).checks) same ∙ plain;
         }

@@ -9,6 +9,7 @@ use Rattle.slub_trace.specs.declared.reply.Reply.TheVariants as reply
 use Rattle.slub_core.specs.declared.call.Call.{Call}
 use Rattle.slub_core.specs.declared.call.CallKind.TheVariants.{Alloc}
 use Rattle.slub_core.specs.declared.spot.Spot.TheVariants.{Between}
+use Rattle.slub_core.specs.Calls.{call_kind, call_cache}
 use Rattle.slub_core.specs.Setup.{Setup}
 use Rattle.slub_core.specs.Words.{cpu_in}
 use Rattle.slub_core.specs.Alloc.{is_spent}
@@ -28,8 +29,8 @@ pub record MayTry (m : Setup) (l : Local) : Type 0 where
   pub more : List Call
   pub between : l.spot ≡ Between
   pub next : l.todo ≡ call ∷ more
-  pub kind : call.kind ≡ Alloc
-  pub names : call.cache ≡ Some cache
+  pub kind : call_kind call ≡ Alloc
+  pub names : call_cache call ≡ Some cache
   pub plain : m.checks cache ≡ false
 
 -- a free object may be taken under this CPU word: its transaction id isn't spent, and its freelist

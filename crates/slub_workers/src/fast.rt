@@ -2,6 +2,7 @@
 
 ghost use Rattle.std.specs.Prelude.{◌≡◌, ℕ, true, false, Some};
 ghost use Rattle.slub_core.specs.declared.call.CallKind.TheVariants.{Alloc};
+ghost use Rattle.slub_core.specs.Calls.{call_kind, call_cache};
 ghost use Rattle.slub_core.specs.Facts.{cache_of};
 ghost use Rattle.slub_workers.specs.Rule.{setup_in};
 ghost use Rattle.slub_workers.specs.Tables.{begun_at, table_of};
@@ -9,7 +10,7 @@ ghost use Rattle.slub_workers.specs.Workers.{MayTurnAt, worker_in};
 
 use crate::shared::Shared;
 use crate::worker::Worker;
-use slub_core::call::{Call, CallKind};
+use slub_core::call::Call;
 use slub_core::setup::Setup;
 use slub_core::spot::Spot;
 use slub_core::step::Answer;
@@ -32,11 +33,14 @@ pub enum Fast {
 /// Whether the call allocates an object of a cache that isn't checked.
 #[inline(always)]
 fn is_plain_alloc(setup: &Setup, call: Call) -> bool
-    ensures yes { result ≡ true → (cache : ℕ) × (call.kind ≡ Alloc) × (call.cache ≡ Some cache) × ((cache_of setup.now cache).checks ≡ false) }
-    ensures no { result ≡ false → (cache : ℕ) → call.kind ≡ Alloc → call.cache ≡ Some cache → (cache_of setup.now cache).checks ≡ true }
+    ensures yes { result ≡ true → (cache : ℕ) × (call_kind call ≡ Alloc) × (call_cache call ≡ Some cache) × ((cache_of setup.now cache).checks ≡ false) }
+    ensures no { result ≡ false → (cache : ℕ) → call_kind call ≡ Alloc → call_cache call ≡ Some cache → (cache_of setup.now cache).checks ≡ true }
 {
-    match (call.kind, call.cache) {
-        (CallKind::Alloc, Some(cache)) => !setup.checks(cache),
+    match call {
+        Call::Alloc {
+            cache: Some(cache),
+            ..
+        } => !setup.checks(cache),
         _ => false,
     }
 }

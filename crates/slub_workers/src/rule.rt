@@ -4,7 +4,7 @@ use crate::standing::Fork;
 use atomic_table::{Join, Play, Split, TableRule};
 use slub_common::sequence::Sequence;
 use slub_core::guarded::Guarded;
-use slub_turns::machine::Machine;
+use slub_turns::machine::StepMachine;
 use std::marker::{Brand, Model, PhantomData};
 use std::snapshot::Snapshot;
 
@@ -14,7 +14,7 @@ pub type View = Sequence<Fork>;
 /// The machine as the round begins. Contracts see it as plain data.
 #[derive(Drop)]
 pub struct Key {
-    pub(crate) machine: Snapshot<Machine>,
+    pub(crate) machine: Snapshot<StepMachine>,
 }
 
 impl Model for Key {

@@ -16,7 +16,7 @@ use slub_core::guarded::Guarded;
 use slub_core::setup::Setup;
 use slub_core::worker_local::Local;
 use slub_schedule::table::Table;
-use slub_turns::machine::Machine;
+use slub_turns::machine::StepMachine;
 use slub_words::words::Words;
 use std::alloc::Global;
 use std::snapshot::Snapshot;
@@ -51,7 +51,7 @@ pub struct Shared {
 /// There was no memory: the machine is as it was.
 #[derive(Debug, Drop)]
 pub struct Unopened {
-    pub machine: Machine,
+    pub machine: StepMachine,
 }
 
 /// A table that was opened. The seat knows of all workers.
@@ -68,7 +68,7 @@ impl Shared {
         alloc: Global,
         frames: u32,
         objects: u32,
-        mut machine: Machine,
+        mut machine: StepMachine,
     ) -> Result<Opened, Unopened>
         requires sizes { (frames ≡ machine.table.frames) × (objects ≡ machine.table.objects) }
         requires work { MayWork machine }
@@ -83,7 +83,7 @@ impl Shared {
         let key = Key {
             machine: Snapshot::of(&machine),
         };
-        let Machine {
+        let StepMachine {
             setup,
             mut table,
             values,
@@ -105,7 +105,7 @@ impl Shared {
                 locals,
             }),
             Err(Refused { slots: values }) => Err(Unopened {
-                machine: Machine {
+                machine: StepMachine {
                     setup,
                     table,
                     values,
@@ -119,7 +119,7 @@ impl Shared {
 
     /// The machine as the last step left it, where all workers have given their seats back. It takes no memory: the
     /// words go into the machine's own table, and there is room for what the locks guard.
-    pub fn close(self, ended: Ended) -> Machine
+    pub fn close(self, ended: Ended) -> StepMachine
         requires ended { AreGathered self.words.shared.table_id (length self.words.shared.key.locals) ended }
         ensures closed { HasClosed self.words.shared.key ended.tried (begun_by result) }
         ensures locals { result.locals ≡ ended.locals }
@@ -142,7 +142,7 @@ impl Shared {
         table.fill(&ByNumber { closed: &closed });
         let values = values_of(&mut closed, values);
         closed.free();
-        Machine {
+        StepMachine {
             setup,
             table,
             values,

@@ -16,6 +16,7 @@ use crate::rule::Naming;
 use crate::shared::{Shared, WorkerSeat};
 use crate::standing::Standing;
 use crate::worker::{Worker, one_more};
+use slub_core::call::Call;
 use slub_core::spot::{AllocSpot, Spot};
 use slub_core::step::{Answer, Step};
 use slub_core::worker_local::Local;
@@ -30,12 +31,20 @@ fn begin_try(local: &mut Local)
     requires may { (m : Setup) × MayTry m local.old }
     ensures { (m : Setup) → MayTry m local.old → local.new ≡ begun m true local.old }
 {
-    let call = local.call();
+    let Call::Alloc {
+        cpu,
+        cache,
+        place,
+        ..
+    } = local.call()
+    else {
+        unreachable!()
+    };
     local.begin(
         Spot::InAlloc(AllocSpot::LoadCpu),
-        call.cache.unwrap_or(0),
-        call.cpu as u8,
-        call.place,
+        cache.unwrap_or(0),
+        cpu as u8,
+        place,
         true,
     );
 }

@@ -2,17 +2,17 @@ use Rattle.std.proofs.Common.{◌≡◌, ℕ, ◌+◌, ◌<◌, ◌≤◌, eqb, 
 use Rattle.std.specs.List.{list_any}
 use Rattle.std.proofs.lemmas.List.{get_or_default, length-append}
 use Rattle.slub_slabinfo_text.specs.Bulk.{objects_of_slab}
-use Rattle.slub_bulk.specs.declared.order.Place.{Place}
+use Rattle.slub_bulk.specs.declared.order.ObjectAt.{ObjectAt}
 use Rattle.slub_bulk.specs.Places.{places_of}
 use Rattle.slub_bulk.proofs.Writing.{all_written, join, order_next, order_room, order_seen, order_to}
 use Rattle.slub_bulk.proofs.order.free_order.Goals as goal
 use Rattle.slub_bulk.proofs.order.free_order.Goals.{then-not-has_slab, else-not-has_slab}
 
-abbrev blank : Place
+abbrev blank : ObjectAt
 blank = record { object = 0; frame = 0 }
 
-next_room : (places : List Place) (i at room : ℕ) (place : Place) → i < length places → place ≡ get_or places i place
-    → list_any (λ (other : Place). eqb other.frame place.frame) (take i places) ≡ false
+next_room : (places : List ObjectAt) (i at room : ℕ) (place : ObjectAt) → i < length places → place ≡ get_or places i place
+    → list_any (λ (other : ObjectAt). eqb other.frame place.frame) (take i places) ≡ false
     → at ≡ length (order_to places i) → room ≡ length places → at + length (objects_of_slab (places_of places) place.frame) ≤ room
 next_room places i at room place within is unseen ends even =
     let more = order_next places i place within is unseen in
@@ -23,7 +23,7 @@ next_room places i at room place within is unseen ends even =
 pub write_slab-at-requires : goal.write_slab-at-requires
 write_slab-at-requires c =
     let within : c.loop-first.first < length c.args.places.now = omega arith in
-    let place : Place = get_or c.args.places.now c.loop-first.first blank in
+    let place : ObjectAt = get_or c.args.places.now c.loop-first.first blank in
     record {
       room = next_room c.args.places.now c.loop-first.first c.loop-first.at (length c.loop-first.out) place within (get_or_default c.args.places.now c.loop-first.first blank place within)
           (sym c.has_slab.ensures ∙ c.if-not-has_slab.true) c.loop-first.invariant.at (omega (arith, c.requires, c.loop-first.invariant.long));
@@ -36,7 +36,7 @@ returns c =
 pub loop-first-preserved : goal.loop-first-preserved
 loop-first-preserved c =
     let within : c.loop-first.first < length c.args.places.now = omega arith in
-    let place : Place = get_or c.args.places.now c.loop-first.first blank in
+    let place : ObjectAt = get_or c.args.places.now c.loop-first.first blank in
     let is = get_or_default c.args.places.now c.loop-first.first blank place within in
     let before = c.loop-first.invariant in
     elim c.if-not-has_slab.branch [

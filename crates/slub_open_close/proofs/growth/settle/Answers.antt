@@ -2,7 +2,7 @@ use Rattle.std.proofs.Common.{◌≡◌, ◌∙◌, refl, true, None, get_or, le
 use Rattle.std.specs.Vec.{with_items}
 use Rattle.std.proofs.lemmas.List.{with_items_is}
 use Rattle.slub_open_close.specs.Ids.{id_at}
-use Rattle.slub_open_close.specs.Due.{HasRoom, came_about, made_by, with_steps}
+use Rattle.slub_open_close.specs.Due.{DetachHasRoom, came_about, made_by, with_steps}
 use Rattle.slub_open_close.specs.Growth.{with_first}
 use Rattle.slub_open_close.proofs.Settling.{item-at, room-of, settled-begun, settled-detached, settled-same}
 use Rattle.slub_open_close.proofs.growth.settle.Goals as goal
@@ -17,7 +17,7 @@ detach-requires-clause-room c =
     let read : it ≡ get_or c.args.trace.now.items c.args.number it = rw (← c.as_slice.ensures) c.index-as_slice-number.is in
     let at = item-at c.args.trace.now c.args.number it c.requires.within read in
     let was : c.deref_mut.result.now ≡ c.args.ids.now = c.deref_mut.ensures.value ∙ c.ids.view_is in
-    λ n. subst (λ ids. HasRoom c.step_of.result c.in-Some-cache.cache c.args.due.now.current n (id_at ids n)) (sym was)
+    λ n. subst (λ ids. DetachHasRoom c.step_of.result c.in-Some-cache.cache c.args.due.now.current n (id_at ids n)) (sym was)
     (room-of fits.0 c.args.trace.now c.args.number it c.args.due.now c.args.ids.now c.in-Some-cache.cache c.step_of.result at c.in-Some-cache.is c.step_of.ensures c.requires.sound.cpus fits.1 fits.2 fits.3 n)
 
 pub returns-in-Some : goal.returns-in-Some

@@ -1,4 +1,4 @@
-use Rattle.slub_rounds.specs.declared.scheduled.Stopped.{Stopped}
+use Rattle.slub_rounds.specs.declared.scheduled.StepsStopped.{StepsStopped}
 use Rattle.slub_rounds.specs.InOrder.{EndsInOrder}
 use Rattle.slub_rounds.specs.Scheduled.{IsStoppedInOrder}
 use Rattle.slub_rounds.proofs.Coming.{coherent-of, does-of, ids-of, laid-of, lawful-of, stops-of}
@@ -27,7 +27,7 @@ returns-in-Ok-open-clause-does c =
     let ids = c.args.ids.now in
     let round = c.args.round.now in
     let set = is-set s ids trace round c.in-Ok.room c.in-Ok-open.opened c.requires.coherent c.requires.laid_down does c.in-Ok.ensures c.in-Ok-open.ensures.opened in
-    does-of (λ m first picks last. EndsInOrder m round.events first picks last) Stopped (IsStoppedInOrder s ids round) s ids round c.in_words.result (c.in_words.ensures s ids c.in-Ok.room.beside trace set)
+    does-of (λ m first picks last. EndsInOrder m round.events first picks last) StepsStopped (IsStoppedInOrder s ids round) s ids round c.in_words.result (c.in_words.ensures s ids c.in-Ok.room.beside trace set)
 
 pub returns-in-Ok-open-clause-coherent : goal.returns-in-Ok-open-clause-coherent
 returns-in-Ok-open-clause-coherent c =
@@ -36,7 +36,7 @@ returns-in-Ok-open-clause-coherent c =
     let ids = c.args.ids.now in
     let round = c.args.round.now in
     let set = is-set s ids trace round c.in-Ok.room c.in-Ok-open.opened c.requires.coherent c.requires.laid_down does c.in-Ok.ensures c.in-Ok-open.ensures.opened in
-    coherent-of (λ m first picks last. EndsInOrder m round.events first picks last) Stopped (IsStoppedInOrder s ids round) s ids round c.in_words.result (c.in_words.ensures s ids c.in-Ok.room.beside trace set)
+    coherent-of (λ m first picks last. EndsInOrder m round.events first picks last) StepsStopped (IsStoppedInOrder s ids round) s ids round c.in_words.result (c.in_words.ensures s ids c.in-Ok.room.beside trace set)
 
 pub returns-in-Ok-open-clause-laid_down : goal.returns-in-Ok-open-clause-laid_down
 returns-in-Ok-open-clause-laid_down c =
@@ -45,7 +45,7 @@ returns-in-Ok-open-clause-laid_down c =
     let ids = c.args.ids.now in
     let round = c.args.round.now in
     let set = is-set s ids trace round c.in-Ok.room c.in-Ok-open.opened c.requires.coherent c.requires.laid_down does c.in-Ok.ensures c.in-Ok-open.ensures.opened in
-    laid-of (λ m first picks last. EndsInOrder m round.events first picks last) Stopped (IsStoppedInOrder s ids round) s ids round c.in_words.result (c.in_words.ensures s ids c.in-Ok.room.beside trace set)
+    laid-of (λ m first picks last. EndsInOrder m round.events first picks last) StepsStopped (IsStoppedInOrder s ids round) s ids round c.in_words.result (c.in_words.ensures s ids c.in-Ok.room.beside trace set)
 
 pub returns-in-Ok-open-clause-ids : goal.returns-in-Ok-open-clause-ids
 returns-in-Ok-open-clause-ids c =
@@ -54,7 +54,7 @@ returns-in-Ok-open-clause-ids c =
     let ids = c.args.ids.now in
     let round = c.args.round.now in
     let set = is-set s ids trace round c.in-Ok.room c.in-Ok-open.opened c.requires.coherent c.requires.laid_down does c.in-Ok.ensures c.in-Ok-open.ensures.opened in
-    ids-of (λ m first picks last. EndsInOrder m round.events first picks last) Stopped (IsStoppedInOrder s ids round) s ids round c.in_words.result (c.in_words.ensures s ids c.in-Ok.room.beside trace set)
+    ids-of (λ m first picks last. EndsInOrder m round.events first picks last) StepsStopped (IsStoppedInOrder s ids round) s ids round c.in_words.result (c.in_words.ensures s ids c.in-Ok.room.beside trace set)
 
 pub returns-in-Ok-open-clause-stopped : goal.returns-in-Ok-open-clause-stopped
 returns-in-Ok-open-clause-stopped c =
@@ -63,7 +63,7 @@ returns-in-Ok-open-clause-stopped c =
     let ids = c.args.ids.now in
     let round = c.args.round.now in
     let set = is-set s ids trace round c.in-Ok.room c.in-Ok-open.opened c.requires.coherent c.requires.laid_down does c.in-Ok.ensures c.in-Ok-open.ensures.opened in
-    stops-of (λ m first picks last. EndsInOrder m round.events first picks last) Stopped (IsStoppedInOrder s ids round) s ids round c.in_words.result (c.in_words.ensures s ids c.in-Ok.room.beside trace set)
+    stops-of (λ m first picks last. EndsInOrder m round.events first picks last) StepsStopped (IsStoppedInOrder s ids round) s ids round c.in_words.result (c.in_words.ensures s ids c.in-Ok.room.beside trace set)
 
 pub returns-in-Ok-open-clause-lawful : goal.returns-in-Ok-open-clause-lawful
 returns-in-Ok-open-clause-lawful c =
@@ -72,6 +72,6 @@ returns-in-Ok-open-clause-lawful c =
     let ids = c.args.ids.now in
     let round = c.args.round.now in
     let set = is-set s ids trace round c.in-Ok.room c.in-Ok-open.opened c.requires.coherent c.requires.laid_down does c.in-Ok.ensures c.in-Ok-open.ensures.opened in
-    lawful-of (λ m first picks last. EndsInOrder m round.events first picks last) Stopped (IsStoppedInOrder s ids round) s ids round c.in_words.result
+    lawful-of (λ m first picks last. EndsInOrder m round.events first picks last) StepsStopped (IsStoppedInOrder s ids round) s ids round c.in_words.result
     (λ result after left done. c.rounds_in_order_are_lawful.ensures s ids trace round result after left c.requires.coherent c.requires.laid_down does done)
     (c.in_words.ensures s ids c.in-Ok.room.beside trace set)

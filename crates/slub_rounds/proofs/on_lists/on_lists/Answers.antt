@@ -6,7 +6,7 @@ use Rattle.slub_open_close.specs.Ids.{id_at}
 use Rattle.slub_engine.specs.Running.{HasRun}
 use Rattle.slub_engine.proofs.Rounds.{own_default}
 use Rattle.slub_engine.proofs.UnderWay.{has_run_all}
-use Rattle.slub_rounds.specs.Raising.{HasRoom, HaveRoom, ids_raised, with_given}
+use Rattle.slub_rounds.specs.Raising.{WordHasRoom, HaveRoom, ids_raised, with_given}
 use Rattle.slub_rounds.proofs.Going.{begun, ended, given-room, may-next, more, room, room-raised}
 use Rattle.slub_rounds.proofs.on_lists.on_lists.Goals as goal
 
@@ -52,7 +52,7 @@ raise_given-requires c =
     let left = room-raised s c.args.words.now c.args.round.now events c.args.round.now.workers l.event-index l.running l.lists l.words c.requires.ids c.requires.last c.as_slice-events.ensures l.invariant within event.worker event.cpu event.act n in
     subst (λ (xs : List ℕ). id_at xs n + c.args.step < 2 ^ 32) (sym raises) (omega (arith, left, c.requires.step)) in
     let there = given-room l.lists event.cpu c.args.step c.raise-word.new.words next.run.coherent next.known.cpu (omega (arith, c.raise-word.auto.words, l.auto.words, c.requires.ids.count)) has event.act in
-    record { room = subst (λ (x : Option ℕ). IfSome x (HasRoom c.args.step c.raise-word.new.words)) (sym c.raise-word.ensures.given) there }
+    record { room = subst (λ (x : Option ℕ). IfSome x (WordHasRoom c.args.step c.raise-word.new.words)) (sym c.raise-word.ensures.given) there }
 
 pub loop-event-preserved : goal.loop-event-preserved
 loop-event-preserved c =

@@ -1,6 +1,6 @@
 use Rattle.std.proofs.Common.{ℕ, subst}
 use Rattle.slub_core.specs.Facts.{setup_of}
-use Rattle.slub_schedule.specs.Rounds.{Ends, IsSpent}
+use Rattle.slub_schedule.specs.Rounds.{EndsRound, IsSpent}
 use Rattle.slub_turns.specs.Means.{the_means}
 use Rattle.slub_rounds.specs.Machine.{system_in}
 use Rattle.slub_rounds.proofs.Machines.{has-ended, is-done, is-spent, ready-begun}
@@ -29,8 +29,8 @@ pub returns-in-Ok : goal.returns-in-Ok
 returns-in-Ok c = λ s ids b trace p.
     let ended = c.in-Ok.ensures.ends in
     let closed = c.closed.ensures s ids b trace (has-ended s ids b trace c.args.round.now c.args.prepared.machine c.run_turns.new.seeded.machine c.args.prepared.rest c.args.prepared.answers ended.0 p.may p.begun c.run_turns.ensures.setup c.run_turns.ensures.ready ended.1.run ended.1.finished p.room) in
-    let E : ℕ → Type 0 = λ x. Ends (setup_of c.args.prepared.machine.setup the_means) x (system_in c.args.prepared.machine) ended.0 (system_in c.run_turns.new.seeded.machine) in
-    is-done (λ m first picks last. Ends m c.args.seed first picks last) s ids b trace c.args.round.now c.args.prepared.machine c.run_turns.new.seeded.machine c.args.prepared.rest ended.0 c.closed.result p.may p.begun (subst E c.open-draws.ensures ended.1) closed
+    let E : ℕ → Type 0 = λ x. EndsRound (setup_of c.args.prepared.machine.setup the_means) x (system_in c.args.prepared.machine) ended.0 (system_in c.run_turns.new.seeded.machine) in
+    is-done (λ m first picks last. EndsRound m c.args.seed first picks last) s ids b trace c.args.round.now c.args.prepared.machine c.run_turns.new.seeded.machine c.args.prepared.rest ended.0 c.closed.result p.may p.begun (subst E c.open-draws.ensures ended.1) closed
 
 pub returns-in-Err : goal.returns-in-Err
 returns-in-Err c = λ s ids b trace p.

@@ -1,6 +1,7 @@
-use Rattle.std.proofs.Common.{◌∙◌, length, sym, ap, arith}
+use Rattle.std.proofs.Common.{◌∙◌, length, get_or, refl, sym, ap, arith}
 use Rattle.std.proofs.lemmas.Bool.{ltb-true, ltb-false}
-use Rattle.slub_core.specs.Local.{Local}
+use Rattle.slub_core.specs.Calls.{call_place}
+use Rattle.slub_core.specs.Local.{Local, nobody}
 use Rattle.slub_core.specs.Steps.{rested_with}
 use Rattle.slub_core.specs.Facts.{setup_of}
 use Rattle.slub_turns.proofs.Rested.{rested_over, rested_stays, rested_more, told_here, fewer_calls}
@@ -16,7 +17,7 @@ loop-local-preserved c = λ means.
     let m = setup_of c.args.setup.now means in
     let l : Local = c.loop-local.local in
     let some = ltb-true 0 (length l.todo) (sym c.has_call.ensures ∙ c.loop-local-test.true) in
-    let told = told_here m l c.call-call.result c.known_at-known.result c.told_at_once.result c.call-call.ensures c.known_at-known.ensures (c.told_at_once.ensures means) in
+    let told = told_here m l c.call-call.result (get_or l.known (call_place c.call-call.result) nobody) c.told_at_once.result c.call-call.ensures refl (c.told_at_once.ensures means) in
     ap (λ (k : Local). rested_with m k.todo k) c.answered.ensures ∙ sym (rested_more m l c.in-Some.reply some (sym c.in-Some.is ∙ told)) ∙ c.loop-local.invariant means
 
 pub returns-in-None : goal.returns-in-None
@@ -24,7 +25,7 @@ returns-in-None c = λ means.
     let m = setup_of c.args.setup.now means in
     let l : Local = c.loop-local.local in
     let some = ltb-true 0 (length l.todo) (sym c.has_call.ensures ∙ c.loop-local-test.true) in
-    let told = told_here m l c.call-call.result c.known_at-known.result c.told_at_once.result c.call-call.ensures c.known_at-known.ensures (c.told_at_once.ensures means) in
+    let told = told_here m l c.call-call.result (get_or l.known (call_place c.call-call.result) nobody) c.told_at_once.result c.call-call.ensures refl (c.told_at_once.ensures means) in
     sym (rested_stays m l some (sym c.in-None.is ∙ told)) ∙ c.loop-local.invariant means
 
 pub returns : goal.returns

@@ -12,7 +12,7 @@ use Rattle.slub_turns.specs.Means.{the_means}
 use Rattle.slub_turns.specs.System.{system_of, alone, picked_alone}
 use Rattle.slub_turns.specs.Ready.{MayTurn}
 use Rattle.slub_turns.proofs.Alone.{fits_alone, turn_among, back_whole}
-use Rattle.slub_turns.proofs.machine.Machine.turn.Goals as goal
+use Rattle.slub_turns.proofs.machine.StepMachine.turn.Goals as goal
 
 pub turn_of-refused-requires-clause-fits : goal.turn_of-refused-requires-clause-fits
 turn_of-refused-requires-clause-fits c =

@@ -1,5 +1,5 @@
 -- A round by threads: how it begins and ends, and that it is lawful.
-use Rattle.std.proofs.Common.{◌≡◌, ℕ, ◌-◌, List, [], ◌∷◌, ◌++◌, length, replicate, get_or, refl, sym, ap, ◌∙◌, subst, All, Option, None, Some, arith}
+use Rattle.std.proofs.Common.{◌≡◌, ℕ, ◌-◌, Bool, false, List, [], ◌∷◌, ◌++◌, length, replicate, get_or, refl, sym, ap, ◌∙◌, subst, All, Option, None, Some, arith}
 use Rattle.std.proofs.lemmas.List.Elements.{All-map}
 use Rattle.std.specs.List.{range_with_len}
 use Rattle.slub_trace.specs.declared.event.Round.{Round}
@@ -12,7 +12,7 @@ use Rattle.slub_core.specs.declared.spot.Spot.{Spot}
 use Rattle.slub_core.specs.declared.spot.Spot.TheVariants.{Between}
 use Rattle.slub_core.specs.Setup.{Setup}
 use Rattle.slub_core.specs.Local.{Local, answered}
-use Rattle.slub_core.specs.Run.{System}
+use Rattle.slub_core.specs.Run.{System, IsFinished}
 use Rattle.slub_core.specs.Steps.{or_step, rested, rested_at, rested_with}
 use Rattle.slub_core.specs.Facts as local
 use Rattle.slub_core.specs.Facts.{Facts}
@@ -25,11 +25,11 @@ use Rattle.slub_open_close.specs.declared.opened.Opened.{Opened}
 use Rattle.slub_open_close.specs.declared.opened.Rest.{Rest}
 use Rattle.slub_open_close.specs.Opened.{IsOpened}
 use Rattle.slub_open_close.specs.Rest.{IsRestOf, IsUntouched}
-use Rattle.slub_turns.specs.declared.machine.Machine.{Machine}
+use Rattle.slub_turns.specs.declared.machine.StepMachine.{StepMachine}
 use Rattle.slub_turns.specs.Means.{the_means}
 use Rattle.slub_words.specs.Stored.{AreStored}
 use Rattle.slub_schedule.specs.Table.{WordTable}
-use Rattle.slub_workers.specs.Round.{HasWorked, IsUnchanged, MayWork}
+use Rattle.slub_workers.specs.Round.{HasClosed, IsUnchanged, MayWork, begun_by}
 use Rattle.slub_rounds.specs.declared.answers.Answers.{Answers}
 use Rattle.slub_rounds.specs.declared.room.Room.{Room}
 use Rattle.slub_rounds.specs.Answers.{IsRoomFor}
@@ -53,7 +53,7 @@ rested-between : (m : Setup) (l : Local) (spot : Spot) → l.spot ≡ Between �
 rested-between m l Between is = with-between m l.todo l is
 rested-between m l _ is = is
 
-pub all-between : (s : State) (b : Beside) (round : Round) (m : Machine) (rest : Rest) → IsBegun s b round m rest → All (λ (l : Local). l.spot ≡ Between) m.locals.items
+pub all-between : (s : State) (b : Beside) (round : Round) (m : StepMachine) (rest : Rest) → IsBegun s b round m rest → All (λ (l : Local). l.spot ≡ Between) m.locals.items
 all-between s b round m rest begun =
     let first = setup_of s (beside_in b) in
     let ws = range_with_len 0 round.workers in
@@ -61,7 +61,7 @@ all-between s b round m rest begun =
     subst (λ (ls : List Local). All (λ (l : Local). l.spot ≡ Between) ls) (sym (ap (λ (y : System). y.locals) begun.system))
     (All-map (λ (l : Local). l.spot ≡ Between) (rested first) (workers_of s.table round) (All-map (λ (l : Local). (rested first l).spot ≡ Between) (worker_of s.table round) ws each))
 
-pub may-work : (s : State) (ids : List ℕ) (b : Beside) (trace : Trace) (round : Round) (m : Machine) (rest : Rest) → MayRun s ids b trace round → IsBegun s b round m rest → MayWork m
+pub may-work : (s : State) (ids : List ℕ) (b : Beside) (trace : Trace) (round : Round) (m : StepMachine) (rest : Rest) → MayRun s ids b trace round → IsBegun s b round m rest → MayWork m
 may-work s ids b trace round m rest may begun = record {
   ready = ready-begun s ids b trace round m rest may begun;
   between = all-between s b round m rest begun;
@@ -69,7 +69,7 @@ may-work s ids b trace round m rest may begun = record {
 }
 
 -- its sizes are those of what waits
-pub sizes-are : (s : State) (b : Beside) (round : Round) (m : Machine) (rest : Rest) → IsBegun s b round m rest → (rest.frames ≡ m.table.frames) × (length rest.board.items ≡ m.table.objects)
+pub sizes-are : (s : State) (b : Beside) (round : Round) (m : StepMachine) (rest : Rest) → IsBegun s b round m rest → (rest.frames ≡ m.table.frames) × (length rest.board.items ≡ m.table.objects)
 sizes-are s b round m rest begun = (
   begun.waiting.frames ∙ sym (ap (λ (x : Setup). x.frames) begun.setup) ∙ begun.sizes.frames,
   begun.waiting.board ∙ sym (ap (λ (x : Setup). x.objects) begun.setup) ∙ begun.sizes.objects,
@@ -77,13 +77,15 @@ sizes-are s b round m rest begun = (
 
 -- ---- the end
 
-module _ (s : State) (ids : List ℕ) (b : Beside) (trace : Trace) (round : Round) (m n : Machine) (rest : Rest) (may : MayRun s ids b trace round) (begun : IsBegun s b round m rest) (worked : HasWorked m n) where
+-- the table was closed into a machine, no call was a try, and each worker is finished
+module _ (s : State) (ids : List ℕ) (b : Beside) (trace : Trace) (round : Round) (m n : StepMachine) (rest : Rest) (may : MayRun s ids b trace round) (begun : IsBegun s b round m rest) (tried : Bool) (shut : HasClosed (begun_by m) tried (begun_by n)) (none : tried ≡ false)
+    (done : All IsFinished n.locals.items) where
   pub has-worked : (answers : Answers) → IsRoomFor s (length round.events) round.workers answers → HasEnded s ids b trace round n rest answers
   has-worked answers room =
-      has-ended s ids b trace round m n rest answers worked.picks may begun (ap (λ (f : Facts). local.setup_of f the_means) worked.facts) worked.ready worked.ran worked.finished room
+      has-ended s ids b trace round m n rest answers shut.picks may begun (ap (λ (f : Facts). local.setup_of f the_means) shut.facts) shut.ready shut.ran done room
 
-  pub finishes : Finishes (local.setup_of m.setup the_means) (system_in m) worked.picks (system_in n)
-  finishes = record { calls = worked.calls; run = worked.ran; finished = worked.finished }
+  pub finishes : Finishes (local.setup_of m.setup the_means) (system_in m) shut.picks (system_in n)
+  finishes = record { calls = shut.calls none; run = shut.ran; finished = done }
 
 -- ---- the whole
 
@@ -99,7 +101,7 @@ set-for s ids trace round room now opened kept coherent laid does taken same ope
 -- ---- want of memory
 
 -- the machine is opened as it was
-pub was-kept : (s : State) (ids : List ℕ) (b : Beside) (trace : Trace) (round : Round) (opened : Opened) (locals : List Local) (kept : List ℕ) (answers : Answers) (m now : Machine) (rest : Rest) → IsSetForThreads s ids b trace round opened locals kept answers
+pub was-kept : (s : State) (ids : List ℕ) (b : Beside) (trace : Trace) (round : Round) (opened : Opened) (locals : List Local) (kept : List ℕ) (answers : Answers) (m now : StepMachine) (rest : Rest) → IsSetForThreads s ids b trace round opened locals kept answers
     → IsBegun s b round m rest → m.values.items ≡ opened.values.items → rest ≡ opened.rest → IsUnchanged m now → WasKept s now rest kept
 was-kept s ids b trace round opened locals kept answers m now rest set begun same is unchanged =
     let guards = unchanged.values ∙ same in

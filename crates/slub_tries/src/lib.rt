@@ -1,8 +1,9 @@
 //! A worker alone at a table of atomic words, whose allocations try the fast path first.
 //!
-//! The rounds of the program make each event by `Worker::call` (`slub_workers`). Here a round's one worker makes its
-//! events between `round::open` and `Shared::close`: an allocation of a cache that isn't checked is tried first
-//! (`Worker::try_alloc_fast`), and a call is made of it where the try gave no object, and of every other event.
+//! The rounds of the program run all workers by `round` of `slub_workers`. Here a round's one worker makes its events
+//! between `round::open` and `Shared::close`: an allocation of a cache that isn't checked is tried first
+//! (`Worker::try_alloc_fast`), and a call (`Worker::call`) is made of it where the try gave no object, and of every
+//! other event.
 //!
 //! `lone` has the worker at its table: `open` opens lists and the transaction ids beside them into words
 //! (`slub_open_close`) and a table with them, `try_next` and `call_next` make the next event, and `close` gives the

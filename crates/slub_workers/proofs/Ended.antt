@@ -3,10 +3,7 @@ use Rattle.std.proofs.Common.{◌≡◌, zero, suc, ◌-◌, Bool, true, false, 
 use Rattle.std.proofs.lemmas.List.{reverse-append, length-reverse, get_or-reverse}
 use Rattle.atomic_table.specs.Seated.{TableId}
 use Rattle.slub_core.specs.Local.{Local}
-use Rattle.slub_core.specs.Run.{IsFinished}
-use Rattle.slub_workers.specs.Begun.{Begun}
 use Rattle.slub_workers.specs.Standing.{Standing}
-use Rattle.slub_workers.specs.Round.{HasClosed, HasEnded}
 use Rattle.slub_workers.specs.Ends.{rising}
 
 pub or_left : (a b : Bool) → (a || b) ≡ false → a ≡ false
@@ -43,10 +40,3 @@ all_mapped f P (x ∷ xs) a (suc k) d low = all_mapped f P xs (λ j e lt. a (suc
 
 pub all_risen : (P : Local → Type 0) (list : List (TableId × Standing)) → All (λ w. P w.1.local) list → All P (rising list)
 all_risen P list a = all_mapped (λ (w : TableId × Standing). w.1.local) P (reverse list) (all_reversed (λ (w : TableId × Standing). P w.1.local) list a)
-
--- ---- a round in which no worker has tried, and each is finished
-
-pub ended_so : (key known : Begun) (tried : Bool) (last : Begun) → HasClosed known tried last → known ≡ key → tried ≡ false → All IsFinished last.locals → HasEnded key last
-ended_so key known tried last closed is none finished =
-    subst (λ (k : Begun). HasEnded k last) is
-    record { facts = closed.facts; ready = closed.ready; picks = closed.picks; calls = closed.calls none; ran = closed.ran; finished = finished }

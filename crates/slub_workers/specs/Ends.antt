@@ -3,6 +3,7 @@ use Rattle.std.specs.Prelude.{◌≡◌, ◌≤◌, ℕ, false, List, [], length
 use Rattle.atomic_table.specs.Seated.{TableId}
 use Rattle.slub_core.specs.declared.spot.Spot.TheVariants.{Between}
 use Rattle.slub_core.specs.Local.{Local}
+use Rattle.slub_core.specs.Run.{IsFinished}
 use Rattle.slub_workers.specs.declared.workers.Workers.{Workers}
 use Rattle.slub_workers.specs.declared.workers.Rest.{Rest}
 use Rattle.slub_workers.specs.declared.workers.Ended.{Ended}
@@ -54,6 +55,14 @@ pub record AreGathered (table : TableId) (count : ℕ) (e : Ended) : Type 0 wher
   pub back : AreBack e.tried 0 e.root.me.0 e.locals.items
   pub all : length e.locals.items ≡ count
   pub values : (e.values.items ≡ []) × (33 ≤ vec_capacity e.values)
+
+-- none of them has tried
+abbrev pub AreUntried : Ended → Type 0
+AreUntried e = e.tried ≡ false
+
+-- each of their calls has a reply
+abbrev pub AreFinished : Ended → Type 0
+AreFinished e = All IsFinished e.locals.items
 
 -- these workers have given their seats back, and where none of them has tried it is known so
 pub record HaveEnded (table : TableId) (list : List (TableId × Standing)) (e : Ended)

@@ -14,15 +14,16 @@
 //! least 64 bytes apart. All other words lie in the cells of their numbers. The machine's own table waits beside the
 //! cells: its words are copied into them as the shared table is opened, and it reads them there as that is closed.
 //!
-//! `round` does a round: it opens the table (`shared`), gives each worker a seat (`worker`), lets them make their turns
-//! until each event has its reply, and closes the table. `step` makes one step on it, and `waits` has what a worker does
-//! after one that it lost. The six spots of the two fast paths have turns of their own (`quick`), made of the parts in
-//! `quick` of `slub_turns`, in which nothing is left to choose; each is the turn of the step machine all the same. A try
-//! is made of three of them (`try_turns`).
+//! `round` has what is done with a round's table: `open` opens it (`shared`) and gives each worker a seat (`worker`),
+//! `round` lets them make their turns there until each event has its reply, and takes the seats back, and `Shared::close`
+//! gives the machine. `slub_rounds` does the three together (`seated`, `threaded`). `step` makes one step on the table,
+//! and `waits` has what a worker does after one that it lost. The six spots of the two fast paths have turns of their own
+//! (`quick`), made of the parts in `quick` of `slub_turns`, in which nothing is left to choose; each is the turn of the
+//! step machine all the same. A try is made of three of them (`try_turns`).
 //!
-//! The same, call by call: `round::open` gives the table and its `workers`; a worker makes its next call by `call`,
-//! which may wait for a lock, or tries it by `fast`, the fast path alone, which never waits; `Workers::end` takes the
-//! seats back, and `Shared::close` gives the machine. A table that was opened has to be closed.
+//! Call by call, in place of `round::round`: a worker makes its next call by `call`, which may wait for a lock, or tries
+//! it by `fast`, the fast path alone, which never waits; `Workers::end` takes the seats back. A table that was opened has
+//! to be closed.
 #![tactic(auto)]
 
 pub mod call;

@@ -1,15 +1,14 @@
 //! A round by threads: seats for the workers, a thread for each, and the end.
 
-ghost use Rattle.std.specs.Prelude.{◌≡◌, ◌||◌, ◌+◌, ◌<◌, ◌≤◌, Bool, false, List, [], ◌∷◌, ◌++◌, length, replicate, vec_capacity, map, All, IfOk, IfErr};
+ghost use Rattle.std.specs.Prelude.{◌≡◌, ◌||◌, ◌+◌, ◌<◌, ◌≤◌, Bool, List, [], ◌∷◌, ◌++◌, length, replicate, vec_capacity, map, All, IfOk, IfErr};
 ghost use denote.Param.Send.{IsSync};
 ghost use Rattle.slub_core.specs.declared.spot.Spot.TheVariants.{Between};
-ghost use Rattle.slub_core.specs.Run.{IsFinished};
 ghost use Rattle.slub_core.specs.declared.guarded.Guarded.TheVariants.{Nothing};
 ghost use Rattle.slub_workers.specs.Standing.{Fork, branch, one_way};
 ghost use Rattle.slub_workers.specs.Rule.{standing_first};
-ghost use Rattle.slub_workers.specs.Ends.{AreGathered, AreSeated, HaveEnded, IsIdleAt, IsRoom, seated_first};
+ghost use Rattle.slub_workers.specs.Ends.{AreFinished, AreGathered, AreSeated, AreUntried, HaveEnded, IsIdleAt, IsRoom, seated_first};
 ghost use Rattle.slub_workers.specs.Ranks.{AreFresh, view_of};
-ghost use Rattle.slub_workers.specs.Round.{HasWorked, IsUnchanged, MayWork, begun_by};
+ghost use Rattle.slub_workers.specs.Round.{IsUnchanged, MayWork, begun_by};
 ghost use Rattle.slub_workers.specs.Seats.{all_but_last};
 ghost use Rattle.slub_workers.specs.Tables.{begun_at, table_of};
 ghost use Rattle.slub_workers.specs.Workers.{HasWorkedAt, MayWorkAt, countdown, worker_in};
@@ -24,7 +23,7 @@ use slub_core::guarded::Guarded;
 use slub_core::step::Answer;
 use slub_core::worker_local::Local;
 use slub_edges::gate::Gate;
-use slub_turns::machine::Machine;
+use slub_turns::machine::StepMachine;
 use std::alloc::Global;
 use std::sync::Wait;
 use std::thread::{Threads, join};
@@ -41,7 +40,7 @@ struct Room {
 }
 
 /// Takes the memory of a round.
-fn take_room(alloc: Global, machine: &Machine) -> Result<Room, NoMemory>
+fn take_room(alloc: Global, machine: &StepMachine) -> Result<Room, NoMemory>
     ensures values { IfOk result (λ r. (r.values.items ≡ []) × (33 ≤ vec_capacity r.values)) }
     ensures hands { IfOk result (λ r. (length r.hands.items ≡ length machine.now.locals.items) × All (λ hand. hand.items ≡ replicate 33 Nothing) r.hands.items) }
     ensures workers { IfOk result (λ r. (r.workers.items ≡ []) × (length machine.now.locals.items ≤ vec_capacity r.workers)) }
@@ -272,7 +271,7 @@ pub fn open(
     alloc: Global,
     frames: u32,
     objects: u32,
-    machine: Machine,
+    machine: StepMachine,
 ) -> Result<(Shared, Workers), Unopened>
     requires sizes { (frames ≡ machine.table.frames) × (objects ≡ machine.table.objects) }
     requires work { MayWork machine }
@@ -305,8 +304,11 @@ pub fn open(
 }
 
 /// Each worker of a table that was opened makes its turns, in a thread of its own, until each of its calls has a reply;
-/// and all give their seats back.
-fn work<R: Threads + Wait + Sync, G: Gate + Sync>(
+/// and all give their seats back. It takes no memory, but the bytes of new checked slabs.
+///
+/// The table is the one that was opened with these workers: what they gave back closes that one and no other. Where the
+/// system gives no more threads, a worker is run after another one.
+pub fn round<R: Threads + Wait + Sync, G: Gate + Sync>(
     rt: &R,
     gate: &G,
     shared: &Shared,
@@ -314,8 +316,8 @@ fn work<R: Threads + Wait + Sync, G: Gate + Sync>(
 ) -> Ended
     requires seated { AreSeated (begun_at shared.now) (table_of shared.now) workers }
     ensures ended { AreGathered (table_of shared.now) (length (begun_at shared.now).locals) result }
-    ensures untried { result.tried ≡ false }
-    ensures finished { All IsFinished result.locals.items }
+    ensures untried { AreUntried result }
+    ensures finished { AreFinished result }
 {
     let Workers { list, rest } = workers;
     let Rest {
@@ -326,24 +328,4 @@ fn work<R: Threads + Wait + Sync, G: Gate + Sync>(
     } = rest;
     let list = work_all(rt, gate, shared, list, done);
     take_all(shared, root, values, list, locals)
-}
-
-/// The workers of the machine, which has so many frames and object numbers, make their turns, each in a thread of its
-/// own, until each of their calls has a reply. All memory is taken first.
-pub fn threads_round<R: Threads + Wait + Sync, G: Gate + Sync>(
-    rt: &R,
-    gate: &G,
-    alloc: Global,
-    frames: u32,
-    objects: u32,
-    machine: Machine,
-) -> Result<Machine, Unopened>
-    requires sizes { (frames ≡ machine.table.frames) × (objects ≡ machine.table.objects) }
-    requires work { MayWork machine }
-    ensures worked { IfOk result (HasWorked machine) }
-    ensures unopened { IfErr result (λ u. IsUnchanged machine u.machine) }
-{
-    let (shared, workers) = open(alloc, frames, objects, machine)?;
-    let ended = work(rt, gate, &shared, workers);
-    Ok(shared.close(ended))
 }

@@ -7,7 +7,7 @@ use Rattle.slub_workers.specs.Ends.{AreGathered, IsIdleAt, HasNotTried}
 use Rattle.slub_workers.specs.Workers.{HasWorkedAt}
 use Rattle.slub_workers.proofs.Worked.{seated_count, worked_numbers}
 use Rattle.slub_workers.proofs.Ended.{all_weaker, all_risen}
-use Rattle.slub_workers.proofs.round.work.Goals as goal
+use Rattle.slub_workers.proofs.round.round.Goals as goal
 
 pub work_all-list-requires-clause-room : goal.work_all-list-requires-clause-room
 work_all-list-requires-clause-room g c =

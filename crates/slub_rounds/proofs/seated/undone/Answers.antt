@@ -2,7 +2,7 @@ use Rattle.std.proofs.Common.{◌≡◌, List, ℕ, length, sym, ap, ◌∙◌, 
 use Rattle.slub_open_close.specs.Undoing.{WasOpened}
 use Rattle.slub_words.specs.Stored.{AreStored}
 use Rattle.slub_rounds.proofs.Threads.{kept-again}
-use Rattle.slub_rounds.proofs.threaded.undone.Goals as goal
+use Rattle.slub_rounds.proofs.seated.undone.Goals as goal
 
 pub restore-requires : goal.restore-requires
 restore-requires c =

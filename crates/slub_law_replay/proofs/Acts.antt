@@ -23,6 +23,7 @@ use Rattle.slub_core.specs.declared.local.Answered.{Answered}
 use Rattle.slub_core.specs.declared.local.FrameRun.{FrameRun}
 use Rattle.slub_core.specs.declared.spot.Spot.TheVariants.{InChecked}
 use Rattle.slub_core.specs.declared.spot.CheckedSpot.TheVariants.{DoChecked, AddSlab, LockRun, GiveChecked}
+use Rattle.slub_core.specs.Calls.{call_word, call_value, call_offset, call_byte}
 use Rattle.slub_core.specs.Setup.{Setup, node_lock}
 use Rattle.slub_core.specs.World.{World, LockValue, Checked, pool_of}
 use Rattle.slub_core.specs.Local.{Local, Worker, Change, here, call_of, address_in, run_of, at, loses, noted}
@@ -78,36 +79,36 @@ module _ (said : ℕ → ℤ → ℕ → Type 0) where
       let ok = at-work w x others s in
       let used = held-object w x others old s (rw is refl) (rw is refl) was in
       let size : old.layout.object_size ≡ (w.setup.layout l.cache).object_size = ap (λ (l : Layout). l.object_size) of.layout in
-      let fits : 8 * ((call_of l).word + 1) ≤ (w.setup.layout l.cache).object_size = leb-true (8 * ((call_of l).word + 1)) (w.setup.layout l.cache).object_size (not-false _ (ok.spot.inside (rw is refl))) in
+      let fits : 8 * (call_word (call_of l) + 1) ≤ (w.setup.layout l.cache).object_size = leb-true (8 * (call_word (call_of l) + 1)) (w.setup.layout l.cache).object_size (not-false _ (ok.spot.inside (rw is refl))) in
       let more = (one-more l reply.Wrote ∷ l.done) ∷ rest in
-      replied w.setup opening rest w.value l reply.Wrote old (with_word old (slot_of l) (call_of l).word (call_of l).value) was tt
-      (goes-written (Put said w.setup opening more l.cache) old (slot_of l) (call_of l).word (call_of l).value of.sound used (omega (arith, size, fits))
+      replied w.setup opening rest w.value l reply.Wrote old (with_word old (slot_of l) (call_word (call_of l)) (call_value (call_of l))) was tt
+      (goes-written (Put said w.setup opening more l.cache) old (slot_of l) (call_word (call_of l)) (call_value (call_of l)) of.sound used (omega (arith, size, fits))
       (clean-here w.setup opening rest w.value l reply.Wrote old was (ok.spot.checked (rw is refl)).2 has)) has
 
   -- ---- a poke
 
   does_poke : DoesWell Poke
   does_poke opening w x others rest old is s ac was of has =
-      by_place (is_offset old.layout (call_of x.local).offset) (nat_lt (here x.local).index (objects_in (slab_of old (here x.local).frame))) refl
+      by_place (is_offset old.layout (call_offset (call_of x.local))) (nat_lt (here x.local).index (objects_in (slab_of old (here x.local).frame))) refl
     where
       l : Local
       l = x.local
 
       poked_as : Bool → Bool → Change
       poked_as inside there = record {
-        value = with_slabs w.value x.local (if inside && there then with_byte old (slot_of x.local) (call_of x.local).offset (call_of x.local).byte else old);
+        value = with_slabs w.value x.local (if inside && there then with_byte old (slot_of x.local) (call_offset (call_of x.local)) (call_byte (call_of x.local)) else old);
         local = at x.local (InChecked GiveChecked Poke);
         reply = Some (if inside then (if there then reply.Poked else reply.NotHeld) else reply.OutOfSlot);
       }
 
-      by_place : (inside there : Bool) → is_offset old.layout (call_of x.local).offset ≡ inside → HasAfter w.setup opening rest (poked_as inside there)
+      by_place : (inside there : Bool) → is_offset old.layout (call_offset (call_of x.local)) ≡ inside → HasAfter w.setup opening rest (poked_as inside there)
       by_place true true e =
           let ok = at-work w x others s in
           let d = one-more x.local reply.Poked in
           let more = (d ∷ x.local.done) ∷ rest in
           let was_poked = poke-was opening w x others rest old is s ac of in
-          replied w.setup opening rest w.value x.local reply.Poked old (with_byte old (slot_of x.local) (call_of x.local).offset (call_of x.local).byte) was tt
-          (goes-poked (Put said w.setup opening more x.local.cache) old (slot_of x.local) (call_of x.local).offset (call_of x.local).byte of.sound (is-between (pos 0) (place_of old.layout (call_of x.local).offset) (pos old.layout.size) e) (inr was_poked)
+          replied w.setup opening rest w.value x.local reply.Poked old (with_byte old (slot_of x.local) (call_offset (call_of x.local)) (call_byte (call_of x.local))) was tt
+          (goes-poked (Put said w.setup opening more x.local.cache) old (slot_of x.local) (call_offset (call_of x.local)) (call_byte (call_of x.local)) of.sound (is-between (pos 0) (place_of old.layout (call_offset (call_of x.local))) (pos old.layout.size) e) (inr was_poked)
           (clean-here w.setup opening rest w.value x.local reply.Poked old was (ok.spot.checked (rw is refl)).2 has)) has
       by_place true false e =
           replied w.setup opening rest w.value x.local reply.NotHeld old old was tt (goes-none _ old (clean-here w.setup opening rest w.value x.local reply.NotHeld old was ((at-work w x others s).spot.checked (rw is refl)).2 has)) has

@@ -18,7 +18,7 @@ use Rattle.slub_slabinfo_text.specs.Bulk.{free_order, objects_of_slab, slabs_amo
 use Rattle.slub_rounds.specs.BulkLines.{allocs_of, frame_under, places_under}
 use Rattle.slub_rounds.specs.Kmalloc.{class_name, place_of_class}
 use Rattle.slub_rounds.proofs.Allowed.{allocs-read, frees-read}
-use Rattle.slub_rounds.specs.Reserves.{AreSoundReserves, Reserve, kept_in, kept_of, no_reserve, place_of, reserve_at}
+use Rattle.slub_rounds.specs.Reserves.{AreSoundReserves, Reserve, kept_in, kept_of, no_reserve, place_of_reserve, reserve_at}
 
 -- ---- rounds of one act each
 
@@ -111,5 +111,5 @@ AreNamed trace reserves = All (λ reserve. reserve.cache < length trace.names) r
 pub kept-named : (trace : Trace) (s : State) (reserves : List Reserve) → AreSoundReserves trace reserves → AreNamed trace (kept_in s reserves)
 kept-named trace s reserves sound = All-map (λ (reserve : Reserve). reserve.cache < length trace.names) (kept_of s) reserves (λ k d inside. (sound.each k d inside).cache)
 
-pub reserve-named : (trace : Trace) (reserves : List Reserve) (pool : List ℕ) (at : ℕ) → AreNamed trace reserves → place_of reserves pool ≡ Some at → (reserve_at reserves at).cache < length trace.names
+pub reserve-named : (trace : Trace) (reserves : List Reserve) (pool : List ℕ) (at : ℕ) → AreNamed trace reserves → place_of_reserve reserves pool ≡ Some at → (reserve_at reserves at).cache < length trace.names
 reserve-named trace reserves pool at named is = named at no_reserve (position-Some (λ (reserve : Reserve). bytes_eq pool reserve.name) reserves at (reserve_at reserves at) is).0

@@ -24,7 +24,7 @@ use Rattle.slub_slabinfo_text.specs.Lawful.{freed_in, given_in, is_by}
 use Rattle.slub_slabinfo_text.proofs.Numbers.{sum_from}
 use Rattle.slub_common.proofs.Writes.{inside-of}
 use Rattle.slub_law_rounds.specs.Answered.{Answered, did_free, found_bad, gave, holding, holds_after, is_alloc_of, is_corrupt, is_free_of, of_worker, times_freed, times_given}
-use Rattle.slub_law_rounds.specs.Round.{Cause, IsFreeable, IsRound}
+use Rattle.slub_law_rounds.specs.Round.{ReplyCause, IsFreeable, IsRound}
 use Rattle.slub_law_rounds.proofs.Runs.{fold-own, on_board}
 use Rattle.slub_law_rounds.proofs.Tale.{some-object}
 use Rattle.slub_law_rounds.proofs.Times.{counted_append, events_given, one_where, times_append}
@@ -37,7 +37,7 @@ false-true : {A : Type 0} → false ≡ true → A
 false-true e = absurd (let never : ⊥ = cc in never)
 
 -- what is given was to be allocated
-given_allocs : (before : State) (answers own : List Answered) (act : Act) (answer : Reply) → Cause before answers own act answer → is_given answer ≡ true → (place : ℕ) × (object : ℕ) × (act ≡ Alloc place object)
+given_allocs : (before : State) (answers own : List Answered) (act : Act) (answer : Reply) → ReplyCause before answers own act answer → is_given answer ≡ true → (place : ℕ) × (object : ℕ) × (act ≡ Alloc place object)
 given_allocs before answers own (Alloc place object) answer cause given = (place, object, refl)
 given_allocs before answers own (Free object) (reply.Freed address) cause given = false-true given
 given_allocs before answers own (Free object) (reply.Corrupt damage) cause given = false-true given
@@ -55,7 +55,7 @@ given_allocs before answers own Flush (reply.Given address) cause given = absurd
 given_allocs before answers own Flush _ cause given = false-true given
 
 -- what is freed was to be freed
-freed_frees : (before : State) (answers own : List Answered) (act : Act) (answer : Reply) → Cause before answers own act answer → is_freed answer ≡ true → (object : ℕ) × (act ≡ Free object)
+freed_frees : (before : State) (answers own : List Answered) (act : Act) (answer : Reply) → ReplyCause before answers own act answer → is_freed answer ≡ true → (object : ℕ) × (act ≡ Free object)
 freed_frees before answers own (Free object) answer cause freed = (object, refl)
 freed_frees before answers own (Alloc place object) (reply.Freed address) cause freed = absurd cause
 freed_frees before answers own (Alloc place object) _ cause freed = false-true freed
@@ -71,12 +71,12 @@ freed_frees before answers own Flush (reply.Freed address) cause freed = absurd 
 freed_frees before answers own Flush _ cause freed = false-true freed
 
 -- what a free takes, or finds damaged, its worker holds, or it was on the board
-freeable : (before : State) (answers own : List Answered) (object : ℕ) (act : Act) (answer : Reply) → Cause before answers own act answer → is_free_of object act ≡ true → (is_freed answer ≡ true) ⊎ (is_corrupt answer ≡ true) → IsFreeable before own object
+freeable : (before : State) (answers own : List Answered) (object : ℕ) (act : Act) (answer : Reply) → ReplyCause before answers own act answer → is_free_of object act ≡ true → (is_freed answer ≡ true) ⊎ (is_corrupt answer ≡ true) → IsFreeable before own object
 freeable before answers own object (Free other) answer cause mine took =
     let same : other ≡ object = grind (arith, nat_tests, mine) in
     subst (IsFreeable before own) same (by answer cause took)
   where
-    by : (answer : Reply) → Cause before answers own (Free other) answer → (is_freed answer ≡ true) ⊎ (is_corrupt answer ≡ true) → IsFreeable before own other
+    by : (answer : Reply) → ReplyCause before answers own (Free other) answer → (is_freed answer ≡ true) ⊎ (is_corrupt answer ≡ true) → IsFreeable before own other
     by (reply.Freed address) cause took = cause.0
     by (reply.Corrupt damage) cause took = cause.0
     by reply.NotHeld cause (inl freed) = false-true freed
@@ -181,7 +181,7 @@ module _ (before : State) (round : Round) (result : RoundResult) (after : State)
   abbrev IsThere : ℕ → Type 0
   IsThere object = IsSome (held_under before object) ⊎ (0 < times_given object answers)
 
-  cause-at : (past : List Answered) (one : Answered) (rest : List Answered) → answers ≡ past ++ one ∷ rest → Cause before answers (of_worker one.0.worker past) one.0.act one.1
+  cause-at : (past : List Answered) (one : Answered) (rest : List Answered) → answers ≡ past ++ one ∷ rest → ReplyCause before answers (of_worker one.0.worker past) one.0.act one.1
   cause-at past one rest parts =
       let worker = one.0.worker in
       let mine : of_worker worker (one ∷ rest) ≡ one ∷ of_worker worker rest = rw (eq-eqb worker worker refl) refl in

@@ -30,6 +30,7 @@ use Rattle.slub_slabinfo_text.specs.declared.journal.RoundResult.{RoundResult}
 use Rattle.slub_slabinfo_text.specs.Lawful.{is_by}
 use Rattle.slub_core.specs.declared.local.Known.{Known}
 use Rattle.slub_core.specs.declared.local.Answered.{Answered as Done}
+use Rattle.slub_core.specs.Calls.{call_object}
 use Rattle.slub_core.specs.Setup.{Setup, pool_lock}
 use Rattle.slub_page_pool.specs.Block.{HasNoBlock}
 use Rattle.slub_core.specs.Local.{Local}
@@ -70,9 +71,9 @@ use Rattle.slub_law_rounds.proofs.Split.{back, back-append, told}
 use Rattle.slub_law_rounds.proofs.Sums.{IsBelow, all-below, none-beyond}
 use Rattle.slub_law_rounds.proofs.TellingRan.{holding-told, same-either, spot_from, spot-told}
 use Rattle.slub_rounds.specs.Rounds.{DoesRoundBySteps, Finishes}
-use Rattle.slub_law_replay.proofs.Unheld.{AreRight, IsRight, round_right}
+use Rattle.slub_law_replay.proofs.Unheld.{AreRight, IsLost, IsRight, round_right}
 use Rattle.slub_law_replay.proofs.Wants.{AreWants, IsWant, round_wants}
-use Rattle.slub_law_replay.specs.Causes.{HaveRightCauses, HaveWants, IsOfPlain, IsPokeAnswer, RightCause, SpentCause, WantCause, in_slot, knowing, knows_after}
+use Rattle.slub_law_replay.specs.Causes.{HaveRightCauses, HaveWants, IsOfPlain, IsPokeAnswer, LacksBlock, LacksSlab, RightCause, SpentCause, WantCause, in_slot, knowing, knows_after}
 
 -- ---- what a worker knows, by the text and by its calls
 
@@ -117,7 +118,7 @@ module _ (table : Table) (rooms : List Known) (o : ℕ) where
   knows-step ds event a r is (quiet _ _ none) =
       let still = quiet-still r none in
       let k = core.knows ds o in
-      let b = eqb (call_for table rooms event.cpu event.act).object o in
+      let b = eqb (call_object (call_for table rooms event.cpu event.act)) o in
       still-knows (is_alloc_of o event.act) (is_free_of o event.act) k r still ∙ sym (same-either b k) ∙ ap (λ x. cond b x k) (sym (still-known r k still))
 
   knowing-told : (own : List Answered) → All (IsMet table) own → knowing o own ≡ core.knows (back table rooms own []) o
@@ -140,7 +141,7 @@ addressed m before [] o k is = by (before o) is
     by : (x : Option BoardWord) → option_map (λ (b : BoardWord). b.cache) x ≡ Some k → (a : ℕ) × (core.address_on m x ≡ Some a)
     by None is = absurd (none-some k is)
     by (Some b) is = (_, refl)
-addressed m before (d ∷ ds) o k is = by (addressed m before ds o k) (eqb d.call.object o) d.reply is
+addressed m before (d ∷ ds) o k is = by (addressed m before ds o k) (eqb (call_object d.call) o) d.reply is
   where
     by : (core.cache_by before ds o ≡ Some k → (a : ℕ) × (core.address_by m before ds o ≡ Some a)) → (same : Bool) (r : Reply) → cond same (core.cache_after d.call r (core.cache_by before ds o)) (core.cache_by before ds o) ≡ Some k
         → (a : ℕ) × (cond same (core.address_after r (core.address_by m before ds o)) (core.address_by m before ds o) ≡ Some a)
@@ -149,9 +150,9 @@ addressed m before (d ∷ ds) o k is = by (addressed m before ds o k) (eqb d.cal
     by again true r is = again is
 
 -- those before the last ones were right
-right-first : (table : Table) (rooms : List Known) (m : Setup) (before : ℕ → Option BoardWord) (own : List Answered) (ds : List Done) → AreRight m before (back table rooms own ds) → AreRight m before ds
-right-first table rooms m before [] ds right = right
-right-first table rooms m before (one ∷ own) ds right = (right-first table rooms m before own (told table rooms one ∷ ds) right).1
+right-first : (table : Table) (rooms : List Known) (m : Setup) (lost : ℕ → ℕ → Type 0) (before : ℕ → Option BoardWord) (own : List Answered) (ds : List Done) → AreRight m lost before (back table rooms own ds) → AreRight m lost before ds
+right-first table rooms m lost before [] ds right = right
+right-first table rooms m lost before (one ∷ own) ds right = (right-first table rooms m lost before own (told table rooms one ∷ ds) right).1
 
 -- and so are the first of what holds of all
 all-first : (P : Done → Type 0) (table : Table) (rooms : List Known) (own : List Answered) (ds : List Done) → All P (back table rooms own ds) → All P ds
@@ -230,7 +231,7 @@ module _ (s : State) (trace : Trace) (round : Round) (result : RoundResult) (lis
 
   -- ---- the end
 
-  ends : core_law.IsRound (setup_of s ran.beside) opening w (map (λ (l : Local). l.todo) first_workers) (map (λ (l : Local). l.done) last.locals)
+  ends : core_law.IsRoundOnWords (setup_of s ran.beside) opening w (map (λ (l : Local). l.todo) first_workers) (map (λ (l : Local). l.done) last.locals)
   ends = rounds_end (setup_of s ran.beside) first ran.picks is-open.1 ran.finished
 
   ended-well : IsQuiet (setup_of s ran.beside) opening last × Counted opening w last.locals
@@ -269,14 +270,18 @@ module _ (s : State) (trace : Trace) (round : Round) (result : RoundResult) (lis
   below : All (IsBelow round.workers) (zip round.events result.replies)
   below = all-below round.workers round.events result.replies inside
 
+  -- what was lost in the round
+  abbrev lost : ℕ → ℕ → Type 0
+  lost = IsLost (setup_of s ran.beside) (begun (setup_of s ran.beside) first) ran.picks
+
   -- what a worker's pokes were answered
-  right-by : (k : ℕ) → AreRight (setup_of s ran.beside) opening.board (its_done s ran.beside round result.replies opening w last.locals lists ended ran.replies inside below coherent k)
+  right-by : (k : ℕ) → AreRight (setup_of s ran.beside) lost opening.board (its_done s ran.beside round result.replies opening w last.locals lists ended ran.replies inside below coherent k)
   right-by k = elim (cases_lt k round.workers) [
-    | inl under ↦ subst (AreRight (setup_of s ran.beside) opening.board) (done-at s ran.beside round result.replies opening w last.locals lists ended ran.replies inside below coherent k under)
-        (All-get_or (AreRight (setup_of s ran.beside) opening.board) (map (λ (l : Local). l.done) last.locals) k []
+    | inl under ↦ subst (AreRight (setup_of s ran.beside) lost opening.board) (done-at s ran.beside round result.replies opening w last.locals lists ended ran.replies inside below coherent k under)
+        (All-get_or (AreRight (setup_of s ran.beside) lost opening.board) (map (λ (l : Local). l.done) last.locals) k []
         (omega (arith, under, many s ran.beside round result.replies opening w last.locals lists ended ran.replies inside below coherent))
-        (All-map (AreRight (setup_of s ran.beside) opening.board) (λ (l : Local). l.done) last.locals (round_right (setup_of s ran.beside) first ran.picks is-open.1)))
-    | inr past ↦ subst (λ own. AreRight (setup_of s ran.beside) opening.board (back s.table (rooms_for (events_by k round.events)) own [])) (sym (none-beyond round.workers k answers below past)) tt
+        (All-map (AreRight (setup_of s ran.beside) lost opening.board) (λ (l : Local). l.done) last.locals (round_right (setup_of s ran.beside) first ran.picks is-open.1)))
+    | inr past ↦ subst (λ own. AreRight (setup_of s ran.beside) lost opening.board (back s.table (rooms_for (events_by k round.events)) own [])) (sym (none-beyond round.workers k answers below past)) tt
   ]
 
   -- a moment of the round
@@ -319,26 +324,13 @@ module _ (s : State) (trace : Trace) (round : Round) (result : RoundResult) (lis
         (caused-by s ran.beside round result.replies opening w last.locals lists ended ran.replies inside below coherent worker) in
         caused-first s.table rooms (setup_of s ran.beside) opening.board p later (told s.table rooms one ∷ ds) all
 
-    rights : AreRight (setup_of s ran.beside) opening.board (told s.table rooms one ∷ ds)
-    rights = right-first s.table rooms (setup_of s ran.beside) opening.board later (told s.table rooms one ∷ ds)
-        (subst (AreRight (setup_of s ran.beside) opening.board) (ap (λ xs. back s.table rooms xs []) split ∙ back-append s.table rooms own (one ∷ later) []) (right-by worker))
+    rights : AreRight (setup_of s ran.beside) lost opening.board (told s.table rooms one ∷ ds)
+    rights = right-first s.table rooms (setup_of s ran.beside) lost opening.board later (told s.table rooms one ∷ ds)
+        (subst (AreRight (setup_of s ran.beside) lost opening.board) (ap (λ xs. back s.table rooms xs []) split ∙ back-append s.table rooms own (one ∷ later) []) (right-by worker))
 
     wants : IsWant (setup_of s ran.beside) seen (told s.table rooms one)
     wants = All-head (IsWant (setup_of s ran.beside) seen) (told s.table rooms one) ds (all-first (IsWant (setup_of s ran.beside) seen) s.table rooms later (told s.table rooms one ∷ ds)
         (subst (AreWants (setup_of s ran.beside) seen) (ap (λ xs. back s.table rooms xs []) split ∙ back-append s.table rooms own (one ∷ later) []) (wants-by worker)))
-
-    want-cause : (a : Act) (r : Reply) → IsWant (setup_of s ran.beside) seen (record { call = call_for s.table rooms one.0.cpu a; reply = r }) → WantCause s ran.beside round ran.picks a r
-    want-cause (Alloc place o) reply.NoFrames want =
-        let lacked = want refl in
-        record {
-          cache = lacked.0;
-          name = lacked.1;
-          front = lacked.2.there.0;
-          rest = lacked.2.there.1;
-          split = lacked.2.there.2;
-          none = subst (λ (value : ℕ → LockValue). HasNoBlock (pool_in (value pool_lock)).free (layout_at s lacked.0).min_order) lacked.2.there.3 lacked.2.none;
-        }
-    want-cause a r want = tt
 
     met : All (IsMet s.table) own
     met = all-met s.table rooms (setup_of s ran.beside) opening.board p own [] caused.1
@@ -349,13 +341,40 @@ module _ (s : State) (trace : Trace) (round : Round) (result : RoundResult) (lis
     knew-told : (o : ℕ) → knowing o own ≡ core.knows ds o
     knew-told o = knowing-told s.table rooms o own met
 
+    spot-at : (o k a : ℕ) → core.cache_by opening.board ds o ≡ Some k → core.address_by (setup_of s ran.beside) opening.board ds o ≡ Some a → spot_by s o own ≡ Some (record { cache = k; address = a })
+    spot-at o k a cache address =
+        spot-told s rooms (setup_of s ran.beside) opening.board o own met (spot-here s ran.beside rooms opening.board p board-is coherent ran.fits.step.1 o) ∙ ap (λ x. spot_from x (core.address_by (setup_of s ran.beside) opening.board ds o)) cache
+        ∙ ap (spot_from (Some k)) address
+
     spot-with : (o k : ℕ) → core.cache_by opening.board ds o ≡ Some k → (a : ℕ) × (spot_by s o own ≡ Some (record { cache = k; address = a }))
-    spot-with o k cache =
-        let at = addressed (setup_of s ran.beside) opening.board ds o k cache in (
-          at.0,
-          spot-told s rooms (setup_of s ran.beside) opening.board o own met (spot-here s ran.beside rooms opening.board p board-is coherent ran.fits.step.1 o)
-              ∙ ap (λ x. spot_from x (core.address_by (setup_of s ran.beside) opening.board ds o)) cache ∙ ap (spot_from (Some k)) at.1,
-        )
+    spot-with o k cache = let at = addressed (setup_of s ran.beside) opening.board ds o k cache in (at.0, spot-at o k at.0 cache at.1)
+
+    -- what lacked after some of the turns
+    block-cause : (place o : ℕ) → IsWant (setup_of s ran.beside) seen (record { call = call_for s.table rooms one.0.cpu (Alloc place o); reply = reply.NoFrames }) → LacksBlock s ran.beside round ran.picks place
+    block-cause place o want =
+        let lacked = want refl in
+        record {
+          cache = lacked.0;
+          name = lacked.1;
+          front = lacked.2.there.0;
+          rest = lacked.2.there.1;
+          split = lacked.2.there.2;
+          none = subst (λ (value : ℕ → LockValue). HasNoBlock (pool_in (value pool_lock)).free (layout_at s lacked.0).min_order) lacked.2.there.3 lacked.2.none;
+        }
+
+    slab-cause : (o : ℕ) (offset : ℤ) (byte : ℕ) → IsRight (setup_of s ran.beside) lost opening.board ds (record { call = call_for s.table rooms one.0.cpu (Poke o offset byte); reply = reply.NotHeld }) → knowing o own ≡ true
+        → MatchOption (spot_by s o own) ⊥ (λ spot. LacksSlab s ran.beside round ran.picks spot)
+    slab-cause o offset byte poke known =
+        let at = poke refl refl (sym (knew-told o) ∙ known) in
+        let gone = at.4.2 in
+        subst (λ x. MatchOption x ⊥ (λ spot. LacksSlab s ran.beside round ran.picks spot)) (sym (spot-at o at.0 at.4.0 at.1 at.4.1))
+        (record { slot = gone.slot; stands = gone.is; early = gone.early; late = gone.late; rest = gone.rest; split = gone.split; used = gone.used; gone = gone.gone })
+
+    want-cause : (a : Act) (r : Reply) → IsWant (setup_of s ran.beside) seen (record { call = call_for s.table rooms one.0.cpu a; reply = r })
+        → IsRight (setup_of s ran.beside) lost opening.board ds (record { call = call_for s.table rooms one.0.cpu a; reply = r }) → WantCause s ran.beside round ran.picks own a r
+    want-cause (Alloc place o) reply.NoFrames want poke = block-cause place o want
+    want-cause (Poke o offset byte) reply.NotHeld want poke = slab-cause o offset byte poke
+    want-cause a r want poke = tt
 
     -- its cache is checked or not, and the byte lies in the slot or not
     checked-told : (o k : ℕ) → core.cache_by opening.board ds o ≡ Some k → is_some (checked_of s k) ≡ true → IsOfChecked s o own
@@ -383,7 +402,7 @@ module _ (s : State) (trace : Trace) (round : Round) (result : RoundResult) (lis
             by slabs (Some live) some = refl
 
     poke-cause : (o : ℕ) (offset : ℤ) (byte : ℕ) (r : Reply) → core.Cause (setup_of s ran.beside) opening.board p ds (call_for s.table rooms one.0.cpu (Poke o offset byte)) r
-        → IsRight (setup_of s ran.beside) opening.board ds (record { call = call_for s.table rooms one.0.cpu (Poke o offset byte); reply = r }) → IsPokeAnswer s own o offset r
+        → IsRight (setup_of s ran.beside) lost opening.board ds (record { call = call_for s.table rooms one.0.cpu (Poke o offset byte); reply = r }) → IsPokeAnswer s own o offset r
     poke-cause o offset byte reply.Poked cause poke =
         (knew-told o ∙ cause.1, checked-told o cause.2.0 cause.2.1 cause.2.2, slot-told o cause.2.0 offset cause.2.1 cause.2.2 ∙ cause.2.3)
     poke-cause o offset byte reply.OutOfSlot cause poke =
@@ -422,7 +441,7 @@ module _ (s : State) (trace : Trace) (round : Round) (result : RoundResult) (lis
         }
 
     right : (a : Act) (r : Reply) → one.0.cpu < s.cpus → IsStepOf s.cpus ran.beside.step → core.Cause (setup_of s ran.beside) opening.board p ds (call_for s.table rooms one.0.cpu a) r
-        → IsRight (setup_of s ran.beside) opening.board ds (record { call = call_for s.table rooms one.0.cpu a; reply = r }) → RightCause s ran.left.tids own one.0.cpu a r
+        → IsRight (setup_of s ran.beside) lost opening.board ds (record { call = call_for s.table rooms one.0.cpu a; reply = r }) → RightCause s ran.left.tids own one.0.cpu a r
     right (Alloc place o) (reply.IdsSpent t) on_cpu least cause poke = spent-cause place o t on_cpu least cause
     right (Alloc place o) r on_cpu least cause poke = tt
     right (Poke o offset byte) r on_cpu least cause poke = poke-cause o offset byte r cause poke
@@ -438,7 +457,7 @@ module _ (s : State) (trace : Trace) (round : Round) (result : RoundResult) (lis
       least (caused worker own one is.later is.split).0 (rights worker own one is.later is.split).0
 
   pub have-wants : HaveWants s ran.beside round ran.picks (zip round.events result.replies)
-  have-wants worker own one is = want-cause worker own one is.later is.split one.0.act one.1 (wants worker own one is.later is.split)
+  have-wants worker own one is = want-cause worker own one is.later is.split one.0.act one.1 (wants worker own one is.later is.split) (rights worker own one is.later is.split).0
 
 -- ---- a round by steps
 

@@ -6,7 +6,7 @@ use Rattle.slub_core.specs.Run.{System, Pick, run, turn, after_step}
 use Rattle.slub_core.specs.Steps.{begun}
 use Rattle.slub_schedule.specs.Draws.{next}
 use Rattle.slub_schedule.specs.Schedule.{AreDrawn, AreRefusedAlike}
-use Rattle.slub_schedule.specs.Rounds.{Ends}
+use Rattle.slub_schedule.specs.Rounds.{EndsRound}
 use Rattle.slub_schedule.specs.Turns.{turns_of}
 use Rattle.slub_schedule.proofs.Picks.{rounds_unique}
 use Rattle.slub_law_alone.specs.Alone.{own_pick}
@@ -51,7 +51,7 @@ refused-alike (p ∷ ps) (q ∷ qs) one other = (
 )
 
 -- two such runs that end come to one end
-pub drawn-end : (m : Setup) (seed : ℕ) (first : System) (ps qs : List Pick) (x y : System) → Ends m seed first ps x → Ends m seed first qs y → AllHad x → AllHad y → x ≡ y
+pub drawn-end : (m : Setup) (seed : ℕ) (first : System) (ps qs : List Pick) (x y : System) → EndsRound m seed first ps x → EndsRound m seed first qs y → AllHad x → AllHad y → x ≡ y
 drawn-end m seed first ps qs x y one other has also =
     let a = none-refused m first seed ps one.drawn (subst AllHad one.run has) in
     let b = none-refused m first seed qs other.drawn (subst AllHad other.run also) in

@@ -37,6 +37,8 @@ pub mod Reserves
 pub mod IdsFit
 pub mod Items
 pub mod Causes
+mod InUse
+mod Knowing
 pub mod Unheld
 mod WantReplies
 pub mod Wants
@@ -54,3 +56,4 @@ pub mod Turns
 pub mod Spots
 pub mod Told
 pub mod PokeRounds
+mod WordReads

@@ -28,7 +28,7 @@ use Rattle.slub_rounds.specs.Heap.{DoesRoundOf, HeapState}
 use Rattle.slub_rounds.specs.Asked.{AnswersAtOnce, DoesAsked}
 use Rattle.slub_rounds.specs.BulkLines.{FreesAgain, ServesBulkFree, ServesBulkLines, TakesAll, allocs_of, first_unheld, places_under, replied}
 use Rattle.slub_rounds.specs.Kmalloc.{CreatesClasses, Moves, MovesOn, ServesClasses, ServesHeld, TakesOfClass, is_enough, is_kmalloc, place_of_class}
-use Rattle.slub_rounds.specs.Reserves.{AnswersLeaving, AreSoundReserves, Asks, Fills, Puts, PutsBack, Refills, Reserve, ServesKept, ServesMempool, ServesMget, ServesMput, fresh_reserve, has_number, is_of_cache, kept_in, place_of, reserve_at, with_numbers}
+use Rattle.slub_rounds.specs.Reserves.{AnswersLeaving, AreSoundReserves, Asks, Fills, Puts, PutsBack, Refills, Reserve, ServesKept, ServesMempool, ServesMget, ServesMput, fresh_reserve, has_number, is_of_cache, kept_in, place_of_reserve, reserve_at, with_numbers}
 use Rattle.slub_rounds.proofs.Allowed.{allocs-objects, frees-objects}
 use Rattle.slub_law_replay.specs.Runs.{MachineState, Serves, heap_of}
 use Rattle.slub_rounds.proofs.Chosen.{order_all, replied_all, replied_long}
@@ -235,7 +235,7 @@ module _ (trace : Trace) (sound : Type 0) where
   mempool_made : (h : HeapState) (reserves : List Reserve) (fresh : Reserve) (done : ClientDone) (after : HeapState) (left : List Reserve)
       → (sound → (0 < trace.cpus) × (fresh.cache < length trace.names) × AreKnown trace fresh.numbers × (length fresh.numbers ≤ 1024)) → ServesMempool h reserves fresh done after left → MadeFor trace sound h done.rounds fresh.numbers after
   mempool_made h reserves fresh done after left known serves =
-      some_or (place_of reserves fresh.name) _ _ (MadeFor trace sound h done.rounds fresh.numbers after) serves
+      some_or (place_of_reserve reserves fresh.name) _ _ (MadeFor trace sound h done.rounds fresh.numbers after) serves
       (λ none. true_or _ _ _ (MadeFor trace sound h done.rounds fresh.numbers after) none
       (λ many. leaving_made h reserves left answer.TooMany done fresh.numbers after many)
       (λ (fills : Fills h reserves fresh done after left). all_made h 0 fresh.cache fresh.numbers fills.0 done.rounds after known fills.1))
@@ -244,14 +244,14 @@ module _ (trace : Trace) (sound : Type 0) where
   mget_made : (h : HeapState) (reserves : List Reserve) (cpu : ℕ) (pool : List ℕ) (object : ℕ) (done : ClientDone) (after : HeapState) (left : List Reserve)
       → (sound → (cpu < trace.cpus) × AreNamed trace reserves × IsSoundObject trace object) → ServesMget h reserves cpu pool object done after left → MadeFor trace sound h done.rounds (object ∷ []) after
   mget_made h reserves cpu pool object done after left known serves =
-      some_or (place_of reserves pool) _ _ (MadeFor trace sound h done.rounds (object ∷ []) after) serves
+      some_or (place_of_reserve reserves pool) _ _ (MadeFor trace sound h done.rounds (object ∷ []) after) serves
       (λ none. leaving_made h reserves left answer.NoPool done (object ∷ []) after none)
       (λ place at asks. asks_made h reserves place cpu object done after left (λ whole. ((known whole).0, reserve-named trace reserves pool place (known whole).1 at, (known whole).2)) asks)
 
   mput_made : (h : HeapState) (reserves : List Reserve) (cpu : ℕ) (pool : List ℕ) (object : ℕ) (done : ClientDone) (after : HeapState) (left : List Reserve) → (sound → (cpu < trace.cpus) × IsSoundObject trace object)
       → ServesMput h reserves cpu pool object done after left → MadeFor trace sound h done.rounds [] after
   mput_made h reserves cpu pool object done after left known serves =
-      some_or (place_of reserves pool) _ _ (MadeFor trace sound h done.rounds [] after) serves
+      some_or (place_of_reserve reserves pool) _ _ (MadeFor trace sound h done.rounds [] after) serves
       (λ none. leaving_made h reserves left answer.NoPool done [] after none)
       (λ place at of_it. some_or (held_under h.lists object) _ _ (MadeFor trace sound h done.rounds [] after) of_it
       (λ none. leaving_made h reserves left answer.NotHeld done [] after none)

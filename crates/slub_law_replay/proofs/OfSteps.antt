@@ -25,7 +25,7 @@ use Rattle.slub_core.specs.Run.{System, Pick, run, turn}
 use Rattle.slub_core.specs.World.{LockValue, World, word_in, world_from, world_of}
 use Rattle.slub_core.specs.Opening.{IsOpening}
 use Rattle.slub_core.proofs.Opens.{rounds_keep}
-use Rattle.slub_schedule.specs.Rounds.{Ends}
+use Rattle.slub_schedule.specs.Rounds.{EndsRound}
 use Rattle.slub_schedule.specs.Schedule.{AreDrawn, IsCall}
 use Rattle.slub_law_opening.specs.Closing.{Closes, HasLengths}
 use Rattle.slub_law_opening.specs.Laws.{MayOpen}
@@ -82,7 +82,7 @@ in-order-ends way round m first picks last ends = record {
   in_order = λ in_text. ends.in_order;
 }
 
-drawn-ends : (seed number : ℕ) (round : Round) → IsOfSeveral round → (m : Setup) (first : System) (picks : List Pick) (last : System) → Ends m number first picks last → EndsBy (Schedule seed) round m first picks last
+drawn-ends : (seed number : ℕ) (round : Round) → IsOfSeveral round → (m : Setup) (first : System) (picks : List Pick) (last : System) → EndsRound m number first picks last → EndsBy (Schedule seed) round m first picks last
 drawn-ends seed number round several m first picks last ends = record {
   finishes = record { calls = calls-drawn m first number picks ends.drawn; run = ends.run; finished = ends.finished };
   in_order = λ in_text. absurd (let never : ⊥ = omega (arith, several, in_text) in never);
@@ -421,7 +421,7 @@ pub steps-by : (way : Way) (rounds : ℕ) (s : State) (ids : Option (List ℕ)) 
 steps-by Serial rounds s ids trace round result after left coherent rest objects may_do few does memory = text-steps Serial s ids trace round result after left coherent rest objects may_do few (memory tt) does
 steps-by (Schedule seed) rounds s ids trace round result after left coherent rest objects may_do few (inl (one, does)) memory = text-steps (Schedule seed) s ids trace round result after left coherent rest objects may_do few (memory one) does
 steps-by (Schedule seed) rounds s ids trace round result after left coherent rest objects may_do few (inr (several, does)) memory =
-    by-steps (Schedule seed) (λ m first picks last. Ends m (seed_after seed rounds) first picks last) s ids trace round result after does.0 left coherent rest may_do (drawn-ends seed (seed_after seed rounds) round several) does.1 does.2
+    by-steps (Schedule seed) (λ m first picks last. EndsRound m (seed_after seed rounds) first picks last) s ids trace round result after does.0 left coherent rest may_do (drawn-ends seed (seed_after seed rounds) round several) does.1 does.2
 steps-by Threads rounds s ids trace round result after left coherent rest objects may_do few (inl (one, does)) memory = text-steps Threads s ids trace round result after left coherent rest objects may_do few (memory one) does
 steps-by Threads rounds s ids trace round result after left coherent rest objects may_do few (inr (several, does)) memory =
     by-steps Threads Finishes s ids trace round result after does.0 left coherent rest may_do (threads-end round several) does.1 does.2

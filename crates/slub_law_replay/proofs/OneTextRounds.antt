@@ -7,7 +7,7 @@ use Rattle.slub_trace.specs.declared.reply.Reply.{Reply}
 use Rattle.slub_lists.specs.State.{State}
 use Rattle.slub_core.specs.Run.{System, Pick, run}
 use Rattle.slub_core.specs.Setup.{Setup}
-use Rattle.slub_schedule.specs.Rounds.{Ends, IsFinishedSystem}
+use Rattle.slub_schedule.specs.Rounds.{EndsRound, IsFinishedSystem}
 use Rattle.slub_law_opening.specs.Opening.{Beside, setup_of}
 use Rattle.slub_slabinfo_text.specs.declared.journal.RoundResult.{RoundResult}
 use Rattle.slub_slabinfo_text.specs.Lawful.{AreLedgers, DoesRound}
@@ -46,13 +46,13 @@ are-one Ending s ids round one other t u those these does again same =
 -- ---- by a seed
 
 abbrev EndsBy : ℕ → Setup → System → List Pick → System → Type 0
-EndsBy seed m first picks last = Ends m seed first picks last
+EndsBy seed m first picks last = EndsRound m seed first picks last
 
 pub seeds-one : RoundsBySeedHaveOneOutcome
 seeds-one s ids seed round one other left right kept later memory also does again =
     let beside = beside-one (EndsBy seed) s ids round one other left right kept later does again in
-    let ends : Ends (setup_of s again.beside) seed (system_begun s again.beside round) does.picks does.last =
-    subst (λ (b : Beside). Ends (setup_of s b) seed (system_begun s b round) does.picks does.last) beside does.ends in
+    let ends : EndsRound (setup_of s again.beside) seed (system_begun s again.beside round) does.picks does.last =
+    subst (λ (b : Beside). EndsRound (setup_of s b) seed (system_begun s b round) does.picks does.last) beside does.ends in
     let last = drawn-end (setup_of s again.beside) seed (system_begun s again.beside round) does.picks again.picks does.last again.last ends again.ends
     (all-had round.events one.replies does.last does.replies memory) (all-had round.events other.replies again.last again.replies also) in
     are-one (EndsBy seed) s ids round one other left right kept later does again (one-round (EndsBy seed) s ids round one other left right kept later does again last)

@@ -37,7 +37,7 @@ use Rattle.slub_core.proofs.Turns.{run_both}
 use Rattle.slub_core.proofs.Opens.{opens}
 use Rattle.slub_core.proofs.RoundEnds.{rounds_end}
 use Rattle.slub_schedule.specs.Finished.{IsQuiet, empty_handed}
-use Rattle.slub_schedule.specs.Rounds.{Ends, IsFinishedSystem}
+use Rattle.slub_schedule.specs.Rounds.{EndsRound, IsFinishedSystem}
 use Rattle.slub_schedule.proofs.Finished.{Counted, all_workers, finished_well}
 use Rattle.slub_law_opening.specs.Opening.{IsLaidDown, board_word, node_value, setup_of, value_of}
 use Rattle.slub_law_opening.specs.Closing.{Closes}
@@ -167,7 +167,7 @@ module _ (told : List Answered) (s : State) (trace : Trace) (round : Round) (res
 
   -- ---- the end
 
-  ends : core_law.IsRound (setup_of s ran.beside) opening w (map (λ (l : Local). l.todo) first_workers) (map (λ (l : Local). l.done) last.locals)
+  ends : core_law.IsRoundOnWords (setup_of s ran.beside) opening w (map (λ (l : Local). l.todo) first_workers) (map (λ (l : Local). l.done) last.locals)
   ends = rounds_end (setup_of s ran.beside) first ran.picks is-open.1 ran.finished
 
   quiet : IsQuiet (setup_of s ran.beside) opening last × Counted opening w last.locals
@@ -349,7 +349,7 @@ steps-told told Ending runs s ids trace round result after left coherent down ma
 -- in turns that a seed draws, by threads, and in the order of the text
 pub seed-told : (told : List Answered) (s : State) (ids : List ℕ) (seed : ℕ) (trace : Trace) (round : Round) (result : RoundResult) (after : State) (left : List ℕ) → IsCoherent s → IsLaidDown s → MayDo s trace round → IsTold told s
     → DoesRoundBySeed s ids seed round result after left → TellsPoked told round result after
-seed-told told s ids seed trace round = steps-told told (λ m first picks last. Ends m seed first picks last) (λ m first picks last ends. (ends.run, ends.finished)) s ids trace round
+seed-told told s ids seed trace round = steps-told told (λ m first picks last. EndsRound m seed first picks last) (λ m first picks last ends. (ends.run, ends.finished)) s ids trace round
 
 pub threads-told : (told : List Answered) (s : State) (ids : List ℕ) (trace : Trace) (round : Round) (result : RoundResult) (after : State) (left : List ℕ) → IsCoherent s → IsLaidDown s → MayDo s trace round → IsTold told s
     → DoesRoundByThreads s ids round result after left → TellsPoked told round result after

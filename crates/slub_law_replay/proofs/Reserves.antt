@@ -20,7 +20,7 @@ use Rattle.slub_slabinfo_text.specs.declared.client.ClientRound.{ClientRound}
 use Rattle.slub_slabinfo_text.specs.Asked.{Tells}
 use Rattle.slub_rounds.specs.Heap.{HeapState}
 use Rattle.slub_rounds.specs.Asked.{AnswersAtOnce}
-use Rattle.slub_rounds.specs.Reserves.{AnswersLeaving, Asks, Fills, Gets, Lends, Makes, Pops, Puts, PutsBack, Refills, Reserve, ServesKept, ServesMempool, ServesMget, ServesMput, ServesReserves, TakesOne, TellsFree, fresh_reserve, has_number, is_of_cache, kept_in, place_of, reserve_at, reserves_max, with_numbers}
+use Rattle.slub_rounds.specs.Reserves.{AnswersLeaving, Asks, Fills, Gets, Lends, Makes, Pops, Puts, PutsBack, Refills, Reserve, ServesKept, ServesMempool, ServesMget, ServesMput, ServesReserves, TakesOne, TellsFree, fresh_reserve, has_number, is_of_cache, kept_in, place_of_reserve, reserve_at, reserves_max, with_numbers}
 use Rattle.slub_law_replay.proofs.Asked.{ServesOne, asked-one, at-once-one, bool-one, one-reply, option-one, same-done, tells-one}
 use Rattle.slub_law_replay.proofs.BulkLines.{takes-all-one}
 
@@ -58,7 +58,7 @@ MayFill h reserves fresh done both = MatchBool (nat_le reserves_max (length rese
 
 mempool-one : (h : HeapState) (reserves : List Reserve) (fresh : Reserve) → ServesOne Left (Leaves (ServesMempool h reserves fresh))
 mempool-one h reserves fresh =
-    option-one ℕ Left (place_of reserves fresh.name) (MayFill h reserves fresh) (λ at. Leaves (AnswersLeaving h reserves answer.Taken))
+    option-one ℕ Left (place_of_reserve reserves fresh.name) (MayFill h reserves fresh) (λ at. Leaves (AnswersLeaving h reserves answer.Taken))
     (bool-one Left (nat_le reserves_max (length reserves)) (Leaves (AnswersLeaving h reserves answer.TooMany)) (Leaves (Fills h reserves fresh)) (leaving-one h reserves answer.TooMany) (fills-one h reserves fresh))
     (λ at. leaving-one h reserves answer.Taken)
 
@@ -114,7 +114,7 @@ asks-one h reserves at cpu object one other left right does again =
 
 mget-one : (h : HeapState) (reserves : List Reserve) (cpu : ℕ) (pool : List ℕ) (object : ℕ) → ServesOne Left (Leaves (ServesMget h reserves cpu pool object))
 mget-one h reserves cpu pool object =
-    option-one ℕ Left (place_of reserves pool) (Leaves (AnswersLeaving h reserves answer.NoPool)) (λ at. Leaves (Asks h reserves at cpu object)) (leaving-one h reserves answer.NoPool) (λ at. asks-one h reserves at cpu object)
+    option-one ℕ Left (place_of_reserve reserves pool) (Leaves (AnswersLeaving h reserves answer.NoPool)) (λ at. Leaves (Asks h reserves at cpu object)) (leaving-one h reserves answer.NoPool) (λ at. asks-one h reserves at cpu object)
 
 -- ---- `mput`
 
@@ -163,7 +163,7 @@ PutsHeld h reserves cpu object at done both =
 
 mput-one : (h : HeapState) (reserves : List Reserve) (cpu : ℕ) (pool : List ℕ) (object : ℕ) → ServesOne Left (Leaves (ServesMput h reserves cpu pool object))
 mput-one h reserves cpu pool object =
-    option-one ℕ Left (place_of reserves pool) (Leaves (AnswersLeaving h reserves answer.NoPool)) (PutsHeld h reserves cpu object) (leaving-one h reserves answer.NoPool)
+    option-one ℕ Left (place_of_reserve reserves pool) (Leaves (AnswersLeaving h reserves answer.NoPool)) (PutsHeld h reserves cpu object) (leaving-one h reserves answer.NoPool)
     (λ at. option-one Held Left (held_under h.lists object) (Leaves (AnswersLeaving h reserves answer.NotHeld)) (λ held. Leaves (Puts h reserves at cpu object held.cache)) (leaving-one h reserves answer.NotHeld)
     (λ held. puts-one h reserves at cpu object held.cache))
 

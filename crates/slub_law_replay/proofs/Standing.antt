@@ -24,7 +24,7 @@ use Rattle.slub_slabinfo_text.specs.declared.client.ClientDone.{ClientDone}
 use Rattle.slub_slabinfo_text.specs.declared.client.ClientRound.{ClientRound}
 use Rattle.slub_slabinfo_text.specs.Lawful.{DoesPlain, IsAtRest}
 use Rattle.slub_law_rounds.specs.Answered.{times_given}
-use Rattle.slub_law_rounds.specs.Round.{Fits, IsRound}
+use Rattle.slub_law_rounds.specs.Round.{RoundFits, IsRound}
 use Rattle.slub_law_rounds.proofs.Times.{events_given}
 use Rattle.slub_rounds.specs.Heap.{DoesRoundOf, HeapState}
 use Rattle.slub_rounds.proofs.TextLawful.{text-lawful}
@@ -123,7 +123,7 @@ module _ (s : State) (trace : Trace) (round : Round) (coming : List ℕ) (stands
   own-distinct = distinct-of (objects_of round.events) (λ x. omega (arith, stands.once x, split x))
 
   -- the round fits the machine
-  pub stands-fit : Fits s round
+  pub stands-fit : RoundFits s round
   stands-fit = record {
     within = λ k d inside. omega (arith, stands.within (get_or (objects_of round.events) k d) (own-comes k d inside), stands.objects);
     unheld = own-unheld;

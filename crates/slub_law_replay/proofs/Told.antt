@@ -19,6 +19,7 @@ use Rattle.slub_core.specs.declared.call.Call.{Call}
 use Rattle.slub_core.specs.declared.call.CallKind.TheVariants as kind
 use Rattle.slub_core.specs.declared.local.Known.{Known}
 use Rattle.slub_core.specs.declared.local.Answered.{Answered as Done}
+use Rattle.slub_core.specs.Calls.{call_kind, call_object, call_offset, call_byte}
 use Rattle.slub_core.specs.Local.{Local}
 use Rattle.slub_core.specs.World.{World}
 use Rattle.slub_core.specs.Replies as core
@@ -28,7 +29,7 @@ use Rattle.slub_calls.specs.Calls.{call_for, events_by, rooms_for}
 use Rattle.slub_slabinfo_text.specs.Lawful.{is_by}
 use Rattle.slub_law_rounds.specs.Answered.{Answered, IsAfter, of_worker}
 use Rattle.slub_law_rounds.specs.Pokes.{IsPokedFree, WasPoked}
-use Rattle.slub_law_rounds.specs.Round.{Cause, FreeCause, HaveCauses, Spot, spot_by}
+use Rattle.slub_law_rounds.specs.Round.{ReplyCause, FreeCause, HaveCauses, Spot, spot_by}
 use Rattle.slub_law_rounds.proofs.Poked.{IsTold, poked-later}
 use Rattle.slub_calls.specs.Replies.{AreReplies}
 use Rattle.slub_law_rounds.specs.Contents as contents
@@ -96,14 +97,14 @@ first-met : (table : Table) (own more : List Answered) → All (IsMet table) (ow
 first-met table [] more met = All-nil (IsMet table)
 first-met table (x ∷ own) more met = All-cons (IsMet table) x own (All-head (IsMet table) x (own ++ more) met) (first-met table own more (All-tail (IsMet table) x (own ++ more) met))
 
-poke-asks : (table : Table) (rooms : List Known) (a : Act) (cpu : ℕ) (c : Call) → call_for table rooms cpu a ≡ c → c.kind ≡ kind.Poke → a ≡ Poke c.object c.offset c.byte
-poke-asks table rooms (Poke x offset byte) cpu c is poke = λ i. Poke (is i).object (is i).offset (is i).byte
-poke-asks table rooms (Alloc p x) cpu c is poke = absurd (let e = ap (λ (c : Call). c.kind) is ∙ poke in cc)
-poke-asks table rooms (Free x) cpu c is poke = absurd (let e = ap (λ (c : Call). c.kind) is ∙ poke in cc)
-poke-asks table rooms (Write at x value) cpu c is poke = absurd (let e = ap (λ (c : Call). c.kind) is ∙ poke in cc)
-poke-asks table rooms (Read at x) cpu c is poke = absurd (let e = ap (λ (c : Call). c.kind) is ∙ poke in cc)
-poke-asks table rooms (Trim p) cpu c is poke = absurd (let e = ap (λ (c : Call). c.kind) is ∙ poke in cc)
-poke-asks table rooms Flush cpu c is poke = absurd (let e = ap (λ (c : Call). c.kind) is ∙ poke in cc)
+poke-asks : (table : Table) (rooms : List Known) (a : Act) (cpu : ℕ) (c : Call) → call_for table rooms cpu a ≡ c → call_kind c ≡ kind.Poke → a ≡ Poke (call_object c) (call_offset c) (call_byte c)
+poke-asks table rooms (Poke x offset byte) cpu c is poke = λ i. Poke (call_object (is i)) (call_offset (is i)) (call_byte (is i))
+poke-asks table rooms (Alloc p x) cpu c is poke = absurd (let e = ap (λ (c : Call). call_kind c) is ∙ poke in cc)
+poke-asks table rooms (Free x) cpu c is poke = absurd (let e = ap (λ (c : Call). call_kind c) is ∙ poke in cc)
+poke-asks table rooms (Write at x value) cpu c is poke = absurd (let e = ap (λ (c : Call). call_kind c) is ∙ poke in cc)
+poke-asks table rooms (Read at x) cpu c is poke = absurd (let e = ap (λ (c : Call). call_kind c) is ∙ poke in cc)
+poke-asks table rooms (Trim p) cpu c is poke = absurd (let e = ap (λ (c : Call). call_kind c) is ∙ poke in cc)
+poke-asks table rooms Flush cpu c is poke = absurd (let e = ap (λ (c : Call). call_kind c) is ∙ poke in cc)
 
 -- ---- a round that has ended
 
@@ -137,15 +138,15 @@ module _ (told : List Answered) (s : State) (b : Beside) (round : Round) (replie
       let default : get_or dones k [] ≡ get_or dones k (was.later ++ was.one ∷ was.own) = get_or_default dones k [] (was.later ++ was.one ∷ was.own) was.there.1 in
       let it = among s.table (rooms k) (of_worker k answers) was.later was.one was.own (sym (done-at s b round replies opening w ls lists ended are within below coherent k inside) ∙ default ∙ was.there.2) in
       let met = first-met s.table it.front (it.one ∷ it.more) (subst (All (IsMet s.table)) it.split (met-by s b round replies opening w ls lists ended are within below coherent k)) in
-      let o = was.one.call.object in
+      let o = call_object was.one.call in
       let spot : spot_by s o it.front ≡ Some (record { cache = cache; address = was.address }) =
       spot-is k it.front o cache was.address met (ap (λ ds. core.cache_by opening.board ds o) it.before ∙ was.of) (ap (λ ds. core.address_by (setup_of s b) opening.board ds o) it.before ∙ was.object) in
       record {
         one = it.one;
         there = Contains-append_right told answers it.one (worker-there k answers it.one (subst (λ (own : List Answered). Contains own it.one) (sym it.split) (Contains-append_right it.front (it.one ∷ it.more) it.one (0, omega arith, refl))));
         object = o;
-        offset = was.one.call.offset;
-        asks = poke-asks s.table (rooms k) it.one.0.act it.one.0.cpu was.one.call (ap (λ (d : Done). d.call) it.is) was.asks ∙ ap (λ y. Poke o was.one.call.offset y) was.puts;
+        offset = call_offset was.one.call;
+        asks = poke-asks s.table (rooms k) it.one.0.act it.one.0.cpu was.one.call (ap (λ (d : Done). d.call) it.is) was.asks ∙ ap (λ y. Poke o (call_offset was.one.call) y) was.puts;
         done = ap (λ (d : Done). d.reply) it.is ∙ was.done;
         address = was.address;
         given = spot-given told s answers o it.front (record { cache = cache; address = was.address }) coherent is_told
@@ -178,10 +179,10 @@ module _ (told : List Answered) (s : State) (b : Beside) (round : Round) (replie
       let mine = (found-first worker after.later (call_told s.table (rooms worker) one ∷ ds) there).0 in
       let found : IsFound put (setup_of s b) opening.board ds c damage = subst (λ r. Finds put (setup_of s b) opening.board ds c r) tells mine in
       let met = first-met s.table own (one ∷ after.later) (subst (All (IsMet s.table)) after.split (met-by s b round replies opening w ls lists ended are within below coherent worker)) in
-      let same_object : c.object ≡ object = ap (λ a. (call_for s.table (rooms worker) one.0.cpu a).object) asks in
+      let same_object : call_object c ≡ object = ap (λ a. call_object (call_for s.table (rooms worker) one.0.cpu a)) asks in
       let spot : spot_by s object own ≡ Some (record { cache = found.cache; address = found.address }) =
-      subst (λ o. spot_by s o own ≡ Some (record { cache = found.cache; address = found.address })) same_object (spot-is worker own c.object found.cache found.address met found.of found.object) in
-      let cause : FreeCause s answers own object (reply.Corrupt damage) = subst (λ r. Cause s answers own (Free object) r) tells (subst (λ a. Cause s answers own a one.1) asks (causes worker own one after)) in
+      subst (λ o. spot_by s o own ≡ Some (record { cache = found.cache; address = found.address })) same_object (spot-is worker own (call_object c) found.cache found.address met found.of found.object) in
+      let cause : FreeCause s answers own object (reply.Corrupt damage) = subst (λ r. ReplyCause s answers own (Free object) r) tells (subst (λ a. ReplyCause s answers own a one.1) asks (causes worker own one after)) in
       let checked : IsSome (checked_of s found.cache) = subst (λ x. MatchOption x ⊥ (λ (spot : Spot). IsSome (checked_of s spot.cache))) spot cause.1 in (
         found.address,
         spot-given told s answers object own (record { cache = found.cache; address = found.address }) coherent is_told

@@ -18,6 +18,7 @@ use Rattle.slub_core.specs.declared.local.Answered.{Answered}
 use Rattle.slub_core.specs.declared.spot.Spot.{Spot}
 use Rattle.slub_core.specs.declared.spot.Spot.TheVariants.{Between, InChecked}
 use Rattle.slub_core.specs.declared.spot.CheckedSpot.TheVariants.{DoChecked, AddSlab}
+use Rattle.slub_core.specs.Calls.{call_kind, call_place}
 use Rattle.slub_core.specs.Setup.{Setup, node_lock}
 use Rattle.slub_core.specs.Words.{word_count, number_of, after_op, answer_of}
 use Rattle.slub_core.specs.World.{World, LockValue, Checked, world_from, world_of}
@@ -190,9 +191,9 @@ module _ (said : ℕ → ℤ → ℕ → Type 0) where
   rests : (m : Setup) (opening : World) (rest : List (List Answered)) (value : ℕ → LockValue) (calls : List Call) (l : Local) → HasAt said m opening rest value l → HasAt said m opening rest value (rested_with m calls l)
   rests m opening rest value [] l has = has
   rests m opening rest value (call ∷ calls) l has =
-      or-has (HasAt said m opening rest value) l (λ reply. rested_with m calls (answered l reply)) (told_at_once m (get_or l.known call.place nobody) call call.kind) has
+      or-has (HasAt said m opening rest value) l (λ reply. rested_with m calls (answered l reply)) (told_at_once m (get_or l.known (call_place call) nobody) call (call_kind call)) has
       (λ reply is. rests m opening rest value calls (answered l reply)
-      (noted-has m opening rest value value l l (Some reply) refl refl (mild-none (Some reply) (subst MildReply is (rest-mild m (get_or l.known call.place nobody) call call.kind))) (no-goes m opening value) has))
+      (noted-has m opening rest value value l l (Some reply) refl refl (mild-none (Some reply) (subst MildReply is (rest-mild m (get_or l.known (call_place call) nobody) call (call_kind call)))) (no-goes m opening value) has))
 
   rests-at : (m : Setup) (opening : World) (rest : List (List Answered)) (value : ℕ → LockValue) (l : Local) (spot : Spot) → HasAt said m opening rest value l → HasAt said m opening rest value (rested_at m l spot)
   rests-at m opening rest value l Between has = rests m opening rest value l.todo l has
@@ -280,9 +281,9 @@ module _ (said : ℕ → ℤ → ℕ → Type 0) where
   found-rested : (m : Setup) (opening : World) (dones : List (List Answered)) (calls : List Call) (l : Local) → AreFound (Put said m opening dones) m opening.board l.done → AreFound (Put said m opening dones) m opening.board (rested_with m calls l).done
   found-rested m opening dones [] l told = told
   found-rested m opening dones (call ∷ calls) l told =
-      or-has (λ l. AreFound (Put said m opening dones) m opening.board l.done) l (λ reply. rested_with m calls (answered l reply)) (told_at_once m (get_or l.known call.place nobody) call call.kind) told
+      or-has (λ l. AreFound (Put said m opening dones) m opening.board l.done) l (λ reply. rested_with m calls (answered l reply)) (told_at_once m (get_or l.known (call_place call) nobody) call (call_kind call)) told
       (λ reply is. found-rested m opening dones calls (answered l reply)
-      (none-finds (Put said m opening dones) m opening.board l.done (call_of l) reply (mild-none (Some reply) (subst MildReply is (rest-mild m (get_or l.known call.place nobody) call call.kind))), told))
+      (none-finds (Put said m opening dones) m opening.board l.done (call_of l) reply (mild-none (Some reply) (subst MildReply is (rest-mild m (get_or l.known (call_place call) nobody) call (call_kind call)))), told))
 
   found-new : (m : Setup) (opening : World) (dones : List (List Answered)) (l : Local) (spot : Spot) → l.done ≡ [] → AreFound (Put said m opening dones) m opening.board (rested_at m l spot).done
   found-new m opening dones l Between none = found-rested m opening dones l.todo l (rw none tt)

@@ -44,6 +44,7 @@ use Rattle.slub_core.specs.declared.spot.TrimSpot.{TrimSpot}
 use Rattle.slub_core.specs.declared.spot.TrimSpot.TheVariants.{LockTrim, LoadScanned, GiveTrim, ScanNode, DropScanned}
 use Rattle.slub_core.specs.declared.spot.CheckedSpot.{CheckedSpot}
 use Rattle.slub_core.specs.declared.spot.CheckedSpot.TheVariants.{LockChecked, LockRun, GiveRun, GiveChecked, DoChecked, MoveRun, AddSlab}
+use Rattle.slub_core.specs.Calls.{call_cache, call_word}
 use Rattle.slub_core.specs.Setup.{Setup, pool_lock}
 use Rattle.slub_core.specs.Words.{cpu_in, board_in, list_in}
 use Rattle.slub_core.specs.World.{LockValue, pool_in}
@@ -239,8 +240,8 @@ turn-wants m value l s a = tt
 
 -- ---- replies that take no step
 
-use-wants : (s : Spot) (m : Setup) (known : Known) (call : Call) → WantsNone s (told_of_use m known call)
-use-wants s m known call = by (not known.held) (is_outside (m.layout known.cache) call)
+use-wants : (s : Spot) (m : Setup) (known : Known) (call : Call) → WantsNone s (told_of_use m known (call_word call))
+use-wants s m known call = by (not known.held) (is_outside (m.layout known.cache) (call_word call))
   where
     by : (a b : Bool) → WantsNone s (if a then Some reply.NotHeld else if b then Some reply.OutOfObject else None)
     by true b = tt
@@ -248,7 +249,7 @@ use-wants s m known call = by (not known.held) (is_outside (m.layout known.cache
     by false false = tt
 
 pub rest-wants : (s : Spot) (m : Setup) (known : Known) (call : Call) (kind : CallKind) → WantsNone s (told_at_once m known call kind)
-rest-wants s m known call Alloc = by call.cache
+rest-wants s m known call Alloc = by (call_cache call)
   where
     by : (cache : Option ℕ) → WantsNone s (told_of_alloc cache)
     by None = tt
@@ -262,7 +263,7 @@ rest-wants s m known call Poke = by (eqb known.frame 0) (not (m.checks known.cac
     by true b = tt
     by false true = tt
     by false false = tt
-rest-wants s m known call Trim = by call.cache
+rest-wants s m known call Trim = by (call_cache call)
   where
     checked : (b : Bool) → WantsNone s (if b then Some reply.Checked else None)
     checked true = tt
@@ -279,10 +280,11 @@ rest-wants s m known call Flush = by (eqb (length m.plain) 0)
 
 -- ---- what is done at once
 
--- the spots at which a run of frames is looked for
+-- the spots at which a run of frames is looked for, or the object of a poke
 abbrev pub is_wanting : Spot → Bool
 is_wanting (InAlloc TakeRun) = true
 is_wanting (InChecked MoveRun Alloc) = true
+is_wanting (InChecked DoChecked Poke) = true
 is_wanting _ = false
 
 pop-wants : (s : Spot) (m : Setup) (value : ℕ → LockValue) (l : Local) (frames : List ℕ) → WantsNone s (pop_node m value l frames).reply
@@ -325,6 +327,10 @@ do-wants s m value l Flush slabs = tt
 add-wants : (s : Spot) (m : Setup) (refused : Bool) (value : ℕ → LockValue) (l : Local) (kind : CallKind) → WantsNone s (checked_at_once m refused value l AddSlab kind).reply
 add-wants s m true value l kind = tt
 add-wants s m false value l kind = tt
+
+-- what a poke is answered
+pub poke-wants : (m : Setup) (value : ℕ → LockValue) (l : Local) (slabs : CheckedState) → WantsNone (InChecked DoChecked Poke) (do_checked m value l Poke slabs).reply
+poke-wants m value l slabs = poked-wants (InChecked DoChecked Poke) _ _
 
 pub once-wants : (m : Setup) (refused : Bool) (value : ℕ → LockValue) (l : Local) (s : Spot) → is_wanting s ≡ false → WantsNone s (at_once m refused value l s).reply
 once-wants m refused value l (InAlloc PopNode) is = pop-wants (InAlloc PopNode) m value l (node_of value l)
@@ -405,7 +411,7 @@ add-leads : (m : Setup) (refused : Bool) (value : ℕ → LockValue) (l : Local)
 add-leads m true value l kind = refl
 add-leads m false value l kind = refl
 
--- no run is looked for next
+-- nothing is looked for next
 pub once-leads : (m : Setup) (refused : Bool) (value : ℕ → LockValue) (l : Local) (s : Spot) → l.spot ≡ s → is_wanting (at_once m refused value l s).local.spot ≡ false
 once-leads m refused value l (InAlloc PopNode) is = pop-leads m value l (node_of value l)
 once-leads m refused value l (InAlloc TakeRun) is =

@@ -5,11 +5,11 @@ use Rattle.std.proofs.lemmas.List.Elements.{All-get_or, All-map, All-set}
 use Rattle.slub_trace.specs.declared.reply.Reply.{Reply}
 use Rattle.slub_trace.specs.declared.reply.Reply.TheVariants as reply
 use Rattle.slub_core.specs.declared.call.Call.{Call}
-use Rattle.slub_core.specs.declared.call.CallKind.TheVariants.{Alloc}
+use Rattle.slub_core.specs.declared.call.CallKind.TheVariants.{Alloc, Poke}
 use Rattle.slub_core.specs.declared.local.Answered.{Answered}
 use Rattle.slub_core.specs.declared.spot.Spot.{Spot}
 use Rattle.slub_core.specs.declared.spot.Spot.TheVariants.{Between, InAlloc, InChecked}
-use Rattle.slub_core.specs.declared.spot.CheckedSpot.TheVariants.{MoveRun}
+use Rattle.slub_core.specs.declared.spot.CheckedSpot.TheVariants.{DoChecked, MoveRun}
 use Rattle.slub_core.specs.Setup.{Setup}
 use Rattle.slub_core.specs.Words.{word_count, number_of, after_op, answer_of}
 use Rattle.slub_core.specs.World.{World, LockValue, world_from, world_of}
@@ -37,12 +37,13 @@ use Rattle.slub_law_rounds.proofs.Acts.{at-work, one-more}
 use Rattle.std.proofs.lemmas.List.Elements.{All-cons, All-nil}
 use Rattle.slub_page_pool.specs.Block.{HasNoBlock}
 use Rattle.slub_core.specs.declared.spot.AllocSpot.TheVariants.{TakeRun}
+use Rattle.slub_core.specs.Calls.{call_kind, call_cache, call_place}
 use Rattle.slub_core.specs.Setup.{pool_lock}
 use Rattle.slub_core.specs.World.{pool_in}
 use Rattle.slub_core.specs.Alloc.{found_run, way_of_run}
-use Rattle.slub_core.specs.Checked.{way_of_found}
+use Rattle.slub_core.specs.Checked.{slabs_of, way_of_found}
 use Rattle.slub_core.proofs.PoolSpots.{the-pool}
-use Rattle.slub_law_replay.proofs.WantReplies.{WantsNone, is_wanting, none-block, noted-spot, once-leads, once-wants, rest-wants, run-wants, turn-wants}
+use Rattle.slub_law_replay.proofs.WantReplies.{WantsNone, is_wanting, none-block, noted-spot, once-leads, once-wants, poke-wants, rest-wants, run-wants, turn-wants}
 
 module _ (m : Setup) (seen : (ℕ → LockValue) → Type 0) where
   -- a call that was answered so, of this cache: no block was free at such a moment
@@ -52,7 +53,7 @@ module _ (m : Setup) (seen : (ℕ → LockValue) → Type 0) where
     pub none : HasNoBlock (pool_in (value pool_lock)).free (m.layout k).min_order
 
   abbrev pub IsWant : Answered → Type 0
-  IsWant d = d.reply ≡ reply.NoFrames → (k : ℕ) × (d.call.cache ≡ Some k) × Lacked k
+  IsWant d = d.reply ≡ reply.NoFrames → (k : ℕ) × (call_cache d.call ≡ Some k) × Lacked k
 
   abbrev pub AreWants : List Answered → Type 0
   AreWants ds = All IsWant ds
@@ -102,6 +103,8 @@ module _ (m : Setup) (seen : (ℕ → LockValue) → Type 0) where
       let found = found_run w.setup (pool_in (w.value pool_lock)) (w.setup.layout x.local.cache) in
       lacked opening w x others of s ac (there refl) (rw is refl) (ok.spot.checked (rw is refl)).1
       (run-wants w.value (pool_in (w.value pool_lock)) (w.setup.layout x.local.cache) (record x.local { spot = way_of_found found }) found (reply_is ∙ ap (λ (t : Reply). Some t) unmet)) told unmet
+  once-at (InChecked DoChecked Poke) opening w refused x others of is s ac there told reply_is unmet =
+      other-want (InChecked DoChecked Poke) (at_once w.setup refused w.value x.local (InChecked DoChecked Poke)).reply told x.local (poke-wants w.setup w.value x.local (slabs_of w.setup w.value x.local)) reply_is unmet
   once-at spot opening w refused x others of is s ac there told reply_is unmet = other-want spot (at_once w.setup refused w.value x.local spot).reply told x.local (once-wants w.setup refused w.value x.local spot refl) reply_is unmet
 
   once : (opening w : World) (refused : Bool) (others : List Worker) (l : Local) → w.setup ≡ m → Comes opening w others l → (is_wanting l.spot ≡ true → seen w.value) → AreWants l.done → let c = at_once w.setup refused w.value l l.spot in AreWants (noted c.local c.reply).done
@@ -122,9 +125,9 @@ module _ (m : Setup) (seen : (ℕ → LockValue) → Type 0) where
   rests : (calls : List Call) (l : Local) → AreWants l.done → AreWants (rested_with m calls l).done
   rests [] l has = has
   rests (call ∷ calls) l has =
-      or-has (λ n. AreWants n.done) l (λ told. rested_with m calls (answered l told)) (told_at_once m (get_or l.known call.place nobody) call call.kind) has
+      or-has (λ n. AreWants n.done) l (λ told. rested_with m calls (answered l told)) (told_at_once m (get_or l.known (call_place call) nobody) call (call_kind call)) has
       (λ told is. rests calls (answered l told)
-      (All-cons IsWant (one-more l told) l.done (other-want Between (told_at_once m (get_or l.known call.place nobody) call call.kind) told l (rest-wants Between m (get_or l.known call.place nobody) call call.kind) is) has))
+      (All-cons IsWant (one-more l told) l.done (other-want Between (told_at_once m (get_or l.known (call_place call) nobody) call (call_kind call)) told l (rest-wants Between m (get_or l.known (call_place call) nobody) call (call_kind call)) is) has))
 
   rests-at : (l : Local) (spot : Spot) → AreWants l.done → AreWants (rested_at m l spot).done
   rests-at l Between has = rests l.todo l has

@@ -1,9 +1,12 @@
 -- More of why events are answered so, in a round whose workers make atomic steps: each answer of a
--- poke, transaction ids that were found spent, and want of frames.
+-- poke, transaction ids that were found spent, want of frames, and of the slab of a poke's object.
 use Rattle.std.specs.Prelude.{◌≡◌, ℕ, ◌+◌, ◌*◌, ◌^◌, ◌≤◌, ◌||◌, ◌++◌, Bool, true, false, List, Some, None, MatchOption, ⊤, ℤ}
 use Rattle.std.specs.List.{fold}
 use Rattle.std.specs.Option.{option_and_then, option_map_or}
 use Rattle.slub_page_pool.specs.Block.{HasNoBlock}
+use Rattle.slub_object_layout.specs.Layout.{address_of}
+use Rattle.slub_red_zone.specs.declared.checked.Slot.{Slot}
+use Rattle.slub_red_zone.specs.State.{CheckedState, IsUsed, state_of}
 use Rattle.slub_trace.specs.declared.event.Act.{Act}
 use Rattle.slub_trace.specs.declared.event.Act.TheVariants.{Alloc, Poke}
 use Rattle.slub_trace.specs.declared.event.Round.{Round}
@@ -19,7 +22,8 @@ use Rattle.slub_core.specs.Run.{Pick, run}
 use Rattle.slub_law_opening.specs.Opening.{Beside, setup_of}
 use Rattle.slub_open_close.specs.Ids.{IsStepOf, id_at}
 use Rattle.slub_law_rounds.specs.Answered.{Answered, IsAfter, did_free, found_bad, gave, holding}
-use Rattle.slub_law_rounds.specs.Round.{IsOfChecked, layout_of, spot_by}
+use Rattle.slub_law_rounds.specs.Contents.{slabs_at}
+use Rattle.slub_law_rounds.specs.Round.{IsOfChecked, Spot, layout_of, spot_by}
 use Rattle.slub_rounds.specs.Rounds.{system_begun}
 
 -- ---- what a worker knows
@@ -51,7 +55,7 @@ in_slot before object own offset =
 -- knows, of a checked cache, exactly as the byte lies. It answers that the object isn't checked of
 -- one that the worker knows, of another cache. It answers that the object isn't held where the
 -- worker doesn't hold it; and where the worker knows it, which it has freed, it is one of a checked
--- cache and the byte lies in the slot (that its slab is gone isn't said)
+-- cache and the byte lies in the slot (that its slab is gone is said below)
 abbrev pub IsPokeAnswer : State → List Answered → ℕ → ℤ → Reply → Type 0
 IsPokeAnswer before own object offset reply.Poked =
     (knowing object own ≡ true) × IsOfChecked before object own
@@ -91,7 +95,7 @@ HaveRightCauses before ids answers =
     (worker : ℕ) (own : List Answered) (one : Answered) → IsAfter answers worker own one
     → RightCause before ids own one.0.cpu one.0.act one.1
 
--- ---- want of frames
+-- ---- what lacked after some of the turns of the round
 
 -- the cache is live, and after some of the turns of the round the pool had no free block of its
 -- least order, and no greater one
@@ -105,12 +109,37 @@ pub record LacksBlock (s : State) (b : Beside) (round : Round) (picks : List Pic
   pub none : let here = run (setup_of s b) (system_begun s b round) front in
       HasNoBlock (pool_in (here.value pool_lock)).free (layout_at s cache).min_order
 
-abbrev pub WantCause : State → Beside → Round → List Pick → Act → Reply → Type 0
-WantCause s b round picks (Alloc place object) reply.NoFrames = LacksBlock s b round picks place
-WantCause s b round picks act reply = ⊤
+-- the slabs of a checked cache after some of the turns
+abbrev pub slabs_after : State → Beside → Round → ℕ → List Pick → CheckedState
+slabs_after s b round cache front =
+    slabs_at (setup_of s b) (run (setup_of s b) (system_begun s b round) front).value cache
+
+-- the slab of an object of a checked cache is gone: at its address the cache had an object in use,
+-- of the slab that begins at a frame, after some of the turns of the round, none at all or more;
+-- and after some more there was no such object in a slab at that frame. (A slab that begins at a
+-- lower frame can have an object at the same address then.)
+pub record LacksSlab (s : State) (b : Beside) (round : Round) (picks : List Pick) (spot : Spot)
+    : Type 0 where
+  pub slot : Slot
+  pub stands : address_of slot.frame slot.index (layout_at s spot.cache) ≡ spot.address
+  pub early : List Pick
+  pub late : List Pick
+  pub rest : List Pick
+  pub split : picks ≡ early ++ late ++ rest
+  pub used : IsUsed (slabs_after s b round spot.cache early) slot
+  pub gone : state_of (slabs_after s b round spot.cache (early ++ late)) slot ≡ None
+
+-- `no frames` is answered where the pool had no block. That an object isn't held, which the worker
+-- knows, a poke answers where its slab was gone
+abbrev pub WantCause : State → Beside → Round → List Pick → List Answered → Act → Reply → Type 0
+WantCause s b round picks own (Alloc place object) reply.NoFrames = LacksBlock s b round picks place
+WantCause s b round picks own (Poke object offset byte) reply.NotHeld =
+    knowing object own ≡ true
+    → MatchOption (spot_by s object own) ⊥ (λ spot. LacksSlab s b round picks spot)
+WantCause s b round picks own act reply = ⊤
 
 -- so of each event of each worker
 abbrev pub HaveWants : State → Beside → Round → List Pick → List Answered → Type 0
 HaveWants s b round picks answers =
     (worker : ℕ) (own : List Answered) (one : Answered) → IsAfter answers worker own one
-    → WantCause s b round picks one.0.act one.1
+    → WantCause s b round picks own one.0.act one.1

@@ -14,3 +14,4 @@ pub mod Journals
 pub mod InOrder
 pub mod InText
 pub mod Off
+pub mod WordReads

@@ -70,8 +70,9 @@ HasContentsAlong s b round picks =
 -- and after the last one the machine is coherent. The replies, the damages and the ledgers are
 -- those of the steps, and so are the lists and the ids that are left
 -- In it bytes of checked caches come from where they may, after any of its turns. Each answer of a
--- poke has its cause, and so has each transaction id that was found spent; and where frames lacked,
--- the pool had none after some of the turns
+-- poke has its cause, and so has each transaction id that was found spent; where frames lacked, the
+-- pool had none after some of the turns, and where a poke found no object that its worker knows, the
+-- object's slab was gone
 pub record IsRunOfSteps (way : Way) (s : State) (ids : Option (List ℕ)) (round : Round)
     (result : RoundResult) (after : State) (left : Option (List ℕ)) : Type 0 where
   pub boarded : State

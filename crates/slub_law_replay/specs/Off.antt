@@ -12,6 +12,7 @@ use Rattle.slub_trace.specs.declared.reply.Reply.{Reply}
 use Rattle.slub_trace.specs.declared.reply.Reply.TheVariants as reply
 use Rattle.slub_core.specs.declared.call.Call.{Call}
 use Rattle.slub_core.specs.declared.local.Answered.{Answered}
+use Rattle.slub_core.specs.Calls.{call_object}
 use Rattle.slub_core.specs.Law.{replies_of}
 use Rattle.slub_core.specs.Opening.{IsOpening, opened}
 use Rattle.slub_core.specs.Replies.{address_by, cache_by}
@@ -41,9 +42,9 @@ pub record IsOff (slabs : CheckedState) (at : ℤ) (byte : ℕ) : Type 0 where
 pub record IsFound (came : ℕ → ℤ → ℕ → Type 0) (m : Setup) (board : ℕ → Option BoardWord)
     (own : List Answered) (call : Call) (damage : Damage) : Type 0 where
   pub cache : ℕ
-  pub of : cache_by board own call.object ≡ Some cache
+  pub of : cache_by board own (call_object call) ≡ Some cache
   pub address : ℕ
-  pub object : address_by m board own call.object ≡ Some address
+  pub object : address_by m board own (call_object call) ≡ Some address
   pub bad : IsDamage (came cache) address damage
 
 -- what a reply tells of damages

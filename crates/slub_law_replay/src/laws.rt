@@ -1,6 +1,7 @@
 //! What follows from the definitions. None of these does anything.
 
 ghost use Rattle.slub_law_replay.specs.Laws.{ItemsLeaveRoom, LinesLeaveIds, ReadyLinesMayBeServed, ReadyRoundsMayBeDone, RoundsOfAnyWayAreLawful};
+ghost use Rattle.slub_law_replay.specs.WordReads.{ReadsFollowWrites};
 
 /// A round that is done by any way is lawful in the words of the text: each reply has its cause, and the board, the
 /// want of frames, reports and objects set aside are as the text says.
@@ -28,4 +29,10 @@ pub fn lines_leave_ids()
 /// After an item each count of wanted frames is as far from its end as numbers are still to be allocated.
 pub fn items_leave_room()
     ensures { ItemsLeaveRoom }
+{}
+
+/// In a lawful round of a sound trace a read is answered with a value only where its worker put each byte of the word
+/// since the object was given; or it took the object from the board, by a free that found it damaged.
+pub fn reads_follow_writes()
+    ensures { ReadsFollowWrites }
 {}

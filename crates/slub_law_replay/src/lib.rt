@@ -18,8 +18,9 @@
 //!   no ids stand beside the lists the steps begin at first ones, of which a round spends none. Of a
 //!   round on the lists with a reply that memory was lacking it isn't said. `specs/Rounds.antt` says
 //!   it of each round of a journal, along its machines. In it each answer of a poke has its cause,
-//!   and each transaction id that was found spent; and where frames lacked, the pool had none at some
-//!   moment (`specs/Causes.antt`).
+//!   and each transaction id that was found spent; where frames lacked, the pool had none at some
+//!   moment, and where a poke found no object that its worker knows, its slab was gone
+//!   (`specs/Causes.antt`).
 //! - What follows of every lawful journal: `journal_laws`, with `specs/Freed.antt`, `Rounds`,
 //!   `Poked`, `Shrinking` and `Trimmed`; `laws` on what can be done before an item and after it.
 //! - One text: `one_text_laws` says that two lawful journals of a trace by one way and seed are the
@@ -32,7 +33,9 @@
 //!
 //! `laws`: a round by any way is lawful (`IsRound` of `slub_law_rounds`). A machine that stands
 //! before a round of a sound trace can do it, and before a client's line can serve it; no item
-//! brings a count of wanted frames to its end.
+//! brings a count of wanted frames to its end. In a lawful round a value is read only where its
+//! worker put each byte of the word, or took the object from the board by a free that found it
+//! damaged (`reads_follow_writes`).
 //!
 //! Of every lawful journal of a sound trace: no number is given or freed twice, given less freed is
 //! live, each damage was poked. By whichever machines it is lawful, each round leads along them, is

@@ -59,8 +59,9 @@
 //! A fault has its cause, and tells its numbers (`IsFault`): `TooManyCpus` a number of CPUs that is 0
 //! or above 16; `NoSuchGroup` how many groups the recording's caches make on its CPUs, where the one
 //! that is asked for isn't among them; `TooManyObjects` how many objects are kept, more than 1048576;
-//! `TooLong` how long the text of the trace would be, more than 16777216 bytes. A fault comes only
-//! where none above it in this order has a cause, and a trace only where none has.
+//! `TooLong` the length of a text with such a head, comments and body, more than 16777216 bytes. A
+//! fault comes only where none above it in this order has a cause, and a trace only where none of the
+//! first three has (`slub_law_faults`).
 //!
 //! No clause says that all objects of a cache have the slot of the first.
 #![tactic(auto)]

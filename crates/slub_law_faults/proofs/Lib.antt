@@ -1,0 +1,4 @@
+pub mod Sorted
+pub mod Groups
+pub mod Rows
+pub mod Faults

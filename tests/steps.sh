@@ -124,5 +124,37 @@ wants "W:event doesn't stop at a lock" waits 0 "$total" --picks 0:3,1:event,0:en
 wants "W:end doesn't stop at a lock" waits 0 "$total" --picks 0:3,1:end,0:end,1:end
 wants "W:N stops at a lock" eval "ends 0 '$total' --picks 0:3,1:5,0:end,1:end && grep -q 'waits for a lock 3$' $room/log"
 
+# A CPU's partial list has three slabs. Worker 0 takes them all; worker 1 pushes a slab of its own before worker 0 puts back the
+# two that it doesn't need: three slabs, these two before the pushed one.
+trace=$room/rest.trace
+{
+    printf 'slubtrace 1\nmachine 64 2\ncache big 16384 0 -\nround 1\n'
+    printf 'alloc 0 0 big %d\n' {1..10}
+    printf 'free 0 0 1\nfree 0 0 3\nfree 0 0 5\ndone\nround 2\nalloc 0 0 big 11\nfree 1 0 7\ndone\nend\n'
+} >"$trace"
+puts_back() { ends "$@" && [ "$(grep '^  list 0 big ' "$room/log" | tail -1)" = '  list 0 big      front 16 count 3 slabs 16 8 32' ]; }
+total='total given 11 freed 4 live 7 free 3 aside 0 frozen 1 slabs 5 frames 23'
+wants "a string that is put back doesn't stand before a pushed slab" puts_back 0 "$total" --picks 0:7,1:end,0:end
+
+# Worker 0 frees into a slab that is no CPU's, and then allocates: a remote free, a detach, a take-all and an install. Worker 1
+# frees an object between each two steps, of worker 0's slabs among others, and no exchange is lost.
+trace=$room/between.trace
+{
+    printf 'slubtrace 1\nmachine 16 2\ncache dentry 192 8 -\nround 1\n'
+    printf 'alloc 0 0 dentry %d\n' {1..63}
+    printf 'free 0 0 1\nfree 0 0 22\ndone\nround 2\nfree 0 0 2\nalloc 0 0 dentry 64\n'
+    printf 'free 1 1 %d\n' 23 24 25 26 27 43 44 28 45 29 30 46
+    printf 'done\nend\n'
+} >"$trace"
+# The spots that worker 0 comes by in the last round, and no lost exchange.
+comes_by() {
+    ends 0 "${@:2}" && grep -qF "end of round 2: turns 72, exchanges lost 0, waits for a lock 0" "$room/log" &&
+        [ "$(sed '1,/^round 2,/d' "$room/log" | sed -nE 's/^ +[0-9]+  0\.  [a-z]+ [0-9]+ +([A-Za-z]+) .*/\1/p' | xargs)" = "$1" ]
+}
+spots='TakeBoard LoadOwn LoadSlab LinkSlab FreeSlab LoadCpu Detach LoadTaken TakeAll LoadReady LoadAgain Install'
+total='total given 64 freed 15 live 49 free 14 aside 0 frozen 1 slabs 3 frames 12'
+between=$(printf '0,1:event,%.0s' {1..12})
+wants "a remote free, a detach, a take-all and an install with frees in between" comes_by "$spots" "$total" --picks "${between}0:end,1:end"
+
 echo "tests/steps.sh: $passed passed, $failed failed"
 [ "$failed" = 0 ]
